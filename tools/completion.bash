@@ -34,7 +34,7 @@ _subttx() {
     local word=${COMP_WORDS[COMP_CWORD]} before=${COMP_WORDS[COMP_CWORD - 1]}
     local command='' at options
 # made: commands
-    local commands='check schedule listen extract show normal packets packet'
+    local commands='check schedule listen extract show normal packets packet survey'
 # end
     for ((at = 1; at < COMP_CWORD; at++)); do
         if [[ " $commands " == *" ${COMP_WORDS[at]} "* ]]; then
@@ -55,6 +55,7 @@ _subttx() {
             --pid --packet-size --pes' ;;
         extract) options='--pid --packet-size' ;;
         packets) options='--pid --packet-size --pes' ;;
+        survey) options='--page --pid --packet-size' ;;
 # end
         *) options= ;;
     esac

@@ -51,9 +51,12 @@ pub(crate) enum Found {
     Other,
 }
 
-/// Puts PES packets together.
+/// Puts the PES packets of a PID together, for a caller that hands in the PID's packets one by one.
+/// What is ready has to be taken before the next.
+///
+/// Contracts see what is kept, and what is ready.
 #[derive(Drop)]
-pub(crate) struct Joining {
+pub struct Joining {
     // The payloads of the part, or the last one alone where no more of the part is given.
     bytes: PartBytes,
     // Of the last good packet: bytes 0 to 3, how many bytes at the end of `bytes` are its payload
@@ -99,8 +102,8 @@ impl Model for Joining {
 }
 
 impl Joining {
-    // Before the first packet.
-    pub(crate) fn new() -> Self
+    /// Before the first packet.
+    pub fn new() -> Self
         ensures { result ≡ nothing_joined }
     {
         Joining {
@@ -120,18 +123,18 @@ impl Joining {
         }
     }
 
-    // Whether nothing is ready to be given.
+    /// Whether nothing is ready to be given.
     #[tactic(auto, using(crate::proofs::ReadyLemmas::idling))]
     #[inline(always)]
-    pub(crate) fn is_idle(&self) -> bool
+    pub fn is_idle(&self) -> bool
         ensures { (result ≡ true) ↔ (self.now.pending ≡ []) }
     {
         self.mark_left == 0 && self.start == self.end
     }
 
-    // Whether nothing comes any more but what is ready.
+    /// Whether nothing comes any more but what is ready.
     #[inline(always)]
-    pub(crate) fn has_ended(&self) -> bool
+    pub fn has_ended(&self) -> bool
         ensures { result ≡ has_ended self.now.part }
     {
         match &self.part {
@@ -150,15 +153,15 @@ impl Joining {
         mark_gap(true, &mut self.given, &mut self.mark_left);
     }
 
-    // So many bytes were skipped in a row that packets may be missing.
-    pub(crate) fn note_hole(&mut self)
+    /// So many bytes were skipped in a row that packets may be missing.
+    pub fn note_hole(&mut self)
         ensures { self.new ≡ after_note self.old Hole }
     {
         self.has_break = true;
     }
 
-    // A packet came.
-    pub(crate) fn take_packet(&mut self, packet: &[u8; PACKET])
+    /// A packet came.
+    pub fn take_packet(&mut self, packet: &[u8; PACKET])
         requires { self.old.pending ≡ [] }
         ensures { self.new ≡ after_note self.old (note_of packet.now) }
     {
@@ -203,8 +206,8 @@ impl Joining {
         last
     }
 
-    // Whether a packet repeats the last good one.
-    fn is_repeat(&self, packet: &[u8; PACKET]) -> bool
+    /// Whether a packet repeats the last good one.
+    pub fn is_repeat(&self, packet: &[u8; PACKET]) -> bool
         requires payload { has_payload packet.now ≡ true }
         requires valid { is_wrong packet.now ≡ false }
         ensures { result ≡ repeats self.now packet.now }
@@ -363,9 +366,9 @@ impl Joining {
         }
     }
 
-    // The bytes that are given next, as far as they stand together.
+    /// The bytes that are given next, as far as they stand together.
     #[inline(always)]
-    pub(crate) fn lent(&self) -> &[u8]
+    pub fn lent(&self) -> &[u8]
         ensures next { take (length result.now) self.now.pending ≡ result.now }
         ensures within { length result.now ≤ length self.now.pending }
         ensures none { result.now ≡ [] → self.now.pending ≡ [] }
@@ -391,10 +394,10 @@ impl Joining {
         }
     }
 
-    // Passes over so many of the bytes that are ready.
+    /// Passes over so many of the bytes that are ready.
     #[tactic(auto, using(crate::proofs::ReadyLemmas::passing))]
     #[inline(always)]
-    pub(crate) fn pass(&mut self, count: usize)
+    pub fn pass(&mut self, count: usize)
         requires { count ≤ length self.old.pending }
         ensures { self.new ≡ record self.old { pending = drop count self.old.pending } }
     {

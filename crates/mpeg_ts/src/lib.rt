@@ -25,6 +25,11 @@ mod stream;
 mod transport_packet;
 mod window;
 
+pub use joining::Joining;
 pub use packet_size::PacketSize;
 pub use pes_source::PesSource;
 pub use pid::Pid;
+pub use transport_packet::{
+    PACKET, SYNC_BYTE, announces_jump, begins, counter_of, has_adaptation, has_payload, is_wrong,
+    payload_of, pid_of,
+};

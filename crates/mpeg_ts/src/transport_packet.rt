@@ -4,63 +4,63 @@ ghost use Rattle.mpeg_ts.specs.TransportPacket.{announces_jump, begins, counter,
 ghost use Rattle.mpeg_ts.specs.TransportPacket.{has_payload, is_wrong, payload, pid};
 
 /// The bytes of a packet.
-pub(crate) const PACKET: usize = 188;
+pub const PACKET: usize = 188;
 
 /// sync_byte, the first byte of a packet.
-pub(crate) const SYNC_BYTE: u8 = 0x47;
+pub const SYNC_BYTE: u8 = 0x47;
 
-// The PID.
+/// The PID.
 #[inline(always)]
-pub(crate) fn pid_of(packet: &[u8; PACKET]) -> u16
+pub fn pid_of(packet: &[u8; PACKET]) -> u16
     ensures { result ≡ pid packet.now }
 {
     (packet[1] % 0x20) as u16 * 0x100 + packet[2] as u16
 }
 
-// payload_unit_start_indicator.
+/// payload_unit_start_indicator.
 #[inline(always)]
-pub(crate) fn begins(packet: &[u8; PACKET]) -> bool
+pub fn begins(packet: &[u8; PACKET]) -> bool
     ensures { result ≡ begins packet.now }
 {
     packet[1] / 0x40 % 2 == 1
 }
 
-// continuity_counter.
+/// continuity_counter.
 #[inline(always)]
-pub(crate) fn counter_of(packet: &[u8; PACKET]) -> u8
+pub fn counter_of(packet: &[u8; PACKET]) -> u8
     ensures { result ≡ counter packet.now }
 {
     packet[3] % 0x10
 }
 
-// Whether there is an adaptation field.
+/// Whether there is an adaptation field.
 #[inline(always)]
-fn has_adaptation(packet: &[u8; PACKET]) -> bool
+pub fn has_adaptation(packet: &[u8; PACKET]) -> bool
     ensures { result ≡ has_adaptation packet.now }
 {
     packet[3] / 0x20 % 2 == 1
 }
 
-// Whether there is a payload.
+/// Whether there is a payload.
 #[inline(always)]
-pub(crate) fn has_payload(packet: &[u8; PACKET]) -> bool
+pub fn has_payload(packet: &[u8; PACKET]) -> bool
     ensures { result ≡ has_payload packet.now }
 {
     packet[3] / 0x10 % 2 == 1
 }
 
-// Whether discontinuity_indicator announces a jump of the counter.
+/// Whether discontinuity_indicator announces a jump of the counter.
 #[inline(always)]
-pub(crate) fn announces_jump(packet: &[u8; PACKET]) -> bool
+pub fn announces_jump(packet: &[u8; PACKET]) -> bool
     ensures { result ≡ announces_jump packet.now }
 {
     has_adaptation(packet) && packet[4] != 0 && packet[5] / 0x80 % 2 == 1
 }
 
-// Whether nothing may be taken from it: transport_error_indicator is set, it is scrambled, or its
-// adaptation field leaves no room for its payload.
+/// Whether nothing may be taken from it: transport_error_indicator is set, it is scrambled, or its
+/// adaptation field leaves no room for its payload.
 #[inline(always)]
-pub(crate) fn is_wrong(packet: &[u8; PACKET]) -> bool
+pub fn is_wrong(packet: &[u8; PACKET]) -> bool
     ensures { result ≡ is_wrong packet.now }
 {
     packet[1] / 0x80 % 2 == 1
@@ -68,9 +68,9 @@ pub(crate) fn is_wrong(packet: &[u8; PACKET]) -> bool
         || (has_adaptation(packet) && has_payload(packet) && packet[4] > 182)
 }
 
-// The payload: 1 to 184 bytes.
+/// The payload: 1 to 184 bytes.
 #[inline(always)]
-pub(crate) fn payload_of(packet: &[u8; PACKET]) -> &[u8]
+pub fn payload_of(packet: &[u8; PACKET]) -> &[u8]
     requires payload { has_payload packet.now ≡ true }
     requires valid { is_wrong packet.now ≡ false }
     ensures payload { result.now ≡ payload packet.now }

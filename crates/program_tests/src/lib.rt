@@ -42,6 +42,8 @@ mod schedule;
 #[cfg(test)]
 mod show;
 #[cfg(test)]
+mod survey;
+#[cfg(test)]
 mod values;
 #[cfg(test)]
 mod words;

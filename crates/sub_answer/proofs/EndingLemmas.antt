@@ -52,6 +52,7 @@ touched
     }
 touched (ask.Listen pes listening) first second Untouched file out status is = is
 touched (ask.Extract recording pes stream) first second Untouched file out status is = is
+touched (ask.Survey recording options) first second Untouched file out status is = is
 
 -- How a run ends, without that.
 pub ends_touched :

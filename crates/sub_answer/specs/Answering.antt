@@ -31,6 +31,7 @@ use Rattle.sub_answer.specs.ListenListing.{listen_told, Listens}
 use Rattle.sub_listing.specs.Listing.{Listing, PrintsListing, PrintsOrFails, done, packet_listing}
 use Rattle.sub_listing.specs.Listing.{told_listing}
 use Rattle.sub_listing.specs.PacketsListing.{ListsPackets}
+use Rattle.sub_listing.specs.SurveyListing.{PrintsSurvey}
 use Rattle.sub_listing.specs.Told.{told_from}
 use Rattle.sub_listing.specs.ShowListing.{ListsSubtitles}
 use Rattle.sub_listing.specs.Writing.{EndsWork, Normalizes, Schedules}
@@ -38,11 +39,13 @@ use Rattle.sub_request.specs.declared.request.Request.{Request}
 use Rattle.sub_request.specs.declared.request.Request.TheVariants as ask
 use Rattle.sub_listing.specs.declared.status.Status.{Status}
 
--- Whether the answer takes memory: a programme, or a whole file, is kept in it.
+-- Whether the answer takes memory: a programme or a whole file is kept in it, or what is known of a
+-- recording.
 abbrev pub takes_memory : Request → Bool
 takes_memory (ask.Normal input output) = true
 takes_memory (ask.Schedule stl pes options serial national layout scope) = true
 takes_memory (ask.Check stl pes options national layout scope all) = true
+takes_memory (ask.Survey recording options) = true
 takes_memory _ = false
 
 -- ---- what each command answers
@@ -158,6 +161,8 @@ Answers (ask.Listen pes listening) first second Untouched file out status =
     AnswersListen (left_by listening.receiver) listening first.call first.number out status
 Answers (ask.Extract recording pes stream) first second Untouched file out status =
     EndsExtract first.call file out status
+Answers (ask.Survey recording options) first second Untouched file out status =
+    PrintsSurvey out status
 
 -- A request whose answer is followed while its PES file is sent: where the source of that failed,
 -- this is so. It is the first source of `packets`, and the second of `check --all`.

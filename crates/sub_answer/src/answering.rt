@@ -23,8 +23,8 @@ use std::alloc::Global;
 use stl_rows::Drawing;
 use sub_io::{Flush, Sink, Source};
 use sub_listing::{
-    FirstPacket, Status, extract_packets, list_packets, list_subtitles, print_told, show_packet,
-    told_of_usage, write_normal, write_schedule,
+    FirstPacket, Status, extract_packets, list_packets, list_subtitles, print_survey, print_told,
+    show_packet, told_of_usage, write_normal, write_schedule,
 };
 use sub_request::{ReceiverKind, Request, UsageFault};
 use ttx_page::{Blank, Keep};
@@ -143,6 +143,7 @@ pub fn answer<N: FirstPacket<S>, M: FirstPacket<T>, S: Source, T: Source, F: Flu
             ReceiverKind::Blank => print_listening::<N, Blank, S, K>(first, listening, out),
         },
         Request::Extract { .. } => extract_packets(first, file, out),
+        Request::Survey { options, .. } => print_survey(alloc, *options, first, out),
     }
 }
 

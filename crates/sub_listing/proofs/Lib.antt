@@ -1,4 +1,5 @@
 pub mod PrintingLemmas
+pub mod SurveyListingLemmas
 pub mod NormalLemmas
 pub mod ListingLemmas
 pub mod FirstPacketLemmas

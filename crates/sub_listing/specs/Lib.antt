@@ -1,5 +1,6 @@
 pub mod Lines
 pub mod StaysPrinted
+pub mod SurveyListing
 pub mod Told
 pub mod Faults
 pub mod Listing

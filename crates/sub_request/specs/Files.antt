@@ -16,6 +16,7 @@ files_of (ask.Check stl pes options national layout scope all) =
     files.ReadBoth stl.now pes.name.now
 files_of (ask.Listen pes listening) = files.ReadPes pes.name.now
 files_of (ask.Extract recording pes stream) = files.Extract recording.now pes.now
+files_of (ask.Survey recording options) = files.ReadPes recording.now
 
 -- Whether a first input is read.
 abbrev pub reads_one : FileNames → Bool

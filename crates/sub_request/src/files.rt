@@ -104,6 +104,7 @@ impl<'a> Request<'a> {
             Request::Extract { recording, pes, .. } => {
                 FileNames::Extract(PesInput(recording), Output(pes))
             }
+            Request::Survey { recording, .. } => FileNames::ReadPes(PesInput(recording)),
         }
     }
 }

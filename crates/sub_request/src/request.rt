@@ -8,6 +8,7 @@ use stl_rows::{Layout, National};
 use sub_io::FaultCode;
 use sub_plan::Options;
 use thiserror::Error;
+use ts_survey::SurveyOptions;
 
 /// Why the program can't do what its words ask for, in the order in which faults are told.
 ///
@@ -179,5 +180,12 @@ pub enum Request<'a> {
         pes: &'a str,
         /// The transport packets that carry them.
         stream: TransportStream,
+    },
+    /// `survey RECORDING`: tells what there is in a recording.
+    Survey {
+        /// The name of the recording.
+        recording: &'a str,
+        /// The page, the PID and the packet size.
+        options: SurveyOptions,
     },
 }

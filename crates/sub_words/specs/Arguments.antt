@@ -18,6 +18,7 @@ use Rattle.stl_rows.specs.SubSets.{option_named}
 use Rattle.sub_plan.specs.Options.{OptionsValue}
 use Rattle.sub_words.specs.PesTexts.{packet_size_of_text, pid_of_text, range_of_text}
 use Rattle.sub_words.specs.Texts.{frame_of_text, list_of_text, number_of_text}
+use Rattle.ts_survey.specs.declared.recording.SurveyOptions.{SurveyOptions}
 use Rattle.sub_request.specs.declared.pes_packets.TransportStream.{TransportStream}
 use Rattle.sub_request.specs.declared.request.UsageFault.{UsageFault}
 use Rattle.sub_request.specs.declared.request.UsageFault.TheVariants as fault
@@ -100,6 +101,15 @@ stream_of rows = do
   pid ← ok_or (given_as pid_of_text (codes "pid") rows) fault.Pid
   packet_size ← packet_size_of rows
   Ok (option_map (λ pid. record { pid = pid; packet_size = packet_size }) pid)
+
+-- `[--page P] [--pid P] [--packet-size S]`: what is asked of a survey, which finds each packet size
+-- that is not given.
+abbrev pub survey_options_of : List Row → Result SurveyOptions UsageFault
+survey_options_of rows = do
+  page ← ok_or (page_of_text (argument (codes "page") rows)) fault.BadPage
+  pid ← ok_or (given_as pid_of_text (codes "pid") rows) fault.Pid
+  packet_size ← ok_or (given_as packet_size_of_text (codes "packet-size") rows) fault.PacketSize
+  Ok (record { page = page; pid = pid; packet_size = packet_size })
 
 -- `[--pes I-J]`
 abbrev pub range_given_of : List Row → Result (Option PieceRangeValue) UsageFault

@@ -100,6 +100,12 @@ commands =
       required_rule (codes "recording") ∷ required_rule (codes "pes")
           ∷ required_option_rule (codes "pid") ∷ packet_size_rule ∷ [],
     )
+    -- survey RECORDING [--page P] [--pid P] [--packet-size S]
+    ∷ (
+      codes "survey",
+      required_rule (codes "recording") ∷ option_rule (codes "page") (codes "888")
+          ∷ bare_option_rule (codes "pid") ∷ bare_option_rule (codes "packet-size") ∷ [],
+    )
     ∷ []
 
 -- A program with one more command.

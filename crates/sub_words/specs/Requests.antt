@@ -11,9 +11,11 @@ use Rattle.stl_file.specs.declared.scope.Scope.{Scope}
 use Rattle.stl_rows.specs.declared.layout.Layout.{Layout}
 use Rattle.stl_rows.specs.declared.national.National.{National}
 use Rattle.sub_plan.specs.Options.{OptionsValue}
+use Rattle.ts_survey.specs.declared.recording.SurveyOptions.{SurveyOptions}
 use Rattle.sub_words.specs.Arguments.{PesAsked, allowing_of, argument, is_given, listed_of}
 use Rattle.sub_words.specs.Arguments.{layout_of, national_of, options_of, packet_size_of}
 use Rattle.sub_words.specs.Arguments.{pes_packets_of, required_pid_of, scope_of}
+use Rattle.sub_words.specs.Arguments.{survey_options_of}
 use Rattle.sub_words.specs.Commands.{are_sound, command_in, clap_refusals}
 use Rattle.sub_words.specs.Texts.{flip_of_text, frame_of_text, is_same_byte, number_of_text}
 use Rattle.sub_words.specs.Texts.{receiver_of_text}
@@ -38,6 +40,7 @@ pub data Asked : Type 0 where
   Listen : (pes : PesAsked) → OptionsValue → (at skip : ℕ) → List Flip → (lost : List ℕ)
       → ReceiverKind → Asked
   Extract : (recording pes : Text) → TransportStream → Asked
+  Survey : (recording : Text) → SurveyOptions → Asked
 
 -- Which PES packets a request asks for.
 abbrev pub pes_asked : PesPackets → PesAsked
@@ -56,6 +59,7 @@ asked_by (ask.Check stl pes options national layout scope all) =
 asked_by (ask.Listen pes l) =
     Listen (pes_asked pes) l.options l.at l.skip l.flips.items l.lost.items l.receiver
 asked_by (ask.Extract recording pes stream) = Extract recording.now pes.now stream
+asked_by (ask.Survey recording options) = Survey recording.now options
 
 -- ---- the arguments of each command: what they ask for, or the first fault, in this order (own)
 
@@ -129,7 +133,13 @@ extract_asked rows = do
   packet_size ← packet_size_of rows
   Ok (Extract names.0 names.1 (record { pid = pid; packet_size = packet_size }))
 
--- What a command's arguments ask for, by its name. `clap` gives no name but these and `extract`.
+-- `survey RECORDING [--page P] [--pid P] [--packet-size S]`
+abbrev pub survey_asked : List Row → Result Asked UsageFault
+survey_asked rows = do
+  options ← survey_options_of rows
+  Ok (Survey (argument (codes "recording") rows) options)
+
+-- What a command's arguments ask for, by its name. `clap` gives no name but these and `survey`.
 abbrev pub asked_in : Text → List Row → Result Asked UsageFault
 asked_in name rows =
     if bytes_eq name (codes "packet") then packet_asked rows
@@ -138,7 +148,9 @@ asked_in name rows =
     else (if bytes_eq name (codes "normal") then normal_asked rows
     else (if bytes_eq name (codes "schedule") then schedule_asked rows
     else (if bytes_eq name (codes "check") then check_asked rows
-    else (if bytes_eq name (codes "listen") then listen_asked rows else extract_asked rows))))))
+    else (if bytes_eq name (codes "listen") then listen_asked rows
+    else (if bytes_eq name (codes "extract") then extract_asked rows
+    else survey_asked rows)))))))
 
 -- ---- what is answered
 

@@ -6,6 +6,7 @@ ghost use Rattle.sub_words.specs.Arguments.{allowing_of, argument, is_given, lay
 ghost use Rattle.sub_words.specs.Arguments.{options_of};
 ghost use Rattle.sub_words.specs.Arguments.{packet_size_of, pes_packets_of, range_given_of};
 ghost use Rattle.sub_words.specs.Arguments.{given_as, required_pid_of, scope_of, stream_of};
+ghost use Rattle.sub_words.specs.Arguments.{survey_options_of};
 ghost use Rattle.sub_words.specs.Texts.{frame_of_text};
 ghost use Rattle.sub_words.specs.Requests.{is_own, pes_asked};
 
@@ -20,6 +21,7 @@ use stl_file::Scope;
 use stl_rows::Layout;
 use sub_plan::{OptionFault, Options};
 use sub_request::{PesPackets, TransportStream, UsageFault};
+use ts_survey::SurveyOptions;
 use ttx_packet::PageId;
 use ttx_pes::PieceRange;
 
@@ -170,6 +172,32 @@ fn stream_at<'a>(matches: &ArgMatches<'a>) -> Result<Option<TransportStream>, Us
     };
     let packet_size = packet_size_at(matches)?;
     Ok(pid.map(|pid| TransportStream { pid, packet_size }))
+}
+
+/// What is asked of a survey, by `--page`, `--pid` and `--packet-size`.
+///
+/// # Errors
+///
+/// `BadPage`, then `Pid`, then `PacketSize`.
+pub fn survey_options_at<'a>(matches: &ArgMatches<'a>) -> Result<SurveyOptions, UsageFault>
+    ensures { result ≡ survey_options_of (rows_of (found_of matches.now)) }
+{
+    let Ok(page) = PageId::parse(text_at(matches, "page")) else {
+        return Err(UsageFault::BadPage);
+    };
+    let pid = match given_at(matches, "pid") {
+        Some(text) => Some(parse_pid(text).ok_or(UsageFault::Pid)?),
+        None => None,
+    };
+    let packet_size = match given_at(matches, "packet-size") {
+        Some(text) => Some(parse_packet_size(text).ok_or(UsageFault::PacketSize)?),
+        None => None,
+    };
+    Ok(SurveyOptions {
+        page,
+        pid,
+        packet_size,
+    })
 }
 
 // The PES packets that `--pes` says, by their numbers. `None` where it is left out. The fault is

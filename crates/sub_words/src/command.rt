@@ -27,7 +27,7 @@ pub enum Argument {
 }
 
 // The commands, each with what stands after its name.
-const COMMANDS: [(&str, &[Argument]); 8] = [
+const COMMANDS: [(&str, &[Argument]); 9] = [
     ("packet", &[Argument::Required("hex")]),
     (
         "packets",
@@ -105,6 +105,15 @@ const COMMANDS: [(&str, &[Argument]); 8] = [
             Argument::Required("pes"),
             Argument::RequiredOption("pid"),
             Argument::Option("packet-size", "188"),
+        ],
+    ),
+    (
+        "survey",
+        &[
+            Argument::Required("recording"),
+            Argument::Option("page", "888"),
+            Argument::BareOption("pid"),
+            Argument::BareOption("packet-size"),
         ],
     ),
 ];

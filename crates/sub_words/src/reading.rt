@@ -2,11 +2,11 @@
 ghost use Rattle.clap.specs.Words.{found_of, rows_of};
 ghost use Rattle.sub_words.specs.Requests.{IsReadExactly, IsReadGivenMemory, asked_in, check_asked};
 ghost use Rattle.sub_words.specs.Requests.{extract_asked, listen_asked, normal_asked, packet_asked};
-ghost use Rattle.sub_words.specs.Requests.{packets_asked, schedule_asked};
+ghost use Rattle.sub_words.specs.Requests.{packets_asked, schedule_asked, survey_asked};
 
 use crate::arguments::{
     allowing_at, flag_at, layout_at, list_at, options_at, packet_size_at, pes_at, pid_at, scope_at,
-    text_at,
+    survey_options_at, text_at,
 };
 use crate::numbers::parse_number;
 use crate::times::{parse_receiver, parse_time};
@@ -39,7 +39,8 @@ pub fn read_command<'a>(
         "schedule" => read_schedule(matches),
         "check" => read_check(matches),
         "listen" => read_listen(alloc, matches),
-        _ => read_extract(matches),
+        "extract" => read_extract(matches),
+        _ => read_survey(matches),
     }
 }
 
@@ -184,5 +185,16 @@ fn read_extract<'a>(matches: &ArgMatches<'a>) -> Result<Request<'a>, UsageFault>
         recording,
         pes,
         stream: TransportStream { pid, packet_size },
+    })
+}
+
+// `survey RECORDING [--page P] [--pid P] [--packet-size S]`
+fn read_survey<'a>(matches: &ArgMatches<'a>) -> Result<Request<'a>, UsageFault>
+    ensures { IsReadExactly (survey_asked (rows_of (found_of matches.now))) result }
+{
+    let options = survey_options_at(matches)?;
+    Ok(Request::Survey {
+        recording: text_at(matches, "recording"),
+        options,
     })
 }

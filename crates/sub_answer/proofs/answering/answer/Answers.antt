@@ -32,6 +32,9 @@ returns-in-Blank-clause-answers g c =
 pub returns-in-Extract-clause-answers : goal.returns-in-Extract-clause-answers
 returns-in-Extract-clause-answers g c = rw c.in-Extract.is c.extract_packets.ensures.extract
 
+pub returns-in-Survey-clause-answers : goal.returns-in-Survey-clause-answers
+returns-in-Survey-clause-answers g c = rw c.in-Survey.is c.print_survey.ensures.printed
+
 pub returns-in-Packets-clause-followed : goal.returns-in-Packets-clause-followed
 returns-in-Packets-clause-followed g c = rw c.in-Packets.is c.list_packets.ensures.followed
 

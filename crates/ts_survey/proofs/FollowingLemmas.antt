@@ -1,0 +1,115 @@
+-- What is taken, piece after piece: for `give_ready` none-taken and first-taken; and that it is what
+-- the packets of a PID carry, law_of_following.
+use Rattle.std.proofs.Common.{◌≡◌, ℕ, Bool, true, false, List, [], ◌∷◌, ◌++◌, length, take, drop}
+use Rattle.std.proofs.Common.{refl, sym, ap, ◌∙◌, subst, take-append-drop}
+use Rattle.std.proofs.lemmas.List.Folds.{concat-append}
+use Rattle.std.specs.List.{concat}
+use Rattle.mpeg_ts.specs.GoodPackets.{Note, notes}
+use Rattle.mpeg_ts.specs.Joining.{JoiningValue, after_note, given_later, handed_over, has_ended}
+use Rattle.mpeg_ts.specs.Joining.{nothing_joined}
+use Rattle.mpeg_ts.specs.PacketsInStep.{items_of}
+use Rattle.mpeg_ts.specs.Stream.{stream_gives}
+use Rattle.mpeg_ts.proofs.CarriedLemmas.{carried_given}
+use Rattle.ttx_page.proofs.RunLemmas.{RunsBy-append}
+use Rattle.ts_survey.specs.Following.{FollowsNotes, LawOfFollowing, TakesBytes}
+
+-- What was taken so far, and then the rest, is all.
+abbrev pub Continues :
+    {T : Type 0} → (T → List ℕ → T → Type 0) → T → List ℕ → T → List ℕ → Type 0
+Continues {T} IsTaken old whole now left =
+    (new : T) → TakesBytes IsTaken now left new → TakesBytes IsTaken old whole new
+
+-- No bytes.
+pub none-taken : {T : Type 0} (IsTaken : T → List ℕ → T → Type 0) (old : T) (bytes : List ℕ)
+    → bytes ≡ []
+    → TakesBytes IsTaken old bytes old
+none-taken IsTaken old bytes none =
+    record { pieces = []; joined = sym none; run = refl }
+
+-- One piece more.
+pub first-taken :
+    {T : Type 0} (IsTaken : T → List ℕ → T → Type 0) (old mid new : T) (lent pending : List ℕ)
+    → take (length lent) pending ≡ lent
+    → IsTaken old lent mid
+    → TakesBytes IsTaken mid (drop (length lent) pending) new
+    → TakesBytes IsTaken old pending new
+first-taken IsTaken old mid new lent pending next one more = record {
+  pieces = lent ∷ more.pieces;
+  joined = ap (λ l. lent ++ l) more.joined
+      ∙ ap (λ l. l ++ drop (length lent) pending) (sym next)
+      ∙ take-append-drop (length lent) pending;
+  run = (mid, one, more.run);
+}
+
+-- Some bytes, and then others.
+taken-after :
+    {T : Type 0} (IsTaken : T → List ℕ → T → Type 0) (old mid new : T) (first more : List ℕ)
+    → TakesBytes IsTaken old first mid
+    → TakesBytes IsTaken mid more new
+    → TakesBytes IsTaken old (first ++ more) new
+taken-after IsTaken old mid new first more one other = record {
+  pieces = one.pieces ++ other.pieces;
+  joined = concat-append one.pieces other.pieces
+      ∙ ap (λ l. l ++ concat other.pieces) one.joined
+      ∙ ap (λ l. first ++ l) other.joined;
+  run = RunsBy-append IsTaken one.pieces other.pieces old mid new one.run other.run;
+}
+
+-- Nothing is given any more once it has ended.
+given_later-ended : (j : JoiningValue) (all : List Note)
+    → has_ended j.part ≡ true
+    → given_later j all ≡ []
+unfolding given_later
+given_later-ended j [] ended = refl
+given_later-ended j (note ∷ more) ended = rw ended refl
+
+-- What is kept beside what is ready stays.
+pub same-rest : (first before after : JoiningValue) (left : List ℕ)
+    → before ≡ record first { pending = before.pending }
+    → after ≡ record before { pending = left }
+    → after ≡ record first { pending = after.pending }
+same-rest first before after left same passed =
+    passed
+    ∙ ap (λ (j : JoiningValue). record j { pending = left }) same
+    ∙ ap (λ (l : List ℕ). record first { pending = l })
+    (sym (ap (λ (j : JoiningValue). j.pending) passed))
+
+-- What is taken of a note, and then of those behind it.
+follows-note :
+    {T : Type 0} (IsTaken : T → List ℕ → T → Type 0) (j : JoiningValue) (note : Note)
+    (more : List Note) (old new : T) (b : Bool)
+    → has_ended j.part ≡ b
+    → FollowsNotes IsTaken j old (note ∷ more) new
+    → (FollowsNotes IsTaken j old more new → TakesBytes IsTaken old (given_later j more) new)
+    → ((mid : T) → FollowsNotes IsTaken (handed_over (after_note j note)) mid more new
+    → TakesBytes IsTaken mid (given_later (handed_over (after_note j note)) more) new)
+    → TakesBytes IsTaken old (given_later j (note ∷ more)) new
+unfolding given_later
+follows-note IsTaken j note more old new true ended is over going =
+    let rest = over (rw ended at is) in
+    let none = given_later-ended j (note ∷ more) ended in
+    let same = given_later-ended j more ended ∙ sym none in
+    subst (λ l. TakesBytes IsTaken old l new) same rest
+follows-note IsTaken j note more old new false begun is over going =
+    let here = rw begun at is in
+    rw begun (taken-after IsTaken old here.0 new _ _ here.1 (going here.0 here.2))
+
+-- What is taken of notes is what they give.
+follows :
+    {T : Type 0} (IsTaken : T → List ℕ → T → Type 0) (j : JoiningValue) (all : List Note)
+    (old new : T)
+    → FollowsNotes IsTaken j old all new
+    → TakesBytes IsTaken old (given_later j all) new
+unfolding given_later
+follows IsTaken j [] old new is = record { pieces = []; joined = refl; run = is }
+follows IsTaken j (note ∷ more) old new is =
+    follows-note IsTaken j note more old new (has_ended j.part) refl is
+    (follows IsTaken j more old new)
+    (λ mid. follows IsTaken (handed_over (after_note j note)) more mid new)
+
+pub law_of_following : {T : Type 0} (IsTaken : T → List ℕ → T → Type 0) → LawOfFollowing IsTaken
+unfolding stream_gives
+law_of_following IsTaken number distance recording old new is =
+    subst (λ l. TakesBytes IsTaken old l new) (carried_given number distance recording)
+    (follows IsTaken nothing_joined (notes distance number 0 (items_of distance recording)) old new
+    is)

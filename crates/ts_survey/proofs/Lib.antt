@@ -1,0 +1,3 @@
+pub mod FollowingLemmas
+pub mod HeardLemmas
+pub mod SurveyLemmas

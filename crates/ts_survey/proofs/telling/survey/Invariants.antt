@@ -1,0 +1,11 @@
+-- Nothing has failed, and what was told stands in the sink.
+use Rattle.std.proofs.Common.{◌≡◌}
+use Rattle.ts_survey.specs.Survey.{Grows}
+use Rattle.ts_survey.proofs.telling.survey.Given as goal
+
+abbrev pub invariant-reads : goal.invariant-reads
+invariant-reads g l = record {
+  source : g.S.Source.failure_count l.source ≡ g.S.Source.failure_count l.fn.source;
+  out : g.K.Sink.failure_count l.out ≡ g.K.Sink.failure_count l.fn.out;
+  grows : Grows (g.K.Sink.contents l.fn.out) (g.K.Sink.contents l.out);
+}

@@ -1,0 +1,39 @@
+-- What an adaptation field says (ISO/IEC 13818-1, adaptation_field):
+--
+--   4      adaptation_field_length
+--   5      discontinuity_indicator (1 bit), random_access_indicator (1),
+--          elementary_stream_priority_indicator (1), PCR_flag (1) and four more flags
+--   6..11  program_clock_reference_base (33 bits), reserved (6), extension (9), where PCR_flag is set
+--
+-- And the PTS of a PES packet's header (ISO/IEC 13818-1, PES_packet):
+--
+--   7      PTS_DTS_flags (2 bits): the first says that there is a PTS
+--   9..13  four bits, PTS 32..30, a marker bit, PTS 29..15, a marker bit, PTS 14..0, a marker bit
+use Rattle.std.specs.Prelude.{ℕ, ◌+◌, ◌*◌, ◌/◌, ◌%◌, ◌==◌, ◌&&◌, ◌||◌, not, nat_lt, Bool}
+use Rattle.std.specs.Prelude.{if◌then◌else◌, List, length, slice_index, Option, Some, None}
+use Rattle.mpeg_ts.specs.TransportPacket.{has_adaptation}
+
+-- random_access_indicator.
+abbrev pub begins_access : List ℕ → Bool
+begins_access p =
+    has_adaptation p && not (slice_index p 4 == 0) && (slice_index p 5 / 0x40 % 2 == 1)
+
+-- transport_scrambling_control is not 00.
+abbrev pub is_scrambled : List ℕ → Bool
+is_scrambled p = not (slice_index p 3 / 0x40 == 0)
+
+-- program_clock_reference_base, where there is one.
+abbrev pub pcr_base : List ℕ → Option ℕ
+pcr_base p =
+    if not (has_adaptation p) || nat_lt (slice_index p 4) 7 || (slice_index p 5 / 0x10 % 2 == 0)
+    then None
+    else Some (slice_index p 6 * 0x200_0000 + slice_index p 7 * 0x2_0000 + slice_index p 8 * 0x200
+    + slice_index p 9 * 2 + slice_index p 10 / 0x80)
+
+-- The PTS that a PES packet says. In a mark byte 6 is FF.
+abbrev pub pts_said : List ℕ → Option ℕ
+pts_said pes =
+    if nat_lt (length pes) 14 || nat_lt (slice_index pes 7) 0x80 || (slice_index pes 6 == 0xFF)
+    then None
+    else Some (slice_index pes 9 / 2 % 8 * 0x4000_0000 + slice_index pes 10 * 0x40_0000
+    + slice_index pes 11 / 2 * 0x8000 + slice_index pes 12 * 0x80 + slice_index pes 13 / 2)

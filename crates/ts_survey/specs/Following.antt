@@ -1,0 +1,39 @@
+-- What the packets of a PID carry is taken piece after piece: what was taken, joined, is that.
+use Rattle.std.specs.Prelude.{◌≡◌, ℕ, List, [], ◌∷◌, MatchBool}
+use Rattle.std.specs.List.{concat}
+use Rattle.mpeg_ts.specs.Carried.{carried}
+use Rattle.mpeg_ts.specs.GoodPackets.{Note, notes}
+use Rattle.mpeg_ts.specs.Joining.{JoiningValue, after_note, handed_over, has_ended, nothing_joined}
+use Rattle.mpeg_ts.specs.PacketsInStep.{items_of}
+use Rattle.ttx_page.specs.Receiver.{RunsBy}
+
+-- Any state before, any piece, any state after.
+abbrev pub any_piece : {T : Type 0} → T → List ℕ → T → Type 0
+any_piece old piece new = Unit {0}
+
+-- Bytes were taken, piece after piece.
+pub record TakesBytes
+    {T : Type 0} (IsTaken : T → List ℕ → T → Type 0) (old : T) (bytes : List ℕ) (new : T)
+    : Type 0 where
+  pub pieces : List (List ℕ)
+  pub joined : concat pieces ≡ bytes
+  pub run : RunsBy IsTaken old pieces new
+
+-- The notes of a PID come one after another to who puts its PES packets together and has them
+-- taken: after each all that it makes ready is taken, until nothing comes any more.
+abbrev pub FollowsNotes :
+    {T : Type 0} → (T → List ℕ → T → Type 0) → JoiningValue → T → List Note → T → Type 0
+FollowsNotes IsTaken j old [] new = new ≡ old
+FollowsNotes {T} IsTaken j old (note ∷ more) new =
+    MatchBool (has_ended j.part)
+    (FollowsNotes IsTaken j old more new)
+    ((mid : T) × TakesBytes IsTaken old (after_note j note).pending mid
+    × FollowsNotes IsTaken (handed_over (after_note j note)) mid more new)
+
+-- What is taken of the packets of a PID is what they carry in the recording.
+abbrev pub LawOfFollowing : {T : Type 0} → (T → List ℕ → T → Type 0) → Type 0
+LawOfFollowing {T} IsTaken =
+    (number distance : ℕ) (recording : List ℕ) (old new : T)
+    → FollowsNotes IsTaken nothing_joined old
+    (notes distance number 0 (items_of distance recording)) new
+    → TakesBytes IsTaken old (carried number distance recording) new

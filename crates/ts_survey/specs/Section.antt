@@ -1,0 +1,117 @@
+-- Sections of tables (ISO/IEC 13818-1, 2.4.4), and of what those of a PAT and of a PMT say:
+--
+--   0      table_id: 00 of a PAT, 02 of a PMT
+--   1..2   section_syntax_indicator (1 bit), 0, reserved (2), section_length (12): the bytes behind
+--   3..4   transport_stream_id of a PAT, program_number of a PMT
+--   6      section_number
+--   8..    of a PAT, for each programme: program_number (16 bits), reserved (3), the PID of its PMT
+--          (13); the program_number 0 names a network instead
+--   8..9   of a PMT: reserved (3 bits), PCR_PID (13)
+--   10..11 of a PMT: reserved (4 bits), program_info_length (12), and so many bytes behind
+--   ..     then for each stream: stream_type (8 bits), reserved (3), elementary_PID (13), reserved
+--          (4), ES_info_length (12), and so many bytes of descriptors
+--   ..     CRC_32
+use Rattle.std.specs.Prelude.{ℕ, ◌+◌, ◌-◌, ◌*◌, ◌/◌, ◌%◌, ◌==◌, min, nat_le, nat_lt}
+use Rattle.std.specs.Prelude.{if◌then◌else◌, List, [], ◌∷◌, length, slice_index, bit_xor}
+use Rattle.std.specs.Prelude.{Option, Some, None}
+use Rattle.std.specs.List.{fold}
+use Rattle.ts_survey.specs.declared.section.Announced.{Announced}
+use Rattle.ts_survey.specs.declared.section.Descriptor.{Descriptor}
+use Rattle.ts_survey.specs.declared.section.Programme.{Programme}
+use Rattle.ts_survey.specs.declared.section.SectionName.{SectionName}
+use Rattle.ts_survey.specs.declared.section.Stream.{Stream}
+
+-- A number of sixteen bits.
+abbrev pub number_at : List ℕ → ℕ → ℕ
+number_at bytes place = slice_index bytes place * 0x100 + slice_index bytes (place + 1)
+
+-- A length of twelve bits.
+abbrev pub length_at : List ℕ → ℕ → ℕ
+length_at bytes place = slice_index bytes place % 0x10 * 0x100 + slice_index bytes (place + 1)
+
+-- A PID: thirteen bits.
+abbrev pub pid_at : List ℕ → ℕ → ℕ
+pid_at bytes place = slice_index bytes place % 0x20 * 0x100 + slice_index bytes (place + 1)
+
+-- The size of a section by its first bytes.
+abbrev pub section_size : List ℕ → Option ℕ
+section_size bytes = if nat_lt (length bytes) 3 then None else Some (3 + length_at bytes 1)
+
+-- ---- CRC_32 (annex A): the polynomial 04C11DB7, from FFFFFFFF on
+
+-- After one more bit.
+unfoldable pub crc_shifted : ℕ → ℕ
+crc_shifted crc =
+    if nat_le 0x8000_0000 crc then bit_xor (2 * (crc - 0x8000_0000)) 0x04C1_1DB7 else 2 * crc
+
+-- After one more byte.
+unfoldable pub crc_after : ℕ → ℕ → ℕ
+crc_after crc byte =
+    crc_shifted (crc_shifted (crc_shifted (crc_shifted (crc_shifted (crc_shifted (crc_shifted
+    (crc_shifted (bit_xor crc (byte * 0x100_0000)))))))))
+
+-- Of bytes.
+abbrev pub crc_of : List ℕ → ℕ
+crc_of bytes = fold crc_after 0xFFFF_FFFF bytes
+
+-- ---- what sections say
+
+-- What tells one from others.
+abbrev pub name_of : List ℕ → Option SectionName
+name_of s =
+    if nat_lt (length s) 12 then None
+    else Some (record {
+      table = slice_index s 0;
+      number = number_at s 3;
+      section = slice_index s 6;
+    })
+
+-- The PID of the PMT that a PAT names at a place, 1FFF where it names a network.
+abbrev pub pmt_pid_at : List ℕ → ℕ → Option ℕ
+pmt_pid_at s place =
+    if nat_lt (length s) (place + 8) then None
+    else (if number_at s place == 0 then Some 0x1FFF else Some (pid_at s (place + 2)))
+
+-- The programme of a PMT.
+abbrev pub programme_of : List ℕ → Option Programme
+programme_of s =
+    if nat_lt (length s) 16 then None
+    else Some (record {
+      number = number_at s 3;
+      clock_pid = pid_at s 8;
+      first = 12 + length_at s 10;
+    })
+
+-- The stream of a PMT at a place.
+abbrev pub stream_at : List ℕ → ℕ → Option Stream
+stream_at s place =
+    if nat_lt (length s) (place + 9) then None
+    else Some (record {
+      kind = slice_index s place;
+      pid = pid_at s (place + 1);
+      first = place + 5;
+      end = place + 5 + length_at s (place + 3);
+    })
+
+-- The descriptor at a place, cut at an end: descriptor_tag, descriptor_length, and so many bytes.
+abbrev pub descriptor_at : List ℕ → ℕ → ℕ → Option Descriptor
+descriptor_at bytes place end =
+    if nat_lt (min end (length bytes)) (place + 2) then None
+    else Some (record {
+      tag = slice_index bytes place;
+      first = place + 2;
+      end = min (place + 2 + slice_index bytes (place + 1)) (min end (length bytes));
+    })
+
+-- The page that a teletext_descriptor names at a place (ETSI EN 300 468): ISO_639_language_code (24
+-- bits), teletext_type (5), teletext_magazine_number (3), teletext_page_number (8).
+abbrev pub page_at : List ℕ → ℕ → ℕ → Option Announced
+page_at bytes place end =
+    if nat_lt end (place + 5) then None
+    else Some (record {
+      language = slice_index bytes place ∷ slice_index bytes (place + 1)
+          ∷ slice_index bytes (place + 2) ∷ [];
+      kind = slice_index bytes (place + 3) / 8;
+      magazine = slice_index bytes (place + 3) % 8;
+      page = slice_index bytes (place + 4);
+    })

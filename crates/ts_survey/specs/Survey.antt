@@ -1,0 +1,19 @@
+-- What is told of a recording goes into a sink, behind what that has taken.
+use Rattle.std.specs.Prelude.{ℕ, Bool, true, false, List, Option}
+use Rattle.std.specs.Io.KnownBytes.{Appends}
+use Rattle.ts_survey.specs.declared.telling.SurveyFault.{SurveyFault}
+use Rattle.ts_survey.specs.declared.telling.SurveyFault.TheVariants.{Read, Write}
+
+-- A text was added.
+abbrev pub Grows : Option (List ℕ) → Option (List ℕ) → Type 0
+Grows old new = (text : List ℕ) × Appends old new text
+
+-- The recording failed.
+abbrev pub is_survey_read : SurveyFault → Bool
+is_survey_read Read = true
+is_survey_read _ = false
+
+-- The sink failed.
+abbrev pub is_survey_write : SurveyFault → Bool
+is_survey_write Write = true
+is_survey_write _ = false

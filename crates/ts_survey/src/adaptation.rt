@@ -1,0 +1,64 @@
+//! What an adaptation field says (ISO/IEC 13818-1, adaptation_field), and the PTS of a PES packet
+//! that begins.
+ghost use Rattle.std.specs.Prelude.{◌≡◌, ◌<◌, ◌^◌, IfSome};
+ghost use Rattle.ts_survey.specs.Adaptation.{begins_access, is_scrambled, pcr_base, pts_said};
+
+use mpeg_ts::{PACKET, has_adaptation, has_payload, is_wrong, payload_of};
+
+/// random_access_indicator: a picture that can be shown alone begins here.
+pub fn begins_access(packet: &[u8; PACKET]) -> bool
+    ensures { result ≡ begins_access packet.now }
+{
+    has_adaptation(packet) && packet[4] != 0 && packet[5] / 0x40 % 2 == 1
+}
+
+/// transport_scrambling_control is not 00.
+pub fn is_scrambled(packet: &[u8; PACKET]) -> bool
+    ensures { result ≡ is_scrambled packet.now }
+{
+    packet[3] / 0x40 != 0
+}
+
+/// program_clock_reference_base, 33 bits, of a packet that has one.
+pub fn pcr_base(packet: &[u8; PACKET]) -> Option<u64>
+    ensures value { result ≡ pcr_base packet.now }
+    ensures range { IfSome result (λ pcr. pcr < 2 ^ 33) }
+{
+    if !has_adaptation(packet) || packet[4] < 7 || packet[5] / 0x10 % 2 == 0 {
+        return None;
+    }
+    Some(
+        packet[6] as u64 * 0x200_0000
+            + packet[7] as u64 * 0x2_0000
+            + packet[8] as u64 * 0x200
+            + packet[9] as u64 * 2
+            + (packet[10] / 0x80) as u64,
+    )
+}
+
+/// The payload of a packet, none where it has none or nothing may be taken from it.
+pub fn payload_in(packet: &[u8; PACKET]) -> &[u8] {
+    if has_payload(packet) && !is_wrong(packet) {
+        payload_of(packet)
+    } else {
+        &[]
+    }
+}
+
+/// The PTS that the first bytes of a PES packet say (ISO/IEC 13818-1, PES_packet): none where the
+/// header has none, or it is a mark. Marker bits are not looked at.
+pub fn pts_said(pes: &[u8]) -> Option<u64>
+    ensures value { result ≡ pts_said pes.now }
+    ensures range { IfSome result (λ pts. pts < 2 ^ 33) }
+{
+    if pes.len() < 14 || pes[7] < 0x80 || pes[6] == 0xFF {
+        return None;
+    }
+    Some(
+        (pes[9] / 2 % 8) as u64 * 0x4000_0000
+            + pes[10] as u64 * 0x40_0000
+            + (pes[11] / 2) as u64 * 0x8000
+            + pes[12] as u64 * 0x80
+            + (pes[13] / 2) as u64,
+    )
+}

@@ -1,0 +1,257 @@
+//! A PID with Teletext that is followed: what its packets carry, and what is missing.
+use crate::adaptation::{is_scrambled, pts_said};
+use crate::clock::{SECOND, Strange};
+use crate::given::Given;
+use crate::pes_lines::PesLines;
+use crate::pid_packets::PidPackets;
+use crate::pid_state::Pids;
+use crate::text::{Text, forward};
+use mpeg_ts::{PACKET, announces_jump, begins, counter_of, has_payload, is_wrong, payload_of};
+use std::alloc::Global;
+use ttx_packet::PageId;
+
+/// Strange PCR of which not all is known.
+const PENDING: usize = 4;
+
+/// Packets behind a strange PCR up to which counters tell what happened.
+pub const LOOKED_AT: u64 = 5000;
+
+/// A strange PCR, and the PTS around it.
+#[derive(Clone, Copy)]
+struct Pending {
+    strange: Strange,
+    before: Option<u64>,
+    after: Option<u64>,
+}
+
+/// A PID that is followed.
+#[derive(Drop)]
+pub struct Carrier {
+    pid: u16,
+    packets_of: PidPackets<Given>,
+    // The last good packet's counter, and whether a jump was announced since.
+    counter: Option<u8>,
+    has_jump: bool,
+    packets: u64,
+    scrambled: u64,
+    // PTS: of the last PES packet that began, of the last that was held against the clock, and of the
+    // one that had begun before the last PCR.
+    begun: Option<u64>,
+    sampled: Option<u64>,
+    before_pcr: Option<u64>,
+    pending: [Option<Pending>; PENDING],
+}
+
+impl Carrier {
+    /// Before the first packet. `None` where memory runs out.
+    pub fn new(alloc: Global, pid: u16, page: PageId) -> Option<Carrier> {
+        let lines = PesLines::new(alloc, pid, page)?;
+        Some(Carrier {
+            pid,
+            packets_of: PidPackets::new(Given::new(lines)),
+            counter: None,
+            has_jump: false,
+            packets: 0,
+            scrambled: 0,
+            begun: None,
+            sampled: None,
+            before_pcr: None,
+            pending: [None; PENDING],
+        })
+    }
+
+    /// Its PID.
+    pub fn pid(&self) -> u16 {
+        self.pid
+    }
+
+    /// A packet of the PID came. The PTS that begins in it, if one does.
+    pub fn take(&mut self, packet: &[u8; PACKET], text: &mut Text) -> Option<u64> {
+        self.packets = self.packets.saturating_add(1);
+        if is_scrambled(packet) {
+            self.scrambled = self.scrambled.saturating_add(1);
+            self.packets_of.to_mut().add_scrambled();
+        }
+        let begun = self.note(packet);
+        self.packets_of.to_mut().go_on();
+        self.packets_of.take(packet, text);
+        begun
+    }
+
+    // Counts what is lost before a packet, and notes the PTS that begins in it.
+    fn note(&mut self, packet: &[u8; PACKET]) -> Option<u64> {
+        if is_wrong(packet) {
+            return None;
+        }
+        if !has_payload(packet) {
+            self.has_jump = self.has_jump || announces_jump(packet);
+            return None;
+        }
+        if !self.packets_of.is_repeat(packet) {
+            self.count_lost(packet);
+        }
+        if !begins(packet) {
+            return None;
+        }
+        let pts = pts_said(payload_of(packet))?;
+        self.begun = Some(pts);
+        Some(pts)
+    }
+
+    // Counts what is lost before a good packet, by its counter.
+    fn count_lost(&mut self, packet: &[u8; PACKET]) {
+        let counter = counter_of(packet);
+        if !self.has_jump && !announces_jump(packet) {
+            let missing = match self.counter {
+                Some(last) => counter.wrapping_sub(last).wrapping_sub(1) % 0x10,
+                None => 0,
+            };
+            self.packets_of.to_mut().add_lost(u64::from(missing));
+        }
+        self.counter = Some(counter);
+        self.has_jump = false;
+    }
+
+    /// So many bytes were skipped that packets may be missing.
+    pub fn note_hole(&mut self) {
+        self.packets_of.note_hole();
+    }
+
+    /// A PCR of its programme came: the next one is held against what has begun.
+    pub fn note_pcr(&mut self, strange: Option<Strange>, pids: &Pids, text: &mut Text) {
+        if let Some(strange) = strange {
+            self.add_pending(strange, pids, text);
+        }
+        self.before_pcr = self.begun;
+    }
+
+    // Keeps a strange PCR. Where there is no room, the oldest is told at once.
+    fn add_pending(&mut self, strange: Strange, pids: &Pids, text: &mut Text) {
+        let [first, second, third, fourth] = self.pending;
+        let one = Some(Pending {
+            strange,
+            before: self.before_pcr,
+            after: None,
+        });
+        if first.is_none() {
+            self.pending = [one, None, None, None];
+        } else if second.is_none() {
+            self.pending = [first, one, None, None];
+        } else if third.is_none() {
+            self.pending = [first, second, one, None];
+        } else if fourth.is_none() {
+            self.pending = [first, second, third, one];
+        } else {
+            tell_pending(self.pid, first, pids, text);
+            self.pending = [second, third, fourth, one];
+        }
+    }
+
+    /// A PTS began in a packet: strange PCR before it know it, and where a second has gone by since
+    /// the last such look, it is held against the clock.
+    pub fn note_begun(&mut self, pts: u64, pcr: Option<u64>, text: &mut Text) {
+        let [first, second, third, fourth] = self.pending;
+        self.pending = [
+            known_after(first, pts),
+            known_after(second, pts),
+            known_after(third, pts),
+            known_after(fourth, pts),
+        ];
+        if !self.is_due(pts) {
+            return;
+        }
+        if let Some(pcr) = pcr {
+            self.sampled = Some(pts);
+            text.put(b"ahead");
+            text.number(u64::from(self.pid));
+            text.number(pts);
+            text.ticks(forward(pcr, pts));
+            text.put(b"\n");
+        }
+    }
+
+    /// Whether a PTS is a second from the last one that was held against the clock, and nothing is
+    /// missing before it.
+    pub fn is_due(&self, pts: u64) -> bool {
+        if self.packets_of.to().is_broken() {
+            return false;
+        }
+        match self.sampled {
+            Some(last) => forward(last, pts) >= SECOND,
+            None => true,
+        }
+    }
+
+    /// Tells the strange PCR of which all is known, by the number of the last packet; or all.
+    pub fn settle(&mut self, number: Option<u64>, pids: &Pids, text: &mut Text) {
+        for _ in 0..PENDING {
+            let [first, second, third, fourth] = self.pending;
+            let Some(one) = first else {
+                return;
+            };
+            let is_known = match number {
+                Some(number) => number > one.strange.second.saturating_add(LOOKED_AT),
+                None => true,
+            };
+            if !is_known {
+                return;
+            }
+            tell_pending(self.pid, first, pids, text);
+            self.pending = [second, third, fourth, None];
+        }
+    }
+
+    /// Whether a strange PCR waits.
+    pub fn waits(&self) -> bool {
+        let [first, _, _, _] = self.pending;
+        first.is_some()
+    }
+
+    /// Tells what is not told yet of the PES packets, since nothing more is there for now.
+    pub fn flush(&mut self, text: &mut Text) {
+        self.packets_of.to_mut().flush(text);
+    }
+
+    /// The recording is over.
+    pub fn end(&mut self, text: &mut Text) {
+        self.packets_of.to_mut().end(text);
+        let given = self.packets_of.to();
+        text.put(b"end");
+        text.number(u64::from(self.pid));
+        given.tell_counts(text);
+        text.number(self.packets);
+        text.number(self.scrambled);
+        text.number(u64::from(given.refusal()));
+        let is_cut = self.begun.is_some() && given.last() != self.begun;
+        text.put(if is_cut { b" 1" } else { b" 0" });
+        text.time(self.begun);
+        text.put(b"\n");
+    }
+}
+
+// A strange PCR, behind which a PTS has begun.
+fn known_after(pending: Option<Pending>, pts: u64) -> Option<Pending> {
+    let mut one = pending?;
+    if one.after.is_none() {
+        one.after = Some(pts);
+    }
+    Some(one)
+}
+
+// Tells a strange PCR.
+fn tell_pending(pid: u16, pending: Option<Pending>, pids: &Pids, text: &mut Text) {
+    let Some(one) = pending else {
+        return;
+    };
+    let strange = one.strange;
+    text.put(b"clock");
+    text.number(u64::from(pid));
+    text.time(one.before);
+    text.time(one.after);
+    text.ticks(strange.ticks);
+    text.number(strange.second.saturating_sub(strange.first));
+    text.number(strange.usual);
+    text.number(strange.usual_packets);
+    text.put(pids.told_between(pid, strange.first, strange.second));
+    text.put(b"\n");
+}

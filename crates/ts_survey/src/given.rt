@@ -1,0 +1,131 @@
+//! What the packets of a PID carry, piece after piece: PES packets, marks, and what is none.
+ghost use Rattle.std.specs.Prelude.{◌≡◌, []};
+
+use crate::adaptation::pts_said;
+use crate::pes_lines::PesLines;
+use crate::pid_packets::TakesPieces;
+use crate::text::Text;
+use ttx_pes::size_of;
+
+/// What was given of a PID.
+#[derive(Drop)]
+pub struct Given {
+    lines: PesLines,
+    // Whether a mark was due at any time since the last packet came.
+    is_broken: bool,
+    // Since the last PES packet: whether a mark is due, and the packets that were lost or scrambled.
+    has_mark: bool,
+    lost: u64,
+    scrambled: u64,
+    // The PTS of the last PES packet.
+    last: Option<u64>,
+    // Why nothing comes any more; 0 where something may.
+    refusal: u16,
+}
+
+impl Given {
+    /// Nothing yet.
+    pub fn new(lines: PesLines) -> Given {
+        Given {
+            lines,
+            is_broken: false,
+            has_mark: false,
+            lost: 0,
+            scrambled: 0,
+            last: None,
+            refusal: 0,
+        }
+    }
+
+    /// So many packets were lost.
+    pub fn add_lost(&mut self, count: u64) {
+        self.lost = self.lost.saturating_add(count);
+    }
+
+    /// A packet came that is scrambled.
+    pub fn add_scrambled(&mut self) {
+        self.scrambled = self.scrambled.saturating_add(1);
+    }
+
+    /// Why; 0 where something may come.
+    pub fn refusal(&self) -> u16 {
+        self.refusal
+    }
+
+    /// Another packet came.
+    pub fn go_on(&mut self) {
+        self.is_broken = self.has_mark;
+    }
+
+    /// Whether something is missing before what the last packet carries.
+    pub fn is_broken(&self) -> bool {
+        self.is_broken
+    }
+
+    /// The PTS of the last PES packet.
+    pub fn last(&self) -> Option<u64> {
+        self.last
+    }
+
+    // Tells a mark that is due.
+    fn tell_mark(&mut self, text: &mut Text) {
+        if self.has_mark {
+            self.has_mark = false;
+            self.lines.mark(self.lost, self.scrambled, text);
+        }
+    }
+
+    /// Tells what is not told yet of the PES packets.
+    pub fn flush(&mut self, text: &mut Text) {
+        self.lines.flush(text);
+    }
+
+    /// Nothing comes any more.
+    pub fn end(&mut self, text: &mut Text) {
+        self.tell_mark(text);
+        self.lines.end(text);
+    }
+
+    /// Tells how many PES packets and marks there are, and how many are marks.
+    pub fn tell_counts(&self, text: &mut Text) {
+        text.number(self.lines.count());
+        text.number(self.lines.marks());
+    }
+}
+
+impl TakesPieces for Given {
+    /// Takes a PES packet, a mark, or what is none, behind which nothing comes.
+    fn take(&mut self, piece: &[u8], text: &mut Text) {
+        if let Some(number) = refusal_of(piece) {
+            self.refusal = number;
+            self.tell_mark(text);
+        } else if is_mark(piece) {
+            self.has_mark = true;
+            self.is_broken = true;
+        } else {
+            self.tell_mark(text);
+            self.lines.take(piece, text);
+            self.last = pts_said(piece).or(self.last);
+            self.lost = 0;
+            self.scrambled = 0;
+        }
+    }
+}
+
+// The refusal of bytes that are no PES packet with Teletext; `None` of one, and of a mark.
+fn refusal_of(bytes: &[u8]) -> Option<u16> {
+    let head = bytes.first_chunk()?;
+    match size_of(head) {
+        Ok(_) => None,
+        Err(fault) => Some(u16::from(fault.code().number())),
+    }
+}
+
+/// Whether a PES packet is a mark: FF from byte 6 on (own).
+pub fn is_mark(pes: &[u8]) -> bool {
+    if pes.len() < 7 {
+        return false;
+    }
+    let (_, rest) = pes.split_at(6);
+    rest.iter().all(|byte| *byte == 0xFF)
+}

@@ -1,0 +1,88 @@
+//! What was heard in a PES packet: letters, and the numbers of its headers.
+use crate::text::Text;
+use arrayvec::ArrayVec;
+
+/// Deeds of a PES packet that are compared with those of the one before.
+#[derive(Drop)]
+pub struct Heard {
+    /// Letters: `c`, `h`, `e` in order, then `o`, `b`, `s`.
+    letters: ArrayVec<u8, 160>,
+    /// The eight numbers of each header of the page.
+    control: ArrayVec<u8, 640>,
+    /// Teletext packets.
+    units: u64,
+    /// The refusal of the PES packet; 0 for none.
+    fault: u16,
+}
+
+impl Heard {
+    /// Nothing.
+    pub fn new() -> Heard {
+        Heard {
+            letters: ArrayVec::new(),
+            control: ArrayVec::new(),
+            units: 0,
+            fault: 0,
+        }
+    }
+
+    /// Nothing yet, in the next PES packet: that is refused so, or 0.
+    pub fn begin(&mut self, fault: u16) {
+        self.letters.clear();
+        self.control.clear();
+        self.units = 0;
+        self.fault = fault;
+    }
+
+    /// Tells it.
+    pub fn tell(&self, text: &mut Text) {
+        text.put(b" ");
+        if self.letters.is_empty() {
+            text.put(b"-");
+        }
+        text.put(self.letters.as_slice());
+        text.put(b"/");
+        text.put(self.control.as_slice());
+        text.number(self.units);
+        text.number(u64::from(self.fault));
+        text.put(b"\n");
+    }
+
+    /// A letter.
+    pub fn add(&mut self, letter: u8) {
+        let _ = self.letters.try_push(letter);
+    }
+
+    /// A Teletext packet.
+    pub fn add_unit(&mut self) {
+        self.units = self.units.saturating_add(1);
+    }
+
+    /// The numbers of a header begin, behind those of another.
+    pub fn begin_header(&mut self) {
+        if !self.control.is_empty() {
+            let _ = self.control.try_push(b'+');
+        }
+    }
+
+    /// The next number of the header.
+    pub fn add_digit(&mut self, digit: u8) {
+        let _ = self.control.try_push(digit);
+    }
+
+    /// Whether the same was heard.
+    pub fn is_same(&self, other: &Heard) -> bool {
+        self.units == other.units
+            && self.fault == other.fault
+            && self.letters.as_slice() == other.letters.as_slice()
+            && self.control.as_slice() == other.control.as_slice()
+    }
+
+    /// Takes over what another one heard.
+    pub fn copy(&mut self, other: &Heard) {
+        self.begin(other.fault);
+        let _ = self.letters.try_extend_from_slice(other.letters.as_slice());
+        let _ = self.control.try_extend_from_slice(other.control.as_slice());
+        self.units = other.units;
+    }
+}

@@ -1,0 +1,42 @@
+//! What there is in a recording of a transport stream (ISO/IEC 13818-1), told line by line: tables,
+//! PIDs with Teletext, their PES packets and what a page holds, clocks, first pictures.
+//!
+//! Stands on `mpeg_ts` for what the packets of a PID carry, on `ttx_pes` for what a PES packet is
+//! refused for, and on `ttx_page` for what a receiver holds.
+//!
+//! ```text
+//! let options = SurveyOptions { page, pid: None, packet_size: None };
+//! survey(alloc, options, &mut recording, &mut lines)?;
+//! ```
+#![tactic(auto)]
+
+mod adaptation;
+mod carrier;
+mod character_set;
+mod clock;
+mod given;
+mod heard;
+mod laws;
+mod multiplex;
+mod notes;
+mod packet_sizes;
+mod packets_in_step;
+mod page;
+mod pes_file;
+mod pes_lines;
+mod pictures;
+mod pid_packets;
+mod pid_state;
+mod recording;
+mod room;
+mod rows;
+mod section;
+mod tables;
+mod telling;
+mod text;
+mod units;
+
+pub use laws::law_of_following;
+pub use pid_packets::{PidPackets, TakesPieces};
+pub use recording::SurveyOptions;
+pub use telling::{SurveyFault, survey};

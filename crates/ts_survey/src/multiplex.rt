@@ -1,0 +1,424 @@
+//! All that is followed in a transport stream, one packet after another.
+ghost use Rattle.std.specs.Prelude.{◌≡◌, ◌<◌};
+
+use crate::adaptation::{payload_in, pcr_base};
+use crate::carrier::{Carrier, LOOKED_AT};
+use crate::clock::Clock;
+use crate::pictures::Pictures;
+use crate::pid_state::{NONE, NULL_PID, PidState, Pids};
+use crate::section::{
+    Announced, FIRST_PMT, Stream, descriptor_at, names_pages, page_at, pmt_pid_at, programme_of,
+    stream_at,
+};
+use crate::tables::{SECTION_ROOM, Section, Tables, parts_of};
+use crate::text::Text;
+use mpeg_ts::{PACKET, announces_jump, begins, pid_of};
+use std::alloc::Global;
+use ttx_packet::PageId;
+
+/// PIDs with Teletext, clocks and video PIDs that are followed.
+const MOST: usize = 64;
+
+/// A transport stream.
+#[derive(Drop)]
+pub struct Multiplex {
+    alloc: Global,
+    page: PageId,
+    // The PID that alone is followed, where one is asked for.
+    asked: Option<u16>,
+    number: u64,
+    // The packet at which strange PCR are looked at again.
+    settle_at: u64,
+    is_short: bool,
+    pids: Pids,
+    tables: Tables,
+    carriers: Vec<Carrier>,
+    clocks: Vec<Clock>,
+    videos: Vec<Pictures>,
+}
+
+impl Multiplex {
+    /// Before the first packet. `None` where memory runs out.
+    pub fn new(
+        alloc: Global,
+        page: PageId,
+        asked: Option<u16>,
+        text: &mut Text,
+    ) -> Option<Multiplex> {
+        let pids = Pids::new(alloc)?;
+        let mut all = Multiplex {
+            alloc,
+            page,
+            asked,
+            number: 0,
+            settle_at: u64::MAX,
+            is_short: false,
+            pids,
+            tables: Tables::new(alloc),
+            carriers: Vec::new(alloc),
+            clocks: Vec::new(alloc),
+            videos: Vec::new(alloc),
+        };
+        all.add_table(0);
+        if let Some(pid) = asked {
+            all.follow(pid, text);
+        }
+        Some(all)
+    }
+
+    /// Whether memory ran out.
+    pub fn is_short(&self) -> bool {
+        self.is_short
+    }
+
+    /// Packets so far.
+    pub fn number(&self) -> u64 {
+        self.number
+    }
+
+    // Has the sections of a PID read.
+    fn add_table(&mut self, pid: u16) {
+        let mut state = self.pids.get(pid);
+        if state.table != NONE {
+            return;
+        }
+        if let Some(place) = self.tables.add() {
+            state.table = place;
+            self.pids.set(pid, state);
+        }
+    }
+
+    // Follows a PID with Teletext, where it is not followed yet and another one is not asked for.
+    fn follow(&mut self, pid: u16, text: &mut Text) {
+        let mut state = self.pids.get(pid);
+        let is_asked = match self.asked {
+            Some(asked) => asked == pid,
+            None => true,
+        };
+        let place = self.carriers.len();
+        if state.carrier != NONE || !is_asked || place >= MOST {
+            return;
+        }
+        let Some(carrier) = Carrier::new(self.alloc, pid, self.page) else {
+            self.is_short = true;
+            return;
+        };
+        if self.carriers.push(carrier).is_err() {
+            self.is_short = true;
+            return;
+        }
+        state.carrier = place as u8;
+        self.pids.set(pid, state);
+        text.put(b"teletext");
+        text.number(u64::from(pid));
+        text.put(b"\n");
+    }
+
+    // Follows the clock of a PID.
+    fn add_clock(&mut self, pid: u16) {
+        let mut state = self.pids.get(pid);
+        let place = self.clocks.len();
+        if pid == NULL_PID || state.clock != NONE || place >= MOST {
+            return;
+        }
+        if self.clocks.push(Clock::new(pid)).is_err() {
+            self.is_short = true;
+            return;
+        }
+        state.clock = place as u8;
+        self.pids.set(pid, state);
+    }
+
+    // Follows the pictures of a PID.
+    fn add_video(&mut self, pid: u16) {
+        let mut state = self.pids.get(pid);
+        let place = self.videos.len();
+        if state.video != NONE || place >= MOST {
+            return;
+        }
+        if self.videos.push(Pictures::new(pid)).is_err() {
+            self.is_short = true;
+            return;
+        }
+        state.video = place as u8;
+        self.pids.set(pid, state);
+    }
+
+    /// A packet came.
+    pub fn take(&mut self, packet: &[u8; PACKET], text: &mut Text) {
+        self.number = self.number.saturating_add(1);
+        let pid = pid_of(packet);
+        if pid == NULL_PID {
+            return;
+        }
+        let state = self.pids.count(pid, packet, self.number);
+        if state.table != NONE {
+            self.read_sections(state.table, packet, text);
+        }
+        if state.clock != NONE {
+            self.read_clock(state.clock, packet, text);
+        }
+        if begins(packet) && is_unknown(&state) {
+            self.look(pid, packet, text);
+        }
+        let state = self.pids.get(pid);
+        if let Some(pictures) = self.videos.get_mut(state.video as usize) {
+            pictures.take(packet, text);
+        }
+        if state.carrier != NONE {
+            self.carry(&state, packet, text);
+        }
+        if self.number >= self.settle_at {
+            self.settle(Some(self.number), text);
+        }
+    }
+
+    // A packet of a PID with Teletext came.
+    fn carry(&mut self, state: &PidState, packet: &[u8; PACKET], text: &mut Text) {
+        let number = self.number;
+        let Some(carrier) = self.carriers.get_mut(state.carrier as usize) else {
+            return;
+        };
+        let Some(pts) = carrier.take(packet, text) else {
+            return;
+        };
+        let clock = self.pids.get(state.clock_pid).clock;
+        let pcr = if carrier.is_due(pts) {
+            match self.clocks.get(clock as usize) {
+                Some(clock) => clock.near(number),
+                None => None,
+            }
+        } else {
+            None
+        };
+        carrier.note_begun(pts, pcr, text);
+    }
+
+    // A packet of a PID with a clock came.
+    fn read_clock(&mut self, place: u8, packet: &[u8; PACKET], text: &mut Text) {
+        let Some(clock) = self.clocks.get_mut(place as usize) else {
+            return;
+        };
+        clock.note(packet);
+        let Some(pcr) = pcr_base(packet) else {
+            return;
+        };
+        let strange = clock.take(pcr, self.number, text);
+        let pid = clock.pid();
+        if strange.is_some() {
+            let at = self.number.saturating_add(LOOKED_AT + 1);
+            self.settle_at = self.settle_at.min(at);
+        }
+        for carrier in self.carriers.iter_mut() {
+            if self.pids.get(carrier.pid()).clock_pid == pid {
+                carrier.note_pcr(strange, &self.pids, text);
+            }
+        }
+    }
+
+    // Tells the strange PCR of which all is known.
+    fn settle(&mut self, number: Option<u64>, text: &mut Text) {
+        let mut waits = false;
+        for carrier in self.carriers.iter_mut() {
+            carrier.settle(number, &self.pids, text);
+            waits = waits || carrier.waits();
+        }
+        self.settle_at = if waits {
+            self.number.saturating_add(1)
+        } else {
+            u64::MAX
+        };
+    }
+
+    // Looks at what begins in a PID of which nothing is known.
+    fn look(&mut self, pid: u16, packet: &[u8; PACKET], text: &mut Text) {
+        let payload = payload_in(packet);
+        if is_teletext(payload) {
+            self.follow(pid, text);
+        } else if payload.len() > 3 && payload[0] == 0 && payload[1] == 0 && payload[2] == 1 {
+            let mut state = self.pids.get(pid);
+            state.is_other = true;
+            self.pids.set(pid, state);
+            if payload[3] / 0x10 == 0xE {
+                self.add_video(pid);
+            }
+        }
+    }
+
+    // Reads the sections that a packet carries.
+    fn read_sections(&mut self, table: u8, packet: &[u8; PACKET], text: &mut Text) {
+        let (before, behind) = parts_of(packet, payload_in(packet));
+        self.tables.take(table, before, false);
+        self.read_tables(table, text);
+        if let Some(behind) = behind {
+            self.tables.take(table, behind, true);
+            self.read_tables(table, text);
+        }
+    }
+
+    // Reads the sections that are whole.
+    fn read_tables(&mut self, table: u8, text: &mut Text) {
+        for _ in 0..SECTION_ROOM {
+            if !self.read_table(table, text) {
+                return;
+            }
+        }
+    }
+
+    // Reads the next section that is whole; whether there is one.
+    fn read_table(&mut self, table: u8, text: &mut Text) -> bool {
+        let mut section = Section::new();
+        if !self.tables.next(table, &mut section) {
+            return false;
+        }
+        if self.tables.is_new(section.as_slice()) {
+            self.read_section(table, section.as_slice(), text);
+        }
+        true
+    }
+
+    // Reads a section that is new: of the PAT, whose place is the first, or of a PMT.
+    fn read_section(&mut self, table: u8, section: &[u8], text: &mut Text) {
+        if section.is_empty() {
+            return;
+        }
+        if table == 0 && section[0] == 0 {
+            self.read_pat(section);
+        } else if section[0] == 2 {
+            self.read_pmt(section, text);
+        }
+    }
+
+    // Has the PMT of each programme read that a PAT names.
+    fn read_pat(&mut self, section: &[u8]) {
+        let mut place = FIRST_PMT;
+        for _ in 0..1024u32 {
+            let Some(pid) = pmt_pid_at(section, place.min(4095)) else {
+                return;
+            };
+            if pid != NULL_PID {
+                self.add_table(pid);
+            }
+            place = place.saturating_add(4);
+        }
+    }
+
+    // Tells the programme of a PMT, and its streams.
+    fn read_pmt(&mut self, section: &[u8], text: &mut Text) {
+        let Some(programme) = programme_of(section) else {
+            return;
+        };
+        text.put(b"programme");
+        text.number(u64::from(programme.number));
+        text.number(u64::from(programme.clock_pid));
+        text.put(b"\n");
+        self.add_clock(programme.clock_pid);
+        let mut place = programme.first;
+        for _ in 0..1024u32 {
+            let Some(stream) = stream_at(section, place.min(0xFFFF)) else {
+                return;
+            };
+            self.read_stream(section, &stream, programme.clock_pid, text);
+            place = stream.end;
+        }
+    }
+
+    // Tells a stream, and the pages that it announces.
+    fn read_stream(&mut self, section: &[u8], stream: &Stream, clock_pid: u16, text: &mut Text) {
+        text.put(b"stream");
+        text.number(u64::from(stream.pid));
+        text.number(u64::from(stream.kind));
+        text.put(b"\n");
+        let mut state = self.pids.get(stream.pid);
+        state.clock_pid = clock_pid;
+        self.pids.set(stream.pid, state);
+        if tell_pages(section, stream, text) {
+            self.follow(stream.pid, text);
+        }
+    }
+
+    /// So many bytes were skipped that packets of any PID may be missing.
+    pub fn note_hole(&mut self) {
+        for carrier in self.carriers.iter_mut() {
+            carrier.note_hole();
+        }
+    }
+
+    /// Tells what is not told yet, since nothing more is there for now.
+    pub fn flush(&mut self, text: &mut Text) {
+        for carrier in self.carriers.iter_mut() {
+            carrier.flush(text);
+        }
+    }
+
+    /// The recording is over: tells what is known of PID after PID, and of clocks and pictures.
+    pub fn end(&mut self, text: &mut Text) {
+        self.settle(None, text);
+        for video in self.videos.iter() {
+            video.end(text);
+        }
+        for pid in 0..NULL_PID {
+            let place = self.pids.get(pid).carrier;
+            if let Some(carrier) = self.carriers.get_mut(place as usize) {
+                carrier.end(text);
+            }
+        }
+        for clock in self.clocks.iter() {
+            clock.end(text);
+        }
+    }
+}
+
+// Whether nothing is known of what a PID carries.
+fn is_unknown(state: &PidState) -> bool {
+    state.carrier == NONE && state.table == NONE && !state.is_other
+}
+
+// Whether a payload begins with a PES packet of Teletext: private_stream_1, whose first data byte is
+// a data_identifier of EBU data, 10 to 1F (EN 300 472).
+fn is_teletext(payload: &[u8]) -> bool {
+    if payload.len() < 10 || payload[0] != 0 || payload[1] != 0 || payload[2] != 1 {
+        return false;
+    }
+    let place = 9 + payload[8] as usize;
+    match payload.get(place) {
+        Some(identifier) => payload[3] == 0xBD && *identifier / 0x10 == 1,
+        None => false,
+    }
+}
+
+// Tells the pages that a stream announces; whether there are any.
+fn tell_pages(section: &[u8], stream: &Stream, text: &mut Text) -> bool {
+    let end = stream.end.min(section.len());
+    let mut has_pages = false;
+    let mut place = stream.first;
+    for _ in 0..2048u32 {
+        let Some(descriptor) = descriptor_at(section, place.min(0xFFFF), end) else {
+            break;
+        };
+        if names_pages(&descriptor) {
+            let mut at = descriptor.first;
+            for _ in 0..64u32 {
+                let Some(page) = page_at(section, at.min(0xFFFF), descriptor.end) else {
+                    break;
+                };
+                has_pages = true;
+                tell_page(stream.pid, &page, text);
+                at = at.saturating_add(5);
+            }
+        }
+        place = descriptor.end;
+    }
+    has_pages
+}
+
+// Tells a page that is announced.
+fn tell_page(pid: u16, page: &Announced, text: &mut Text) {
+    text.put(b"announce");
+    text.number(u64::from(pid));
+    text.page(page.magazine % 8, page.page);
+    text.put(b" ");
+    text.hex(&page.language);
+    text.number(u64::from(page.kind));
+    text.put(b"\n");
+}

@@ -1,0 +1,80 @@
+//! What a receiver of the page hears in PES packets, and what it holds then.
+ghost use Rattle.std.specs.Prelude.{◌≡◌};
+ghost use Rattle.ttx_page.specs.Receiver.{Hears};
+ghost use Rattle.ts_survey.specs.Heard.{heard_packets, lent_packets};
+
+use crate::heard::Heard;
+use crate::notes::Notes;
+use crate::text::Text;
+use crate::units::{behind, unit_of, units_of};
+use std::alloc::Global;
+use ttx_packet::{PageId, SentPacket};
+use ttx_page::{Blank, Page, Receiver};
+
+/// A page that is followed: a receiver of it, and what is told of what that hears.
+#[derive(Drop)]
+pub struct Following {
+    receiver: Blank,
+    notes: Notes,
+}
+
+impl Following {
+    /// Of this page. `None` where memory runs out.
+    pub fn new(alloc: Global, page: PageId) -> Option<Following> {
+        let notes = Notes::new(alloc)?;
+        Some(Following {
+            receiver: Blank::tune(page, Page::blank()),
+            notes,
+        })
+    }
+
+    /// Hears a PES packet of a PID.
+    pub fn hear(&mut self, pes: &[u8], pid: u16, heard: &mut Heard, text: &mut Text)
+        ensures watched { self.new.receiver.watched ≡ self.old.receiver.watched }
+        ensures hears { Hears self.old.receiver.watched self.old.receiver.state
+            (heard_packets pes.now) self.new.receiver.state }
+    {
+        self.notes.begin();
+        let mut rest = units_of(pes);
+        'units: for _ in 0..pes.len() {
+            let Some(unit) = unit_of(rest) else {
+                break;
+            };
+            self.hear_unit(unit.packet, pid, heard, text);
+            rest = behind(rest, unit.size);
+        }
+        self.notes.end(self.receiver.open(), heard);
+    }
+
+    // Hears the packet of a data unit, where it has one.
+    fn hear_unit(&mut self, sent: Option<&[u8; 42]>, pid: u16, heard: &mut Heard, text: &mut Text)
+        ensures watched { self.new.receiver.watched ≡ self.old.receiver.watched }
+        ensures hears { Hears self.old.receiver.watched self.old.receiver.state
+            (lent_packets sent.entry) self.new.receiver.state }
+    {
+        match sent {
+            None => {}
+            Some(bytes) => {
+                let packet = SentPacket::new(bytes).packet();
+                self.notes.note(&self.receiver, &packet, pid, heard, text);
+                self.receiver.hear(&packet);
+            }
+        }
+    }
+
+    /// Whether rows have to be told after a PES packet: at the first header of the page, and where
+    /// they are others than those told last.
+    pub fn is_changed(&self) -> bool {
+        self.receiver.heard() && self.notes.is_changed()
+    }
+
+    /// What is told of what was heard.
+    pub fn notes(&self) -> &Notes {
+        &self.notes
+    }
+
+    /// The same, to be told.
+    pub fn notes_mut(&mut self) -> &mut Notes {
+        &mut self.notes
+    }
+}

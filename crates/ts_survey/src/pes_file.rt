@@ -1,0 +1,121 @@
+//! A file of PES packets.
+ghost use Rattle.std.specs.Prelude.{◌≡◌, ◌≤◌, ℕ, length};
+
+use crate::adaptation::pts_said;
+use crate::given::is_mark;
+use crate::pes_lines::PesLines;
+use crate::text::Text;
+use std::alloc::Global;
+use ttx_packet::PageId;
+
+/// How far a file of PES packets was read.
+#[derive(Drop)]
+pub struct PesFile {
+    lines: PesLines,
+    last: Option<u64>,
+    is_damaged: bool,
+}
+
+// The PES packet at a place of bytes.
+#[derive(Clone, Copy)]
+enum Piece {
+    // So many bytes.
+    Whole(usize),
+    // Not all of it has come.
+    Unfinished,
+    // It has another start.
+    Other,
+}
+
+// The PES packet that the bytes begin with, by its length.
+fn piece_of(bytes: &[u8]) -> Piece
+    ensures { (size : ℕ) → result ≡ Piece.Whole size → size ≤ length bytes.now }
+{
+    if bytes.len() < 6 {
+        return Piece::Unfinished;
+    }
+    if bytes[0] != 0 || bytes[1] != 0 || bytes[2] != 1 || bytes[3] != 0xBD {
+        return Piece::Other;
+    }
+    let size = 6 + bytes[4] as usize * 0x100 + bytes[5] as usize;
+    if bytes.len() < size {
+        return Piece::Unfinished;
+    }
+    Piece::Whole(size)
+}
+
+impl PesFile {
+    /// Before the first. `None` where memory runs out.
+    pub fn new(alloc: Global, page: PageId) -> Option<PesFile> {
+        let lines = PesLines::new(alloc, 0, page)?;
+        Some(PesFile {
+            lines,
+            last: None,
+            is_damaged: false,
+        })
+    }
+
+    /// Takes the PES packets that the bytes have, and answers how many bytes are not needed any
+    /// more.
+    pub fn take(&mut self, bytes: &[u8], is_end: bool, text: &mut Text) -> usize
+        ensures { result ≤ length bytes.now }
+    {
+        if self.is_damaged {
+            return bytes.len();
+        }
+        let mut rest = bytes;
+        for _ in 0..bytes.len() {
+            match piece_of(rest) {
+                Piece::Whole(size) => {
+                    let (piece, more) = rest.split_at(size);
+                    self.take_piece(piece, text);
+                    rest = more;
+                }
+                Piece::Unfinished => break,
+                Piece::Other => {
+                    self.tell_damage(b" start\n", text);
+                    return bytes.len();
+                }
+            }
+        }
+        if is_end && !rest.is_empty() {
+            self.tell_damage(b" cut\n", text);
+        }
+        bytes.len().saturating_sub(rest.len())
+    }
+
+    // A PES packet, or a mark.
+    fn take_piece(&mut self, piece: &[u8], text: &mut Text) {
+        if is_mark(piece) {
+            self.lines.mark(0, 0, text);
+            return;
+        }
+        self.lines.take(piece, text);
+        self.last = pts_said(piece).or(self.last);
+    }
+
+    // The file can't be read on.
+    fn tell_damage(&mut self, why: &[u8], text: &mut Text) {
+        self.is_damaged = true;
+        self.lines.flush(text);
+        text.put(b"damaged 0");
+        text.number(self.lines.count());
+        text.put(why);
+    }
+
+    /// Tells what is not told yet, since nothing more is there for now.
+    pub fn flush(&mut self, text: &mut Text) {
+        self.lines.flush(text);
+    }
+
+    /// The file is over.
+    pub fn end(&mut self, text: &mut Text) {
+        self.lines.end(text);
+        text.put(b"end 0");
+        text.number(self.lines.count());
+        text.number(self.lines.marks());
+        text.put(b" 0 0 0 0");
+        text.time(self.last);
+        text.put(b"\n");
+    }
+}

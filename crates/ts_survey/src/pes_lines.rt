@@ -1,0 +1,177 @@
+//! The lines of the PES packets of a PID: runs of them, marks, and what the page holds.
+ghost use Rattle.std.specs.Prelude.{◌≡◌, ◌≤◌, ◌<◌};
+
+use crate::adaptation::pts_said;
+use crate::heard::Heard;
+use crate::page::Following;
+use crate::text::{Text, forward};
+use std::alloc::Global;
+use sub_io::MemSource;
+use ttx_packet::PageId;
+use ttx_pes::{PesFrame, PesReader};
+
+/// PES packets in a row with one step, in which the same was heard.
+#[derive(Drop)]
+struct Run {
+    first: u64,
+    count: u64,
+    pts: Option<u64>,
+    last: u64,
+    step: u64,
+    heard: Heard,
+}
+
+/// The PES packets of a PID.
+#[derive(Drop)]
+pub struct PesLines {
+    pid: u16,
+    page: Following,
+    heard: Heard,
+    run: Run,
+    frame: PesFrame,
+    count: u64,
+    marks: u64,
+}
+
+// The refusal by which a PES packet is not read; 0 for none.
+fn refusal(pes: &[u8], frame: &mut PesFrame) -> u16 {
+    let mut source = MemSource::new(pes);
+    let mut reader = PesReader::new();
+    match reader.next_into(&mut source, frame) {
+        Ok(_) => 0,
+        Err(fault) => u16::from(fault.code().number()),
+    }
+}
+
+impl PesLines {
+    /// Before the first. `None` where memory runs out.
+    pub fn new(alloc: Global, pid: u16, page: PageId) -> Option<PesLines> {
+        let page = Following::new(alloc, page)?;
+        Some(PesLines {
+            pid,
+            page,
+            heard: Heard::new(),
+            run: Run {
+                first: 0,
+                count: 0,
+                pts: None,
+                last: 0,
+                step: 0,
+                heard: Heard::new(),
+            },
+            frame: PesFrame::new(0),
+            count: 0,
+            marks: 0,
+        })
+    }
+
+    /// PES packets and marks so far.
+    pub fn count(&self) -> u64 {
+        self.count
+    }
+
+    /// How many of them are marks.
+    pub fn marks(&self) -> u64 {
+        self.marks
+    }
+
+    /// A PES packet came.
+    pub fn take(&mut self, pes: &[u8], text: &mut Text) {
+        let pts = pts_said(pes);
+        self.heard.begin(refusal(pes, &mut self.frame));
+        if pts.is_some() {
+            self.page.hear(pes, self.pid, &mut self.heard, text);
+        }
+        let is_changed = pts.is_some() && self.page.is_changed();
+        let has_strays = pts.is_some() && self.page.notes().has_new_strays();
+        let number = self.count;
+        self.count = self.count.saturating_add(1);
+        let is_joined = !is_changed && !has_strays && self.join(pts);
+        if !is_joined {
+            self.flush(text);
+            self.begin(number, pts);
+        }
+        if is_changed || has_strays {
+            self.flush(text);
+            self.tell_page(number, is_changed, has_strays, text);
+        }
+    }
+
+    // Adds a PES packet to the run, where it goes on with it; whether it does.
+    fn join(&mut self, pts: Option<u64>) -> bool {
+        let Some(now) = pts else {
+            return false;
+        };
+        if self.run.count == 0 || self.run.pts.is_none() || !self.run.heard.is_same(&self.heard) {
+            return false;
+        }
+        let step = forward(self.run.last, now);
+        if self.run.count > 1 && step != self.run.step {
+            return false;
+        }
+        self.run.step = step;
+        self.run.last = now;
+        self.run.count = self.run.count.saturating_add(1);
+        true
+    }
+
+    // Begins a run.
+    fn begin(&mut self, number: u64, pts: Option<u64>) {
+        self.run.first = number;
+        self.run.count = 1;
+        self.run.pts = pts;
+        self.run.last = pts.unwrap_or(0);
+        self.run.step = 0;
+        self.run.heard.copy(&self.heard);
+    }
+
+    /// Tells the run, where there is one.
+    pub fn flush(&mut self, text: &mut Text) {
+        if self.run.count == 0 {
+            return;
+        }
+        text.put(b"pes");
+        text.number(u64::from(self.pid));
+        text.number(self.run.first);
+        text.number(self.run.count);
+        text.time(self.run.pts);
+        text.ticks(self.run.step);
+        self.run.heard.tell(text);
+        self.run.count = 0;
+    }
+
+    // Tells what the page holds, and strays, behind the PES packet.
+    fn tell_page(&mut self, number: u64, is_changed: bool, has_strays: bool, text: &mut Text) {
+        if is_changed {
+            text.put(b"rows");
+            text.number(u64::from(self.pid));
+            text.number(number);
+            self.page.notes_mut().tell_rows(text);
+        }
+        if has_strays {
+            text.put(b"strays");
+            text.number(u64::from(self.pid));
+            text.number(number);
+            self.page.notes_mut().tell_strays(text);
+        }
+    }
+
+    /// A mark came: so many packets were lost and scrambled.
+    pub fn mark(&mut self, lost: u64, scrambled: u64, text: &mut Text) {
+        self.flush(text);
+        text.put(b"gap");
+        text.number(u64::from(self.pid));
+        text.number(self.count);
+        text.number(lost);
+        text.number(scrambled);
+        text.put(b"\n");
+        self.count = self.count.saturating_add(1);
+        self.marks = self.marks.saturating_add(1);
+    }
+
+    /// They are over: the pages with subtitles are told.
+    pub fn end(&mut self, text: &mut Text) {
+        self.flush(text);
+        self.page.notes().tell_pages(self.pid, text);
+    }
+}

@@ -1,0 +1,165 @@
+//! What is kept of every PID: its counter, and what it carries.
+ghost use Rattle.std.specs.Prelude.{◌≡◌, ◌<◌, length};
+
+use mpeg_ts::{PACKET, announces_jump, counter_of, has_payload};
+use std::alloc::Global;
+
+/// PIDs: 13 bits.
+pub const PIDS: usize = 8192;
+
+/// The PID of null packets.
+pub const NULL_PID: u16 = 0x1FFF;
+
+/// In place of the place of something of which there is none.
+pub const NONE: u8 = 0xFF;
+
+/// What is kept of a PID.
+#[derive(Clone, Copy)]
+pub struct PidState {
+    /// The last counter, and the numbers of the first packet with a payload and of the last: 0 for
+    /// none.
+    pub counter: u8,
+    pub first: u64,
+    pub last: u64,
+    /// The PCR_PID of the programme that names it last.
+    pub clock_pid: u16,
+    /// The places of its sections, its clock, its pictures and its PES packets; `NONE` for none.
+    pub table: u8,
+    pub clock: u8,
+    pub video: u8,
+    pub carrier: u8,
+    /// Whether something else than Teletext began in it.
+    pub is_other: bool,
+}
+
+/// A break of a counter: between two packets, by their numbers.
+#[derive(Clone, Copy)]
+pub struct Break {
+    pub pid: u16,
+    pub before: u64,
+    pub at: u64,
+}
+
+/// Breaks that are kept: the last ones.
+const BREAKS: usize = 256;
+
+/// All PIDs, and the last breaks of their counters.
+#[derive(Drop)]
+pub struct Pids {
+    states: Vec<PidState>,
+    breaks: [Break; BREAKS],
+    next: usize,
+}
+
+// Nothing is known of a PID.
+fn unknown() -> PidState {
+    PidState {
+        counter: 0,
+        first: 0,
+        last: 0,
+        clock_pid: NULL_PID,
+        table: NONE,
+        clock: NONE,
+        video: NONE,
+        carrier: NONE,
+        is_other: false,
+    }
+}
+
+impl Pids {
+    /// Nothing is known of any. `None` where memory runs out.
+    pub fn new(alloc: Global) -> Option<Pids> {
+        let mut states = Vec::new(alloc);
+        for _ in 0..PIDS {
+            match states.push(unknown()) {
+                Ok(()) => {}
+                Err(_) => return None,
+            }
+        }
+        let none = Break {
+            pid: NULL_PID,
+            before: 0,
+            at: 0,
+        };
+        Some(Pids {
+            states,
+            breaks: [none; BREAKS],
+            next: 0,
+        })
+    }
+
+    /// What is known of a PID.
+    #[inline(always)]
+    pub fn get(&self, pid: u16) -> PidState {
+        match self.states.get(pid as usize) {
+            Some(state) => *state,
+            None => unknown(),
+        }
+    }
+
+    /// Sets what is known of a PID.
+    pub fn set(&mut self, pid: u16, state: PidState) {
+        if let Some(place) = self.states.get_mut(pid as usize) {
+            *place = state;
+        }
+    }
+
+    /// Follows the counter of a PID, and answers what is known of it. A packet of no PID but this
+    /// has the number.
+    #[inline(always)]
+    pub fn count(&mut self, pid: u16, packet: &[u8; PACKET], number: u64) -> PidState {
+        let Some(state) = self.states.get_mut(pid as usize) else {
+            return unknown();
+        };
+        if packet[1] >= 0x80 || !has_payload(packet) {
+            return *state;
+        }
+        let (before, last) = (state.last, state.counter);
+        let counter = counter_of(packet);
+        state.counter = counter;
+        state.last = number;
+        if before == 0 {
+            state.first = number;
+        }
+        let known = *state;
+        let goes_on = counter == last || counter == (last % 0x10 + 1) % 0x10;
+        if before != 0 && !goes_on && !announces_jump(packet) {
+            self.add_break(Break {
+                pid,
+                before,
+                at: number,
+            });
+        }
+        known
+    }
+
+    // Keeps a break, in place of the oldest.
+    fn add_break(&mut self, one: Break) {
+        let next = self.next;
+        if let Some(place) = self.breaks.get_mut(next) {
+            *place = one;
+        }
+        self.next = (next % BREAKS + 1) % BREAKS;
+    }
+
+    /// What the counters of other PIDs tell of the packets between two: `broken`, `whole`, or
+    /// nothing.
+    pub fn told_between(&self, pid: u16, first: u64, second: u64) -> &'static [u8] {
+        let is_broken = self.breaks.iter().any(|one| {
+            one.pid != pid && one.before != 0 && one.before < second && one.at > first
+        });
+        if is_broken {
+            return b" broken";
+        }
+        for (other, state) in self.states.iter().enumerate() {
+            if other != pid as usize
+                && state.first != 0
+                && state.first <= first
+                && state.last > first
+            {
+                return b" whole";
+            }
+        }
+        b" unknown"
+    }
+}

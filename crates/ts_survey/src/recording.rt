@@ -1,0 +1,207 @@
+//! A recording, whatever it is: bytes come, and lines are made.
+ghost use Rattle.std.specs.Prelude.{◌≡◌, ◌≤◌, length};
+
+use crate::multiplex::Multiplex;
+use crate::packet_sizes::find_size;
+use crate::packets_in_step::PacketsInStep;
+use crate::pes_file::PesFile;
+use crate::text::Text;
+use mpeg_ts::{PacketSize, Pid};
+use std::alloc::Global;
+use ttx_packet::PageId;
+
+/// What is asked of a recording.
+#[derive(Clone, Copy, Debug, PartialEq, Eq)]
+pub struct SurveyOptions {
+    /// The page that is followed.
+    pub page: PageId,
+    /// The PID that alone is followed; `None` for each with Teletext.
+    pub pid: Option<Pid>,
+    /// The bytes from one packet to the next; `None` where they are to be found.
+    pub packet_size: Option<PacketSize>,
+}
+
+/// The bytes that are told of the recording.
+const HEAD: usize = 11;
+
+/// Bytes that are looked at together for the distance of packets; and how many at most.
+const LOOKED_AT: usize = 65_536;
+
+const MOST_LOOKED_AT: u64 = 0x100_0000;
+
+// What is not needed again of bytes in which no distance was found: the last ones may begin one.
+const KEPT: usize = 1024;
+
+/// What a recording is.
+#[derive(Drop)]
+enum Kind {
+    /// Not known yet.
+    Unknown,
+    /// A file of PES packets.
+    Pes(PesFile),
+    /// A transport stream.
+    Stream(PacketsInStep, Multiplex),
+    /// None of both.
+    Nothing,
+}
+
+/// A recording, as far as it has come.
+#[derive(Drop)]
+pub struct Recording {
+    alloc: Global,
+    asked: SurveyOptions,
+    has_head: bool,
+    skipped: u64,
+    is_short: bool,
+    kind: Kind,
+}
+
+impl Recording {
+    /// Before the first byte.
+    pub fn new(alloc: Global, asked: SurveyOptions) -> Recording {
+        Recording {
+            alloc,
+            asked,
+            has_head: false,
+            skipped: 0,
+            is_short: false,
+            kind: Kind::Unknown,
+        }
+    }
+
+    /// Whether memory ran out.
+    pub fn is_short(&self) -> bool {
+        self.is_short
+            || match &self.kind {
+                Kind::Stream(_, multiplex) => multiplex.is_short(),
+                _ => false,
+            }
+    }
+
+    /// Takes bytes: those that were not needed before, and what has come. Answers how many are not
+    /// needed any more.
+    pub fn take(&mut self, bytes: &[u8], is_end: bool, text: &mut Text) -> usize
+        ensures { result ≤ length bytes.now }
+    {
+        if !self.has_head {
+            if bytes.len() < HEAD && !is_end {
+                return 0;
+            }
+            self.tell_head(bytes, text);
+        }
+        if let Kind::Unknown = &self.kind {
+            let used = self.look(bytes, is_end, text);
+            if let Kind::Unknown = &self.kind {
+                return used;
+            }
+        }
+        match &mut self.kind {
+            Kind::Pes(file) => file.take(bytes, is_end, text),
+            Kind::Stream(packets, multiplex) => packets.take(bytes, is_end, multiplex, text),
+            _ => bytes.len(),
+        }
+    }
+
+    // Tells the first bytes, and what they say.
+    fn tell_head(&mut self, bytes: &[u8], text: &mut Text) {
+        self.has_head = true;
+        let (head, _) = bytes.split_at(bytes.len().min(HEAD));
+        text.put(b"survey 1\nhead");
+        if !head.is_empty() {
+            text.put(b" ");
+        }
+        text.hex(head);
+        text.put(b"\n");
+        if !is_pes_file(head) {
+            return;
+        }
+        text.put(b"size 0\n");
+        match PesFile::new(self.alloc, self.asked.page) {
+            Some(file) => self.kind = Kind::Pes(file),
+            None => self.is_short = true,
+        }
+    }
+
+    // Looks for the distance of packets. Answers how many bytes need not be looked at again.
+    fn look(&mut self, bytes: &[u8], is_end: bool, text: &mut Text) -> usize
+        ensures { result ≤ length bytes.now }
+    {
+        let found = match self.asked.packet_size {
+            Some(size) => Some(size),
+            None => find_size(bytes, is_end),
+        };
+        if let Some(size) = found {
+            self.begin(size, text);
+            return 0;
+        }
+        let used = if bytes.len() > LOOKED_AT {
+            bytes.len() - KEPT
+        } else {
+            0
+        };
+        let seen = self.skipped.saturating_add(bytes.len() as u64);
+        if is_end || seen > MOST_LOOKED_AT {
+            text.put(b"nothing\n");
+            self.kind = Kind::Nothing;
+            self.skipped = seen;
+            return bytes.len();
+        }
+        self.skipped = self.skipped.saturating_add(used as u64);
+        used
+    }
+
+    // It is a transport stream.
+    fn begin(&mut self, size: PacketSize, text: &mut Text) {
+        text.put(b"size");
+        text.number(size.bytes() as u64);
+        text.put(b"\n");
+        let pid = match self.asked.pid {
+            Some(pid) => Some(pid.number()),
+            None => None,
+        };
+        match Multiplex::new(self.alloc, self.asked.page, pid, text) {
+            Some(multiplex) => {
+                let packets = PacketsInStep::new(size, self.skipped);
+                self.kind = Kind::Stream(packets, multiplex);
+            }
+            None => self.is_short = true,
+        }
+    }
+
+    /// Tells what is not told yet, since nothing more is there for now.
+    pub fn flush(&mut self, text: &mut Text) {
+        match &mut self.kind {
+            Kind::Pes(file) => file.flush(text),
+            Kind::Stream(_, multiplex) => multiplex.flush(text),
+            _ => {}
+        }
+    }
+
+    /// The recording is over.
+    pub fn end(&mut self, text: &mut Text) {
+        let (skipped, number) = match &mut self.kind {
+            Kind::Pes(file) => {
+                file.end(text);
+                (0, 0)
+            }
+            Kind::Stream(packets, multiplex) => {
+                multiplex.end(text);
+                (packets.skipped(), multiplex.number())
+            }
+            _ => (self.skipped, 0),
+        };
+        text.put(b"over");
+        text.number(skipped);
+        text.number(number);
+        text.put(b"\n");
+    }
+}
+
+// Whether a recording is a file of PES packets, by its first bytes. A time stamp before the first
+// packet may be the same.
+fn is_pes_file(head: &[u8]) -> bool {
+    if head.len() < 4 || head[0] != 0 || head[1] != 0 || head[2] != 1 || head[3] != 0xBD {
+        return false;
+    }
+    head.len() < 5 || head[4] != 0x47
+}

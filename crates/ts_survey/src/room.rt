@@ -1,0 +1,78 @@
+//! Room for bytes of a recording that are to be looked at.
+ghost use Rattle.std.specs.Prelude.{◌≡◌, ◌≤◌, ◌+◌, length, vec_len, slice_range, take, IfOk, false};
+ghost use Rattle.sub_io.specs.Device.{CanFail, CountsFailure};
+
+use std::alloc::Global;
+use sub_io::{Failed, Source};
+
+/// Room for the longest PES packet of a file, and for what is read at once.
+const ROOM: usize = 131_072;
+
+/// Bytes that are read at once: fewer come of a feed.
+const AT_ONCE: usize = 32_768;
+
+/// What has come.
+#[derive(Clone, Copy)]
+pub struct Came {
+    /// Nothing: the recording is at its end.
+    pub is_end: bool,
+    /// Less than was asked for: nothing more is there for now.
+    pub is_short: bool,
+}
+
+/// Bytes that were read and are still to be looked at.
+#[derive(Drop)]
+pub struct Room {
+    bytes: Vec<u8>,
+    len: usize,
+
+    ghost within: { len ≤ vec_len bytes },
+}
+
+impl Room {
+    /// None. `None` where memory runs out.
+    pub fn new(alloc: Global) -> Option<Room> {
+        match vec![in alloc; 0; ROOM] {
+            Ok(bytes) => Some(Room { bytes, len: 0 }),
+            Err(_) => None,
+        }
+    }
+
+    /// Reads on, once.
+    ///
+    /// # Errors
+    ///
+    /// `Failed` where the source failed.
+    pub fn pull<S: Source>(&mut self, source: &mut S) -> Result<Came, Failed>
+        requires { CanFail (S.failure_count source.old) }
+        ensures count { CountsFailure (S.failure_count source.old) result
+            (S.failure_count source.new) }
+    {
+        let len = self.len;
+        let bytes = self.bytes.as_mut_slice();
+        let end = bytes.len().min(len.saturating_add(AT_ONCE));
+        let count = source.pull(&mut bytes[len..end])?;
+        self.len = len + count;
+        Ok(Came {
+            is_end: count == 0,
+            is_short: count < end - len,
+        })
+    }
+
+    /// The bytes.
+    pub fn held(&self) -> &[u8]
+        ensures { length result.now ≡ self.now.len }
+    {
+        let (held, _) = self.bytes.as_slice().split_at(self.len);
+        held
+    }
+
+    /// The first so many are not needed any more.
+    pub fn pass(&mut self, count: usize)
+        requires { count ≤ self.old.len }
+    {
+        let len = self.len;
+        self.bytes.as_mut_slice().copy_within(count..len, 0);
+        self.len = len - count;
+    }
+}

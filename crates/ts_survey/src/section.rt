@@ -1,0 +1,238 @@
+//! Sections of tables, and what those of a PAT and of a PMT say (ISO/IEC 13818-1, 2.4.4).
+ghost use Rattle.std.specs.Prelude.{◌≡◌, ◌≤◌, ◌<◌, ◌+◌, length, slice_index, ◌*◌, IfSome};
+ghost use Rattle.ts_survey.specs.Section.{crc_after, crc_of, crc_shifted, descriptor_at, length_at};
+ghost use Rattle.ts_survey.specs.Section.{name_of, number_at, page_at, pid_at, pmt_pid_at};
+ghost use Rattle.ts_survey.specs.Section.{programme_of, section_size, stream_at};
+
+/// The bytes before the first thing that a PAT names, and before the descriptors of a PMT.
+const PAT_HEAD: usize = 8;
+
+const PMT_HEAD: usize = 12;
+
+/// The bytes of a CRC_32.
+const CRC: usize = 4;
+
+/// The size of the section that begins the bytes, by its section_length, 3 to 4098. `None` where
+/// fewer than three are there.
+pub fn section_size(bytes: &[u8]) -> Option<usize>
+    ensures value { result ≡ section_size bytes.now }
+    ensures range { IfSome result (λ size. (3 ≤ size) × (size ≤ 4098)) }
+    ensures there { IfSome result (λ _. 3 ≤ length bytes.now) }
+{
+    if bytes.len() < 3 {
+        return None;
+    }
+    Some(3 + length_at(bytes, 1))
+}
+
+// A length of twelve bits.
+fn length_at(bytes: &[u8], place: usize) -> usize
+    requires { place + 2 ≤ length bytes.now }
+    ensures value { result ≡ length_at bytes.now place }
+    ensures range { result < 4096 }
+{
+    (bytes[place] % 0x10) as usize * 0x100 + bytes[place + 1] as usize
+}
+
+// A PID: thirteen bits.
+fn pid_at(bytes: &[u8], place: usize) -> u16
+    requires { place + 2 ≤ length bytes.now }
+    ensures value { result ≡ pid_at bytes.now place }
+    ensures range { result < 8192 }
+{
+    (bytes[place] % 0x20) as u16 * 0x100 + bytes[place + 1] as u16
+}
+
+// A number of sixteen bits.
+fn number_at(bytes: &[u8], place: usize) -> u16
+    requires { place + 2 ≤ length bytes.now }
+    ensures { result ≡ number_at bytes.now place }
+{
+    bytes[place] as u16 * 0x100 + bytes[place + 1] as u16
+}
+
+/// The CRC_32 of bytes (ISO/IEC 13818-1, annex A): 0 of a section that came whole.
+pub fn crc_of(bytes: &[u8]) -> u32
+    ensures { result ≡ crc_of bytes.now }
+{
+    bytes
+        .iter()
+        .fold(0xFFFF_FFFF, |crc, byte| crc_after(crc, *byte))
+}
+
+// The CRC after one more byte.
+#[tactic(auto, unfolding(crate::specs::Section::crc_after))]
+fn crc_after(crc: u32, byte: u8) -> u32
+    ensures { result ≡ crc_after crc byte }
+{
+    let half = crc_shifted(crc_shifted(crc_shifted(crc_shifted(crc ^ (byte as u32 * 0x100_0000)))));
+    crc_shifted(crc_shifted(crc_shifted(crc_shifted(half))))
+}
+
+// The CRC after one more bit.
+#[tactic(auto, unfolding(crate::specs::Section::crc_shifted))]
+fn crc_shifted(crc: u32) -> u32
+    ensures { result ≡ crc_shifted crc }
+{
+    if crc >= 0x8000_0000 {
+        (2 * (crc - 0x8000_0000)) ^ 0x04C1_1DB7
+    } else {
+        2 * crc
+    }
+}
+
+/// What tells a section from others: table_id, the number behind it (of a programme in a PMT), and
+/// section_number; and which one it is, by its CRC_32.
+#[derive(Clone, Copy, PartialEq, Eq)]
+pub struct SectionName {
+    pub table: u8,
+    pub number: u16,
+    pub section: u8,
+}
+
+/// The name of a section. `None` where it is too short to have one and a CRC.
+pub fn name_of(section: &[u8]) -> Option<SectionName>
+    ensures { result ≡ name_of section.now }
+{
+    if section.len() < PAT_HEAD + CRC {
+        return None;
+    }
+    Some(SectionName {
+        table: section[0],
+        number: number_at(section, 3),
+        section: section[6],
+    })
+}
+
+/// The PID of the PMT at a place of a PAT section, 8 and then each fourth byte: `None` behind the
+/// last, and `NULL_PID` where a network is named in place of a programme.
+pub fn pmt_pid_at(section: &[u8], place: usize) -> Option<u16>
+    requires { place < 4096 }
+    ensures value { result ≡ pmt_pid_at section.now place }
+    ensures range { IfSome result (λ pid. pid < 8192) }
+{
+    if section.len() < place + 4 + CRC {
+        return None;
+    }
+    if number_at(section, place) == 0 {
+        return Some(0x1FFF);
+    }
+    Some(pid_at(section, place + 2))
+}
+
+/// The first place of a PAT section at which a PMT may be named.
+pub const FIRST_PMT: usize = PAT_HEAD;
+
+/// What a section of a PMT says of its programme: program_number, PCR_PID, and the place of its
+/// first stream.
+#[derive(Clone, Copy)]
+pub struct Programme {
+    pub number: u16,
+    pub clock_pid: u16,
+    pub first: usize,
+}
+
+/// The programme of a PMT section. `None` where it is too short.
+pub fn programme_of(section: &[u8]) -> Option<Programme>
+    ensures value { result ≡ programme_of section.now }
+    ensures range { IfSome result (λ p. (p.clock_pid < 8192) × (p.first < 4200)) }
+{
+    if section.len() < PMT_HEAD + CRC {
+        return None;
+    }
+    Some(Programme {
+        number: number_at(section, 3),
+        clock_pid: pid_at(section, 8),
+        first: PMT_HEAD + length_at(section, 10),
+    })
+}
+
+/// A stream of a PMT: stream_type, elementary_PID, and where its descriptors begin and end.
+#[derive(Clone, Copy)]
+pub struct Stream {
+    pub kind: u8,
+    pub pid: u16,
+    pub first: usize,
+    pub end: usize,
+}
+
+/// The stream at a place of a PMT section. `None` behind the last.
+pub fn stream_at(section: &[u8], place: usize) -> Option<Stream>
+    requires { place < 0x1_0000 }
+    ensures value { result ≡ stream_at section.now place }
+    ensures range { IfSome result (λ s. (s.pid < 8192) × (s.first ≡ place + 5)
+        × (s.first ≤ s.end) × (s.end < place + 5 + 4096)) }
+{
+    if section.len() < place + 5 + CRC {
+        return None;
+    }
+    let first = place + 5;
+    Some(Stream {
+        kind: section[place],
+        pid: pid_at(section, place + 1),
+        first,
+        end: first + length_at(section, place + 3),
+    })
+}
+
+/// A descriptor: descriptor_tag, and where what follows its length begins and ends.
+#[derive(Clone, Copy)]
+pub struct Descriptor {
+    pub tag: u8,
+    pub first: usize,
+    pub end: usize,
+}
+
+/// The descriptor at a place of bytes, of those up to an end: it is cut where it is longer. `None`
+/// where none has room.
+pub fn descriptor_at(bytes: &[u8], place: usize, end: usize) -> Option<Descriptor>
+    requires { place < 0x1_0000 }
+    ensures value { result ≡ descriptor_at bytes.now place end }
+    ensures range { IfSome result (λ d. (d.first ≡ place + 2) × (d.first ≤ d.end)
+        × (d.end ≤ length bytes.now) × (d.end < place + 2 + 256)) }
+{
+    let end = end.min(bytes.len());
+    if end < place + 2 {
+        return None;
+    }
+    let first = place + 2;
+    Some(Descriptor {
+        tag: bytes[place],
+        first,
+        end: (first + bytes[place + 1] as usize).min(end),
+    })
+}
+
+/// Whether a descriptor names pages of Teletext: VBI_teletext_descriptor, teletext_descriptor (ETSI
+/// EN 300 468).
+pub fn names_pages(descriptor: &Descriptor) -> bool {
+    descriptor.tag == 0x46 || descriptor.tag == 0x56
+}
+
+/// A page that a descriptor names: ISO_639_language_code, teletext_type, teletext_magazine_number
+/// and teletext_page_number.
+#[derive(Clone, Copy)]
+pub struct Announced {
+    pub language: [u8; 3],
+    pub kind: u8,
+    pub magazine: u8,
+    pub page: u8,
+}
+
+/// The page at a place of bytes, of those up to an end. `None` behind the last.
+pub fn page_at(bytes: &[u8], place: usize, end: usize) -> Option<Announced>
+    requires place { place < 0x1_0000 }
+    requires end { end ≤ length bytes.now }
+    ensures value { result ≡ page_at bytes.now place end }
+    ensures range { IfSome result (λ a. (a.magazine < 8) × (a.kind < 32)) }
+{
+    if end < place + 5 {
+        return None;
+    }
+    Some(Announced {
+        language: [bytes[place], bytes[place + 1], bytes[place + 2]],
+        kind: bytes[place + 3] / 8,
+        magazine: bytes[place + 3] % 8,
+        page: bytes[place + 4],
+    })
+}

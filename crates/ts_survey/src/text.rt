@@ -1,0 +1,154 @@
+//! The lines that are made and not yet handed on.
+ghost use Rattle.std.specs.Prelude.{◌≡◌, ◌≤◌, ◌<◌, ◌++◌, [], ◌∷◌, codes, decimal, false, length};
+ghost use Rattle.ts_survey.specs.Text.{Adds, hex_word, page_word, ticks_word, time_word};
+
+use arrayvec::ArrayVec;
+use std::alloc::Global;
+
+/// Ticks of the 33-bit clock of a PTS and of a PCR's base, 90,000 a second (ISO/IEC 13818-1).
+pub const CLOCK: u64 = 1 << 33;
+
+// Room for a space, a sign and a number in decimal.
+type Word = ArrayVec<u8, 32>;
+
+/// Lines in memory. Where memory ran out, what was to be added is lost, and so is all after it.
+#[derive(Drop)]
+pub struct Text {
+    bytes: Vec<u8>,
+    is_lost: bool,
+}
+
+impl Text {
+    /// None.
+    pub fn new(alloc: Global) -> Text
+        ensures empty { result.bytes.items ≡ [] }
+        ensures whole { result.is_lost ≡ false }
+    {
+        Text {
+            bytes: Vec::new(alloc),
+            is_lost: false,
+        }
+    }
+
+    /// Whether memory ran out.
+    pub fn is_lost(&self) -> bool {
+        self.is_lost
+    }
+
+    /// Whether there is none.
+    pub fn is_empty(&self) -> bool {
+        self.bytes.is_empty()
+    }
+
+    /// The bytes.
+    pub fn as_slice(&self) -> &[u8] {
+        self.bytes.as_slice()
+    }
+
+    /// Forgets them: they were handed on.
+    pub fn clear(&mut self)
+        ensures empty { self.new.bytes.items ≡ [] }
+        ensures same { self.new.is_lost ≡ self.old.is_lost }
+    {
+        self.bytes.clear();
+    }
+
+    /// Adds bytes.
+    pub fn put(&mut self, bytes: &[u8])
+        ensures { Adds self.old bytes.now self.new }
+    {
+        if self.is_lost {
+            return;
+        }
+        match self.bytes.extend_from_slice(bytes) {
+            Ok(()) => {}
+            Err(_) => self.is_lost = true,
+        }
+    }
+
+    /// Adds a number in decimal, behind a space.
+    pub fn number(&mut self, number: u64)
+        ensures { Adds self.old (0x20 ∷ decimal number) self.new }
+    {
+        let mut digits = itoa::Buffer::new();
+        let mut word = Word::new();
+        let _ = word.try_extend_from_slice(b" ");
+        let _ = word.try_extend_from_slice(digits.format(number).as_bytes());
+        self.put(word.as_slice());
+    }
+
+    /// Adds a number in decimal, behind a sign.
+    pub fn number_behind(&mut self, sign: u8, number: u64)
+        ensures { Adds self.old (sign ∷ decimal number) self.new }
+    {
+        let mut digits = itoa::Buffer::new();
+        let mut word = Word::new();
+        let _ = word.try_extend_from_slice(&[sign]);
+        let _ = word.try_extend_from_slice(digits.format(number).as_bytes());
+        self.put(word.as_slice());
+    }
+
+    /// Adds ticks that are counted forward around the clock, behind a space, as the distance on the
+    /// nearest way: half the clock and more is negative.
+    pub fn ticks(&mut self, forward: u64)
+        ensures { Adds self.old (ticks_word forward) self.new }
+    {
+        if forward < CLOCK / 2 || forward > CLOCK {
+            return self.number(forward);
+        }
+        let mut digits = itoa::Buffer::new();
+        let mut word = Word::new();
+        let _ = word.try_extend_from_slice(b" -");
+        let _ = word.try_extend_from_slice(digits.format(CLOCK - forward).as_bytes());
+        self.put(word.as_slice());
+    }
+
+    /// Adds a time, behind a space: a hyphen where there is none.
+    pub fn time(&mut self, time: Option<u64>)
+        ensures { Adds self.old (time_word time) self.new }
+    {
+        match time {
+            Some(time) => self.number(time),
+            None => self.put(b" -"),
+        }
+    }
+
+    /// Adds bytes as lower case hexadecimal digits.
+    pub fn hex(&mut self, bytes: &[u8])
+        requires { length bytes.now ≤ 40 }
+        ensures { Adds self.old (hex_word bytes.now) self.new }
+    {
+        let mut room = [0; 80];
+        let (digits, _) = room.split_at_mut(2 * bytes.len());
+        let _ = hex::encode_to_slice(bytes, digits);
+        self.put(digits);
+    }
+
+    /// Adds a page, behind a space: magazine 0 is 8.
+    pub fn page(&mut self, magazine: u8, page: u8)
+        requires { magazine < 8 }
+        ensures { Adds self.old (page_word magazine page) self.new }
+    {
+        let first = if magazine == 0 { b'8' } else { b'0' + magazine };
+        self.put(&[b' ', first, upper_digit(page / 16), upper_digit(page % 16)]);
+    }
+}
+
+/// The hexadecimal digit of a number below 16, in upper case.
+pub fn upper_digit(number: u8) -> u8
+    requires { number < 16 }
+    ensures { result ≡ Rattle.ts_survey.specs.Text.upper_digit number }
+{
+    if number < 10 {
+        b'0' + number
+    } else {
+        b'A' + (number - 10)
+    }
+}
+
+/// How many ticks a time is after another, forward around the clock.
+pub fn forward(first: u64, second: u64) -> u64
+    ensures { result < CLOCK }
+{
+    second.wrapping_sub(first) % CLOCK
+}

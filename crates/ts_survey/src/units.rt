@@ -1,0 +1,71 @@
+//! The Teletext packets of a PES packet, whatever else stands in it (EN 300 472, data units).
+ghost use Rattle.std.specs.Prelude.{◌≡◌, ◌+◌, ◌≤◌, ◌<◌, length, slice_index, IfNone, IfSome, drop};
+ghost use Rattle.std.specs.Prelude.{take};
+ghost use Rattle.ts_survey.specs.Heard.{first_place, lent_packets, unit_packets};
+
+/// The bytes of a data unit with a Teletext packet.
+const UNIT: usize = 46;
+
+/// The data units of a PES packet: what stands behind its header and data_identifier.
+pub fn units_of(pes: &[u8]) -> &[u8]
+    ensures { result.now ≡ drop (first_place pes.now) pes.now }
+{
+    behind(pes, first_place(pes))
+}
+
+// Where the first data unit stands.
+fn first_place(pes: &[u8]) -> usize
+    ensures { result ≡ first_place pes.now }
+{
+    if pes.len() > 9 {
+        10 + pes[8] as usize
+    } else {
+        pes.len()
+    }
+}
+
+/// What stands behind the first so many bytes.
+pub fn behind(bytes: &[u8], count: usize) -> &[u8]
+    ensures { result.now ≡ drop count bytes.now }
+{
+    let (_, rest) = bytes.split_at(count.min(bytes.len()));
+    rest
+}
+
+/// A data unit: its bytes, and its packet as it is sent, where it has one.
+#[derive(Clone, Copy)]
+pub struct DataUnit<'a> {
+    pub size: usize,
+    pub packet: Option<&'a [u8; 42]>,
+}
+
+/// The data unit that begins the bytes, as long as these have room for one with Teletext.
+pub fn unit_of(bytes: &[u8]) -> Option<DataUnit<'_>>
+    ensures none { IfNone result (length bytes.now < 46) }
+    ensures some { IfSome result (λ _. 46 ≤ length bytes.now) }
+    ensures size { IfSome result (λ u. u.size ≡ 2 + slice_index bytes.now 1) }
+    ensures packet { IfSome result (λ u.
+        lent_packets u.packet ≡ unit_packets (take 46 bytes.now)) }
+{
+    if bytes.len() < UNIT {
+        return None;
+    }
+    let (unit, _) = bytes.split_at(UNIT);
+    Some(DataUnit {
+        size: 2 + bytes[1] as usize,
+        packet: packet_of(unit),
+    })
+}
+
+// The packet of a data unit, where it has one.
+#[tactic(auto, unfolding(crate::specs::Heard::lent_packets, crate::specs::Heard::unit_packets))]
+fn packet_of(unit: &[u8]) -> Option<&[u8; 42]>
+    requires { length unit.now ≡ 46 }
+    ensures { lent_packets result ≡ unit_packets unit.now }
+{
+    if unit[1] == 0x2C && (unit[0] == 2 || unit[0] == 3) {
+        unit.last_chunk()
+    } else {
+        None
+    }
+}
