@@ -19,7 +19,7 @@ _subttx_value() {
 # made: values
         --option) _subttx_words 'english german swedish italian french spanish czech' "$2" ;;
         --receiver) _subttx_words 'blank keep drop' "$2" ;;
-        --packet-size) _subttx_words '188 192 204' "$2" ;;
+        --packet-size) _subttx_words 'survey 188 192 204' "$2" ;;
         --around-pes | --at | --breaks | --every | --flip | --from | --jobs | --lose | \
             --origin | --page | --part | --patience | --pes | --pid | --run | --settled | \
             --skip | --stall | --start | --to | --within | -c)
