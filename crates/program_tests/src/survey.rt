@@ -19,7 +19,14 @@ fn assert_fails<'a>(
     let mut room = [0; 8192];
     let mut file = MemSink::new(&mut room);
     put_pieces(&mut file, pieces);
-    assert_answers(rt, words, &[], recording(file.written(), true), &mut [], want);
+    assert_answers(
+        rt,
+        words,
+        &[],
+        recording(file.written(), true),
+        &mut [],
+        want,
+    );
 }
 
 #[test]
@@ -32,7 +39,15 @@ fn tells_the_pes_packets_of_a_pid(rt: HostRuntime) {
         pes 257 1 1 3240180000 0 hecb/88080810 2 0\nrows 257 1 -\n\
         subs 257 888 2\nend 257 2 0 2 0 0 0 3240180000\nover 0 3\n";
     assert_prints(&rt, &SURVEY, &stream, want);
-    let asked = ["subttx", "survey", "b", "--pid", "257", "--packet-size", "188"];
+    let asked = [
+        "subttx",
+        "survey",
+        "b",
+        "--pid",
+        "257",
+        "--packet-size",
+        "188",
+    ];
     assert_prints(&rt, &asked, &stream, want);
 }
 
@@ -66,7 +81,15 @@ fn tells_a_file_of_pes_packets_and_where_it_ends(rt: HostRuntime) {
 fn tells_what_was_read_before_the_recording_failed(rt: HostRuntime) {
     let front = "survey 1\nhead 47410110000001bd00b284\nfault 41 Read pes 0\n";
     assert_fails(&rt, &SURVEY, &[&BEGINS_0, &FIRST], front);
-    let words = ["subttx", "survey", "b", "--page", "100", "--packet-size", "188"];
+    let words = [
+        "subttx",
+        "survey",
+        "b",
+        "--page",
+        "100",
+        "--packet-size",
+        "188",
+    ];
     let sized = "survey 1\nhead 47410110000001bd00b284\nsize 188\nteletext 257\nsub 257 888\n\
         pes 257 0 1 3240000000 0 b/ 3 0\nfault 41 Read pes 0\n";
     assert_fails(&rt, &words, &[&BEGINS_0, &FIRST], sized);
