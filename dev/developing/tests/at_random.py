@@ -32,7 +32,7 @@ from subtitles.core.teletext import odd
 from subtitles.core.times import CLOCK, FRAMES_OF_A_DAY, TICKS, ticks_between, time_of
 from subtitles.core.words import run
 from subtitles.qc import steps
-from subtitles.qc.feed import Finder
+from subtitles.qc.ending import Ending
 from .muxed import (
     AHEAD, MPEG_2, PRIVATE, TELETEXT_PID, VIDEO_PID, Maker, mpeg_2_picture, spaced,
     teletext_descriptor, video_packet)
@@ -302,7 +302,7 @@ class Scenario:
         for percent, more in ((30, ["--within", str(chance.choice((1, 2, 5)))]),
                               (20, ["--no-complete"]), (15, ["--strict"]), (15, ["--allow-lost"]),
                               (5, ["--option", chance.choice(("auto", "german"))]),
-                              (4, ["--page", "150"]), (3, ["--run", "1"]),
+                              (4, ["--page", "150"]), (3, ["--pes", "0-99999"]),
                               (30, ["--csv", "one.csv"]), (20, ["--junit", "one.xml"]),
                               (20, ["-o", "out"]), (8, ["--keep", "-o", "out"])):
             words += more if self.some(percent) else []
@@ -315,20 +315,18 @@ class Scenario:
             words += ["--severity", "severity"]
         return [*words, "--json", "one.json"]
 
-
     def tools(self, recording: str) -> list[list[str]]:
         """The words of other tools on the same files."""
         chance, first, last = self.chance, self.times[0][0], self.times[-1][1]
         begin, end = (time_of(max(0, min(one + chance.randrange(-60, 60), FRAMES_OF_A_DAY - 1)))
                       for one in (first, last))
-        stream = ["--pid", "0x101", "-p", self.program] if recording == "one.ts" else []
+        stream = ["--pid", "0x101"] if recording == "one.ts" else []
         within = chance.choice(("0", "0", "2"))
-        more = [*stream, "--within", within, "--every", str(self.every)]
+        more = ["-p", self.program, *stream, "--within", within, "--every", str(self.every)]
         return [["origin", "one.stl", recording, *more[:-2], *self.words],
-                ["cut", recording, "--stl", "one.stl", "--origin", str(self.origin), "-o", "other",
-                 *more],
+                ["cut", recording, "--stl", "one.stl", "--origin", str(self.origin), *more],
                 ["part", "one.stl", "--from", begin, "--to", max(begin, end), "-o", "other"],
-                ["text", "sent.stl"], *[["ts2pes", recording]] * bool(stream)]
+                ["text", "sent.stl"], *[["ts2pes", recording, "-p", self.program]] * bool(stream)]
 
 
 def send(path: str, data: bytes) -> None:
@@ -433,7 +431,7 @@ def in_folder() -> Iterator[None]:
 def called(words: list[str], program: str, more: Sequence[str] = ("-p", "PROGRAM")) -> Said:
     """All that a call of qc says."""
     setattr(steps, "subprocess", Here)
-    setattr(Finder, "is_due", lambda self, kept: kept.count > 2 * self.count + 4)  # not by time
+    setattr(Ending, "is_due", lambda self, packets: packets.count > 2 * self.count + 4)  # not by time
     status, out, told = in_process(lambda line: main("", "tools/qc", line),
                                    ["tools/qc", *words, *(program if one == "PROGRAM" else one
                                                           for one in more)])

@@ -14,11 +14,9 @@ from subtitles.calls.machine import object_of
 from subtitles.calls.main import parser_of
 from subtitles.calls.objects import found
 from subtitles.calls.single import Files, end_pair, judge_pair, now
-from subtitles.core.files import whole_bytes
 from subtitles.core.pes import data_field, pes_packet, pts_in, teletext_packets
 from subtitles.core.stl import NEW_LINE, gsi_block, subtitle_blocks
 from subtitles.core.times import CLOCK, TICKS
-from subtitles.core.words import time_word
 from subtitles.qc.asked import asked_of
 from subtitles.qc.made_with import Program
 from subtitles.qc.names import Names
@@ -26,10 +24,8 @@ from subtitles.qc.pair import Pair
 from subtitles.qc.progress import Progress
 from subtitles.qc.severity import Severity
 from subtitles.qc.speech import Speech
-from subtitles.qc.steps import Done, Steps
 from subtitles.qc.typed import Typed
 from subtitles.qc.verdict import Verdict
-from subtitles.reading.parting import Taken
 from .at_random import send
 from .bench import Case, packets
 
@@ -92,25 +88,12 @@ def judged(case: Case, *words: str, by: str | None = None, heard: Heard | None =
         files.prepare()
         verdict.found = found(asked)
         pair = Pair(verdict, typed, names, heard, True)
-        vars(pair.steps)["tool"] = lambda *several: parted(pair.steps, *several)
         judge_pair(pair, files)
         end_pair(verdict, heard, files)
-        result = json.loads("".join(object_of(verdict, Program("1", "0" * 64, None), typed)))
+        result = json.loads("".join(object_of(verdict, Program("1", "0" * 64, None))))
         listed = [line for part in verdict.parts for line in part.answer.lines()]
-        files.leave()
+        files.leave(pair)
     return Judged(verdict, heard.lines, result, listed)
-
-
-def parted(steps: Steps, name: str, words: Sequence[str], typed: Sequence[str]) -> Done:
-    """What tools/part does, in process; another tool is called."""
-    if name != "part":
-        return Steps.tool(steps, name, words, typed)
-    stl, _, begin, _, end, _, out = words
-    taken = Taken(whole_bytes(stl), time_word(begin), time_word(end))
-    with open(out, "wb") as file:
-        file.write(taken.file())
-    steps.speech.command(steps.typed.tool(name), *typed)
-    return steps.say(name, Done(0, [], []))
 
 
 # What is sent.

@@ -5,10 +5,10 @@ from typing import Iterator
 
 from subtitles.core.pes import pts_bytes, pts_in
 from subtitles.core.times import CLOCK, TICKS, ticks_between, wrapped
-from subtitles.reading.multiplex import head, section
-from subtitles.reading.transport import BEGINS, PACKET, PAYLOAD, RANDOM_ACCESS
+from subtitles.reading.multiplex import BEGINS, PACKET, PAYLOAD, head, section
 from .bench import packets
 
+RANDOM_ACCESS = 0x40
 PMT_PID, VIDEO_PID, TELETEXT_PID = 0x100, 0x200, 0x101
 MPEG_2, H_264, HEVC, PRIVATE = 0x02, 0x1B, 0x24, 0x06
 SLICES = b"\0\0\1\1" + b"slice data " * 9  # of a picture of MPEG-2

@@ -8,11 +8,12 @@ from typing import Sequence
 from subtitles.core.teletext import packet
 from subtitles.core.words import Words
 from subtitles.qc.asked import Asked, add_pair_options, asked_with
-from subtitles.qc.carriers import Carrier
 from subtitles.qc.checking import Answer
 from subtitles.qc.clock import GIVEN, Clock
 from subtitles.qc.verdict import Part
-from subtitles.reading.listing import Listing
+from subtitles.reading.survey import Packets, survey
+from subtitles.reading.timeline import Timeline
+from .bench import Case
 
 PAGE = (0, 0x88)
 HEADER = packet(0, 0, [8, 8, 0, 8, 0, 8, 1, 0], b" " * 32)  # of page 888, which it erases
@@ -43,17 +44,19 @@ def part_with(begin: int | None, end: int | None, origin: int | None,
                 was_read=True)
 
 
-def carrier_with(first: int | None, last: int | None) -> Carrier:
-    """A PID of which the first PCR and the last one are known."""
-    made = Carrier(1, PAGE, os.devnull, Listing())
-    made.close()
-    made.timing.first, made.timing.pcr = first, last
-    return made
-
-
 def asked_for(stl: str, recording: str | None, *words: str) -> Asked:
     """What is asked of two files, by the words of a command line."""
     parser = Words("")
     add_pair_options(parser)
     options: argparse.Namespace = parser.parse_args(words)
     return asked_with(stl, recording, options)
+
+
+def packets_told(case: Case, data: bytes, name: str = "held.pes") -> Packets:
+    """What `survey` tells of a file of PES packets."""
+    return survey(case.bench.program, case.write(name, data), PAGE).by_pid.get(0, Packets(0))
+
+
+def timeline_of(case: Case, data: bytes, origin: int = 0, within: int = 0) -> Timeline:
+    """What is held of PES packets."""
+    return Timeline(packets_told(case, data), PAGE, origin, within)

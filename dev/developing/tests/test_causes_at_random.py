@@ -8,15 +8,19 @@ from __future__ import annotations
 import os
 import random
 import unittest
+from types import SimpleNamespace
+from typing import Any
 
 from subtitles.core.programme import Subtitle
+from subtitles.core.spans import Spans
 from subtitles.core.times import time_of
 from subtitles.core.told import told_of
 from subtitles.qc.delays import frames_of
 from subtitles.qc.due_pages import DuePages
-from subtitles.qc.held import Held, Span
 from subtitles.qc.naming import Causes
 from subtitles.reading.receiver import BLANK_PAGE, Rows
+from subtitles.reading.survey import Packets, Run
+from subtitles.reading.timeline import Heard, Span, Timeline
 from .. import DEV
 from .parts import PAGE
 
@@ -38,6 +42,23 @@ def page_of(name: str) -> Rows:
                  "p": first}[name[2]]
     page[18 - ("p" in name)], page[20] = first.ljust(40), second.ljust(40)
     return tuple(page)
+
+
+def empty(within: int = 0) -> Timeline:
+    """A timeline of which nothing was heard."""
+    return Timeline(Packets(0), PAGE, 0, within)
+
+
+def steady(held: Timeline) -> None:
+    """Makes it one of 500 PES packets, so that a pause is one."""
+    held.heard = [Heard(Run(0, 500, 0, 3600, "", ""), range(500))]
+
+
+def told(spans: list[tuple[int, int]], *edges: tuple[int, int]) -> Any:
+    """What `check` told: frames at which the content is refused, and others by number and frame."""
+    firsts = {number: told_of(f"refused {number} Edge frame {time_of(frame)}")
+              for number, frame in edges}
+    return SimpleNamespace(firsts=firsts, marks={72: Spans(spans)})
 
 
 class Made:
@@ -85,10 +106,10 @@ class Made:
             return {at + chance.choice(BY) * (at >= frame): one for at, one in due.items()}
         return {**due, frame + chance.choice((1, 3, 10, 40)): chance.choice([*texts, "z", "-"])}
 
-    def hold(self) -> Held:
+    def hold(self) -> Timeline:
         """What a receiver holds then; in some rows not all can be read, or nothing comes for a
         while."""
-        chance, held = self.chance, Held(os.devnull, PAGE, 0, within=self.within)
+        chance, held = self.chance, empty(self.within)
         held.first = chance.choice((0, 0, self.programme.begins[0] - 20))
         for frame, text in self.sent:
             held.change(frame, page_of(text))
@@ -99,10 +120,12 @@ class Made:
             begin = chance.randrange(600)
             held.doubts = [Span(begin, begin + chance.choice((5, 100)))]
         if chance.randrange(4) == 0:
-            begin, held.count = chance.choice(self.programme.begins) - 5, 500
+            begin = chance.choice(self.programme.begins) - 5
+            steady(held)
             held.pauses = [Span(begin, begin + chance.choice((4, 5, 6, 40)))]
         if chance.randrange(8) == 0:
-            held.strays = {self.programme.begins[-1] + 2: {19: self.programme.pages[-1][18]}}
+            frame = self.programme.begins[-1] + 2
+            held.strays = [(Span(frame, frame), ((19, self.programme.pages[-1][18]),))]
         return held
 
     def row(self) -> str:
@@ -113,36 +136,24 @@ class Made:
         reach = Span(begin - chance.choice((2, 3, 4, 300)), held.last + chance.choice((0, 30))) \
             if chance.randrange(2) else None
         held.first = chance.choice((held.first, begin, begin + 2))
-        causes = Causes(self.programme, held, lambda: lost, lambda: reach)
+        causes = Causes(self.programme, held, lost, reach)
         wrong = {frame: None for frame in range(min(held.last, END))
                  if not causes.namer.is_due(frame)}
-        begun = None
-        if self.chance.randrange(3) == 0:
-            for number, frame in ((63, begin + 3),
-                                  (74, self.programme.subtitles[-1].end - 3)):
-                told = told_of(f"refused {number} Edge frame {time_of(frame)}")
-                assert told
-                causes.take(told)
-        for frame in wrong:
-            if frame - 1 not in wrong:
-                begun = frame
-            if frame + 1 not in wrong and begun is not None:
-                for word, at in (("refused", begun), ("ended", frame)):
-                    told = told_of(f"{word} 72 Content frame {time_of(at)}")
-                    assert told
-                    causes.take(told)
-        early = [one.place for one in causes.settle(False)]
-        causes.settle(True)
+        edges = [(63, begin + 3), (74, self.programme.subtitles[-1].end - 3)] \
+            if self.chance.randrange(3) == 0 else []
+        begins = [frame for frame in wrong if frame - 1 not in wrong]
+        ends = [frame for frame in wrong if frame + 1 not in wrong]
+        causes.name(told([*zip(begins, ends)], *edges))
         pages = {page: text for text in [*(text for _, text in self.sent), "-"]
                  if (page := page_of(text))}
         said = [f"{one.place} {one.name} {one.frames} {one.other} "
                 f"{'' if one.sent is None else pages.get(one.sent, 'due')} {one.known} {one.words}"
                 for one in causes.all()]
         known = [one and one.place for one in (causes.of(63, 0), causes.of(74, 0), *(
-            causes.of(72, frame) for frame in list(causes.of_frame)[:3]))]
+            causes.of(72, frame) for frame in begins[:3]))]
         delays = [frames_of(self.programme, held, is_complete) for is_complete in (False, True)]
         sent = " ".join(f"{frame}:{text}" for frame, text in self.sent)
-        about = f"{self.within} {held.first} {held.last} {lost} {reach} {early} {known}"
+        about = f"{self.within} {held.first} {held.last} {lost} {reach} {known}"
         return "\t".join([self.subtitles, sent, about,
                           "; ".join(said), f"{delays[0]} {delays[1]} {causes.unsent_from()}"])
 
@@ -231,7 +242,7 @@ class ByHand(unittest.TestCase):
             programme = DuePages(
                 [Subtitle(at, at, begin, end, 20, 2, b"") for at, (begin, end) in
                  enumerate(times, 1)], [page_of(one[-1]) for one in subtitles.split(";")])
-            held, pages = Held(os.devnull, PAGE, 0), dict[Rows, str]()
+            held, pages = empty(), dict[Rows, str]()
             for frame, _, name in (one.partition(":") for one in sent.split() if ":" in one):
                 held.change(int(frame), page_of(name))
                 pages[page_of(name)] = name
@@ -239,15 +250,14 @@ class ByHand(unittest.TestCase):
             held.doubts, held.pauses = (
                 [Span(*map(int, one[1:].split("-"))) for one in sent.split() if one[0] == mark]
                 for mark in "?!")
-            held.count, row = 500, programme.pages[0][18]
-            held.strays = {int(one[1:]): {19: row} for one in sent.split() if one[0] == "@"}
+            steady(held)
+            held.strays = [(Span(int(one[1:]), int(one[1:])), ((19, programme.pages[0][18]),))
+                           for one in sent.split() if one[0] == "@"]
             causes = Causes(programme, held)
             faulty = [frame for frame in range(500) if not causes.namer.is_due(frame)]
-            for begin in faulty:
-                if begin - 1 not in faulty:
-                    causes.add(begin, next(last for last in range(begin, 501)
+            causes.name(told([(begin, next(last for last in range(begin, 501)
                                            if last + 1 not in faulty))
-            causes.settle(True)
+                              for begin in faulty if begin - 1 not in faulty]))
             for begin in faulty:
                 one = causes.of(72, begin)
                 self.assertTrue(one and one.place in [place for place, *_ in wanted], sent)

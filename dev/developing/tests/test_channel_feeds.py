@@ -6,8 +6,8 @@ import os
 import subprocess
 from typing import Iterator
 
-from subtitles.calls.awaited import Timed
-from subtitles.calls.feed_clock import ANEW, BACK, FeedClock
+from subtitles.calls.channel.awaited import Timed
+from subtitles.calls.channel.feed_clock import ANEW, BACK, FeedClock
 from subtitles.core.times import CLOCK, TICKS, ticks_between
 from .bench import Case, packets, tool_path
 from .muxed import in_frames, spaced

@@ -7,16 +7,16 @@ import os
 from typing import Any, Iterator
 from unittest import mock
 
-from subtitles.calls import channel as channels
-from subtitles.calls.channel import ENDED, ENOUGH, LATER, Channel, stall_heard
-from subtitles.calls.channel_feed import PesFeed, Taken
-from subtitles.calls.feed_clock import MINUTE, SECOND
+from subtitles.calls.channel import channel as channels
+from subtitles.calls.channel.channel import ENDED, ENOUGH, LATER, Channel, stall_heard
+from subtitles.calls.channel.channel_feed import PesFeed, Taken
+from subtitles.calls.channel.feed_clock import MINUTE, SECOND
 from subtitles.calls.objects import found, unjudged
-from subtitles.calls.queue import AT_ONCE
+from subtitles.calls.channel.queue import AT_ONCE
 from subtitles.core.pes import pes_packet, pts_in
 from subtitles.core.times import CLOCK, TICKS
 from subtitles.qc.clock import FITTED_SHORT
-from subtitles.qc.source import Source
+from subtitles.calls.channel.source import Source
 from subtitles.qc.typed import Typed
 from .bench import Case
 from .parts import CLOSING, HEADER, asked_for, row
@@ -76,7 +76,7 @@ class Told(Channel):
         Judging.made = []
         super().__init__(words, Typed("tools/qc", case.bench.program), case.folder)
         self.said: list[str] = []
-        self.feed = PesFeed(Source(case.write("feed", b""), False))
+        self.feed = PesFeed(Source(case.write("feed", b"")))
 
     def say(self, line: str) -> None:
         self.said.append(line)

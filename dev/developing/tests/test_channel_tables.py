@@ -8,24 +8,23 @@ import os
 from typing import Any, Sequence
 from unittest import mock
 
-from subtitles.calls.awaited import NEAR, Awaited, Changes, Timed
-from subtitles.calls.channel import GAP, Channel
-from subtitles.calls.channel_feed import BEFORE, Passing, TransportFeed
+from subtitles.calls.channel.awaited import NEAR, Awaited, Changes, Timed
+from subtitles.calls.channel.channel import GAP, Channel
+from subtitles.calls.channel.channel_feed import BEFORE, Passing, TransportFeed
 from subtitles.calls.claim import claimed, claimed_for_batch
-from subtitles.calls.feed_clock import ANEW, BACK, MINUTE, SECOND, FeedClock
-from subtitles.calls.hearing import HeardPage, Hearing, Way, way_of
-from subtitles.calls.planned import Planned
-from subtitles.calls.ring import PARTS, Ring
+from subtitles.calls.channel.feed_clock import ANEW, BACK, MINUTE, SECOND, FeedClock
+from subtitles.calls.channel.hearing import HeardPage, Hearing, Way, way_of
+from subtitles.calls.channel.planned import Planned
+from subtitles.calls.channel.ring import PARTS, Ring
 from subtitles.core.pes import MARK, pes_packet, pts_in
 from subtitles.core.stl import boxed, gsi_block, subtitle_blocks
 from subtitles.core.teletext import packet
 from subtitles.core.times import CLOCK, EARLY, TICKS
 from subtitles.core.words import Stop, Words
 from subtitles.qc.asked import add_pair_options
-from subtitles.qc.source import Source
+from subtitles.calls.channel.source import Source
 from subtitles.qc.typed import Typed
-from subtitles.reading.losses import Place
-from subtitles.reading.timing import Sample
+from subtitles.calls.channel.losses import Place
 from .bench import Case
 from .parts import CLOSING, HEADER, PAGE, asked_for, row
 
@@ -332,13 +331,11 @@ class Tables(Case):
                 ("one of two", [(OTHER, second), (PID, first)], PID, PID),
                 ("the second", [(PID, first), (OTHER, second)], OTHER, OTHER)):
             feed = self.feed(pid)
-            carriers = dict(feed.carriers.by_pid)
             feed.hand(ways)
             feed.hand([])
             self.must(name, feed.pid == wanted and len(feed.taken) == 8, (feed.pid, feed.taken))
             self.must(f"{name} alone", pid or (feed.carriers.pid, [*feed.carriers.by_pid]) == (
-                wanted, [wanted]) and [one for one in carriers if carriers[one].file.closed] ==
-                      [one for one in carriers if one != wanted])
+                wanted, [wanted]))
         both, own = [(PID, first[:4]), (OTHER, second[:4])], [(PID, first)]
         rows: list[tuple[list[Any], bool]] = [
             ([both] * 3, True), ([own, both[1:], []], True), ([own, [], []], False)]
@@ -374,10 +371,8 @@ class Tables(Case):
         self.must("not yet", len(said) == 3, said)
         feed.hand([(PID, sendings(20))])
         carrier = feed.carriers.by_pid[PID]
-        carrier.timing.samples = [Sample(number, 0) for number in range(99)]
         feed.hand([])
-        self.must("no more is kept", not carrier.gaps and not carrier.losses.places and
-                  [one.pts for one in carrier.timing.samples] == list(range(39, 99)))
+        self.must("no more is kept", not carrier.gaps and not carrier.losses.places)
         self.must("then", len(said) == 4 and said[3].endswith(
             f"before PTS {pts_in(sendings(20)[0])}"), said)
 
@@ -446,22 +441,25 @@ class Saying(Channel):
         self.said.append(line)
 
 
+CALL: Any = None  # nothing is taken out
+
+
 class Handing(TransportFeed):
     """A feed whose PES packets are handed on by a test, as if `extract` gave them; `taken` are
     those that the channel gets."""
 
     def __init__(self, path: str, pid: int | None, said: list[str]) -> None:
-        super().__init__(Source(path, False), pid, lambda: [PAGE], said.append, "none")
+        super().__init__(Source(path), pid, lambda: [PAGE], said.append, "none")
         self.taken: list[bytes] = []
         self.take = lambda taken: self.taken.append(taken.raw)
         for one in (PID, OTHER):
-            self.carriers.by_pid[one] = Passing(one, PAGE, os.devnull, self.carriers.listing)
+            self.carriers.by_pid[one] = Passing(one, self.carriers.listing, CALL)
 
     def hand(self, ways: Sequence[tuple[int, Sequence[bytes]]]) -> None:
         """Hands on PES packets of some PIDs, and the end of a piece."""
         carriers = dict(self.carriers.by_pid)
         for pid, several in ways:
             for data in several:
-                self.hear(carriers[pid], carriers[pid].keep(data))
+                self.hear(carriers[pid], carriers[pid].hear(data))
         for carrier in carriers.values():
             self.hear(carrier, b"")

@@ -1,12 +1,13 @@
 """Functions of qc that decide something, each with its table: no processes but the program's."""
 from __future__ import annotations
 
+from types import SimpleNamespace
+from unittest import mock
 import argparse
 import contextlib
 import io
 import os
 from dataclasses import replace
-from typing import Sequence
 
 from subtitles.calls.batch import words_of
 from subtitles.calls.machine import asked_words, total
@@ -19,28 +20,27 @@ from subtitles.core.stl import gsi_block, tti_block
 from subtitles.core.times import TICKS
 from subtitles.core.words import Words
 from subtitles.qc.asked import add_pair_options, asked_of_line
-from subtitles.qc.clock import GIVEN, RECORDING, START, Clock
+from subtitles.qc.clock import START, Clock
 from subtitles.qc.delays import frames_until
 from subtitles.qc.fitting import Found, refuse, with_delay
-from subtitles.qc.held import Held, Near, Span
+from subtitles.reading.survey import Packets
+from subtitles.reading.timeline import Span, Timeline
 from subtitles.qc.names import Names
 from subtitles.qc.pair import Pair
 from subtitles.qc.progress import Progress
 from subtitles.qc.severity import Severity
 from subtitles.qc.speech import Speech
-from subtitles.qc.steps import Done, Steps
-from subtitles.qc.sums import File
+from subtitles.qc.steps import Stretch
 from subtitles.qc.subtitle_file import NamedSubtitle, SubtitleFile
 from subtitles.qc.typed import Typed
 from subtitles.qc.unclear import Unclear
 from subtitles.qc.verdict import Verdict
 from subtitles.qc.warned import of_page
 from subtitles.reading.finding import Agreement, Origin
-from subtitles.reading.programmes import Announced
+from subtitles.reading.survey import Announced
 from subtitles.reading.receiver import BLANK_PAGE, Rows
 from .bench import Case
-from .judged import Heard
-from .parts import CLOSING, HEADER, PAGE, asked_for, row
+from .parts import CLOSING, HEADER, PAGE, asked_for, packets_told, row, timeline_of
 
 
 class Objects(Case):
@@ -70,7 +70,7 @@ class Objects(Case):
         """A pair as words, read again, asks the same: with each option by itself, and with all."""
         options = [["--page", "150"], ["--every", "50"], ["--option", "german"], ["--origin", "7"],
                    ["--origin", "0"],
-                   ["--within", "3"], ["--breaks", "2"], ["--run", "2"], ["--pid", "0x101"],
+                   ["--within", "3"], ["--breaks", "2"], ["--pes", "2-9"], ["--pid", "0x101"],
                    ["--start", "10:00:00:00"], ["--severity", "file"], ["--no-complete"],
                    ["--allow-lost"]]
         parser = Words("")
@@ -249,21 +249,19 @@ class Fitted(Case):
 
     def test_not_clear(self) -> None:
         """With several runs, or other breaks than were said, the lines alone are the reason."""
-        for runs, breaks, is_alone in ((1, None, False), (2, None, True), (1, 0, True),
-                                       (1, 2, True), (3, 2, True)):
+        for runs, breaks, is_alone in ((0, None, False), (2, None, True), (0, 0, True),
+                                       (0, 2, True), (3, 2, True)):
             with self.assertRaises(Unclear) as raised:
-                refuse(Origin(runs=runs, breaks=breaks, told=["one", "say which one: --run 1"]), [])
+                refuse(Origin(runs=[(0, 9)] * runs, breaks=breaks, told=["one"]), [])
             self.must(f"{runs} {breaks}", (raised.exception.reason == "one") == is_alone)
 
 
 class Pages(Case):
     """Pages that are held, and after how many frames those that are due are."""
 
-    def held(self, data: bytes, near: Near | None = None) -> Held:
+    def held(self, data: bytes) -> Timeline:
         """What is held of PES packets."""
-        made = Held(self.write("held.pes", data), PAGE, 0, near)
-        made.follow()
-        return made
+        return timeline_of(self, data)
 
     def test_closed_before_it_goes(self) -> None:
         """Where complete pages are asked for, one that is closed at its TCO was never whole."""
@@ -302,24 +300,13 @@ class Pages(Case):
                 is_seen = not any(one.first <= last and first <= one.last for one in wanted)
                 self.must(f"{numbers}: {first} to {last}", held.is_seen(first, last) == is_seen)
 
-    def test_files(self) -> None:
-        """A file that grows, wherever it was cut before; and some PES packets of one."""
-        pes = [pes_packet(TICKS * 10 * at, [
-            HEADER, row(20, b"%d" % at), *[row(22, b"x")] * (at % 3), CLOSING]) for at in range(9)]
-        data, begins = b"".join(pes), [len(b"".join(pes[:at])) for at in range(10)]
-        whole = self.held(data)
-        self.must("whole", (list(whole.frames), whole.count) == ([*range(0, 90, 10)], 9))
-        for cuts in ((100,), (begins[1], begins[2] - 1, begins[5] + 1), (0, 0, 1), (46, 700),
-                     range(0, len(data), 50)):
-            held = Held(self.write("grows.pes", b""), PAGE, 0)
-            for count in (*cuts, len(data)):
-                self.write("grows.pes", data[:count])
-                held.follow()
-            self.must(f"{cuts}", (held.frames, held.pages, held.count) ==
-                      (whole.frames, whole.pages, 9), held.frames)
+    def test_ranges(self) -> None:
+        """Some PES packets of a file."""
+        data = b"".join(pes_packet(TICKS * 10 * at, [
+            HEADER, row(20, b"%d" % at), *[row(22, b"x")] * (at % 3), CLOSING]) for at in range(9))
+        packets = packets_told(self, data)
         for first, last in ((0, 8), (0, 3), (2, 5), (8, 8)):
-            held = Held(self.path("grows.pes"), PAGE, 0, place=(begins[first], begins[last + 1]))
-            held.follow()
+            held = Timeline(packets, PAGE, 0, 0, (first, last))
             self.must(f"{first} to {last}", list(held.frames) ==
                       [*range(10 * first, 10 * last + 1, 10)], held.frames)
 
@@ -331,7 +318,7 @@ class Pages(Case):
             ([(5, a), (10, b), (10, a)], [5], [a]), ([(5, a), (5, b)], [5], [b]),
             ([(5, a), (10, b), (10, BLANK_PAGE), (11, b)], [5, 10, 11], [a, BLANK_PAGE, b])]
         for changes, frames, pages in rows:
-            held = Held(os.devnull, PAGE, 0)
+            held = Timeline(Packets(0), PAGE, 0)
             for frame, page in changes:
                 held.change(frame, page)
             self.must(f"{frames}", (list(held.frames), held.pages) == (frames, pages), held.frames)
@@ -346,120 +333,45 @@ class Pages(Case):
                                                                             Span(120, 123)])):
             held = self.held(b"".join(pes_packet(TICKS * frame, [HEADER, CLOSING])
                                       for frame in frames))
-            self.must(f"{wanted}", held.pauses == wanted and held.count == len(frames), held.pauses)
+            self.must(f"{wanted}", held.pauses == wanted, held.pauses)
         for frame, pause in ((89, None), (90, 0), (92, 0), (93, None), (119, None), (120, 1),
                              (123, 1), (124, None)):
             self.must(f"{frame}", held.pause_at(frame) == (None if pause is None else
                                                            held.pauses[pause]))
-        held.count = 39
+        held.heard = held.heard[:1]
         self.must("not steady", held.pause_at(91) is None)
 
     def test_frames_that_go_back(self) -> None:
         """Before what is due all is forgotten; in it nothing more is heard."""
-        near = Near(Span(300, 400), 25)
         for frames, pages, is_lost in (
                 ([100, 200, 310, 350], 4, False), ([200, 250, 150, 310, 350], 3, False),
                 ([200, 310, 305, 350], 2, True), ([310, 350, 320], 2, True)):
-            held = self.held(b"".join(pes_packet(TICKS * frame, [
-                HEADER, row(20, b"%d" % frame), CLOSING]) for frame in frames), near)
-            self.must(f"{frames}", (len(held.pages), held.is_lost) == (pages, is_lost),
-                      (held.frames, held.is_lost))
+            packets = packets_told(self, b"".join(pes_packet(TICKS * frame, [
+                HEADER, row(20, b"%d" % frame), CLOSING]) for frame in frames))
+            held = Timeline(packets, PAGE, 0, begin=300)
+            self.must(f"{frames}", (len(held.pages), held.halt is not None) == (pages, is_lost),
+                      (held.frames, held.halt))
             self.must(f"{frames}: seen", [held.is_seen(300, held.last + more) for more in (0, 1)]
                       == [True, not is_lost])
-
-
-class Asking(Steps):
-    """Steps of which a tool ends as a test says; `asked_words` are those of the calls."""
-
-    def __init__(self, case: Case, done: Done, is_made: bool) -> None:
-        asked = asked_for("one.stl", "one.pes", "--within", "2", "--every", "50", "--page", "150")
-        super().__init__(asked, Typed("tools/qc", case.bench.program),
-                         Names("one", case.folder, None), Speech(Progress()))
-        self.done, self.is_made, self.calls = done, is_made, list[Sequence[str]]()
-
-    def tool(self, name: str, words: Sequence[str], typed: Sequence[str]) -> Done:
-        self.calls += [words, typed]
-        if self.is_made:
-            with open(words[-1], "wb"):
-                pass
-        return self.done
-
-    def subtitles(self, stl: str) -> list[Subtitle]:
-        """Three of each part, by its number."""
-        part = int(stl.split(".")[-2])
-        return [Subtitle(at, 3 * part + at, 9 * part + at, 9 * part + at + 1, 20, 2, b"text")
-                for at in (1, 2, 3)]
 
 
 class Cutting(Case):
     """What is cut out of a subtitle file, and drawn."""
 
-    def test_reports(self) -> None:
-        """A report that was not made is told, whatever ended the tool; without a folder there is
-        none."""
-        rows: list[tuple[int, list[str], str | None, str | None]] = [
-            (0, ["a"], "out", None), (1, ["a"], "out", None), (2, ["a", "b"], "out", "a; b"),
-            (-9, [], "out", "status -9"), (2, [], None, None)]
-        for status, told, out, why in rows:
-            steps = Asking(self, Done(status, [], told), False)
-            names = Names("one", self.folder, out)
-            try:
-                steps.draw(names, [], [], Clock(7, START), [], [], [])
-                found = None
-            except Unclear as reason:
-                found = reason.reason
-            self.must(f"{status}", found == (why and f"no report was made: {why}"), found)
-            self.must(f"{status}: called", len(steps.calls) == 2 * bool(out))
-
     FOUND = Found(0, 9, Clock(7, START), (3, 5))
-
-    def test_words_of_a_report(self) -> None:
-        """As they are given and as they are typed: what is lost and noted, the verdict, the clock,
-        the recording, which a person can read again where it is a file, the part, and around it."""
-        here = self.write("one.ts", b"")
-        asked = ["--page", "150", "--every", "50", "--complete", "--within", "2"]
-        rows: list[tuple[Clock, list[str]]] = [
-            (Clock(0, GIVEN), []), (Clock(7, GIVEN), ["--origin", "7"]),
-            (Clock(7, RECORDING), ["--origin", "7", "--fitted"]),
-            (Clock(7, START), ["--origin", "7", "--clock", "origin 7, by the first picture"])]
-        for clock, of_clock in rows:
-            for name in (here, "feed"):
-                steps = Asking(self, Done(0, [], []), False)
-                names = Names("one", self.folder, "out")
-                steps.draw(names, ["a.stl", "a.pes"], ["t.stl", "t.pes"], clock, ["x", "y"],
-                           ["z"], ["--verdict", "lost"], File(name, 5, "sum"),
-                           ["--pes", "3-9", "--part", "2", "3"], (["--around", "a"], ["--around",
-                                                                                     "t"]))
-                words, typed = steps.calls
-                more = [*asked, *of_clock[:2], "--lost", "x", "--lost", "y", "--note", "z",
-                        "--verdict", "lost", *of_clock[2:], "--pes", "3-9", "--part", "2", "3"]
-                sums = ["--recording", name, "5", "sum"]
-                file = ["-p", self.bench.program, "-o", names.report]
-                self.must(f"{clock} {name}", words == [
-                    "a.stl", "a.pes", *more, *sums, "--around", "a", *file], words)
-                self.must(f"{clock} {name}: typed", typed == [
-                    "t.stl", "t.pes", *more, *sums[:2 if name == here else 4], "--around", "t",
-                    *file], typed)
-
-    def test_tools(self) -> None:
-        """How one ended, what it printed, and what it told without its name; that is said."""
-        heard = Heard()
-        names = Names("one", self.folder, "out")
-        typed = Typed("tools/qc", self.bench.program)
-        steps = Steps(asked_for("one.stl", "one.pes"), typed, names, heard)
-        path = os.path.join(self.folder, "a")
-        vars(typed)["call"] = lambda name: [
-            "sh", "-c", f"echo printed {path}; echo x: told: $0 $1 >&2; exit 3"]
-        done = steps.tool("part", ["p", "q"], ["t"])
-        self.must("done", done == Done(3, ["printed out/a"], ["told: p q"]), done)
-        self.must("said", heard.lines == ["+ tools/part t", "printed out/a", "part: told: p q"],
-                  heard.lines)
 
     def test_subtitles_in_no_part(self) -> None:
         """Each subtitle has to be in a part, once and as it is: of three parts, nine are."""
         nine = [Subtitle(3 * part + at - 3, 3 * part + at, 9 * part + at, 9 * part + at + 1, 20, 2,
                          b"text") for part in (1, 2, 3) for at in (1, 2, 3)]
         last = nine[-1]
+
+        def of_part(program: str, stl: str) -> list[Subtitle]:
+            """Three of each part, by its number."""
+            part = int(stl)
+            return [Subtitle(at, 3 * part + at, 9 * part + at, 9 * part + at + 1, 20, 2, b"text")
+                    for at in (1, 2, 3)]
+
         for name, subtitles, is_right in (
                 ("as they are", nine, True), ("one more", [*nine, last], False),
                 ("two more", [*nine, last, last], False), ("one less", nine[:-1], False),
@@ -472,10 +384,12 @@ class Cutting(Case):
             typed, names = Typed("tools/qc", self.bench.program), Names("one", self.folder, None)
             pair = Pair(Verdict(asked, Severity(None), "now"), typed, names, Speech(Progress()),
                         False)
-            pair.steps = Asking(self, Done(0, [], []), True)
-            try:
-                stretches = pair.stretches([self.FOUND] * 3, subtitles)
-                found = [one.names.name for one in stretches]
-            except Unclear:
-                found = []
+            pair.steps = SimpleNamespace(part=lambda at, found: Stretch(  # type: ignore
+                "", str(at), Names(f"one.{at}", self.folder, None), found))
+            with mock.patch("subtitles.qc.pair.subtitles_in", of_part):
+                try:
+                    stretches = pair.stretches([self.FOUND] * 3, subtitles)
+                    found = [one.names.name for one in stretches]
+                except Unclear:
+                    found = []
             self.must(name, found == ["one.1", "one.2", "one.3"] * is_right, found)

@@ -7,6 +7,7 @@ import dataclasses
 import io
 import json
 import os
+from types import SimpleNamespace
 from typing import Any
 
 from subtitles.calls.machine import FORMAT, asked_words
@@ -19,7 +20,7 @@ from subtitles.core.words import Stop
 from subtitles.qc.asked import Asked
 from subtitles.qc.made_with import Program, program_at
 from subtitles.qc.names import Names
-from subtitles.qc.stall import Stall
+from subtitles.qc.feed import Stall
 from subtitles.qc.typed import Typed
 from .bench import Case, example_bytes
 from .parts import asked_for
@@ -32,7 +33,7 @@ PROGRAM = Program("1", "ab" * 32, None)
 # What is asked otherwise than by the earlier call, each by itself.
 OTHERS: dict[str, object] = {
     "page": (0, 0x87), "every": 25, "option": "german", "origin": 5, "is_complete": False,
-    "pid": 257, "is_loss_allowed": True, "breaks": 1, "run": 2, "start": "10:00:00:00",
+    "pid": 257, "is_loss_allowed": True, "breaks": 1, "pes": (1, 2), "start": "10:00:00:00",
     "within": 1, "is_strict": True}
 
 
@@ -109,8 +110,6 @@ class EarlierCalls(Case):
         written = {os.path.basename(path) for path in names.written()} - {*own}
         self.must("may be written", written == {"one.4.stl", "one.5.stl", "one.5.txt",
                                                 "one.5.html"}, written)
-        judged = {os.path.basename(path) for path in names.judged()}
-        self.must("what was judged", judged == {"one.cut.pes", "one.2.cut.pes"}, judged)
 
     def test_names_with_marks(self) -> None:
         """A name that a pattern would match otherwise."""
@@ -123,14 +122,9 @@ class EarlierCalls(Case):
     def test_feed_that_stands_still_twice(self) -> None:
         """Each time is told once, with how long it was."""
         said: list[str] = []
-        stall = Stall(10, said.append)
-        for still in (1.0, 9.9, 10.0, 11.0, 12.4):
-            stall.wait(still)
-        stall.go_on()
-        stall.go_on()
-        for still in (3.0, 10.0, 20.6):
-            stall.wait(still)
-        stall.go_on()
+        stall = Stall(10, SimpleNamespace(tell=said.append))  # type: ignore[arg-type]
+        for still in (1.0, 9.9, 10.0, 11.0, 12.4, 0.0, 0.1, 3.0, 10.0, 20.6, 0.3):
+            stall.take(still)
         self.must("twice", said == [
             "nothing has come for 10 seconds", "the feed goes on, after 12 seconds",
             "nothing has come for 10 seconds", "the feed goes on, after 21 seconds"], said)

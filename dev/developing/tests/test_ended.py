@@ -29,6 +29,7 @@ PROGRAM = r"""#!/bin/sh
 case "$*" in
     show*) printf '%s\n' '00001 10:00:00:00 10:00:02:00 vp 22 jc 2 text 0d0b0b48690a0a' \
         '1 subtitles' ;;
+    survey*) exec '{program}' "$@" ;;
     *' /dev/null') printf '%s\n' 'refused 60 Empty' '1 faults'; exit 1 ;;
     *) {said} ;;
 esac
@@ -58,7 +59,8 @@ class Story(Case):
         """A program that says these lines of a recording."""
         quoted = " ".join(f"'{line}'" for line in lines)
         said = f"printf '%s\\n' {quoted}; {then}" if lines else then
-        return self.write_program("program", PROGRAM.replace("{said}", said))
+        return self.write_program("program", PROGRAM.replace("{said}", said).replace("{program}",
+                                                                               self.bench.program))
 
     def qc(self, *words: str, out: str = "out.txt") -> Ended:
         """Calls qc; what it prints goes into a file."""
@@ -110,13 +112,13 @@ class Programs(Story):
     def test_only_answers_lead_to_one(self) -> None:
         """Of the subtitle file, and of a recording: a call that says nothing, or is killed, or
         answers with another status."""
-        written, empty = "echo 'written 7 pes {} gaps'; exit {}", "echo 'refused 60 Empty'; exit {}"
         for when, several in (
                 ("check*null", ("exit 0", "kill -9 $$")), ("show*", ("exit 0", "exit 1",
                                                                      "kill -9 $$")),
-                ("extract*", ("exit 0", "exit 1", "kill -9 $$", "cat >/dev/null; kill -9 $$",
-                              *(written.format(*one) for one in ((0, 1), (0, 0), (9, 0))),
-                              *map(empty.format, (0, 1)), "echo 'fault 42 Write'; exit 2"))):
+                ("survey*", ("exit 0", "exit 1", "kill -9 $$", "echo survey 2; echo over 0 0; exit 0",
+                             f"'{self.bench.program}' \"$@\" | head -n 9; exit 0",
+                             f"'{self.bench.program}' \"$@\"; exit 1",
+                             f"'{self.bench.program}' \"$@\"; kill -9 $$"))):
             for does in several:
                 program = self.program_but(when, does)
                 with self.subTest(when=when, does=does):

@@ -1,14 +1,10 @@
 """`subttx extract` as the tools run it: what its line means, from files to files, through pipes."""
 from __future__ import annotations
 
-import os
 
-from subtitles.core.files import Input
 from subtitles.core.pes import START
 from subtitles.core.told import told_of
-from subtitles.core.words import stream_words
-from subtitles.reading.extract import Extracted, Extracting, extract, extracted_of
-from subtitles.reading.handed import Waiting
+from subtitles.calls.channel.extract import Extracted, Extracting, extracted_of
 from .bench import Case, example_bytes, packets
 
 MARK = START + b"\0\xb2" + b"\xff" * 178
@@ -63,41 +59,8 @@ class Lines(Case):
             self.must(f"{name}, counts", (made.count, made.gaps, made.refusal) == (0, None, None))
             self.must(f"{name}, whole", not made.is_whole)
 
-    def test_words(self) -> None:
-        for pid, size, wanted in ((None, 188, []), (None, 204, []), (257, 188, ["--pid", "0x101"]),
-                                  (0, 192, ["--pid", "0x0", "--packet-size", "192"])):
-            self.must(f"{pid}, {size}", stream_words(pid, size) == wanted)
-
-
 class Runs(Case):
     """The program, from files to files and through pipes."""
-
-    def test_file_to_file(self) -> None:
-        pes = example_bytes("story.pes")
-        units = sent(pes)
-        lost = packets(pes)[1]
-        del units[len(packets(pes)[0]) // 184]
-        for name, data, size, count, gaps, wanted in [
-                ("whole", b"".join(sent(pes)), 188, len(packets(pes)), 0, pes),
-                ("with a time before each", b"".join(b"\0" * 4 + one for one in sent(pes)), 192,
-                 len(packets(pes)), 0, pes),
-                ("with a loss", b"".join(units), 188, len(packets(pes)), 1,
-                 pes.replace(lost, MARK, 1))]:
-            source = self.write(f"{name}.ts", data)
-            made = extract(self.bench.program, source, self.path(f"{name}.pes"), PID, size)
-            self.must(name, made == Extracted(count, gaps), made)
-            self.must(f"{name}, bytes", self.read(f"{name}.pes") == wanted)
-
-    def test_refuses(self) -> None:
-        data = b"".join(sent(example_bytes("story.pes")))
-        source, out = self.write("story.ts", data), self.path("out.pes")
-        made = extract(self.bench.program, source, out, 0x102)
-        self.must("another PID", made.refusal and made.refusal.line == "refused 60 Empty", made)
-        made = extract(self.bench.program, self.path("none.ts"), out, PID)
-        self.must("no file", made.failure, made)
-        source = self.write("video.ts", data[:4] + b"\0\0\1\xe0" + data[8:])
-        made = extract(self.bench.program, source, out, PID)
-        self.must("video", made.refusal and made.refusal.number == 31, made)
 
     def test_pipe_to_pipe(self) -> None:
         """In pieces of any length: what comes back is whole, and all of it at the end."""
@@ -116,14 +79,6 @@ class Runs(Case):
                       and found == packets(pes_of_size))
             self.must(f"{size}, rest", call.rest == b"" and call.out is None)
 
-    def test_pipe_to_file(self) -> None:
-        pes = example_bytes("story.pes")
-        call = Extracting(self.bench.program, PID, path=self.path("out.pes"))
-        self.must("nothing comes back", call.put(b"".join(sent(pes))) == [])
-        found, made = call.end()
-        self.must("counts", (found, made) == ([], Extracted(len(packets(pes)), 0)), made)
-        self.must("bytes", self.read("out.pes") == pes)
-
     def test_ends_early(self) -> None:
         """Where it refuses, what is handed on behind that is left alone."""
         data = b"".join(sent(example_bytes("story.pes") * 40))
@@ -136,24 +91,3 @@ class Runs(Case):
         call.put(data[:1000])
         call.drop()
         self.must("dropped", call.process.returncode != 0 and call.out is None)
-
-    def test_waits_for_both(self) -> None:
-        """What comes back while nothing is handed on is heard, and the stream is read on."""
-        pes = example_bytes("story.pes")
-        call = Extracting(self.bench.program, PID)
-        feed, into = os.pipe()
-        waiting = Waiting(Input(f"/dev/fd/{feed}"))
-        found: list[bytes] = []
-
-        def hear() -> None:
-            found.extend(call.come())
-            if b"".join(found) == pes:
-                os.write(into, b"more")
-
-        waiting.calls, waiting.hear = lambda: [call], hear
-        call.put(b"".join(sent(pes)))
-        self.must("more", waiting.read(100) == b"more")
-        self.must("what was heard", found == packets(pes), len(found))
-        self.must("the end", call.end() == ([], Extracted(len(found), 0)))
-        for one in (feed, into):
-            os.close(one)

@@ -4,10 +4,10 @@ from __future__ import annotations
 
 from subtitles.core.pes import pes_packet
 from subtitles.core.times import CLOCK, TICKS
-from subtitles.qc.held import Held, Span
-from subtitles.reading.origin_words import drift_of
+from subtitles.reading.timeline import Span
+from subtitles.reading.finding import drift_of
 from .bench import Case
-from .parts import PAGE
+from .parts import PAGE, timeline_of
 
 
 class Words(Case):
@@ -38,10 +38,9 @@ class Words(Case):
         for gone, total, wanted in cases:
             lost = {frame for one in gone for frame in range(one.first, one.last + 1)}
             for origin in (0, CLOCK - 99 * TICKS):
-                held = Held(self.write("one.pes", b"".join(
+                held = timeline_of(self, b"".join(
                     pes_packet((origin + TICKS * frame) % CLOCK, []) for frame in range(total)
-                    if frame not in lost)), PAGE, origin)
-                held.follow()
+                    if frame not in lost), origin)
                 found = {frame: held.pause_at(frame) for frame in range(total + 2)}
                 self.must(f"{gone} {total}", found == {
                     frame: next((one for one in wanted if one.first <= frame <= one.last), None)

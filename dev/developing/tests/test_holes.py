@@ -8,11 +8,11 @@ from typing import NamedTuple
 from subtitles.core.pes import pts_in
 from subtitles.core.stl import boxed, gsi_block, subtitle_blocks
 from subtitles.core.times import CLOCK, TICKS
-from subtitles.qc.carriers import Carrier
-from subtitles.reading.holes import Way, counters
-from subtitles.reading.listing import Listing
+from subtitles.calls.channel.carriers import Carrier
+from subtitles.calls.channel.holes import Way, counters
+from subtitles.calls.channel.listing import Listing
 from subtitles.reading.multiplex import head
-from subtitles.reading.transport import PACKET, Piece, Reader
+from subtitles.calls.channel.transport import PACKET, Piece, Reader
 from .bench import Case, packets
 from .judged import judged
 from .muxed import (
@@ -141,7 +141,7 @@ class Holes(Case):
     def heard(self, made: list[Sent], size: int = 1 << 20) -> Carrier:
         """What a carrier knows of a multiplex that is read in pieces of a size."""
         listing, data = Listing(), io.BytesIO(b"".join(one.data for one in made))
-        carrier = Carrier(TELETEXT_PID, PAGE, self.path("taken.pes"), listing)
+        carrier = Carrier(TELETEXT_PID, listing, None)  # type: ignore[arg-type]
 
         class Pieces:
             def read(self, most: int, /) -> bytes:
@@ -150,7 +150,6 @@ class Holes(Case):
         for piece in Reader(Pieces()):
             listing.find(piece)
             carrier.take(piece)
-        carrier.close()
         return carrier
 
     def test_of_whole_streams(self) -> None:

@@ -33,18 +33,19 @@ def runs_the_whole_way(case: Case, prefix: str) -> None:
     pes = case.write("recording.pes", recording.out)
     origin = run("subttx-origin", stl, pes).out.decode().split()
     case.must("origin", origin == ["--origin", "0"], origin)
-    done = run("subttx-cut", pes, *TIMES, *origin, "-o", "cut.pes")
+    done = run("subttx-cut", pes, *TIMES, *origin)
     case.must("cut", done.status == 0, done)
-    done = run("subttx", "check", stl, "cut.pes", *origin)
+    some = done.out.decode().split()
+    done = run("subttx", "check", stl, pes, *origin, *some)
     case.must("check", done.out == b"accepted 226 frames 5 transmissions\n", done)
     done = run("subttx-text", stl)
     case.must("text", done.out.endswith(b"3 subtitles\n"), done)
-    done = run("subttx-preview", stl, "cut.pes", *origin, "-o", "report.html")
+    done = run("subttx-preview", stl, pes, *origin, *some, "-o", "report.html")
     case.must("preview", (done.status, done.out) ==
               (0, b"accepted 226 frames 5 transmissions\n"), done)
     done = run("subttx-qc", stl, "story.ts")
     case.must("qc", done.out.endswith(b"accepted 226 frames 5 transmissions\n") and
-              os.path.join(prefix, "bin", "subttx-origin").encode() in done.out, done)
+              os.path.join(prefix, "bin", "subttx").encode() in done.out, done)
     done = run("subttx-poke", stl, "11=20")
     case.must("poke", done.status == 0 and done.out[11:12] == b" ", done.told)
     done = run("subttx-cut", "--help")
@@ -149,7 +150,7 @@ class Installed(Case):
             self.must(name, options <= offered("subttx", name, "-"), (options, name))
         self.must("values", offered("subttx", "check", "--option", "g") == {"german"})
         tool = os.path.join(TOP, "tools", "cut")
-        self.must("a tool", {"--from", "--to", "--page", "--origin", "-o"} <= offered(tool, "-"),
+        self.must("a tool", {"--from", "--to", "--page", "--origin", "--pes"} <= offered(tool, "-"),
                   offered(tool, "-"))
         tool = os.path.join(TOP, "tools", "qc")
         self.must("qc", {"--batch", "--allow-lost", "--severity", "-o"} <= offered(tool, "-"),

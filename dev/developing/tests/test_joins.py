@@ -6,8 +6,8 @@ from typing import Sequence
 from subtitles.core.pes import MARK, has_pts, is_mark, pes_packet, pts_in, pts_or_none
 from subtitles.core.pieces import Gap
 from subtitles.core.times import CLOCK, TICKS
-from subtitles.reading.losses import Losses, Place, line_of, of_gaps, overlap, what_of
-from subtitles.reading.transport import PACKET, Piece
+from subtitles.calls.channel.losses import Losses, Place, line_of, of_gaps, overlap, what_of
+from subtitles.calls.channel.transport import PACKET, Piece
 from .bench import Case
 from .parts import CLOSING, HEADER, row
 

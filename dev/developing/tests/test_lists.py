@@ -14,7 +14,8 @@ from .bench import Case
 # each of these.
 FOLDERS = [("tools", "subtitles", True), ("dev", "developing", False)]
 PACKAGES = [*(os.path.join("tools", "subtitles", name)
-              for name in ("core", "reading", "qc", "preview", "calls")),
+              for name in ("core", "reading", "qc", "preview", "calls",
+                           os.path.join("calls", "channel"))),
             os.path.join("dev", "developing"), os.path.join("dev", "developing", "every_place")]
 ROW = re.compile(r"^\| (`.*?) \|", re.M)  # a row of a README: the names in its first cell
 LINE = re.compile(r"^([a-z_]+) +\S", re.M)  # a line of the list of a package, in its __init__.py

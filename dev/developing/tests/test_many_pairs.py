@@ -169,7 +169,7 @@ class Judged(Case):
     def test_all_words(self) -> None:
         """What is asked of a pair is asked of its call, also where it is 0."""
         for words in ("", "--origin 0 --pid 0", "--start tcp", "--origin 5 --pid 257 --within 3",
-                      "--strict --allow-lost --no-complete --severity file --breaks 2 --run 1",
+                      "--strict --allow-lost --no-complete --severity file --breaks 2 --pes 3-9",
                       "--page 1A0 --every 7 --option german"):
             asked = asked_for("a.stl", "a.ts", *words.split())
             again = asked_of(parser_of("").parse_args(words_of(asked)))

@@ -8,14 +8,15 @@ from types import ModuleType
 from unittest import mock
 
 from subtitles.calls import (
-    awaited, batch, channel, channel_feed, collecting, feed_clock, index_page, machine, main,
-    objects, queue, ring, running, single, watching)
+    batch, collecting, index_page, machine, main, objects, single, watching)
+from subtitles.calls.channel import (
+    awaited, channel, channel_feed, feed_clock, queue, ring, running)
 from subtitles.calls.main import (
     jobs_word, json_in, minutes_word, name_in, parser_of, seconds_word)
 from subtitles.calls.modes import (
     ALONE, BATCH, CHANNEL, CHANNEL_LINE, COLLECT, LINE, MODES, PAIR, TAKEN_BY, WATCH, Mode,
     mode_of, refuse_options)
-from subtitles.calls.planned import Planned
+from subtitles.calls.channel.planned import Planned
 from subtitles.core import files
 from subtitles.core.built import TOP
 from subtitles.core.words import Stop
@@ -28,7 +29,7 @@ CALLS: dict[Mode, list[str]] = {
     CHANNEL: ["--channel", "list", "-"], COLLECT: ["--collect", "in"]}
 # A value of each option that has one.
 VALUES = {"--page": "801", "--every": "25", "--within": "1", "--option": "german", "--origin": "7",
-          "--start": "tcp", "--breaks": "1", "--run": "2", "--pid": "0x101", "--severity": "file",
+          "--start": "tcp", "--breaks": "1", "--pes": "2-9", "--pid": "0x101", "--severity": "file",
           "-o": "out", "--json": "x", "--csv": "x", "--junit": "x", "--stall": "5", "-p": "none",
           "--jobs": "2", "--settled": "1", "--patience": "9"}
 MANUAL = os.path.join(TOP, "docs", "manual", "qc.md")
@@ -146,7 +147,7 @@ class Modes(Case):
 
     def test_values_that_are_those_left_out(self) -> None:
         """An option counts as given also where its value is the one that is taken without."""
-        for words in (["--run=1"], ["--breaks", "0"], ["--start", "tcp"], ["--breaks=0"]):
+        for words in (["--pes=1-2"], ["--breaks", "0"], ["--start", "tcp"], ["--breaks=0"]):
             line = [*CALLS[CHANNEL], *words]
             with self.assertRaises(Stop) as raised:
                 refuse_options(parser_of(""), line, CHANNEL)
@@ -156,7 +157,7 @@ class Modes(Case):
     def test_ends_a_call(self) -> None:
         """Nothing is done: one line, and status 2."""
         self.write("list", b"one.stl\n")
-        for words in (["--channel", "list", "-", "--run", "1"], ["a.stl", "--pid", "5"],
+        for words in (["--channel", "list", "-", "--pes", "1-2"], ["a.stl", "--pid", "5"],
                       ["--collect", ".", "-o", "out"], ["--batch", "list", "--patience", "5"]):
             done = self.tool("qc", *words)
             self.must(" ".join(words), done.status == 2 and len(done.told) == 1
@@ -171,7 +172,7 @@ class Numbers(unittest.TestCase):
     OWN: dict[ModuleType, dict[str, object]] = {
         awaited: {"IN_A_ROW": 5, "BEFORE": 12, "NEAR": 1800}, batch: {"WAIT": 0.2},
         channel: {"GAP": 5_400_000, "LATER": 10_800_000, "ENOUGH": 4},
-        channel_feed: {"BEFORE": 50, "ENDS": 2, "NO_PAGE": (0, 0x88)},
+        channel_feed: {"BEFORE": 50, "ENDS": 2},
         feed_clock: {"BACK": 45_000, "ANEW": 324_000_000}, index_page: {"MOST_CAUSES": 6},
         machine: {"FORMAT": 3}, main: {"SETTLED": 5, "PATIENCE": 60}, objects: {"LINES": 100},
         queue: {"AT_ONCE": 4, "LOOK": 1.0}, ring: {"PARTS": 20}, running: {"VERDICT": 60.0},
@@ -179,7 +180,7 @@ class Numbers(unittest.TestCase):
         files: {"PIECE": 1 << 20, "OWN_OUTPUT": {"-", "/dev/stdout", "/dev/fd/1",
                                                  "/proc/self/fd/1"}}}
     NONE = ("batch", "channel", "collect", "csv", "json", "junit", "jobs", "name", "origin", "out",
-            "patience", "pid", "program", "recording", "run", "settled", "severity", "start", "stl",
+            "patience", "pes", "pid", "program", "recording", "settled", "severity", "start", "stl",
             "watch")
     FALSE = ("is_fitted", "is_kept", "is_loss_allowed", "is_resumed", "is_strict")
 

@@ -21,7 +21,7 @@ from subtitles.qc.typed import Typed
 from subtitles.qc.unclear import Unclear
 from subtitles.qc.verdict import Gap, Part, Verdict
 from subtitles.qc.warned import Warned
-from subtitles.reading.losses import Place
+from subtitles.reading.gaps import Place
 from .bench import Case, example
 from .judged import Heard
 from .parts import answer, asked_for, part_with
@@ -118,23 +118,6 @@ class Ends(Case):
         for parts, words in rows:
             said = self.said(self.verdict(parts, reason="stopped at x", is_stopped=True))
             self.must(words, said[-2:] == [words, "! not judged: stopped at x"], said)
-
-
-    def test_words_for_the_report(self) -> None:
-        """Its sentence, and the verdict in one word where that is not what `check` says."""
-        waived = self.write("waived", b"others warning\n")
-        for severity, is_refused, is_strict, is_lost, wanted in (
-                (None, False, False, False, None), (None, True, False, False, None),
-                (waived, True, False, False, "waived"), (None, False, False, True, "lost"),
-                (waived, True, False, True, "lost"), (None, False, True, False, "warned"),
-                (waived, True, True, False, "warned")):
-            part = part_with(0, 9, 0, answer(REFUSED) if is_refused else None)
-            part.clock = Clock(0, RECORDING)
-            made = self.verdict([part], *["--strict"] * is_strict, severity=Severity(severity),
-                                gaps=[gap(True)] * is_lost)
-            self.must(f"{wanted} {is_refused}", made.report_words() == [
-                *(["--verdict", wanted] if wanted else []), "--sentence", made.sentence],
-                made.report_words())
 
 
 class Writes(Case):
@@ -242,16 +225,6 @@ class Writes(Case):
         text = os.read(reader, 1 << 16).decode()
         os.close(reader)
         self.must("once", text.count("recording") == 1 and "not judged" in text, text)
-
-    def test_what_was_judged(self) -> None:
-        """Of a feed, and of all parts, it goes unless it is to be kept."""
-        for is_kept in (True, False):
-            names = ["one.cut.pes", "one.1.cut.pes", "one.2.cut.pes", "two.cut.pes"]
-            for name in names:
-                self.write(f"out/{name}", b"")
-            self.files(self.verdict(), out=self.path("out"), is_kept=is_kept).leave()
-            self.must(f"{is_kept}", sorted(os.listdir(self.path("out"))) ==
-                      sorted(names if is_kept else names[3:]))
 
     def test_object_that_fails(self) -> None:
         """An object that says why stands for it; of other outputs, and where no file can be

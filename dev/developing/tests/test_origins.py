@@ -1,22 +1,19 @@
 """tools/origin, in process: the origin of transmissions that are known, what is said of them."""
 from __future__ import annotations
 
-import argparse
 import random
 from typing import Sequence
 
-from subtitles.core.pes import (
-    MARK, START, data_field, pes_packet, pts_in, teletext_packets)
+from subtitles.core.pes import MARK, data_field, pes_packet, pts_in, teletext_packets
 from subtitles.core.stl import boxed, gsi_block, subtitle_blocks
 from subtitles.core.teletext import packet
 from subtitles.core.times import CLOCK, TICKS, time_of
-from subtitles.core.words import Stop
 from subtitles.reading.finding import (
-    Agreement, Origin, find, is_sent, main, read_words, sent_in, subtitles_of)
-from subtitles.reading.sent import Sent
+    Agreement, Origin, Sought, find, main, read_words)
+from subtitles.reading.streams import survey_of
 from .at_random import in_process
 from .bench import Case, alone, example, example_bytes, moved, packets, random_subtitles
-from .parts import CLOSING, HEADER, PAGE, row
+from .parts import CLOSING, HEADER, row
 
 FIRST, COUNT = 1_000_000, 12  # the frame of the first subtitle; how many there are
 Times = Sequence[tuple[int, int, bytes]]  # subtitles: when they come, when they go, their texts
@@ -45,7 +42,9 @@ class Origins(Case):
     def find(self, stl: str, pes: Sequence[bytes], *words: str) -> Origin:
         """What is found of a subtitle file and PES packets."""
         path = self.write("one.pes", b"".join(pes))
-        return find(read_words("", [*words, "--", stl, path]), path)
+        asked = read_words("", [*words, "--", stl, path])
+        return find(Sought(*(getattr(asked, name) for name in Sought._fields)),
+                    survey_of(path, asked.page, None, 188, self.bench.program))
 
     def test_of_the_examples(self) -> None:
         """Of each origin, also where PTS begin again."""
@@ -109,12 +108,10 @@ class Origins(Case):
                 [wanted][:wanted is not None], wanted is None), found)
         pes = self.planned(self.stl([(100, 150, b"Other"), (300, 350, b"Own")], "sent.stl"))
         for some, printed in ((pes[2:3], [f"--origin {200 * TICKS}"]), (pes[1:2], [])):
-            for run in range(2):
-                found = self.find(one, some, *["--run", "1"] * run)
-                self.must("one sending", found.printed == printed, found)
-        for words, line in (["--run", "2"], "there is no run 2 of the programme but one"), (
-                ["--page", "100"], f"there is no header of page 100 in {self.path('one.pes')}; "
-                "other subtitle pages: 888"):
+            found = self.find(one, some)
+            self.must("one sending", found.printed == printed, found)
+        for words, line in ((["--page", "100"], f"there is no header of page 100 in {self.path('one.pes')}; "
+                "other subtitle pages: 888"),):
             found = self.find(one, pes, *words)
             self.must(line, (found.status, found.told, found.parts) == (1, [line], []), found)
         alike = self.stl(each(30, 100, 50, b"Again"))
@@ -154,23 +151,16 @@ class Origins(Case):
         return self.stl(each(COUNT, 70, 40, begin=FIRST))
 
     def test_runs(self) -> None:
-        """The one that is said; a number that there is not, or none where there are several."""
+        """Each time that it is there, with its PES packets, of which one is looked for then."""
         gap = TICKS * 70 * (COUNT + 20)
         for runs in (1, 2, 3):
             pes = [one for number in range(runs) for one in self.sent(gap * number)]
-            for run in (None, 1, 2, 3, 4):
-                found = self.find(self.own(), pes, *([] if run is None else ["--run", str(run)]))
-                is_clear = run is not None and run <= runs or run is None and runs == 1
-                with self.subTest(runs=runs, run=run):
-                    self.assertEqual((found.status, found.runs), (int(not is_clear), runs))
-                    if is_clear:
-                        origin = (gap * ((run or 1) - 1) - TICKS * FIRST) % CLOCK
-                        self.assertEqual(found.printed, [f"--origin {origin}"])
-                    elif run is None:
-                        self.assertEqual(found.told[-1], f"say which one: --run 1 to --run {runs}")
-                    else:
-                        self.assertEqual(found.told[-1], f"there is no run {run} of the programme"
-                                         + " but one" * (runs == 1))
+            found = self.find(self.own(), pes)
+            with self.subTest(runs=runs):
+                self.assertEqual((found.status, len(found.runs)), (int(runs > 1), runs * (runs > 1)))
+            for number, (first, last) in enumerate(found.runs):
+                one = self.find(self.own(), pes, "--pes", f"{first}-{last}")
+                self.assertEqual(one.printed, [f"--origin {(gap * number - TICKS * FIRST) % CLOCK}"])
 
     def test_late_from_one_on(self) -> None:
         """From when on, and by how much; how late the first is of what is known."""
@@ -235,7 +225,7 @@ class Origins(Case):
         """All lines of all parts, each told one behind the name of the tool."""
         pes = self.sent(0, [0] * 6 + [1600] * 6)
         found = self.find(self.own(), pes, "--breaks", "1")
-        words = ["origin", "--breaks", "1", self.own(), self.write("one.pes", b"".join(pes))]
+        words = ["origin", "-p", self.bench.program, "--breaks", "1", self.own(), self.write("one.pes", b"".join(pes))]
         status, out, told = in_process(lambda line: main("", line), words)
         self.must("all", (status, out.splitlines(), told.splitlines()) == (
             0, found.printed, [f"origin: {line}" for line in found.told]) and
@@ -263,30 +253,10 @@ class Origins(Case):
                 ("no page", [pes_packet(0, [CLOSING])], False, [
                     "there is no header of page 888 in a.pes; other subtitle pages: none"])]
         for name, pes, is_page, told in rows:
-            sent, found = Sent(PAGE), list[str]()
-            sent.take_all(pes)
-            asked = argparse.Namespace(pes="a.pes", page=PAGE)
-            self.must(name, is_sent(sent, asked, found) == is_page and len(found) == len(told)
-                      and all(one.startswith(words) for one, words in zip(found, told)), found)
-
-    def test_files(self) -> None:
-        """A recording that is cut is read up to there, one that is none is not; subtitles that come
-        and go within a day."""
-        told: list[str] = []
-        data = b"".join(self.sent(0))
-        sent = sent_in(self.write("cut.pes", data[:-1]), "a.pes", PAGE, told)
-        self.must("cut", sent.bases.count == 2 * COUNT - 1 and told == [
-            f"a.pes: PES packet {2 * COUNT - 1} is cut; what stands before is used"], told)
-        with self.assertRaises(Stop):
-            sent_in(self.write("none.pes", START[:2] + b"x" * 99), "a.pes", PAGE, told)
-        times = [(10, 20), (30, 30), (50, 40), (60, 61)]
-        blocks = b"".join(subtitle_blocks(at, begin, end, 20, 2, b"A b")
-                          for at, (begin, end) in enumerate(times))
-        found = subtitles_of(self.write("x.stl", gsi_block(b"", 4, 4) + blocks), "english")
-        self.must("subtitles", [(one.begin, one.end, one.letters) for one in found] ==
-                  [(10, 20, b"Ab"), (60, 61, b"Ab")], found)
-        with self.assertRaises(Stop):
-            subtitles_of(self.write("y.stl", gsi_block(b"", 0, 0)), "english")
+            found = self.find(self.own(), pes)
+            lines = [line.replace(self.path("one.pes"), "a.pes") for line in found.told]
+            self.must(name, all(line.startswith(begin) for line, begin in zip(lines, told)) and
+                      len(lines) >= len(told) and (len(lines) > len(told)) == is_page, lines)
 
     def test_reads_standard_input(self) -> None:
         """A transport stream, as it reads it from a file."""

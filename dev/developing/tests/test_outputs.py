@@ -21,7 +21,7 @@ from subtitles.core.words import shown
 from subtitles.qc.clock import GIVEN
 from subtitles.qc.sums import File
 from subtitles.qc.verdict import Gap
-from subtitles.reading.losses import Place
+from subtitles.reading.gaps import Place
 from .bench import Case
 from .parts import asked_for, part_with
 
@@ -177,11 +177,11 @@ class Members(unittest.TestCase):
         """Each option under its own name."""
         own = asked_for("a.stl", "a.ts", *(
             "--page 8A1 --every 7 --option german --origin 9 --no-complete --pid 0x101 --breaks 3 "
-            "--run 4 --within 5 --severity file --allow-lost").split())
+            "--pes 3-9 --within 5 --severity file --allow-lost").split())
         own = dataclasses.replace(own, start="tcp")
         words = {"stl": "a.stl", "recording": "a.ts", "page": "8A1", "every": 7, "option": "german",
                  "origin": 9, "complete": False, "pid": 257, "allow_lost": True,
-                 "severity": "file", "breaks": 3, "run": 4, "start": "tcp", "within": 5,
+                 "severity": "file", "breaks": 3, "pes": [3, 9], "start": "tcp", "within": 5,
                  "strict": False}
         for asked in (own, dataclasses.replace(own, is_loss_allowed=False, is_strict=True)):
             self.assertEqual(asked_words(asked), {**words, "strict": asked.is_strict,
@@ -197,7 +197,7 @@ class Members(unittest.TestCase):
             "packet_size", "pes", "judged")], [
             2, 7, "00:00:01:00", "00:00:01:24", "accepted", 10, 2, 0, None, None, None, None])
         self.assertEqual(bare["clock"], {"origin": 7, "source": GIVEN, "delay_frames": None})
-        part.stream, part.pieces = (0x101, 204), Pieces("a.ts", 3, 9)
+        part.stream, part.pes = (0x101, 204), (3, 9)
         part.judged, part.clock = File("a.cut.pes", 5, "sum"), None
         for is_kept, name in ((True, "a.cut.pes"), (False, None)):
             words = part_words(part, is_kept)

@@ -9,7 +9,9 @@ from subtitles.core.times import CLOCK, EARLY, TICKS, time_of
 from subtitles.core.words import counted
 from subtitles.qc.clock import FITTED, FITTED_LATER, GIVEN, RECORDING
 from subtitles.qc.steps import origin_in
+from subtitles.reading.finding import Sought
 from .bench import Case, example
+from .parts import packets_told
 from .judged import Change, Judged, Sent, joined, judged, late, programme, sendings
 
 HELLO = example("hello.stl")
@@ -264,9 +266,9 @@ class Within(Case):
             ("fields", in_fields, 1, 0), ("late rows", with_late_rows, 1, 0),
             ("jitter", with_jitter, 1, None), ("load", under_load, 2, 0)]
         for name, change, least, off in ways:
-            path = self.write("one.pes", joined(change(self.sent)))
+            packets = packets_told(self, joined(change(self.sent)))
             for within in (least, 5, 50):
-                origin = origin_in(path, self.stl, ["--within", str(within)])
+                origin = origin_in(packets, Sought(self.stl, "one.pes", within=within))
                 found = origin.parts[0].origin - ORIGIN
                 self.must(f"{name} {within}", origin.status == 0 and
                           (abs(found) < EARLY if off is None else found == off), origin)
@@ -277,8 +279,8 @@ class Within(Case):
             (with_late_rows, 3600, "1 frame"), (in_fields, 1800, "1 frame"),
             (in_three_frames, 7200, "2 frames")]
         for change, ticks, early in at_once:
-            path = self.write("one.pes", joined(change(self.sent)))
-            origin = origin_in(path, self.stl, [])
+            packets = packets_told(self, joined(change(self.sent)))
+            origin = origin_in(packets, Sought(self.stl, "one.pes"))
             self.must(f"{ticks}: within 0", origin.parts[0].origin == ORIGIN + ticks and
                       any(f"all ends are {early} early compared with" in line
                           for line in origin.told), origin)

@@ -231,18 +231,19 @@ class Said(Case):
         path, last = self.write("one.pes", joined(twice)), len(self.sent) - 1
         for words, word, origin, pes in (
                 ("", "not judged", None, None), ("--origin 0", "not judged", None, None),
-                ("--run 1", "accepted", 0, f"0-{last}"),
-                ("--run 2", "accepted", 6000 * TICKS, f"{last + 1}-{2 * last + 1}"),
-                ("--run 3", "not judged", None, None)):
+                (f"--pes 0-{last}", "accepted", 0, f"0-{last}"),
+                (f"--pes {last + 1}-99999", "accepted", 6000 * TICKS,
+                 f"{last + 1}-{2 * last + 1}"),
+                ("--pes 99990-99999", "not judged", None, None)):
             found = judged(self, self.stl, path, *words.split())
             self.must(f"{words}", found.word == word and found.parts("origin", "pes") ==
                       [(origin, pes)] * (origin is not None), found.said)
             typed = [line for line in found.told if line.startswith(("type ", "or "))]
-            self.must(f"{words}: as before", words[:5] == "--run" or
+            self.must(f"{words}: as before", words[:5] == "--pes" or
                       all(words in line for line in typed), found.said)
-            typed = [line[-7:] for line in typed]
-            self.must(f"{words}: to type", words[:5] == "--run" or typed ==
-                      ["--run 1", "--run 2"], found.said)
+            self.must(f"{words}: to type", words[:5] == "--pes" or [
+                line.split()[-2:] for line in typed] == [
+                    ["--pes", f"0-{last}"], ["--pes", f"{last + 1}-{2 * last + 1}"]], found.said)
         found = judged(self, self.stl, in_pipe(self, joined(twice)), "--origin", "0")
         self.must("a feed", found.word == "accepted" and found.result["parts"][0]["origin"] == 0,
                   found.said)

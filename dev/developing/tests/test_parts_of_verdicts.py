@@ -2,35 +2,29 @@
 """
 from __future__ import annotations
 
-import os
 from types import SimpleNamespace
 from typing import Any, Sequence
 from unittest import mock
 
 from subtitles.core.pes import pes_packet
-from subtitles.core.pieces import Pieces
 from subtitles.core.times import CLOCK, TICKS
-from subtitles.core.told import ENDS_READING, PASSED_OVER, STL_FAULTS, WITH_CAUSE, told_of
-from subtitles.qc.cells import passed_over
-from subtitles.qc.checking import Answer
+from subtitles.core.told import ENDS_READING, PASSED_OVER, STL_FAULTS, WITH_CAUSE
+from subtitles.qc.checking import NO_END, Answer
 from subtitles.qc.clock import FITTED, FITTED_LATER, GIVEN, RECORDING, Clock
 from subtitles.qc.delays import MOVED, Spread, spread_of
-from subtitles.qc.faults import Ends
-from subtitles.qc.feed import is_enough
-from subtitles.qc.fitting import Found
+from subtitles.qc.ending import is_enough
 from subtitles.qc.names import Names
-from subtitles.qc.pair import Begun, Pair, gap_of
+from subtitles.qc.pair import Pair, gap_of
 from subtitles.qc.progress import Progress
 from subtitles.qc.severity import ERROR, OTHERS, REFUSALS, WARNING, Severity
 from subtitles.qc.speech import Speech
-from subtitles.qc.steps import Stretch
 from subtitles.qc.typed import Typed
 from subtitles.qc.verdict import Gap, Part, Verdict
 from subtitles.qc.within import FIXED, OF_ENDS, OF_FRAMES, OF_PACKETS, Trying
 from subtitles.reading.finding import Agreement
-from subtitles.reading.losses import Place
+from subtitles.reading.gaps import Place
 from .bench import Case, alone
-from .parts import CLOSING, HEADER, answer, asked_for, part_with
+from .parts import CLOSING, HEADER, answer, asked_for, packets_told, part_with
 
 REFUSED = ("refused 72 Content frame 00:00:05:00 row 20 column 1", "1 faults")
 OTHER = ("refused 38 UnitLength pes 7", "refused 70 Repeat frame 00:00:09:00", "2 faults")
@@ -166,29 +160,11 @@ class Verdicts(Case):
         for places, wanted in (([], 2), ([inside], None), ([outside], 2),
                                ([outside, inside], None)):
             part = part_with(100, 199, 0, answer(REFUSED))
-            part.pieces = Pieces("one.pes")
+            part.pes = 0, 9
             recording: Any = SimpleNamespace(places=lambda: places, is_feed=False)
             with mock.patch("subtitles.qc.pair.Trying", lambda *_: tried):
-                pair.measure(part, one, recording)
+                pair.measure(part, one, recording, 1)
             self.must(f"{places}", part.accepted_within == wanted, part.accepted_within)
-
-    def test_losses_in_a_report(self) -> None:
-        """Twenty are named, and the others are counted."""
-        path = self.write("one.pes", pes_packet(0, [HEADER, CLOSING]))
-        for count, more in ((1, None), (20, None), (21, "and at 1 more place"),
-                            (23, "and at 3 more places")):
-            pair, drawn, part = self.pair(), list[list[str]](), part_with(0, 99, 0)
-            part.pieces = Pieces(path)
-            found = Found(0, 99, Clock(0, GIVEN))
-            stretch = Stretch("one.stl", "one.stl", pair.names, found)
-            recording: Any = SimpleNamespace(places=lambda: [Place(TICKS, TICKS * 2, 3)] * count,
-                                             live=None, shown="one.pes")
-            vars(pair).update(part_of=lambda begun: part, causes=lambda *_: None,
-                              measure=lambda *_: None)
-            vars(pair.steps)["draw"] = lambda *words: drawn.append(words[4])
-            pair.end_part(Begun(1, stretch, Pieces(path), part.answer), recording)
-            self.must(f"{count}", len(drawn[0]) == min(count, 20) + (more is not None) and
-                      (more is None or drawn[0][-1] == more), drawn)
 
     def test_accepted_within(self) -> None:
         """What is promised holds for all parts that are refused, and is known of each."""
@@ -233,10 +209,9 @@ class Read(Case):
     def test_is_read(self) -> None:
         """Three PES packets, of which some were passed over: each, two, the first or the last; a
         run of them; with faults of other kinds; and a file without any."""
-        pes = self.write("three.pes", b"".join(pes_packet(TICKS * at, [HEADER, CLOSING])
-                                               for at in range(3)))
-        none = self.write("none.pes", b"")
-        of_lists: list[tuple[str, tuple[str, ...], bool]] = [
+        pes = b"".join(pes_packet(TICKS * at, [HEADER, CLOSING]) for at in range(3))
+        none = b""
+        of_lists: list[tuple[bytes, tuple[str, ...], bool]] = [
             (pes, ("refused 38 UnitLength pes 0", "ended 38 UnitLength pes 2", "1 faults"), False),
             (pes, ("refused 38 UnitLength pes 0", "ended 38 UnitLength pes 1", "1 faults"), True),
             (pes, ("refused 38 UnitLength pes 1", "ended 38 UnitLength pes 2", "1 faults"), True),
@@ -249,15 +224,16 @@ class Read(Case):
                    "refused 72 Content frame 00:00:00:00 row 1 column 1", "2 faults"), True),
             (none, ("refused 60 Empty", "1 faults"), False),
             (pes, ("accepted 10 frames 2 transmissions",), True)]
-        for path, lines, wanted in of_lists:
+        for data, lines, wanted in of_lists:
             said = Answer(self.path("list"))
             for line in lines:
                 said.take(line)
             said.end(int(said.frames is None))
             part = part_with(0, 9, 0, said)
-            part.pieces = Pieces(path, 0, 2, 0, os.path.getsize(path))
+            part.pes = 0, 2
+            part.packets = packets_told(self, data)
             self.must(f"{lines}", part.is_read() == wanted)
-        part.pieces = None
+        part.pes = None
         self.must("no recording", not part.is_read())
 
     def test_passed_over(self) -> None:
@@ -268,13 +244,17 @@ class Read(Case):
             (("refused 38 X pes 3", "ended 38 X pes 5"), [(3, 5)]),
             (("refused 38 X pes 3", "refused 38 X pes 7", "ended 38 X pes 9"), [(3, 3), (7, 9)]),
             (("refused 38 X pes 3", "ended 61 X pes 5"), [(3, 3)]),
-            (("refused 38 X pes 3", "refused 61 X pes 4", "ended 38 X pes 5"), [(3, 3), (4, 4)]),
+            (("refused 38 X pes 3", "refused 61 X pes 4", "ended 38 X pes 5"), [(3, 4)]),
             (("refused 38 X pes 3", "ended 38 X pes 5", "ended 38 X pes 8"), [(3, 5)]),
             (("refused 45 X pes 0", "refused 62 X pes 4", "refused 44 X pes 5"), [(0, 0)]),
             (("refused 72 X frame 00:00:00:01", "refused 33 X pes 1", "refused 40 X pes 2"),
-             [(1, 1), (2, 2)])]
+             [(1, 2)])]
         for lines, wanted in of_lines:
-            found = list(passed_over(told for told in map(told_of, lines) if told))
+            answer = Answer(self.path("list"))
+            for line in lines:
+                answer.take(line)
+            answer.stop()
+            found = list(answer.passed)
             self.must(f"{lines}", found == wanted, found)
 
 
@@ -347,7 +327,11 @@ class Severities(Case):
                  "refused 72 Content frame 00:00:03:00 row 1 column 1", "ended 38 UnitLength pes 9",
                  "refused 38 UnitLength pes 11", "refused 72 Content frame 00:00:04:00 row 2 "
                  "column 1", "ended 72 Content frame 00:00:05:00"]
-        ends = Ends(told for told in map(told_of, lines) if told)
-        found = [ends.of(index) for index in range(5)]
+        answer = Answer(self.path("list"))
+        for line in lines:
+            answer.take(line)
+        answer.stop()
+        ends = answer.ends
+        found = [tuple(ends.get(index, NO_END)) for index in range(5)]
         self.must("ends", found == [("00:00:02:00", None), (None, 9), (None, None), (None, None),
                                     ("00:00:05:00", None)], found)

@@ -1,18 +1,14 @@
 """The words of tools/preview: what they ask for, what is refused, and what is written."""
 from __future__ import annotations
 
-import hashlib
 import os
 from typing import Any
 
 from subtitles.core.built import TOP
 from subtitles.core.times import FRAMES_OF_A_DAY
 from subtitles.core.words import Stop
-from subtitles.preview.reasons import Around
-from subtitles.preview.scope import Recorded
-from subtitles.qc.clock import FITTED
-from subtitles.qc.held import Span
-from .bench import Case, example, example_bytes, script
+from subtitles.preview.alone import report_of
+from .bench import Case, example, script
 
 preview = script("preview")
 STL, PES = example("story.stl"), example("five-faults.pes")
@@ -23,43 +19,24 @@ SUM = "0" * 63 + "a"
 class Words(Case):
     """Words as what is asked."""
 
-    def asked(self, *words: str) -> Any:
-        """What is asked; without -p of the program beside tools/."""
-        return preview.asked_of(list(words), preview.options().parse_args(words))
-
     def test_values(self) -> None:
         """Each option, and what holds without it."""
-        data = example_bytes("story.pes")
-        recorded = Recorded(example("story.pes"), len(data), hashlib.sha256(data).hexdigest())
         plain: dict[str, Any] = {
-            "words": [STL, PES], "stl": STL, "pes": PES, "page": (0, 0x88), "every": 250,
-            "origin": 0, "option": "english", "is_complete": False, "window": (
-                0, FRAMES_OF_A_DAY - 1), "lost": [], "notes": [], "recording": None, "part": None,
-            "around": None, "clock": None, "within": 0, "sentence": None, "word": None,
-            "pieces": None, "program": "./subttx", "program_path": os.path.join(TOP, "subttx")}
+            "stl": STL, "recording": PES, "page": (0, 0x88), "every": 250, "origin": 0,
+            "option": "english", "is_complete": False, "begin": 0, "end": FRAMES_OF_A_DAY - 1,
+            "within": 0, "pes": None, "pid": None, "packet_size": 188, "program": None, "out": None}
         rows: list[tuple[list[str], dict[str, Any]]] = [
             ([], {}), (["--page", "150"], {"page": (1, 0x50)}), (["--every", "25"], {"every": 25}),
             (["--origin", "7"], {"origin": 7}), (["--option", "german"], {"option": "german"}),
             (["--complete"], {"is_complete": True}), (["--within", "2"], {"within": 2}),
-            (["--from", TIMES[0]], {"window": (25, FRAMES_OF_A_DAY - 1)}),
-            (["--to", TIMES[0]], {"window": (0, 25)}),
-            (["--from", TIMES[0], "--to", TIMES[0]], {"window": (25, 25)}),
-            (["--lost", "a", "--lost", "b"], {"lost": ["a", "b"]}),
-            (["--note", "a", "--note", "b", "--fitted"], {"notes": ["a", "b", FITTED]}),
-            (["--sentence", "a"], {"sentence": "a"}), (["--verdict", "lost"], {"word": "lost"}),
-            (["--recording", example("story.pes")], {"recording": recorded}),
-            (["--recording", "a.ts", "5", SUM], {"recording": Recorded("a.ts", 5, SUM)}),
-            (["--part", "2", "3"], {"part": (2, 3)}), (["--clock", "a"], {"clock": "a"}),
-            (["--around", STL], {"around": Around(STL, None, None)}),
-            (["--around", PES, *TIMES], {"around": Around(PES, Span(25, 50), None)}),
-            (["--around", PES, "--around-pes", "3-7"], {"around": Around(PES, None, (3, 7))}),
-            (["-p", self.bench.program], {"program": self.bench.program,
-                                          "program_path": self.bench.program})]
+            (["--from", TIMES[0]], {"begin": 25}), (["--to", TIMES[0]], {"end": 25}),
+            (["--pes", "3-7"], {"pes": (3, 7)}), (["--pid", "0x101"], {"pid": 257}),
+            (["--packet-size", "204"], {"packet_size": 204}),
+            (["-p", self.bench.program], {"program": self.bench.program})]
         for words, change in rows:
-            found = self.asked(STL, PES, *words)
-            self.must(f"{words}", found._asdict() == {
-                **plain, "words": [STL, PES, *words], **change}, found)
-        self.must("no transmission", self.asked(STL).pes is None)
+            found = preview.read_words([STL, PES, *words])
+            self.must(f"{words}", vars(found) == {**plain, **change}, found)
+        self.must("no transmission", preview.read_words([STL]).recording is None)
 
     def test_wrong_words(self) -> None:
         """What stops, and what it says."""
@@ -70,23 +47,13 @@ class Words(Case):
                 (["none.stl", PES], "none.stl is no file, or is not there"),
                 ([STL, "none.pes"], "none.pes is no file, or is not there"),
                 ([STL, TOP], f"{TOP} is no file, or is not there"),
-                ([STL, PES, "--around", "none"], "none is no file, or is not there"),
                 ([STL, PES, "-p", "none"], "none is no program"),
                 ([STL, PES, "-p", TOP], f"{TOP} is no program"),
                 ([STL, PES, "-p", text], f"{text} is no program"),
                 ([STL, PES, "--from", TIMES[1], "--to", TIMES[0]],
-                 f"--from {TIMES[1]} is after --to {TIMES[0]}"),
-                ([STL, PES, "--around-pes", "1-2"], "--around-pes goes with --around"),
-                ([STL, PES, "--around", PES, TIMES[0]], "or it and two times"),
-                ([STL, PES, "--around", PES, TIMES[0], "x"], "or it and two times"),
-                ([STL, PES, "--around", PES, *TIMES, *TIMES], "or it and two times"),
-                ([STL, PES, "--recording", "none"], "none is no file, or is not there"),
-                ([STL, PES, "--recording", "a", "5"], "give its name, or its name, size and"),
-                ([STL, PES, "--recording", "a", "x", SUM], "give its name, or its name, size and"),
-                ([STL, PES, "--recording", "a", "5", SUM[1:]], "its name, size and SHA-256"),
-                ([STL, PES, "--recording", "a", "5", SUM, SUM], "its name, size and SHA-256")):
+                 f"--from {TIMES[1]} is after --to {TIMES[0]}")):
             with self.subTest(words), self.assertRaises(Stop) as told:
-                self.asked(*words)
+                report_of(preview.read_words(words), self.folder)
             self.must(f"{words}: {told.exception}", said in str(told.exception))
 
     def test_what_is_read_once(self) -> None:

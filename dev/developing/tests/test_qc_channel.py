@@ -13,20 +13,20 @@ import time
 from typing import Callable, Sequence
 from unittest import mock
 
-from subtitles.calls import channel as channels
-from subtitles.calls.channel import ENDED
-from subtitles.calls.channel_feed import PesFeed, Taken, TransportFeed, feed_of, unpacked
+from subtitles.calls.channel import channel as channels
+from subtitles.calls.channel.channel import ENDED
+from subtitles.calls.channel.channel_feed import PesFeed, Taken, TransportFeed, feed_of, unpacked
 from subtitles.calls.objects import found
-from subtitles.calls.planned import PlannedProgramme
-from subtitles.calls.running import Running
+from subtitles.calls.channel.planned import PlannedProgramme
+from subtitles.calls.channel.running import Running
 from subtitles.core.files import Damaged
 from subtitles.core.pes import pts_bytes
 from subtitles.core.stl import boxed, gsi_block, subtitle_blocks
 from subtitles.core.times import CLOCK, FRAMES_A_SECOND, TICKS
 from subtitles.core.words import Stop
-from subtitles.qc.carriers import NoTeletext
+from subtitles.calls.channel.carriers import NoTeletext
 from subtitles.qc.clock import FITTED_SHORT
-from subtitles.qc.source import Source
+from subtitles.calls.channel.source import Source
 from .bench import Case, packets, tool_path
 from .muxed import TELETEXT_PID, Maker, components
 from .parts import PAGE, asked_for
@@ -274,13 +274,13 @@ class Kinds(Case):
         PES packets are asked for too."""
         pes = list(sent(TEXTS, 900_000))
         took: list[Taken] = []
-        feed = feed_of(Source(self.write("feed.pes", b"".join(pes)), False), None, lambda: [PAGE],
+        feed = feed_of(Source(self.write("feed.pes", b"".join(pes))), None, lambda: [PAGE],
                        print, "none")
         feed.follow(took.append)
         self.must("PES", isinstance(feed, PesFeed) and took == [Taken(one, [one]) for one in pes])
         self.must("kept", list(feed.unpacked([pes[0] + pes[1], b"", pes[2]])) == pes[:3])
         with self.assertRaises(Stop):
-            feed_of(Source(self.path("feed.pes"), False), 0x101, lambda: [PAGE], print, "none")
+            feed_of(Source(self.path("feed.pes")), 0x101, lambda: [PAGE], print, "none")
         maker = Maker(components())
         maker.put_tables()
         for one in pes:
@@ -288,11 +288,11 @@ class Kinds(Case):
         path = self.write("feed.ts", maker.data)
         for pid in (None, TELETEXT_PID):
             took = []
-            source = Source(path, False)
+            source = Source(path)
             feed = feed_of(source, pid, lambda: [PAGE], print, self.bench.program)
             feed.follow(took.append)
             feed.close()
-            self.must(f"{pid}", isinstance(feed, TransportFeed) and source.is_feed and
+            self.must(f"{pid}", isinstance(feed, TransportFeed) and
                       [data for one in took for data in one.packets] == pes, took)
 
     def test_calls(self) -> None:
@@ -312,7 +312,7 @@ class Kinds(Case):
         running.close()
         waited = Running(planned, [sys.executable, "-c", code], self.folder, 7)
         waited.put(b"1")
-        with mock.patch("subtitles.calls.running.VERDICT", 0.1):
+        with mock.patch("subtitles.calls.channel.running.VERDICT", 0.1):
             waited.wait()
         self.must("not for ever", waited.lines() == ["qc: got 1"], waited.lines())
         closed = Running(planned, [sys.executable, "-c", code], self.folder, 7)

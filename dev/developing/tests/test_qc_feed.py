@@ -2,7 +2,6 @@
 from __future__ import annotations
 
 import contextlib
-import itertools
 import json
 import os
 import queue
@@ -10,20 +9,13 @@ import signal
 import subprocess
 import threading
 import time
-import unittest
-from types import SimpleNamespace
-from typing import Any
 
 from subtitles.core.pes import pts_in
 from subtitles.core.stl import boxed, gsi_block, subtitle_blocks
 from subtitles.core.times import TICKS, time_of
 from subtitles.core.words import counted
-from subtitles.qc.carriers import Carrier, Carriers, NoTeletext
-from subtitles.qc.feed import Feed
-from subtitles.reading.extract import Extracted
 from .bench import Case, alone, example, example_bytes, moved, packets, tool_path
 from .muxed import PRIVATE, TELETEXT_PID, Maker, teletext_descriptor
-from .parts import PAGE
 from .test_qc import STORY, qc, stream
 
 SOON = 60.0  # seconds within which a verdict has to come, also on a machine that is busy
@@ -135,57 +127,6 @@ def is_told_once(case: Case, name: str, running: Running) -> None:
     case.must(f"{name}: one command", len(commands) == 1, running.lines)
 
 
-class Rests(unittest.TestCase):
-    """What comes back of a feed when the PCR has told that nothing more is needed."""
-
-    def test_after_the_end(self) -> None:
-        """All of the PID that is judged; nothing where a PES packet has told the end."""
-        kept: Any = SimpleNamespace(has_page=True, pcr=lambda: 7, late=lambda: 0, path="",
-                                    flush=lambda: None)
-        other: Any = SimpleNamespace(**{**vars(kept), "has_page": False})
-        rest = [(other, b"x"), (kept, b"d"), (other, b""), (kept, b"e")]
-        for last, wanted in ((b"", [b"b", b"c", b"d", b"e"]), (b"last", [b"b", b"c", b"last"])):
-            taken: list[bytes] = []
-            live: Any = SimpleNamespace(
-                put=taken.append, put_all=lambda path: None, is_over=lambda: b"last" in taken,
-                is_past=lambda pcr, late: b"c" in taken)
-            start: Any = lambda kept, at: live
-            finder: Any = None
-            feed = Feed(0, finder, start, None, 0, 25)
-            feed.follow(iter([(other, b"x"), (kept, b"a"), (kept, b"b"), (kept, b""),
-                              (kept, b"c"), (kept, last), (kept, b"never")]), lambda: None, rest)
-            self.assertEqual(taken, wanted)
-
-    def test_of_a_feed_that_stands_still(self) -> None:
-        """The PCR may have been read before anything came back that could be judged."""
-        for is_over, has_last, is_past in itertools.product((False, True), repeat=3):
-            live: Any = SimpleNamespace(is_over=lambda: is_over, has_last=lambda: has_last,
-                                        is_past=lambda pcr, late: is_past and (pcr, late) == (7, 3))
-            nothing: Any = None
-            feed = Feed(0, nothing, nothing, None, 0, 25)
-            kept: Any = SimpleNamespace(pcr=lambda: 7, late=lambda: 3)
-            feed.carrier, feed.live = kept, live
-            self.assertEqual(feed.is_settled(), is_over or has_last or is_past)
-
-    def test_of_all_pids(self) -> None:
-        """Each gives back what it still has, once; one that fails is told."""
-        source: Any = SimpleNamespace(is_feed=True)
-        for failure in (None, "extract was not answered"):
-            carriers = Carriers(source, PAGE, None, "", "none", False)
-            for pid in (1, 2):
-                call: Any = SimpleNamespace(end=lambda pid=pid: (
-                    [b"%d" % pid, b"more"], Extracted(2, 0, failure=failure if pid == 2 else None)))
-                carriers.by_pid[pid] = Carrier(pid, PAGE, os.devnull, carriers.listing, call)
-                self.addCleanup(carriers.by_pid[pid].close)
-            found: list[tuple[int, bytes]] = []
-            refused: Any = self.assertRaises(NoTeletext) if failure else contextlib.nullcontext()
-            with refused:
-                found += ((carrier.pid, data) for carrier, data in carriers.rest())
-            if not failure:
-                self.assertEqual(found, [(1, b"1"), (1, b"more"), (2, b"2"), (2, b"more")])
-                self.assertEqual(list(carriers.rest()), [])
-
-
 class Feeds(Case):
     """Feeds that do not end."""
 
@@ -224,7 +165,7 @@ class Feeds(Case):
         running.put(maker.data)
         self.must("not before", not running.waits_for("refused 74 Late", 3.0), running.lines)
         whole, maker.data = maker.data, b""
-        for frame in range(LAST + EVERY, LAST + EVERY + 10, 5):
+        for frame in range(LAST + EVERY, LAST + EVERY + 60, 5):
             maker.put_pcr(ORIGIN + frame * TICKS)
         running.put(maker.data)
         status = running.ends()

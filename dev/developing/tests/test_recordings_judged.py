@@ -5,25 +5,14 @@ from __future__ import annotations
 
 import hashlib
 import os
-import threading
-import time
-from types import SimpleNamespace
-from typing import Any
 
 from subtitles.core.pes import pes_packet, pts_in
 from subtitles.core.times import TICKS
-from subtitles.qc.carriers import Carrier, Kept
-from subtitles.qc.clock import START, Clock
-from subtitles.qc.feed import At, Feed, Finder
-from subtitles.qc.live import Live
-from subtitles.qc.recording import Recording
-from subtitles.reading.finding import Agreement, OfPart, Origin
-from subtitles.reading.listing import Listing
-from .bench import Case, example, example_bytes, moved, packets, random_subtitles
-from .judged import Heard, in_pipe, joined, judged, programme, sendings
+from .bench import Case, example_bytes, moved, packets, random_subtitles
+from .judged import in_pipe, joined, judged, programme, sendings
 from .muxed import (
     MPEG_2, PRIVATE, TELETEXT_PID, VIDEO_PID, Maker, put_teletext, spaced, teletext_descriptor)
-from .parts import HEADER, PAGE
+from .parts import HEADER
 from .test_pairs_in_parts import ORIGIN, apart, times
 from .test_pairs_judged import ACCENT, EVERY, HELLO, STORY, broken
 
@@ -81,37 +70,6 @@ class Recordings(Case):
                         f"{name_of} {taken}--stl {STORY}{every} -o - | {self.bench.program} check "
                         f"{STORY} /dev/stdin{every} --complete --all"], found.said[0])
             self.must(f"{name}: the same list", len(lists) == 1, lists)
-
-    def test_causes_as_they_come(self) -> None:
-        """A cause of a feed is said while the feed goes on, and once; a file is judged by two calls
-        of the program."""
-        self.schedule(STORY, "every.pes", "--every", "25")
-        slow = packets(moved(self.read("every.pes"), lambda _, pts: pts + 8 * TICKS * (
-            pts == 1_822_675 * TICKS)))
-        heard, begun = Heard(), list[int]()
-        path = self.path("feed")
-        os.mkfifo(path)
-
-        def sending() -> None:
-            with open(path, "wb", buffering=0) as file:
-                file.write(b"".join(slow[:-1]))
-                end = time.monotonic() + 60
-                while not any(line.startswith("cause: ") for line in heard.lines):
-                    if time.monotonic() > end:
-                        return
-                    time.sleep(0.02)
-                begun.append(len(heard.lines))
-                file.write(slow[-1])
-
-        threading.Thread(target=sending, daemon=True).start()
-        found = judged(self, STORY, path, "--origin", "0", heard=heard)
-        self.must("while it goes on", begun and found.lines("cause: ") == [
-            'subtitle 3 at 20:15:07:00, "It costs £5, or $7.": late by 8 frames'], found.said)
-        by = self.write_program("program", f'#!/bin/sh\necho "$1" >>{self.path("calls")}\n'
-                                f'exec {self.bench.program} "$@"\n')
-        judged(self, STORY, example("story.pes"), by=by)
-        calls = self.read("calls").decode().split()
-        self.must("calls", sorted(calls) == ["check", "check", "show"], calls)
 
     def test_warnings(self) -> None:
         """What is strange of a stream: said, in the result, and no change of the status unless it
@@ -308,88 +266,3 @@ class Recordings(Case):
             found = judged(self, stl)
             self.must(stl, found.said[-len(lines):] == lines and found.parts("from", "pes") ==
                       [(None, None)], found.said)
-
-
-class Followed(Case):
-    """A feed, PES packet by PES packet."""
-
-    def kept(self, has_page: bool, pid: int = 1) -> Any:
-        """A PID whose PES packets are known to have the page, or are not."""
-        made = Carrier(pid, PAGE, os.devnull, Listing())
-        made.has_page = has_page
-        return made
-
-    def test_carriers(self) -> None:
-        """The first PID with the page is judged, from its first PES packet on, once its clock is
-        known; a second one with the page ends all."""
-        said = list[Any]()
-        live: Any = SimpleNamespace(put=lambda data: said.append(data), is_over=lambda: False,
-                                    put_all=lambda path: said.append(path),
-                                    stop=lambda: said.append("stop"))
-
-        def start(kept: Kept, at: At) -> Any:
-            said.append((kept, at))
-            return live
-
-        one, two, three = self.kept(False), self.kept(True, 2), self.kept(True, 3)
-        feed = Feed(7, Finder(lambda _: Origin(1)), start, None, 0, 25)
-        for kept, data, wanted, is_over in (
-                (one, b"1", [], False), (two, b"", [], False),
-                (two, b"2", [(two, At(7)), os.devnull], False), (one, b"1", [], False),
-                (two, b"3", [b"3"], False), (three, b"", ["stop"], True), (two, b"4", [], True)):
-            said.clear()
-            self.must(f"{kept.pid} {data!r}", (feed.hear(kept, data), said) == (is_over, wanted),
-                      said)
-        self.must("nothing is judged", feed.live is None and feed.carrier is two)
-
-    def test_clocks(self) -> None:
-        """The clock that is given; the one of the first picture, when that is clear; one that is
-        found, when it is time to look; of parts the end of the last one."""
-        found = Origin(0, [OfPart(5)], agreement=Agreement(5, 5, 5, 40, True))
-        parts = Origin(0, [OfPart(5, None, (0, 9)), OfPart(6, None, (10, 20))])
-        picture: Any = SimpleNamespace(clock=Clock(9, START))
-        for origin, began, breaks, finds, wanted, until in (
-                (7, None, 0, found, At(7), None), (None, None, 0, found, At(5), None),
-                (None, None, 0, Origin(1), None, None), (None, picture, 0, found, At(9), None),
-                (7, None, 1, parts, None, 6 + TICKS * 45), (None, picture, 1, parts, None,
-                                                          6 + TICKS * 45),
-                (7, None, 2, parts, None, None)):
-            for is_due in (True, False):
-                begun = list[At]()
-
-                def start(kept: Kept, at: At) -> Any:
-                    begun.append(at)
-                    return SimpleNamespace(put_all=lambda path: None)
-
-                finder = Finder(lambda _: finds)
-                vars(finder)["is_due"] = lambda kept: is_due
-                starting: Any = began and SimpleNamespace(began=None, look=lambda pid, grid: began)
-                feed = Feed(origin, finder, start, starting, breaks, 25)
-                feed.begin(self.kept(True))
-                is_known = is_due or origin is not None or began is not None
-                self.must(f"{origin} {began} {breaks} {is_due}", begun == (
-                    [wanted] if wanted and is_known else []), begun)
-                self.must(f"{origin} {began} {breaks} {is_due}: end", feed.until ==
-                          (until if is_due else None), feed.until)
-
-    def test_how_far(self) -> None:
-        """The time and the faults so far, or how much is read; how long nothing has come."""
-        for frame, still, words in ((125, 0.0, ["00:00:05:00  2 faults"]), (None, 3.0, []),
-                                    (0, 3.4, ["00:00:00:00  2 faults  nothing for 3 s"])):
-            shown = list[str]()
-            made: Any = SimpleNamespace(follow=lambda: None, cut=SimpleNamespace(frame=frame),
-                                        answer=SimpleNamespace(count=2),
-                                        speech=SimpleNamespace(show=shown.append))
-            Live.show(made, still)
-            self.must(f"{frame} {still}", shown == words, shown)
-        for name, size, is_due, still, words in (
-                ("one.ts", 3_000_000, True, 0.0, ["one.ts: 1.5 MB of 3.0"]),
-                ("-", None, True, 2.0, ["standard input: 1.5 MB  nothing for 2 s"]),
-                ("one.ts", 3_000_000, False, 0.0, [])):
-            shown = []
-            recording: Any = SimpleNamespace(name=name, speech=SimpleNamespace(
-                show=shown.append, progress=SimpleNamespace(is_due=lambda: is_due)))
-            source: Any = SimpleNamespace(count=1_500_000, size=size)
-            feed: Any = SimpleNamespace(live=None)
-            Recording.show(recording, source, feed, still)
-            self.must(f"{name} {size}", shown == words, shown)

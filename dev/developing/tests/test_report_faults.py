@@ -1,19 +1,18 @@
 """What a report says of faults, in process: entries of the list, causes, places."""
 from __future__ import annotations
 
+import tempfile
 import unittest
 from types import SimpleNamespace
 from typing import Any, Sequence
 
 from subtitles.core.programme import Programme, Subtitle
 from subtitles.core.times import time_of
-from subtitles.preview import places
 from subtitles.preview.fault_list import FaultList
-from subtitles.preview.faults import Entry, Faults, Spans
-from subtitles.preview.passed import Passed
-from subtitles.preview.program import verdict_of
+from subtitles.preview.faults import Entry, Faults
 from subtitles.preview.reasons import Reasons
 from subtitles.qc.causes import Cause
+from subtitles.qc.checking import Answer, End
 
 # Three subtitles, of which the second has another number than its place.
 SUBTITLES = [Subtitle(1, 1, 25, 50, 20, 2, b"one"), Subtitle(2, 7, 75, 100, 20, 2, b"two"),
@@ -30,7 +29,12 @@ def faults(*lines: str) -> Faults:
     """What is told of the three subtitles; `@N` stands for the time of a frame."""
     told = (" ".join(time_of(int(word[1:])) if word[0] == "@" else word for word in
                      line.split()) for line in lines)
-    return Faults(told, PROGRAMME)
+    with tempfile.NamedTemporaryFile() as file:
+        answer = Answer(file.name)
+        for line in told:
+            answer.take(line)
+        answer.stop()
+        return Faults(answer, PROGRAMME)
 
 
 class Told(unittest.TestCase):
@@ -70,14 +74,14 @@ class Told(unittest.TestCase):
         made = faults("trusted frames @0 @9", "refused 72 Content frame @30 row 1 column 2",
                       "refused 68 Parity frame @31", "refused 68 Parity frame @32",
                       "ended 72 Content frame @33", "trusted frames @40 @60", "3 faults")
-        self.assertEqual(made.first_line, f"refused 72 Content frame {at(30)} row 1 column 2")
-        self.assertEqual((made.last_line, made.last_told),
-                         ("3 faults", f"refused 68 Parity frame {at(32)}"))
-        self.assertEqual(made.firsts, {72: made.first_line,
-                                       68: f"refused 68 Parity frame {at(31)}"})
+        first = f"refused 72 Content frame {at(30)} row 1 column 2"
+        self.assertEqual((made.answer.line, made.answer.last, made.answer.last_told),
+                         (first, "3 faults", f"refused 68 Parity frame {at(32)}"))
+        self.assertEqual({number: told.line for number, told in made.firsts.items()},
+                         {72: first, 68: f"refused 68 Parity frame {at(31)}"})
         self.assertEqual(list(made.trusted), [(0, 9), (40, 60)])
         self.assertEqual([one.last_line[-11:] for one in made.entries],
-                         [made.first_line[-11:], at(32)])
+                         [first[-11:], at(32)])
 
     def test_spans(self) -> None:
         """From where a fault begins to where it ends, in any order; single frames of the others."""
@@ -85,15 +89,15 @@ class Told(unittest.TestCase):
                       "refused 73 Gap frame @32", "ended 73 Gap frame @60",
                       "ended 72 Content frame @40", "refused 72 Content frame @80 row 1 column 1",
                       "refused 77 Whole frame @90", "ended 77 Whole frame @95")
-        self.assertEqual(list(made.spans), [(30, 60), (90, 95)])
-        self.assertEqual(made.begun, {"72": 80})
-        self.assertEqual([(one.first.number, one.until) for one in made.entries],
-                         [(72, 40), (68, None), (73, 60), (72, None), (77, 95)])
+        self.assertEqual(list(made.spans), [(30, 60), (80, 80), (90, 95)])
+        self.assertEqual([(one.first.number, one.end.time) for one in made.entries],
+                         [(72, at(40)), (68, None), (73, at(60)), (72, None), (77, at(95))])
         made.mark([(10, 12), (99, 99)])
-        self.assertEqual(list(made.spans), [(10, 12), (30, 60), (90, 95), (99, 99)])
+        self.assertEqual(list(made.spans), [(10, 12), (30, 60), (80, 80), (90, 95), (99, 99)])
         once = faults("refused 73 Gap frame @30", "ended 73 Gap frame @40",
                       "refused 73 Gap frame @45")
-        self.assertEqual([(one.count, one.until) for one in once.entries], [(1, 40), (1, None)])
+        self.assertEqual([(one.count, one.end.time) for one in once.entries],
+                         [(1, at(40)), (1, None)])
 
     def test_passed_over(self) -> None:
         """PES packets one by one, and up to another one; with what ends reading it is the last."""
@@ -101,9 +105,8 @@ class Told(unittest.TestCase):
                       "refused 61 OffFrame pes 9", "refused 45 Lost pes 10",
                       "refused 44 Cut pes 12")
         self.assertEqual(list(made.passed), [(3, 5), (9, 10)])
-        self.assertEqual([(one.first.pes, one.until_pes) for one in made.entries],
+        self.assertEqual([(one.first.pes, one.end.pes) for one in made.entries],
                          [(3, 5), (9, None), (10, None), (12, None)])
-        self.assertEqual(made.named(), {3, 5, 9, 10, 12})
         ending = made.ending()
         self.assertTrue(ending and ending.number == 44)
         self.assertIsNone(faults("refused 44 Cut pes 2", "refused 74 End").ending())
@@ -128,7 +131,7 @@ class Told(unittest.TestCase):
         self.assertEqual((len(made.of_blocks), made.entry_count, made.count),
                          (20_000, 10_001, 20_001))
         self.assertEqual((made.first_entries, made.of_blocks[-1]),
-                         ({50: 1}, "refused 50 X block 9999 at 1"))
+                         ({50: 1, 51: 10_001}, "refused 50 X block 9999 at 1"))
 
 
 class Why(unittest.TestCase):
@@ -189,7 +192,8 @@ class Lists(unittest.TestCase):
                 (1, None, 7, "up to PES packet 7")):
             entry = Entry(1, "refused 68 Parity frame 00:00:01:00")
             entry.last_line = "refused 68 Parity frame 00:00:02:00"
-            entry.count, entry.until, entry.until_pes = count, until, until_pes
+            entry.count = count
+            entry.end = End(None if until is None else time_of(until), until_pes)
             self.assertEqual(FaultList.span_words(entry), words)
 
     def test_list(self) -> None:
@@ -215,16 +219,3 @@ class Lists(unittest.TestCase):
                     steps = made.steps(made.entries[index - 1])
                     self.assertEqual(("previous" in steps, "next" in steps), (
                         1 < index <= 101, index < min(listed, 100)), index)
-
-    def test_passed_over(self) -> None:
-        """Of PES packets that can't be read the PTS is known where that comes before it."""
-        spans = Passed(Spans([(3, 5)]))
-        spans.pts = {3: 3600, 5: 10_800}
-        held: Any = SimpleNamespace(passed=spans, around=lambda span: (10, 20))
-        report: Any = SimpleNamespace(held=held, passed=spans, origin=0,
-                                      asked=SimpleNamespace(within=0))
-        for number in (33, 34, 35, 36, 37, 38, 39, 40, 45):
-            for until, words in ((None, "3600 (00:00:00:01)."),
-                                 (5, "3600 (00:00:00:01) to 10800 (00:00:00:03).")):
-                said = places.pes_words(verdict_of(f"refused {number} X pes 3"), until, report)
-                self.assertEqual(f" can't be read. PTS: {words}" in said, 37 <= number <= 40, said)

@@ -6,9 +6,9 @@ from types import SimpleNamespace
 from typing import Any, Sequence
 
 from subtitles.core.programme import Programme, Subtitle
+from subtitles.core.spans import Spans
 from subtitles.core.stl import gsi_block, tti_block
 from subtitles.preview import blocks
-from subtitles.preview.faults import Spans
 from subtitles.preview.figures import DIFFERENT, NOT_KNOWN, NOTHING, SAME, Figures
 from subtitles.preview.program import verdict_of
 from subtitles.preview.subtitles import Entries, Looked, looked_at
@@ -298,7 +298,8 @@ class Blocks(Case):
         ends, gone = {10, 11, 12, 13, 14, 15, 17, 22, 23, 24, 25}, {16, 18, 19, 20, 21}
         for number in (*range(10, 26), *range(50, 58)):
             line = f"refused {number} Name block 2"
-            report: Any = SimpleNamespace(faults=SimpleNamespace(last_told=line))
+            report: Any = SimpleNamespace(part=SimpleNamespace(answer=SimpleNamespace(
+                last_told=line)))
             said = blocks.end_of_reading(report, self.blocks())
             self.must(line, said == (
                 f"<b>Reading ended at block 2</b>, with {number} Name: nothing is known of what "
@@ -353,7 +354,9 @@ class Blocks(Case):
     def test_printed(self) -> None:
         """What show prints, without its middle where it is long."""
         for count, left in ((3, 0), (200, 0), (220, 0), (221, 1), (500, 280)):
-            report: Any = SimpleNamespace(show_lines=[f"line {at}" for at in range(count)])
+            lines = [f"line {at}" for at in range(count)]
+            report: Any = SimpleNamespace(part=SimpleNamespace(stl_path="one.stl"), program=SimpleNamespace(
+                show=lambda path: lines))
             said = blocks.printed(report)
             words = f"Lines 201 to {200 + left}, {left} of them" if left else ""
             self.must(f"{count}", words in said and ("left out" in said) == (left > 0) and
@@ -365,8 +368,9 @@ class Blocks(Case):
         for more, last, words in (
                 (0, lines[-1], "read to its end, 6 blocks"),
                 (1, "refused 15 Ebn block 6", "ended at block 6</b>, with 15 Ebn")):
-            report: Any = SimpleNamespace(faults=SimpleNamespace(
-                of_blocks=lines, count=3 + more, last_told=last))
+            report: Any = SimpleNamespace(faults=SimpleNamespace(of_blocks=lines, count=3 + more),
+                                          part=SimpleNamespace(answer=SimpleNamespace(
+                                              last_told=last)))
             said = blocks.refused_blocks(report, self.blocks())
             self.must(words, words in said and said.count("<li") == 2 and
                       ("1 more fault</b>" in said) == bool(more), said)

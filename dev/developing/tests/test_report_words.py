@@ -5,27 +5,25 @@ import html
 import re
 import tempfile
 import unittest
-from collections import Counter
 from types import SimpleNamespace
 from typing import Any
 
-from subtitles.core.manual import Meaning, meanings
-from subtitles.core.pieces import Pieces
+from subtitles.core.manual import Meaning
 from subtitles.core.stl import gsi_block, tti_block
 from subtitles.core.times import FRAMES_OF_A_DAY
 from subtitles.preview import page
 from subtitles.preview.counts import (
     meaning_of_verdict, means_and_do, numbers_table, place_words)
-from subtitles.preview.faults import Spans
+from subtitles.core.spans import Spans
+from subtitles.core.told import told_of
 from subtitles.preview.page import lost_places, subtitles_words, verdict_box
-from subtitles.preview.program import NoReport, Verdict, verdict_of
-from subtitles.preview.report import Asked, Report, end_of_knowledge
-from subtitles.preview.scope import BETWEEN, DELAY, ROW_0, Recorded, Scope
+from subtitles.preview.program import Verdict, verdict_of
+from subtitles.preview.report import end_of_knowledge
+from subtitles.preview.scope import BETWEEN, DELAY, ROW_0, Scope
 from subtitles.qc.made_with import Program
 from subtitles.qc.midnight import AT_MIDNIGHT
-from subtitles.qc.sums import File, file_of
-from .bench import Case, example, example_bytes
-from .parts import PAGE
+from subtitles.qc.sums import File
+from .bench import Case, example
 from .test_report_faults import SUBTITLES
 
 
@@ -34,20 +32,24 @@ class Box(unittest.TestCase):
 
     def report(self, **more: Any) -> Any:
         """A report; what a test does not name is that of an accepted transmission."""
-        asked = {"within": 0, "lost": [], "notes": [], "sentence": None, "word": None,
-                 "is_complete": False}
+        asked = {"within": 0, "is_complete": False}
         asked.update({name: more.pop(name) for name in list(more) if name in asked})
+        judged = {"sentence": "", "word": "", "fitted": None}
+        judged.update({name: more.pop(name) for name in list(more) if name in judged})
         known: dict[str, Any] = {
             "verdict": Verdict("accepted 5 frames", 0), "reasons": None, "meanings": {},
             "faults": SimpleNamespace(count=0, counts={}, firsts={}, trusted=Spans()),
-            "asked": SimpleNamespace(**asked), "looks": None, "pes": None,
-            "stl": example("story.stl"), "is_refused_file": False}
+            "asked": SimpleNamespace(**asked), "looks": None, "seen": None, "lost": [],
+            "notes": [], "subject": SimpleNamespace(judged=SimpleNamespace(**judged)),
+            "part": SimpleNamespace(stl_path=example("story.stl"), delays=[]),
+            "is_refused_file": False}
         return SimpleNamespace(**{**known, **more})
 
     def refused(self, count: int, **more: Any) -> Any:
         return self.report(verdict=verdict_of("refused 68 Parity frame 00:00:01:00", 1),
                            faults=SimpleNamespace(count=count, counts={68: count}, firsts={
-                               68: "refused 68 Parity frame 00:00:01:00"}, trusted=Spans()),
+                               68: told_of("refused 68 Parity frame 00:00:01:00")},
+                                                      trusted=Spans()),
                            first_link=lambda first: "link", **more)
 
     def test_frames(self) -> None:
@@ -61,9 +63,9 @@ class Box(unittest.TestCase):
                 (self.refused(1, word="lost", lost=lost), "unseen", page.UNSEEN),
                 (self.report(word="warned"), "unseen", page.UNSEEN)):
             box = verdict_box(one)
-            with self.subTest(kind=kind, word=one.asked.word):
+            with self.subTest(kind=kind):
                 self.assertTrue(box.startswith(f'<div class="verdict {kind}">{shape}'), box[:60])
-                self.assertEqual("3 lost" in box, bool(one.asked.lost))
+                self.assertEqual("3 lost" in box, bool(one.lost))
 
     def test_words(self) -> None:
         """How many faults more, what stands beside the verdict, and the sentence before it."""
@@ -100,8 +102,7 @@ class Box(unittest.TestCase):
             looks: Any = SimpleNamespace(entries=SimpleNamespace(
                 drawn=range(1, drawn + 1), odd=set(range(1, odd + 1)),
                 counted=lambda subtitles: "all as due"))
-            said = subtitles_words(self.report(within=within, subtitles=[1] * count, delays=[]),
-                                   looks)
+            said = subtitles_words(self.report(within=within, subtitles=[1] * count), looks)
             with self.subTest(words):
                 self.assertIn(f"<p>{words} What a receiver holds then: all as due.", said)
                 self.assertEqual(said.count('href="#s'), links)
@@ -114,7 +115,7 @@ class Box(unittest.TestCase):
         self.assertEqual(numbers_table(self.refused(1)), "")
         one = self.refused(3)
         one.faults.counts = {73: 1234, 68: 2}
-        one.faults.firsts[73] = "refused 73 Gap frame 00:00:02:00"
+        one.faults.firsts[73] = told_of("refused 73 Gap frame 00:00:02:00")
         table = numbers_table(one)
         self.assertEqual(re.findall('row">(.*?)</th><td data-name="Faults">(.*?)</td>', table),
                          [("68 Parity", "2"), ("73 Gap", "1,234")])
@@ -132,20 +133,20 @@ class Box(unittest.TestCase):
             with tempfile.NamedTemporaryFile() as file:
                 file.write(gsi_block(b"", 1, 1) + tti_block(1, *times, 20, 2, b"a"))
                 file.flush()
-                one = self.report(stl=file.name, verdict=verdict_of(told, 1), meanings={
+                one = self.report(part=SimpleNamespace(stl_path=file.name), verdict=verdict_of(told, 1), meanings={
                     21: Meaning("EmptyTime", "`a` < b", "do it")}, faults=SimpleNamespace(
-                        firsts={21: told}))
+                        firsts={21: told_of(told)}))
                 self.assertEqual(means_and_do(one, 21), ("<code>a</code> &lt; b", do))
                 self.assertEqual(meaning_of_verdict(one), '<dl id="n21"><dt>means</dt><dd><code>a'
                                  f"</code> &lt; b</dd><dt>do</dt><dd>{do}</dd></dl>")
                 self.assertIsNone(means_and_do(one, 20))
         self.assertIn('id="n21">docs/manual/', meaning_of_verdict(self.report(
-            verdict=verdict_of(told, 1), stl=example("story.stl"))))
+            verdict=verdict_of(told, 1))))
         self.assertEqual(meaning_of_verdict(self.report()), "")
 
     def test_scope(self) -> None:
         """What the verdict speaks of, and what nobody looked at."""
-        recorded = Recorded("a<b", 1234, "0" * 64)
+        recorded = File("a<b", 1234, "0" * 64)
         for one, wanted, checked in (
                 (Scope([], None, 25, 50, 1, None, False, False), "00:00:01:00 to 00:00:02:00, "
                  "1 subtitle<", [ROW_0]),
@@ -163,40 +164,6 @@ class Box(unittest.TestCase):
 class Reports(Case):
     """A whole report, and what it is made of."""
 
-    def report(self, stl: str, pes: str | None, **more: Any) -> Report:
-        """The report of two examples."""
-        known: dict[str, Any] = {
-            "words": [], "stl": example(stl), "pes": pes and example(pes), "program": "subttx",
-            "program_path": self.bench.program, "page": PAGE, "every": 25, "origin": 0,
-            "option": "english", "is_complete": True, "window": (0, FRAMES_OF_A_DAY - 1),
-            "lost": [], "notes": [], "recording": None, "part": None, "around": None,
-            "clock": None, "pieces": Pieces(example(pes)) if pes else None}
-        return Report(Asked(**{**known, **more}))
-
-    def test_files(self) -> None:
-        """A page is made from its files, of which a range of a recording is named by that; nothing
-        is known of what a refused subtitle file asks for."""
-        recorded = Recorded("r.ts", 5, "0" * 64)
-        some = Pieces(example("story.pes"), 0, 2, 0, None)
-        rows: list[tuple[dict[str, Any], list[str]]] = [
-            ({}, ["STL", "PES"]), ({"pieces": some}, ["STL", "PES"]),
-            ({"recording": recorded}, ["STL", "PES", "Recording"]),
-            ({"recording": recorded, "pieces": some}, ["STL", "Recording"])]
-        for more, kinds in rows:
-            found = dict(self.report("story.stl", "story.pes", **more).files)
-            self.must(f"{more}", list(found) == [*kinds, "Program"], found)
-            for kind, name in (("STL", "story.stl"), ("PES", "story.pes")):
-                if kind in kinds:
-                    self.must(kind, found[kind] == file_of(example(name), example(name)))
-            self.must("program", found["Program"] == file_of(self.bench.program, "subttx"))
-        self.assertRaises(NoReport, self.report, "story.stl", None)
-        broken = bytearray(example_bytes("story.stl"))
-        broken[1024 + 128 * 2 + 13] = 99  # VP
-        made = self.report(self.write("refused.stl", bytes(broken)), None)
-        self.must("meanings", made.meanings == meanings() and made.meanings[72].name == "Content")
-        self.must("refused", [kind for kind, _ in made.files] == ["STL", "Program"] and
-                  made.is_refused_file and not (made.looks or made.scope() or made.frames))
-
     def test_foot(self) -> None:
         """What is made from files: each with its size and its sum, words by lines, the prover's."""
         file = File("a<b", 1234, "f" * 64)
@@ -212,41 +179,13 @@ class Reports(Case):
         self.must("document", "<title>a &lt;line&gt; &#8211; b &amp; c</title>" in text and
                   text.endswith("<h1>Preview of b &amp; c</h1>\none\ntwo\n</body></html>\n"), text)
 
-    def test_options(self) -> None:
-        """As they hold."""
-        pes = example("story.pes")
-        rows: list[tuple[dict[str, Any], str]] = [
-            ({}, ""), ({"within": 2}, " --within 2"), ({"pieces": Pieces(pes, 1, 3)}, " --pes 1-3")]
-        for more, words in rows:
-            asked = self.report("story.stl", "story.pes").asked._replace(**more)
-            self.must(words, asked.options() == "--page 888 --every 25 --origin 0 --option english "
-                      f"--complete{words} --from 00:00:00:00 --to 23:59:59:24", asked.options())
-
     def test_end_of_what_is_known(self) -> None:
         """Where the file ends before the last subtitle does, or can't be followed."""
         for last, is_whole, wanted in ((None, True, None), (124, True, None), (123, True, 124),
                                        (200, True, None), (200, False, 201), (50, False, 51)):
             held: Any = SimpleNamespace(last_frame=last, is_whole=lambda one=is_whole: one)
-            self.must(f"{last} {is_whole}", end_of_knowledge(held, SUBTITLES) == wanted)
+            made: Any = SimpleNamespace(subtitles=SUBTITLES)
+            self.must(f"{last} {is_whole}", end_of_knowledge(held, made) == wanted)
         held = SimpleNamespace(last_frame=5, is_whole=lambda: True)
-        self.must("no subtitle", end_of_knowledge(held, []) is None)
-
-    def test_headers(self) -> None:
-        """The page that is checked first, then those with more headers; what more there are."""
-        known = {(1, 0x50): 9, (0, 0x88): 3, (0, 0xFF): 20, (2, 5): 9}
-        for wanted, order in (((0, 0x88), ["888 checked", "8FF closes others", "150", "205"]),
-                              ((7, 7), ["8FF closes others", "150", "205", "888"])):
-            held: Any = SimpleNamespace(page=wanted, pages={one: SimpleNamespace(
-                count=count, first=3600, last=7205, bits=Counter({"C4 C6": 2, "C4": 1}))
-                for one, count in known.items()}, begin=0, count=5, halt=None, within=0,
-                passed=SimpleNamespace(count=0), end=Verdict("", 0))
-            report: Any = SimpleNamespace(held=held, page="707", origin=0,
-                                          asked=SimpleNamespace(within=0))
-            table = page.pages_table(report)
-            heads = [part.split("</th>")[0].strip() for part in table.split('<th scope="row">')[1:]]
-            self.must(f"{wanted}", heads == order, heads)
-            self.must("cells", "C4 C6 (2); C4 (1)" in table and "00:00:00:01" in table and
-                      "none: 00:00:00:02 is 5 ticks before" in table)
-            self.must("none", ("No header of page 707" in table) == (wanted == (7, 7)))
-        held.pages = {(1, number): next(iter(held.pages.values())) for number in range(202)}
-        self.must("more", "2 more pages with fewer headers" in page.pages_table(report))
+        made.subtitles = []
+        self.must("no subtitle", end_of_knowledge(held, made) is None)

@@ -6,6 +6,7 @@ prints the table anew, and `.. NUMBER` the page of a number, to compare.
 """
 from __future__ import annotations
 
+import argparse
 import contextlib
 import hashlib
 import os
@@ -16,22 +17,17 @@ import sys
 import tempfile
 import unittest
 import xml.etree.ElementTree as tree
-from typing import Any, Callable, Iterator
+from typing import Callable, Iterator
 
 from subtitles.core.manual import Meaning
 from subtitles.core.pes import DATA, UNIT, pts_bytes, pts_in, whole_in
-from subtitles.core.pieces import Pieces, pieces_of
 from subtitles.core.stl import (
     NEW_LINE, USER_DATA, boxed, gsi_block, subtitle_blocks, tti_block)
 from subtitles.core.teletext import mirrored, packet, page_name
 from subtitles.core.times import CLOCK, FRAMES_OF_A_DAY, TICKS
+from subtitles.preview.alone import report_of
 from subtitles.preview.page import report_page
 from subtitles.preview.program import NoReport
-from subtitles.preview.reasons import Around
-from subtitles.preview.report import Asked, Report
-from subtitles.preview.scope import Recorded
-from subtitles.qc.clock import FITTED
-from subtitles.qc.held import Span
 from .. import DEV
 from .bench import BENCH, example_bytes
 
@@ -45,10 +41,6 @@ FOREIGN = re.compile(r"<script|<link|<img|<iframe|@import|\burl\(|\bsrc=|\bon\w+
 STYLE = re.compile("<style>.*?</style>", re.S)
 MEANINGS = {number: Meaning("", f"it means `{number}`", f"do {number}") for number in range(90)}
 MADE = "files"  # the part that names files and dates
-WORDS = {"lost": ["between the beginning and 00:00:01:00: 3 lost", "between 10:00:02:00 and "
-                  "10:00:03:00: <5>"], "notes": ["a & b", FITTED], "sentence": "It <is> so.",
-         "word": "warned", "part": (2, 3), "clock": "tcp & co", "is_complete": True,
-         "recording": Recorded("a<b>.ts", 12345, "0" * 64)}
 BYTES = {3: (0, 0xF0, 0xFE, 7), 4: (1, 9), 5: (24,), 8: (25, 0), 9: (0, 23), 10: (60, 1),
          13: (0, 23, 24), 14: (4,), 15: (1, 2), 19: (0x61, 0xC2, 0x8A, 0x0E), 2: (1,),
          22: (0x81, 0x8A, 0x0D)}  # of a TTI block: what is wrong at which byte
@@ -164,38 +156,34 @@ class Made:
         pes[at:] = [one[:self.chance.choice((20, 100))] for one in pes[at:at + self.chance.choice(
             (0, 1))]]
 
-    def asked(self) -> Asked:
+    def asked(self) -> argparse.Namespace:
         """What is asked, of files that are written here."""
-        chance, pes, pieces = self.chance, self.path_of_pes, None
+        chance, pes, some = self.chance, self.path_of_pes, None
         with open(self.path_of_stl, "wb") as file:
             file.write(self.stl)
         if not self.is_refused_file:
             data = self.sent()
             with open(pes, "wb") as file:
                 file.write(data)
-            pieces = pieces_of(pes, 1, 4) if chance.random() < 0.1 else Pieces(pes)
-        more: dict[str, Any] = {name: words for name, words in WORDS.items()
-                                if chance.random() < 0.25}
-        around = chance.choice((None, None, Around(pes, None, None),
-                                Around(pes, Span(self.begin, self.begin + 200), None)))
-        window = chance.choice(((0, FRAMES_OF_A_DAY), (self.begin + 60, self.begin + 150)))
-        known: dict[str, Any] = {
-            "words": [], "stl": self.path_of_stl, "pes": pieces and pes, "program": "./subttx",
-            "program_path": BENCH.program, "page": self.page, "every": chance.choice(
-                (self.every, self.every, 25)), "origin": self.origin, "option": self.option,
-            "is_complete": False, "window": window, "lost": [], "notes": [], "recording": None,
-            "part": None, "around": pieces and around, "clock": None, "within": self.within,
-            "pieces": pieces, **more}
-        return Asked(**known)
+            some = (1, 4) if chance.random() < 0.1 else None
+        is_complete = [chance.random() < 0.25 for _ in range(8)][6]
+        chance.choice(range(4))
+        begin, end = chance.choice(((0, FRAMES_OF_A_DAY), (self.begin + 60, self.begin + 150)))
+        return argparse.Namespace(
+            stl=self.path_of_stl, recording=None if self.is_refused_file else pes,
+            program=BENCH.program, page=self.page, every=chance.choice(
+                (self.every, self.every, 25)), origin=self.origin, option=self.option,
+            is_complete=is_complete, begin=begin, end=end, within=self.within, pes=some,
+            pid=None, packet_size=188)
 
 
 @contextlib.contextmanager
-def made(number: int) -> Iterator[tuple[Asked, str]]:
+def made(number: int) -> Iterator[tuple[argparse.Namespace, str]]:
     """What is asked, of files that are there meanwhile; and the page, or why there is none."""
     with tempfile.TemporaryDirectory() as folder:
         asked = Made(number, folder).asked()
         try:
-            report = Report(asked)
+            report = report_of(asked, folder)
             report.meanings = MEANINGS
             yield asked, STYLE.sub("", report_page(report))
         except NoReport as reason:

@@ -2,6 +2,7 @@
 count, `listen` the rows of each picture, of the PES file and of the program's own schedule."""
 from __future__ import annotations
 
+import argparse
 import os
 import re
 import subprocess
@@ -15,7 +16,6 @@ from subtitles.core.teletext import page_name
 from subtitles.core.times import frame_of
 from subtitles.core.told import PASSED_OVER
 from subtitles.core.words import within_words
-from subtitles.preview.report import Asked
 from .bench import BENCH
 from .test_reports_at_random import HTML, made
 
@@ -52,15 +52,15 @@ def written(path: str, ending: str, is_kept: Callable[[int], bool]) -> str:
 class Beside:
     """What the program prints of a pair."""
 
-    def __init__(self, asked: Asked) -> None:
+    def __init__(self, asked: argparse.Namespace) -> None:
         self.asked = asked
         self.receiver = ["--origin", str(asked.origin), "--page", page_name(*asked.page)]
         options = [*self.receiver, "--option", asked.option]
         within = within_words(asked.within)
         more = [*["--complete"] * asked.is_complete, *within]
-        pieces = asked.pieces.words() if asked.pieces else []
+        pieces = ["--pes", "{}-{}".format(*asked.pes)] if asked.pes else []
         self.told = run("check", *options, "--every", str(asked.every), *more, *pieces, "--all",
-                        "--", asked.stl, asked.pes or os.devnull)
+                        "--", asked.stl, asked.recording or os.devnull)
         times = [line.split()[1:3] for line in run("show", asked.stl) if " vp " in line]
         self.times = [(frame_of(first) or 0, frame_of(end) or 0) for first, end in times]
         self.due = asked.stl + ".due"
@@ -91,7 +91,7 @@ class Beside:
             if words[3:4] == ["pes"] and int(words[1]) in PASSED_OVER:
                 last = int(words[4])
                 passed |= set(range(last if words[0] == "refused" else max(passed), last + 1))
-        return written(self.asked.pes or os.devnull, ".heard", lambda number: number not in passed)
+        return written(self.asked.recording or os.devnull, ".heard", lambda number: number not in passed)
 
     def rows(self, kind: str | None, time: str) -> list[str]:
         """The rows of a picture; nothing where the file can't be followed up to there."""
@@ -145,7 +145,7 @@ def pages_from(first: int) -> Callable[[Reports], None]:
                     continue
                 beside, root = Beside(asked), tree.fromstring(page)
                 self.lists(root, beside)
-                if not (asked.pieces and asked.pieces.name):
+                if not asked.pes:
                     self.pictures(root, beside)
 
     return test

@@ -60,9 +60,9 @@ class Answers(Case):
             if found:
                 self.assertEqual(made.line, line)
             self.assertEqual(list(made.lines()), list(lines))
-            self.assertEqual([one.line for one in made.told()],
-                             [one for one in lines if told_of(one)])
-            self.assertEqual([one.first for one in made.trusted()],
+            self.assertEqual([one.line for one, _ in made.told()],
+                             [one for one in lines if one.startswith("refused ") and told_of(one)])
+            self.assertEqual([one.first for one in made.trusted_lines()],
                              ["00:00:06:00"] * (self.TRUSTED in lines))
 
     def test_stopped(self) -> None:

@@ -279,7 +279,6 @@ class Words(Case):
             (words.within_word, {"0": 0, "50": 50, "51": none, "00": 0, "050": 50, "": none,
                                  "-1": none, many: none, "\u0661": none}),
             (words.breaks_word, {"0": 0, "999": 999, "1000": none, "-1": none, "": none}),
-            (words.run_word, {"1": 1, "999": 999, "0": none, "1000": none, "": none}),
             (words.start_word, {"tcp": "tcp", "10:00:00:00": "10:00:00:00", "TCP": none,
                                 "24:00:00:00": none}),
             (words.pid_word, {"0": 0, "8190": 8190, "0x1FFE": 8190, "8191": none, "-1": none,

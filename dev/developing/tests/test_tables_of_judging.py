@@ -7,32 +7,29 @@ import itertools
 import unittest
 from types import SimpleNamespace
 from typing import Any, Iterable, Sequence
+from unittest import mock
 
 from subtitles.core.pes import pes_packet
-from subtitles.core.pieces import Pieces
 from subtitles.core.stl import gsi_block, subtitle_blocks, tti_block
-from subtitles.core.times import CLOCK, FRAMES_OF_A_DAY, TICKS
+from subtitles.core.times import CLOCK, TICKS
 from subtitles.qc.causes import (
     ATTRIBUTE, EARLY, LATE, NEVER, NOT_ERASED, OTHER, PLACE, TEXT, UNKNOWN)
-from subtitles.qc.clock import GIVEN, RECORDING, START, TCP, Clock
+from subtitles.qc.clock import GIVEN, RECORDING, START, Clock
 from subtitles.qc.fitting import Found, found_in
-from subtitles.qc.off_frame import Off, off_of, pts_of_file
-from subtitles.qc.start import Grid, began, refuse_outside, said_of, start_frame
+from subtitles.qc.off_frame import Off, off_of
+from subtitles.qc.start import start_frame
 from subtitles.qc.subtitle_file import SubtitleFile
 from subtitles.qc.unclear import Unclear
 from subtitles.qc.warned import (
-    SAID, Warned, length_words, of_character_sets, of_counts, of_jumps, of_pauses,
-    of_repeat, of_tables, of_timing, there_are)
-from subtitles.qc.whole import of_end, of_growth
+    Warned, length_words, of_character_sets, of_counts, of_jumps, of_pauses, of_repeat, of_tables,
+    there_are)
 from subtitles.qc.within import Trying, is_accepted, line_of
-from subtitles.reading.finding import OfPart, Origin
-from subtitles.reading.holes import Jump
-from subtitles.reading.pictures import First
-from subtitles.reading.programmes import Announced
-from subtitles.reading.timing import Sample, Strange
+from subtitles.reading.cutting import Cut
+from subtitles.reading.finding import OfPart, Origin, Sought
+from subtitles.reading.gaps import Jump
+from subtitles.reading.survey import Announced, Packets
 from .bench import Case
-from .muxed import MPEG_2
-from .parts import CLOSING, HEADER, PAGE, asked_for, row
+from .parts import CLOSING, HEADER, PAGE, asked_for, packets_told
 from .test_character_sets import naming
 
 ACCEPTED = ("accepted 10 frames 2 transmissions", 0)
@@ -46,8 +43,11 @@ class Tried(Trying):
 
     def __init__(self, said: Sequence[tuple[str, int]], clocks: dict[int, int | None],
                  asked: int = 0, is_cut: bool = True) -> None:
-        self.said_within, self.clocks, self.is_cut = said, clocks, is_cut
-        self.asked = asked_for("one.stl", "one.pes", "--within", str(asked))
+        self.said_within, self.clocks = said, clocks
+        known = asked_for("one.stl", "one.pes", "--within", str(asked))
+        self.steps: Any = SimpleNamespace(asked=known, taken=lambda *_: Cut(
+            (0, 9) if is_cut else None, 10))
+        self.recording: Any = None
         self.one: Any = SimpleNamespace(found=Found(0, 9, Clock(7, RECORDING)))
         self.checked: list[tuple[int, int]] = []
 
@@ -55,10 +55,7 @@ class Tried(Trying):
         origin = self.clocks.get(within, 7)
         return None if origin is None else Found(0, 9, Clock(origin, RECORDING))
 
-    def cut(self, found: Found) -> bool:
-        return self.is_cut
-
-    def check(self, found: Found, within: int) -> tuple[str, int]:
+    def check(self, found: Found, cut: Cut, within: int) -> tuple[str, int]:
         self.checked.append((within, found.origin))
         return self.said_within[within - 1]
 
@@ -123,10 +120,10 @@ class Within(unittest.TestCase):
     def test_clock_of_a_part(self) -> None:
         """Fitted once more: of one part, the second of three; where other parts are found, or none,
         there is none."""
-        asked: list[Any] = []
+        asked: list[Sought] = []
 
-        def ask(*words: Any) -> Origin:
-            asked.append(words)
+        def ask(packets: object, sought: Sought) -> Origin:
+            asked.append(sought)
             return origin
 
         origin = Origin(0, [OfPart(5, None, (0, 9)), OfPart(6, None, (10, 19)),
@@ -138,11 +135,13 @@ class Within(unittest.TestCase):
                 (2, 3, 10, 19, GIVEN, 7), (1, 1, 0, 9, START, 7)):
             tried: Any = Trying.__new__(Trying)
             tried.one = SimpleNamespace(found=Found(begin, end, Clock(7, source)))
-            tried.number, tried.count, tried.recording = number, count, "recording"
-            tried.steps = SimpleNamespace(ask_origin=ask)
-            found = tried.clocked(3)
+            tried.number, tried.count = number, count
+            tried.recording = SimpleNamespace(packets=None)
+            tried.steps = SimpleNamespace(sought=lambda *_: Sought("one.stl", "one.pes"))
+            with mock.patch("subtitles.qc.within.origin_in", ask):
+                found = tried.clocked(3)
             self.assertEqual(found and found.origin, wanted, (number, count, begin, end))
-        self.assertEqual(set(asked), {("recording", None, "--within", "3")})
+        self.assertEqual(set(asked), {Sought("one.stl", "one.pes", within=3)})
         self.assertEqual(found_in(Origin(1, [OfPart(5)]), Found(0, 9, Clock(7, GIVEN))), [])
         self.assertEqual(found_in(Origin(0, [OfPart(5, (1, 2))]), Found(3, 9, Clock(7, GIVEN))),
                          [Found(3, 9, Clock(5, RECORDING), (1, 2))])
@@ -163,21 +162,6 @@ def said(warned: Iterable[Warned]) -> list[tuple[str, str, str | None]]:
 class Warnings(Case):
     """What is strange of a recording."""
 
-    def test_timing(self) -> None:
-        """Each kind, from its first sample on; behind the end of a day there is no time."""
-        for origin, pts, time, where in (
-                (0, 25 * TICKS, "00:00:01:00", "from 00:00:01:00 on"),
-                (CLOCK - TICKS, 0, "00:00:00:01", "from 00:00:00:01 on"),
-                (0, (FRAMES_OF_A_DAY - 1) * TICKS, "23:59:59:24", "from 23:59:59:24 on"),
-                (0, FRAMES_OF_A_DAY * TICKS, None, f"from PTS {FRAMES_OF_A_DAY * TICKS} on")):
-            several = [Strange(kind, Sample(pts, 5), number, 9, worst) for kind, number, worst in (
-                ("behind", 1, -90_000), ("early", 2, 135_000), ("changed", 3, -45_900))]
-            timing: Any = SimpleNamespace(strange=lambda: several)
-            self.assertEqual(said(of_timing(timing, origin)), [
-                (f"pts_{one.kind}", f"{where} PTS of the Teletext {SAID[one.kind]}, by up to "
-                 f"{words} s: {one.number} of 9 that were looked at", time)
-                for one, words in zip(several, ("1.00", "1.50", "0.51"))])
-
     def test_jumps(self) -> None:
         """Those of the frames that are judged, the first and the last too, each in its direction.
         """
@@ -185,9 +169,9 @@ class Warnings(Case):
             jumps = [Jump(None, 90_000), *(Jump((origin + TICKS * frame) % CLOCK, ticks)
                                            for frame, ticks in (
                 (9, 1), (10, 90_000), (15, -90_000), (20, 8_640_000), (21, 5)))]
-            holes: Any = SimpleNamespace(jumps=jumps)
-            found = [(one.kind, one.time, one.line.partition(" at ")[0])
-                     for one in of_jumps(holes, origin, 10, 20)]
+            with mock.patch("subtitles.qc.warned.jumps_of", lambda packets: jumps):
+                found = [(one.kind, one.time, one.line.partition(" at ")[0])
+                         for one in of_jumps(Packets(1), origin, 10, 20)]
             self.assertEqual(found, [
                 ("clock_jump", "00:00:00:10", "the clock jumps by 1.00 s"),
                 ("clock_jump", "00:00:00:15", "the clock jumps back by 1.00 s"),
@@ -221,9 +205,9 @@ class Warnings(Case):
     def test_character_sets(self) -> None:
         """Of two packets the first, the second, or each names another set."""
         for sets, count in (((0,), 0), ((8,), 1), ((0, 8), 1), ((8, 0), 1), ((8, 9), 2)):
-            path = self.write("one.pes", pes_packet(0, [HEADER, *(
+            packets = packets_told(self, pes_packet(0, [HEADER, *(
                 naming(number, one) for number, one in zip((29, 28), sets)), CLOSING]))
-            found = said(of_character_sets(path, asked_for("one.stl", "one.ts")))
+            found = said(of_character_sets(packets, asked_for("one.stl", "one.ts")))
             self.assertEqual([one[0] for one in found], ["character_set"] * count, (sets, found))
 
     def test_counts(self) -> None:
@@ -251,9 +235,8 @@ class Warnings(Case):
     def test_pauses(self) -> None:
         """Frames without a PES packet, of what sends one in each but few: one in twenty."""
         def pauses(frames: Sequence[int], origin: int = 0) -> list[tuple[str, str | None]]:
-            path = self.write("one.pes", b"".join(
-                pes_packet((origin + TICKS * frame) % CLOCK, []) for frame in frames))
-            warned = of_pauses(Pieces(path), asked_for("one.stl", "one.pes"), origin)
+            pts = [(origin + TICKS * frame) % CLOCK for frame in frames]
+            warned = of_pauses(pts, asked_for("one.stl", "one.pes"), origin)
             return [(one.line.partition(" from ")[0], one.time) for one in warned
                     if one.kind == "pause"]
 
@@ -271,38 +254,15 @@ class Warnings(Case):
     def test_repeats(self) -> None:
         """A page that comes so often that a repeat that is missing would not be seen."""
         def warned(step: int, every: int) -> list[str]:
-            path = self.write("one.pes", b"".join(
-                pes_packet(TICKS * frame, [HEADER, row(20, b"a"), CLOSING])
-                for frame in range(0, 600, step)))
+            headers = [TICKS * frame for frame in range(0, 600, step)]
             asked = asked_for("one.stl", "one.pes", "--every", str(every))
-            return [one.line for one in of_repeat(Pieces(path), asked, 0, [(0, 599)])]
+            return [one.line for one in of_repeat(headers, asked, 0, [(0, 599)])]
 
         for step, every, words in ((25, 51, "25 frames; --every 25"), (25, 50, ""), (25, 25, ""),
                                    (1, 3, "frame; --every 1"), (1, 2, ""), (2, 5, "2 frames")):
             found = warned(step, every)
             self.assertEqual((len(found), words in "".join(found)), (bool(words), True),
                              (step, every))
-
-    def test_whole(self) -> None:
-        """A file that grew, and one that ends within a PES packet: of each kind of recording."""
-        one = pes_packet(0, [])
-        path = self.write("one.pes", one + one[:50])
-        whole = self.write("two.pes", one)
-        cut = SimpleNamespace(is_cut=lambda: True, made=None)
-        right = SimpleNamespace(is_cut=lambda: False, made=SimpleNamespace(refusal=None))
-        refused = SimpleNamespace(is_cut=lambda: False, made=SimpleNamespace(refusal="one"))
-        for carrier, live, file, count in (
-                (None, None, path, 1), (None, None, whole, 0), (None, "live", path, 0),
-                (cut, None, path, 1), (right, None, path, 0), (refused, None, path, 1),
-                (refused, None, whole, 0), (cut, "live", path, 0)):
-            recording: Any = SimpleNamespace(live=live, carrier=carrier, path=file, name="a.ts")
-            self.assertEqual([one[0] for one in said(of_end(recording))], ["cut"] * count,
-                             (carrier, live, file))
-        for before, words in ((184, ""), (183, "grew"), (185, "became shorter"), (None, "")):
-            recording = SimpleNamespace(name=whole, size=before)
-            found = said(of_growth(recording))
-            self.assertTrue(not found and not words or words in found[0][1], found)
-
 
 class Grids(Case):
     """How PTS lie beside frames."""
@@ -352,32 +312,6 @@ class Grids(Case):
                 (Off(9, 0), None, "PTS drift by 0 ppm against whole frames")):
             self.assertEqual(off.words(within), words)
 
-    def test_pts_of_a_file(self) -> None:
-        one, two = pes_packet(5, []), pes_packet(CLOCK - 1, [HEADER])
-        without = one[:7] + b"\0" + one[8:]
-        path = self.write("one.pes", one + without + two + one + b"\0")
-        self.assertEqual(pts_of_file(Pieces(path)), [5, CLOCK - 1, 5])
-        self.assertEqual(pts_of_file(Pieces(path, 2, 2, 368, 552)), [CLOCK - 1])
-
-    def test_first_picture(self) -> None:
-        """Most PTS decide where the grid is, and within 1 and more those near a frame; the origin
-        moves by less than half of one."""
-        for first, rests, within, after in (
-                (0, [0], 0, 0), (0, [1800], 0, 1800), (0, [1800, 5, 1800], 0, 1800),
-                (0, [1800, 5, 1800], 1, 5), (0, [1800, 1800, 2705], 1, 2705),
-                (0, [1800, 900], 1, 900), (0, [1800, 901], 1, 1800), (0, [1800, 2700], 1, 2700),
-                (0, [1800, 2699], 1, 1800), (CLOCK - 5, [9, 9, 8], 0, 9), (7, [0, 1, 1], 0, 1),
-                (0, [3, 3, 9, 9, 9], 2, 9)):
-            grid = Grid()
-            for number, rest in enumerate(rests):
-                grid.take((first + TICKS * number + rest) % CLOCK)
-            self.assertEqual(grid.after(first, within), after, (first, rests, within))
-            self.assertEqual(grid.count, len(rests))
-        for ticks, words in ((0, "which the PTS of the Teletext agree with"),
-                             (1, "moved by 1 tick forward to the PTS of the Teletext"),
-                             (-2, "moved by 2 ticks back to the PTS of the Teletext")):
-            self.assertEqual(said_of(ticks), words)
-
     def test_start_frames(self) -> None:
         """As it is given, and as the GSI block has it; what is none there."""
         for code, frame in ((b"00000000", 0), (b"10000001", 900_001), (b"23595924", 2_159_999),
@@ -396,37 +330,3 @@ class Grids(Case):
         short = asked_for(self.write("two.stl", data[:260]), "one.ts", "--start", "tcp")
         with self.assertRaises(Unclear):
             start_frame(short)
-
-    def test_clock_of_the_first_picture(self) -> None:
-        """By a time and by the TCP, over the wrap: the origin, its source, and what is said; half
-        a frame from it nothing is clear."""
-        data = gsi_block(b"", 0, 0)
-        stl = self.write("one.stl", data[:256] + b"00000100" + data[264:])
-        grid = Grid()
-        grid.take(TICKS // 2)
-        with self.assertRaises(Unclear):
-            began(asked_for(stl, "one.ts", "--start", "tcp"), First(0x200, MPEG_2, 0, 0), grid)
-        for start, source, name, frame in (
-                ("00:00:01:00", START, "--start 00:00:01:00", 25),
-                ("tcp", TCP, "the TCP 00:00:01:00", 25)):
-            for pts, ticks in ((90_000, 0), (90_000, 1), (90_000, -1), (5, 1799), (5, -1799),
-                               (0, 0)):
-                grid = Grid()
-                grid.take((pts + ticks) % CLOCK)
-                found = began(asked_for(stl, "one.ts", "--start", start),
-                              First(0x200, MPEG_2, pts, 0), grid)
-                origin = (pts - TICKS * frame + ticks) % CLOCK
-                self.assertEqual((found.clock, found.frame), (Clock(origin, source), frame))
-                self.assertEqual(found.lines[1], f"{name} there is --origin {origin}, "
-                                 f"{said_of(ticks)}")
-                for begin, end, last, is_right in (
-                        (25, 90, None, True), (24, 90, None, False), (25, 90, 65, True),
-                        (25, 90, 64, False), (25, 90, 90, True), (26, 90, 65, True)):
-                    pts_of_last = None if last is None else (origin + TICKS * last) % CLOCK
-                    try:
-                        refuse_outside(asked_for(stl, "one.ts", "--start", "tcp"), found, begin,
-                                       end, pts_of_last)
-                        is_inside = True
-                    except Unclear:
-                        is_inside = False
-                    self.assertEqual(is_inside, is_right, (begin, end, last))

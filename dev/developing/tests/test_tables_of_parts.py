@@ -9,27 +9,20 @@ from unittest import mock
 
 from subtitles.core.pes import pes_packet
 from subtitles.core.stl import gsi_block, tti_block
-from subtitles.core.times import CLOCK, TICKS
 from subtitles.core.words import Stop
-from subtitles.qc.feed import LAST, At, Feed, Finder
 from subtitles.qc.hints import control_words
-from subtitles.qc.kinds import is_pes_packets, is_recording
+from subtitles.calls.channel.kinds import is_pes_packets, is_recording
 from subtitles.qc.lettering import (
     ATTRIBUTES, attribute_words, code_words, is_moved, is_part, place_words, text_of, words_on)
-from subtitles.qc.live import Live
 from subtitles.qc.names import Names, again
 from subtitles.qc.option_advice import OptionAdvice
-from subtitles.qc.source import Source
-from subtitles.qc.stall import Stall
+from subtitles.calls.channel.source import Source
 from subtitles.qc.subtitle_file import SubtitleFile
-from subtitles.qc.sums import Files, Summing, file_of
 from subtitles.qc.typed import Typed, line_of
-from subtitles.reading.cutting import Cut
-from subtitles.reading.finding import Agreement, OfPart, Origin
 from subtitles.reading.receiver import BLANK_PAGE
 from subtitles.reading.repeat import FEWEST, longest_gap, measured
 from .bench import Case
-from .parts import PAGE, asked_for
+from .parts import asked_for
 
 
 def page_with(*rows: tuple[int, bytes]) -> tuple[bytes, ...]:
@@ -49,13 +42,11 @@ class Named(Case):
             names = Names("one", self.folder, out)
             for one, name in ((names, "one"), (names.of_part(2), "one.2")):
                 typed = os.path.join(out or "", name)
-                self.must(f"{out} {name}: typed", [one.whole, one.cut, one.stl, one.report] == [
-                    f"{typed}.{ending}" for ending in ("recording.pes", "cut.pes", "stl", "html")])
-                self.must(f"{out} {name}: here", (one.whole_path, one.cut_path, one.stl_path,
-                                                  one.list_path) == (
+                self.must(f"{out} {name}: typed", [one.whole, one.stl, one.report] == [
+                    f"{typed}.{ending}" for ending in ("recording.pes", "stl", "html")])
+                self.must(f"{out} {name}: here", (one.whole_path, one.stl_path, one.list_path) == (
                     os.path.join(self.folder, f"{name}.recording.pes"), *(
-                        os.path.join(here, f"{name}.{ending}")
-                        for ending in ("cut.pes", "stl", "txt"))))
+                        os.path.join(here, f"{name}.{ending}") for ending in ("stl", "txt"))))
                 self.must(f"{out} {name}: object", one.machine == (f"{typed}.json" if out else
                                                                    None))
             line = f"{self.folder}/one.stl and {self.folder}/x"
@@ -76,27 +67,22 @@ class Named(Case):
         found = [os.path.basename(path) for path in names.kept()]
         self.must("own", sorted(found) == sorted([*own, "one.cut.pes", "one.recording.pes",
                                                   "one.txt", "one.html", "one.json"]), found)
-        self.must("judged", names.judged() == [os.path.join(out, "one.12.cut.pes")])
         self.must("no folder", Names("one", self.folder, None).kept() == [])
-        with open(names.whole_path, "wb") as file:
-            file.write(b"whole")
-        names.keep()
-        self.must("kept", self.read("out/one.recording.pes") == b"whole")
 
     def test_again(self) -> None:
         """The same call with more words: an option that is said anew stands once."""
         typed = Typed("tools/qc", self.bench.program)
         asked = asked_for("one.stl", "one.ts", "--page", "150", "--every", "50", "--no-complete",
                           "--pid", "0x101", "--origin", "7", "--within", "2", "--breaks", "1",
-                          "--run", "2", "--option", "german")
+                          "--pes", "2-9", "--option", "german")
         whole = "tools/qc one.stl one.ts --page 150 --every 50 --option german --no-complete " \
-            "--within 2 --pid 0x101 --origin 7 --breaks 1 --run 2"
+            "--within 2 --pid 0x101 --origin 7 --breaks 1 --pes 2-9"
         for more, wanted in (((), whole), (("--page", "P"), whole.replace(" --page 150", "")
                                            + " --page P"),
                              (("--origin", "T"), whole.replace(" --origin 7", "") + " --origin T"),
                              (("--breaks", "0"), whole.replace(" --breaks 1", "") + " --breaks 0"),
                              (("--within", "5"), whole.replace(" --within 2", "") + " --within 5"),
-                             (("--run", "1"), whole.replace(" --run 2", "") + " --run 1")):
+                             (("--pes", "1-2"), whole.replace(" --pes 2-9", "") + " --pes 1-2")):
             self.must(f"{more}", again(asked, typed, *more) == wanted, again(asked, typed, *more))
         start = asked_for("one.stl", None, "--start", "tcp")
         self.must("start", again(start, typed) == "tools/qc one.stl --start tcp")
@@ -130,7 +116,7 @@ class Kinds(Case):
             (b"G" + b"\0" * 188 + b"G" + b"\0" * 99, False, False)]
         for data, is_pes, is_one in of_kinds:
             path = self.write("one", data)
-            source = Source(path, False)
+            source = Source(path)
             try:
                 found: bool | None = is_pes_packets(source)
             except Stop:
@@ -142,125 +128,9 @@ class Kinds(Case):
                       min(len(data), 11))
             self.must(f"{data[:6]!r}: a recording", is_recording(path) == is_one)
 
-    def test_sums(self) -> None:
-        """Of a file, of several, and of what is read once."""
-        path = self.write("one", b"abc")
-        known = ("ba7816bf8f01cfea414140de5dae2223b00361a396177a9cb410ff61f20015ad", 3)
-        summing = Summing()
-        for data in (b"a", b"", b"bc"):
-            summing.take(data)
-        for one in (file_of(path, "x"), summing.file("x"), Files([path]).all()[0]):
-            self.must("sum", (one.sha256, one.size) == known and one.name in ("x", path), one)
-        sizes = [one.size for one in Files([path, self.write("two", b"")]).all()]
-        self.must("two", sizes == [3, 0])
-        with self.assertRaises(OSError):
-            Files([path, self.path("none")]).all()
-        with Source(path, True).file:
-            pass
-
-    def test_stalls(self) -> None:
-        """A feed that stands still is told once, and again when it goes on."""
-        told: list[str] = []
-        stall = Stall(10, told.append)
-        for still, wanted in ((9.9, 0), (10.0, 1), (30.4, 1)):
-            stall.wait(still)
-            self.must(f"{still}", len(told) == wanted, told)
-        stall.go_on()
-        stall.go_on()
-        self.must("goes on", told == ["nothing has come for 10 seconds",
-                                      "the feed goes on, after 30 seconds"], told)
-        stall.wait(10)
-        self.must("once more", len(told) == 3)
-
-
 def at_times(now: Callable[[], float]) -> Any:
     """While this holds, a feed takes these times for those that are."""
     return mock.patch("subtitles.qc.feed.time", SimpleNamespace(monotonic=now))
-
-
-class Feeds(unittest.TestCase):
-    """When a feed is judged, and when it is over."""
-
-    is_alone = True  # its clock is replaced, which threads share
-
-    def finder(self, origin: Origin) -> Finder:
-        return Finder(lambda path: origin)
-
-    def kept(self, count: int = 1) -> Any:
-        return SimpleNamespace(count=count, path="one.pes", flush=lambda: None)
-
-    def test_looks(self) -> None:
-        """Some seconds after the last look, and as many times as that took; if something came."""
-        finder = self.finder(Origin(1))
-        with at_times(lambda: finder.next - 0.1):
-            self.assertFalse(finder.is_due(self.kept()))
-        with at_times(lambda: finder.next):
-            self.assertTrue(finder.is_due(self.kept()))
-            self.assertFalse(finder.is_due(self.kept(0)))
-        for took, wait in ((0.1, 5.0), (0.625, 5.0), (1.0, 8.0)):
-            times = iter([100.0, 100.0 + took, 100.0 + took])
-            with at_times(lambda: next(times)):
-                finder.ask(self.kept(7))
-            self.assertAlmostEqual(finder.next, 100 + took + wait)
-            self.assertEqual(finder.count, 7)
-
-    def test_origins(self) -> None:
-        """One that is clear, of one part, with enough edges; the end of the last of some parts."""
-        enough, few = Agreement(5, 5, 5, 40, True), Agreement(4, 4, 4, 40, True)
-        one, second = OfPart(5, (3, 9)), OfPart(CLOCK - 5, None, (10, 20))
-        for origin, wanted in (
-                (Origin(0, [one], agreement=enough), At(5, (3, LAST))),
-                (Origin(0, [OfPart(5)], agreement=enough), At(5)),
-                (Origin(1, [one], agreement=enough), None), (Origin(0, [one], agreement=few), None),
-                (Origin(0, [one, second], agreement=enough), None),
-                (Origin(0, [], agreement=enough), None), (Origin(0, [one]), None)):
-            self.assertEqual(self.finder(origin).look(self.kept()), wanted)
-        for parts, breaks, status, end in (
-                ([one, second], 1, 0, 70 * TICKS - 5), ([one, second], 1, 1, None),
-                ([one, second], 2, 0, None), ([second, one], 1, 0, None), ([second], 0, 0,
-                                                                         70 * TICKS - 5)):
-            found = self.finder(Origin(status, parts)).look_for_end(self.kept(), breaks, 50)
-            self.assertEqual(found, end, (parts, breaks, status))
-
-    def test_over(self) -> None:
-        """By the last PTS or PCR; of one that is judged by what judges it."""
-        def of(until: int | None, live: Any = None) -> Feed:
-            start: Any = None
-            made = Feed(None, self.finder(Origin(1)), start, None, 1, 50)
-            made.until, made.live = until, live
-            return made
-
-        kept: Any = SimpleNamespace(pcr=lambda: 7, late=lambda: 3)
-        for until, pts, is_over, is_settled in (
-                (100, 101, True, True), (100, 100, False, True), (None, 100, False, False),
-                (CLOCK - 5, 3, True, True), (3, CLOCK - 5, False, True),
-                (50 * TICKS + 100, 100, False, True), (50 * TICKS + 100, 99, False, False)):
-            made = of(until)
-            self.assertEqual(made.is_over(kept, pes_packet(pts, [])), is_over, (until, pts))
-            self.assertEqual(made.is_settled(), is_settled, (until, pts))
-        self.assertEqual([of(until).is_over(kept, b"") for until in (6, 7)], [True, False])
-        for over, past, data, wanted in (
-                (True, False, b"1", True), (False, True, b"1", False), (False, True, b"", True),
-                (False, False, b"", False)):
-            live = SimpleNamespace(is_over=lambda: over, is_past=lambda pcr, late: past and
-                                   (pcr, late) == (7, 3), has_last=lambda: past)
-            self.assertEqual(of(None, live).is_over(kept, data), wanted)
-            self.assertEqual(of(None, live).is_settled(), over or past)
-
-    def test_past(self) -> None:
-        """By the PCR, less how late PTS are, after the last frame of the day that is judged; the
-        last sending has come where the first one has too."""
-        live = Live.__new__(Live)
-        for origin in (0, CLOCK - 50 * TICKS):
-            live.cut = Cut(10, 100, PAGE, origin)
-            for frame, late, wanted in ((99, 0, False), (100, 0, False), (101, 0, True),
-                                        (102, 1, True), (102, 2, False), (-5, 0, False)):
-                pcr = (origin + TICKS * frame) % CLOCK
-                self.assertEqual(live.is_past(pcr, TICKS * late), wanted, (origin, frame, late))
-        self.assertFalse(live.is_past(None, 0))
-        for was_in, has_end in ((False, False), (False, True), (True, False), (True, True)):
-            live.cut.was_in, live.cut.has_end = was_in, has_end
-            self.assertEqual(live.has_last(), was_in and has_end, (was_in, has_end))
 
 
 class Pages(Case):

@@ -8,12 +8,11 @@ from typing import Sequence
 from subtitles.core.pes import pes_packet
 from subtitles.core.teletext import packet
 from subtitles.core.times import TICKS
-from subtitles.reading.listing import Listing, Tables, Teletext
+from subtitles.calls.channel.listing import Listing, Tables, Teletext
 from subtitles.reading.multiplex import head, section
-from subtitles.reading.programmes import (
+from subtitles.calls.channel.programmes import (
     SUBTITLE_KINDS, Announced, ProgramMap, announced_in, program_map_of)
-from subtitles.reading.timing import Sample, Timing
-from subtitles.reading.transport import BEGINS, PACKET, PAYLOAD, Piece, crc
+from subtitles.calls.channel.transport import BEGINS, PACKET, PAYLOAD, Piece, crc
 from .parts import CLOSING, HEADER, row
 
 PAGES = [Announced((0, 0x88), "eng", 2), Announced((1, 0x50), "ger", 5),
@@ -142,22 +141,6 @@ class Listings(unittest.TestCase):
             with self.subTest(pid=pid):
                 self.assertEqual([one.number for one in listing.programmes_of(pid)], numbers)
 
-    def test_clock_of_the_last_map(self) -> None:
-        """Another PMT names another PID for the PCR: the last one counts, and what was known of
-        the other clock does not."""
-        listing = heard(self.packets)
-        timing = Timing(0x101, listing)
-        self.assertTrue(timing.finds_clock())
-        self.assertEqual(timing.clock, 0x200)
-        timing.pcr = 5
-        self.assertTrue(timing.finds_clock())
-        self.assertEqual(timing.pcr, 5)
-        listing.programmes.append(ProgramMap(1, 0x400, {0x101: 6}, {}))
-        self.assertTrue(timing.finds_clock())
-        self.assertEqual((timing.clock, timing.pcr), (0x400, None))
-        listing.programmes.append(ProgramMap(1, None, {0x101: 6}, {}))
-        self.assertFalse(timing.finds_clock())
-
     def test_map_that_comes_back(self) -> None:
         """Of three maps of a programme, one after another, the one that is sent now is the last;
         what is announced is told once."""
@@ -175,18 +158,6 @@ class Listings(unittest.TestCase):
                     self.assertEqual(listing.streams[0x101].announced, [
                         "888 eng subtitles in programme 1",
                         "150 ger subtitles for the hard of hearing in programme 1"])
-
-    def test_strange_times(self) -> None:
-        """What is behind, early and changed: the first, how many, and the worst of either sign."""
-        timing = Timing(1, Listing())
-        timing.samples = [Sample(90_000 * number, ahead) for number, ahead in enumerate(
-            [30_000] * 40 + [-5, 30_000, -90_000, 99_000, 90_001, 30_000, 76_000, -14_999,
-                             -15_001])]
-        found = {one.kind: (one.first.pts // 90_000, one.number, one.among, one.worst)
-                 for one in timing.strange()}
-        self.assertEqual(found, {"behind": (40, 4, 49, -90_000), "early": (43, 2, 49, 99_000),
-                                 "changed": (42, 5, 49, -120_000)})
-
 
 class Listed(unittest.TestCase):
     """What is heard of tables and pages."""
@@ -307,7 +278,7 @@ class Listed(unittest.TestCase):
         for by in (1, 3, 99):
             listing = heard([*tables, *sent], by)
             self.assertEqual([one.number for one in listing.programmes], [7])
-            self.assertEqual((listing.videos, sorted(listing.others), sorted(listing.streams)), (
-                [0x200, 0x201], [0x200, 0x201, 0x202, 0x203, 0x206, 0x208, 0x209],
+            self.assertEqual((sorted(listing.others), sorted(listing.streams)), (
+                [0x200, 0x201, 0x202, 0x203, 0x206, 0x208, 0x209],
                 [0x205, 0x207]))
             self.assertEqual(listing.streams[0x205].pages(), ["150", "888"])

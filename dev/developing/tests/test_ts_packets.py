@@ -8,13 +8,12 @@ from typing import Iterator, Sequence
 
 from subtitles.core.files import Damaged
 from subtitles.core.pes import pts_bytes
-from subtitles.core.times import CLOCK, ticks_between
-from subtitles.reading.holes import Holes, Jump
-from subtitles.reading.listing import Listing
-from subtitles.reading.losses import Losses, Place
-from subtitles.reading.programmes import ProgramMap
-from subtitles.reading.timing import SECOND, Sample, Timing
-from subtitles.reading.transport import BEGINS, PACKET, Piece, Reader, Stream, crc, payload_at
+from subtitles.core.times import CLOCK
+from subtitles.calls.channel.holes import SECOND, Holes, Jump
+from subtitles.calls.channel.listing import Listing
+from subtitles.calls.channel.losses import Losses, Place
+from subtitles.calls.channel.programmes import ProgramMap
+from subtitles.calls.channel.transport import BEGINS, PACKET, Piece, Reader, Stream, crc, payload_at
 
 PID, OTHER, VIDEO = 0x101, 0x202, 0x1FFE
 BYTES = b"".join(bytes([number]) * 4 for number in range(1, 47))  # a payload that tells its bytes
@@ -291,80 +290,6 @@ def listing_with(pid: int | None = VIDEO) -> Listing:
     return made
 
 
-class Clocks(unittest.TestCase):
-    """PTS against the PCR."""
-
-    def test_samples(self) -> None:
-        """A PTS a second after the last one that was looked at, and the PCR before it: as PTS and
-        PCR are gone through one by one, in the pieces that are looked at."""
-        for seed in range(50):
-            chance = random.Random(seed)
-            now, made = CLOCK - chance.randrange(9 * SECOND), list[tuple[str, int | None]]()
-            for _ in range(60):
-                now += chance.choice([1, SECOND // 3, SECOND - 1, SECOND])
-                made.append(("pcr", now) if chance.random() < 0.5 else
-                            ("pes", None if chance.random() < 0.1 else now + chance.randrange(999)))
-            timing, losses, samples = Timing(PID, listing_with()), Losses(PID), list[Sample]()
-            first: int | None = None
-            last: int | None = None
-            while made:
-                some = made[:chance.choice([1, 2, 5, 9])]
-                del made[:len(some)]
-                is_looked_at = losses.before is None or not samples or \
-                    (losses.before - samples[-1].pts) % CLOCK >= SECOND
-                last = last if is_looked_at else None
-                piece = piece_of([clock(ticks or 0) if kind == "pcr" else pes(ticks)
-                                  for kind, ticks in some])
-                timing.take(piece, losses.before)
-                losses.take(piece)
-                for kind, ticks in some if is_looked_at else ():
-                    if kind == "pcr" and ticks is not None:
-                        last = ticks % CLOCK
-                        first = last if first is None else first
-                    elif ticks is not None and last is not None and (
-                            not samples or (ticks - samples[-1].pts) % CLOCK >= SECOND):
-                        samples.append(Sample(ticks % CLOCK, ticks_between(last, ticks % CLOCK)))
-                of_piece = [ticks for kind, ticks in some if kind == "pcr" and ticks is not None]
-                with self.subTest(seed=seed):
-                    self.assertEqual((timing.samples, timing.first), (samples, first))
-                    if chance.random() < 0.3:
-                        last = of_piece[-1] % CLOCK if of_piece else last
-                        self.assertEqual(timing.last(), last)
-
-    def test_of_a_programme_without_pcr(self) -> None:
-        """There is none, also where there was one before."""
-        timing = Timing(PID, listing_with(None))
-        timing.take(piece_of([clock(5), pes(9)]), None)
-        self.assertEqual((timing.samples, timing.first, timing.last()), ([], None, None))
-        timing = Timing(PID, Listing())
-        timing.take(piece_of([clock(5), pes(9)]), None)
-        self.assertEqual((timing.samples, timing.first, timing.last()), ([], None, None))
-
-    def test_first_and_last(self) -> None:
-        """The greatest of the first sixty, and the least of the last sixty; nothing below 0."""
-        timing = Timing(PID, listing_with())
-        self.assertEqual((timing.reach(), timing.late(), timing.usual(), timing.strange()),
-                         ((None, None), 0, 0, []))
-        timing.first = CLOCK - 2
-        for ahead, first, late in (([5] * 100, 5, 0), ([5] * 59 + [9] + [5] * 90, 9, 0),
-                                   ([5] * 60 + [9] * 9, 5, 0), ([-5] * 100, 0, 5),
-                                   ([-9] + [-5] * 60, 0, 5), ([-9] + [-5] * 59, 0, 9)):
-            timing.samples = [Sample(SECOND * at, one) for at, one in enumerate(ahead)]
-            with self.subTest(ahead=ahead):
-                self.assertEqual((timing.reach()[0], timing.late()), ((first - 2) % CLOCK, late))
-
-    def test_strange(self) -> None:
-        """At each bound: behind, over a second early, over half a second from what is usual."""
-        for ahead, kinds in ((0, []), (-1, ["behind"]), (SECOND, ["changed"]),
-                             (SECOND + 1, ["early", "changed"]), (SECOND // 2 + 10, []),
-                             (SECOND // 2 + 11, ["changed"]), (10 - SECOND // 2, ["behind"]),
-                             (9 - SECOND // 2, ["behind", "changed"])):
-            timing = Timing(PID, listing_with())
-            timing.samples = [Sample(SECOND * at, 10) for at in range(9)] + [Sample(9, ahead)]
-            with self.subTest(ahead=ahead):
-                self.assertEqual([one.kind for one in timing.strange()], kinds)
-
-
 class OfThePcr(unittest.TestCase):
     """Holes and jumps, by the PCR and the counters of other PIDs."""
 
@@ -376,8 +301,7 @@ class OfThePcr(unittest.TestCase):
         before, its flags, how many packets of another PID are between, and by how many its counter
         jumps before them. Behind each stands a PES packet."""
         counter, pcr, made = 0, begin, list[list[bytes]]()
-        timing = Timing(PID, listing_with())
-        holes, losses = Holes(timing), Losses(PID)
+        holes, losses = Holes(PID, listing_with()), Losses(PID)
         for ticks, flags, packets, lost in [*[(step, 0x10, 4, 0)] * 10, *steps,
                                             *[(step, 0x10, 4, 0)] * 3]:
             pcr, counter = pcr + ticks, counter + lost
@@ -388,7 +312,6 @@ class OfThePcr(unittest.TestCase):
             size = chance.choice([1, 2, 9, 50])
             piece = piece_of([one for several in made[:size] for one in several])
             del made[:size]
-            timing.take(piece, losses.before)
             holes.take(piece, losses.before)
             losses.take(piece)
         return holes
@@ -442,8 +365,7 @@ class OfThePcr(unittest.TestCase):
     def test_what_is_usual(self) -> None:
         """The median of the last hundred, none of fewer than five; of another PID nothing."""
         for count, is_known in ((4, False), (5, False), (6, True)):
-            timing = Timing(PID, listing_with())
-            holes = Holes(timing)
+            holes = Holes(PID, listing_with())
             made = [one for at in range(count) for one in (clock(1000 * at), ts(at, OTHER))]
             holes.take(piece_of([*made, clock(10 ** 6), pes(5)]), None)
             with self.subTest(count=count):
@@ -456,7 +378,7 @@ class OfThePcr(unittest.TestCase):
             for number, ticks in enumerate(several):
                 pcr += ticks
                 made += [ts(number, OTHER), clock(pcr)]
-            holes = Holes(Timing(PID, listing))
+            holes = Holes(PID, listing)
             holes.take(piece_of([*made, ts(3 + len(several), OTHER), clock(pcr + 14_000)]), None)
             with self.subTest(several=several[-1]):
                 self.assertEqual(len(holes.places), int(is_hole))
@@ -467,7 +389,7 @@ class OfThePcr(unittest.TestCase):
     def test_what_comes_behind(self) -> None:
         """The next PTS, in the same piece or a later one."""
         for later in (0, 1, 3):
-            holes = Holes(Timing(PID, listing_with()))
+            holes = Holes(PID, listing_with())
             made = [one for at in range(9) for one in (ts(at, OTHER), clock(1000 * at), pes(at))]
             broken = [ts(14, OTHER), clock(10 ** 6)]
             for several in [[*made, *broken, *[pes(77)] * (not later)],

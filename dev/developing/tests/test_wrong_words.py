@@ -15,16 +15,13 @@ WRONG: dict[str, list[list[str]]] = {
                [STL, PES, "--origin", "-1"], [STL, PES, "--origin", "8589934592"],
                [STL, PES, "--origin", "9" * 5000], ["/dev/null", PES],
                [STL, PES, "--breaks", "-1"], [STL, PES, "--breaks", "1000"],
-               [STL, PES, "--run", "0"]],
-    "cut": [[], [PES], [PES, "--from", "10:00:00:25", *TIMES[2:], "-o", "out.pes"],
-            [PES, "--from", "10:00:03:00", *TIMES[2:], "-o", "out.pes"],
-            [PES, *TIMES, "-o", "out.pes", "--every", "25"],
-            [PES, *TIMES, "-o", "out.pes", "--pes", "5-3"],
-            [PES, *TIMES, "-o", "out.pes", "--pes", "5"],
-            [PES, *TIMES, "-o", "no/folder.pes"], ["none.pes", *TIMES, "-o", "out.pes"],
-            [PES, *TIMES, "--page", "9", "-o", "out.pes"], [PES, *TIMES, "-o", TOP],
-            [PES, *TIMES, "--stl", STL, "-o", "out.pes"], [PES, "--stl", PES, "-o", "out.pes"],
-            [PES, "--stl", "none.stl", "-o", "out.pes"], [PES, *TIMES[:2], "-o", "out.pes"]],
+               [STL, PES, "--pes", "5-4"]],
+    "cut": [[], [PES], [PES, "--from", "10:00:00:25", *TIMES[2:]],
+            [PES, "--from", "10:00:03:00", *TIMES[2:]], [PES, *TIMES, "--every", "25"],
+            [PES, *TIMES, "--pes", "5-3"], [PES, *TIMES, "--pes", "5"],
+            [PES, *TIMES, "-o", "out.pes"], ["none.pes", *TIMES], [PES, *TIMES, "--page", "9"],
+            [PES, *TIMES, "--stl", STL], [PES, "--stl", PES], [PES, "--stl", "none.stl"],
+            [PES, *TIMES[:2]]],
     "part": [[], [STL], [STL, *TIMES], [STL, *TIMES[:2], "-o", "out.stl"],
              [PES, *TIMES, "-o", "out.stl"], ["none.stl", *TIMES, "-o", "out.stl"],
              [STL, "--from", "10:00:03:00", *TIMES[2:], "-o", "out.stl"],
@@ -91,15 +88,12 @@ class WrongWords(Case):
     def test_tells_a_full_device(self) -> None:
         if not os.path.exists("/dev/full"):
             self.skipTest("a full device, since there is no /dev/full")
-        for name, *words in (["text", STL], ["origin", STL, PES], ["pes2ts", PES, "0x101"],
+        for name, *words in (["text", STL], ["origin", STL, PES, "-p", self.bench.program], ["pes2ts", PES, "0x101"],
                              ["poke", STL], ["part", STL, *TIMES, "-o", "-"], ["cut", "--version"],
-                             ["cut", PES, *TIMES, "-o", "-"], ["ts2pes", "--help"]):
+                             ["cut", PES, *TIMES, "-p", self.bench.program], ["ts2pes", "--help"]):
             done = self.call(["sh", "-c", 'exec "$@" >/dev/full', "sh",
                               tool_path(name), *words])
             self.must(name, done.status == 2 and done.told and "No space" in done.told[-1], done)
-        done = self.tool("cut", PES, *TIMES, "-o", "/dev/full")
-        self.must("cut -o", done.status == 2 and done.told == ["cut: /dev/full: No space left on "
-                  "device"], done)
 
     def test_refuses_devices_that_do_not_end(self) -> None:
         """Where all of a file is read: by name, and as standard input, also through a link."""
@@ -109,8 +103,8 @@ class WrongWords(Case):
                 self.bench.over.append(f"a device that does not end, since there is no {device}")
                 continue
             for words in (["poke", device], ["poke", device, "-c", "4"], ["text", device],
-                          ["part", device, *TIMES, "-o", "a.stl"], ["origin", device, PES],
-                          ["cut", PES, "--stl", device, "-o", "a.pes"],
+                          ["part", device, *TIMES, "-o", "a.stl"], ["origin", device, PES, "-p", self.bench.program],
+                          ["cut", PES, "--stl", device],
                           ["qc", STL, "--severity", device], ["qc", "--batch", device]):
                 done = self.tool(*words)
                 self.must(" ".join(words), done ==
@@ -144,15 +138,14 @@ class WrongWords(Case):
 
     def test_names_files_as_they_were_typed(self) -> None:
         """No part of a name, no number and no name that was made on the way."""
-        for words, named in ((["origin", STL, "/dev/null"], "/dev/null"),
-                             (["cut", "-", *TIMES, "-o", "no/folder.pes"], "no/folder.pes"),
-                             (["cut", TOP, *TIMES, "-o", "a.pes"], TOP),
-                             (["part", STL, *TIMES, "-o", "/proc/a.stl"], "/proc/a.stl"),
+        for words, named in ((["origin", STL, "/dev/null", "-p", self.bench.program], "/dev/null"),
+                             (["cut", "no/folder.pes", *TIMES], "no/folder.pes"),
+                                                          (["part", STL, *TIMES, "-o", "/proc/a.stl"], "/proc/a.stl"),
                              (["qc", "-"], "qc: - is"), (["qc", ""], "an empty name"),
                              (["qc", "--", "-x.stl"], "qc: -x.stl"),
                              (["text", ""], "an empty name"), (["text", "none.stl"], "none.stl"),
-                             (["cut", self.write("cut.pes", b"\0\0\1"), *TIMES, "-o", "a.pes"],
-                              self.path("cut.pes")),
+                             (["cut", self.write("cut.pes", b"\0\0\1"), *TIMES, "-p",
+                               self.bench.program], self.path("cut.pes")),
                              (["text", "/dev/null"], "/dev/null")):
             done = self.tool(*words)
             self.must(" ".join(words), done.status in (1, 2) and named in done.told[-1]

@@ -17,12 +17,4 @@ index_page    one page of many pairs
 watching      a folder into which pairs are written
 
 channel       the programmes of a channel, one after another
-planned       its list
-channel_feed  its feed
-feed_clock    the time of that
-ring          what of it came lately
-hearing       the pages that are heard of it
-awaited       a programme that is waited for
-queue         those that are, the first of the list
-running       the one that is judged
 """

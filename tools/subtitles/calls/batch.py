@@ -86,7 +86,8 @@ def words_of(asked: Asked) -> list[str]:
     words = ["--page", asked.page_name, "--every", str(asked.every), "--option", asked.option]
     words += ["--origin", str(asked.origin)] if asked.origin is not None else []
     words += ["--within", str(asked.within)]
-    words += asked.clock_words()
+    words += ["--breaks", str(asked.breaks)] if asked.breaks else []
+    words += ["--pes", f"{asked.pes[0]}-{asked.pes[1]}"] if asked.pes else []
     words += ["--start", asked.start] if asked.start is not None else []
     words += ["--pid", str(asked.pid)] if asked.pid is not None else []
     words += ["--severity", asked.severity] if asked.severity is not None else []

@@ -11,7 +11,6 @@ from ..qc.made_with import Program
 from ..qc.naming import counts_of
 from ..qc.subtitle_file import SubtitleFile
 from ..qc.sums import File
-from ..qc.typed import Typed
 from ..qc.verdict import Gap, Part, Verdict
 
 FORMAT = 3
@@ -29,7 +28,7 @@ def asked_words(asked: Asked) -> dict[str, Value]:
             "page": asked.page_name, "every": asked.every, "option": asked.option,
             "origin": asked.origin, "complete": asked.is_complete, "pid": asked.pid,
             "allow_lost": asked.is_loss_allowed, "severity": asked.severity,
-            "breaks": asked.breaks, "run": asked.run, "start": asked.start,
+            "breaks": asked.breaks, "pes": asked.pes and list(asked.pes), "start": asked.start,
             "within": asked.within, "strict": asked.is_strict}
 
 
@@ -42,7 +41,7 @@ def part_words(part: Part, is_kept: bool) -> dict[str, Value]:
             "verdict": answer.verdict, "line": answer.line,
             "frames": answer.frames, "transmissions": answer.transmissions,
             "faults": answer.count, "pid": pid, "packet_size": packet_size,
-            "pes": part.pieces and part.pieces.name, "judged": judged,
+            "pes": part.pes_name, "judged": judged,
             "clock": part.clock and part.clock._asdict()}
 
 
@@ -91,15 +90,15 @@ def head_of(verdict: Verdict, program: Program) -> dict[str, Value]:
     }
 
 
-def object_of(verdict: Verdict, program: Program, typed: Typed) -> Iterator[str]:
+def object_of(verdict: Verdict, program: Program) -> Iterator[str]:
     """The text of the object, a piece after another: there may be any number of faults."""
     head = json.dumps(head_of(verdict, program), ensure_ascii=False, indent=1)
     yield head.removesuffix("\n}") + ',\n "trusted": ['
     trusted = ({"part": part.number, "from": begin, "to": end}
-               for part in verdict.parts for begin, end in part.answer.trusted())
+               for part in verdict.parts for begin, end in part.answer.trusted_lines())
     yield from listed(trusted)
     yield '],\n "faults": ['
-    yield from listed(faults_of(verdict, typed))
+    yield from listed(faults_of(verdict))
     yield '],\n "causes": ['
     yield from listed(causes_of(verdict))
     yield '],\n "subtitles": ['

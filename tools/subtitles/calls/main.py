@@ -45,8 +45,7 @@ def parser_of(text: str) -> Words:
     add_pair_options(parser)
     parser.add_argument("-o", dest="out", metavar="DIR", help="the folder for report and list")
     parser.add_argument("--keep", dest="is_kept", action="store_true",
-                        help="keep in DIR the PES packets of the recording, NAME.recording.pes, "
-                             "and of a feed what was judged, NAME.cut.pes")
+                        help="keep in DIR the PES packets of the recording, NAME.recording.pes")
     parser.add_argument("--json", metavar="FILE", help="the verdict as a JSON result")
     parser.add_argument("--csv", metavar="FILE", help="a line for each fault")
     parser.add_argument("--junit", metavar="FILE", help="the verdict for a CI")
@@ -128,7 +127,7 @@ def answer(text: str, called: str, line: list[str]) -> int:
         words.settled = SETTLED if words.settled is None else words.settled
         return watching.watch(words, called)
     if words.channel is not None:
-        from . import channel
+        from .channel import channel
         words.patience = PATIENCE if words.patience is None else words.patience
         return channel.judge(words, called)
     if words.stl is None:

@@ -37,7 +37,7 @@ TAKEN_BY: dict[str, tuple[Mode, ...]] = {
     "--origin": TRANSMISSIONS,
     "--start": PAIRS,
     "--breaks": PAIRS,
-    "--run": PAIRS,
+    "--pes": PAIRS,
     "--pid": (*PAIRS, CHANNEL),
     "--allow-lost": TRANSMISSIONS,
     "--severity": JUDGED,

@@ -10,7 +10,7 @@ from ..core.times import frame_of, time_of
 from ..core.words import counted
 from ..preview.counts import heads
 from ..preview.page import FRAMES, REFUSAL, document, lost_places, made_from
-from ..preview.scope import Recorded, Scope
+from ..preview.scope import Scope
 from ..qc.cause_words import count_line, names_line
 from ..qc.made_with import Program
 from ..qc.names import Names
@@ -27,7 +27,7 @@ def overview(verdict: Verdict, program: Program, names: Names, typed: Typed) -> 
     asked = verdict.asked
     line = verdict.line or f"{NOT_JUDGED}: {verdict.why_not}"
     title = " and ".join(os.path.basename(name) for name in (asked.stl, asked.recording) if name)
-    files: list[tuple[str, File | Recorded]] = [
+    files: list[tuple[str, File]] = [
         (kind, file) for kind, file in (("STL", verdict.stl), ("Recording", verdict.recording))
         if file]
     size = os.path.getsize(typed.program_path)
@@ -57,7 +57,7 @@ def scope(verdict: Verdict) -> str:
     begins, ends = ([time for part in verdict.parts for time in [part.times()[at]] if time]
                     for at in (0, 1))
     recording = verdict.recording
-    one = Scope(titles_in(verdict.asked.stl), recording and Recorded(*recording),
+    one = Scope(titles_in(verdict.asked.stl), recording,
                 frame_of(min(begins)) or 0, frame_of(max(ends)) or 0,
                 sum(subtitles_of(part) for part in verdict.parts), None, bool(verdict.fitted),
                 True)

@@ -3,12 +3,13 @@ from __future__ import annotations
 
 import argparse
 import contextlib
+import functools
 import itertools
 import os
 import re
 import signal
 import time
-from typing import Callable, Iterator, NamedTuple
+from typing import Callable, Iterator, NamedTuple, Sequence
 
 from ..core.files import (
     OWN_OUTPUT, is_replaced, refuse_input, refuse_name, temporary_folder, whole_file)
@@ -24,11 +25,12 @@ from ..qc.progress import Progress
 from ..qc.severity import Severity
 from ..qc.speech import Speech
 from ..qc.status import NOT_JUDGED
+from ..qc.sums import file_of
 from ..qc.typed import Typed
 from ..qc.unclear import Unclear
-from ..qc.verdict import Verdict
+from ..qc.verdict import Gap, Part, Verdict
 from ..qc.within import line_of as line_of_within
-from ..reading.losses import TOLD
+from ..reading.gaps import TOLD
 from . import junit, machine, table
 from .claim import claimed
 from .objects import found, put, unjudged
@@ -63,12 +65,36 @@ def judge(words: argparse.Namespace, called: str) -> int:
         verdict.found = found(asked)
         pair = Pair(verdict, typed, names, speech, files.are_any())
         pair.stalled_after = words.stall
+        if out is not None:
+            pair.draw = functools.partial(draw, pair)
         try:
             judge_pair(pair, files)
             end_pair(verdict, speech, files)
         finally:
-            files.leave()
+            files.leave(pair)
     return verdict.status
+
+
+def draw(pair: Pair, part: Part, names: Names, gaps: Sequence[Gap], count: int) -> None:
+    """Draws the report of a part, one of so many, with what is missing there."""
+    from ..preview import page, program as asking, report  # most calls need nothing of these
+    verdict, typed = pair.verdict.of_part(part, [*gaps]), pair.typed
+    path, shown_name = pair.recording.judged() if pair.recording else (None, None)
+    program = asking.Program(typed.program_word, typed.program_path, path,
+                             pair.recording.stream() if pair.recording else None, names.folder)
+    if pair.recording and not pair.recording.is_file:
+        program.stream = None
+    files = [(kind, file) for kind, file in (
+        ("STL", verdict.stl), ("PES", part.judged), ("Recording", verdict.recording)) if file]
+    if part.stl_path != names.given and part.stl != pair.asked.stl:
+        files[:1] = [("STL", file_of(part.stl_path, part.stl))]
+    subject = report.Subject(verdict, part, count, program, pair.speech.commands, files)
+    try:
+        text = page.report_page(report.Report(subject))
+    except asking.NoReport as reason:
+        raise Unclear(f"no report was made: {reason}") from None
+    with whole_file(names.report, [pair.asked.stl, pair.asked.recording]) as file:
+        file.write(text.encode("utf-8", "replace"))
 
 
 def judge_pair(pair: Pair, files: Files) -> None:
@@ -220,7 +246,7 @@ class Files:
             if self.names.out and len(verdict.parts) > 1:
                 wanted.append(Output(self.names.report, lambda: overview(
                     verdict, program, self.names, self.typed)))
-            wanted += [Output(path, lambda: machine.object_of(verdict, program, self.typed), True)
+            wanted += [Output(path, lambda: machine.object_of(verdict, program), True)
                        for path in objects]
         return wanted
 
@@ -231,14 +257,11 @@ class Files:
                               verdict.line or verdict.why_not or "", self.lines(), verdict.seconds)
         yield junit.text_of([case], verdict.date).decode()
 
-    def leave(self) -> None:
-        """Takes away what was judged of a feed, where it is not to be kept; else keeps what
-        `extract` wrote, too."""
-        if self.words.is_kept:
-            self.names.keep()
-            return
-        for path in self.names.judged():
-            os.unlink(path)
+    def leave(self, pair: Pair) -> None:
+        """Keeps the PES packets of the recording, where that is asked for."""
+        recording = pair.recording
+        if self.words.is_kept and recording and recording.packets.count:
+            recording.keep(self.names.place("recording.pes"))
 
     def lines(self) -> list[str]:
         """The first lines of the lists of all parts."""
@@ -250,7 +273,7 @@ class Files:
         """The lines of the CSV file: the names of the columns, the pair, its faults."""
         return table.lines_of(itertools.chain(
             [table.of_pair(self.verdict)], (table.of_fault(self.verdict, fault)
-                                            for fault in faults_of(self.verdict, self.typed))))
+                                            for fault in faults_of(self.verdict))))
 
     def put(self, path: str, pieces: Iterator[str]) -> None:
         """Writes a file whole, or not at all."""

@@ -41,7 +41,7 @@ def words_of(part: Part) -> dict[str, Any]:
     """What is judged of the recording with a part, as its object has it."""
     pid, packet_size = part.stream or (None, None)
     return {"part": part.number, "pid": pid, "packet_size": packet_size,
-            "pes": part.pieces and part.pieces.name}
+            "pes": part.pes_name}
 
 
 def of_part(parts: Sequence[dict[str, Any]], number: int | None) -> Known:

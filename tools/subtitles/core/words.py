@@ -18,7 +18,7 @@ HIDDEN = re.compile("[\x00-\x1f\x7f-\x9f\u061c\u200e\u200f\u2028-\u202e\u2066-\u
 INSTALLED = "subttx-"  # before the names of tools that are installed
 MOST_EVERY = 1500  # frames of a repeat bound
 MOST_WITHIN = 50  # frames within which a page has to be whole
-MOST_DIGITS = 3  # of a number of breaks, or of a run
+MOST_DIGITS = 3  # of a number of breaks
 TCP_WORD = "tcp"  # for the time code that the GSI block has
 NO_PID = 0x1FFF  # of the packets of a transport stream that hold nothing
 PACKET_SIZE, PACKET_SIZES = 188, (188, 192, 204)  # bytes from a TS packet to the next one
@@ -126,11 +126,6 @@ def number_word(text: str, least: int, thing: str) -> int:
 def breaks_word(text: str) -> int:
     """How many breaks a programme has."""
     return number_word(text, 0, "number of breaks")
-
-
-def run_word(text: str) -> int:
-    """Which run of a programme, from 1."""
-    return number_word(text, 1, "run of the programme")
 
 
 def start_word(text: str) -> str:

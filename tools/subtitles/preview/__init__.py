@@ -1,11 +1,10 @@
-"""Parts of tools/preview, one idea each.
+"""Parts of a report, one idea each.
 
+alone      what tools/preview does: a pair judged by one call, and shown
 report     all that the page is made of
-program    what `subttx` is asked, and its lines as values
-faults     what `check --all` tells, as entries of a list and as spans of frames
-passed     PES packets that were passed over: how the others are counted, what stands around
-headers    the page headers of a PES file, counted
-listening  a listing heard to its end: pages, sendings, and what was held at the frames asked for
+program    a line of the program as a verdict, and what more a report asks of the program
+faults     what was told, as entries of a list
+seen       what is seen of a transmission, and what stands around what is not heard
 fits       how far the sending is that would fit
 counts     how many faults there are of each number, and what it means
 drawing    a page as Teletext level 1 draws it, as SVG

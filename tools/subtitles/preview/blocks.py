@@ -145,7 +145,7 @@ def refused_blocks(report: Report, blocks: Blocks) -> str:
 
 def end_of_reading(report: Report, blocks: Blocks) -> str:
     """Where reading ended."""
-    last = verdict_of(report.faults.last_told)
+    last = verdict_of(report.part.answer.last_told)
     if last.number not in ENDS:
         return f"The file was read to its end, {counted(blocks.count, 'block')}."
     return (f"<b>Reading ended at block {last.block}</b>, with {last.number} {last.name}: nothing "
@@ -181,7 +181,7 @@ def marked_text(text: bytes, faults: list[Verdict]) -> str:
 
 def printed(report: Report) -> str:
     """What `show` prints, the middle of it left out where it is long."""
-    lines = report.show_lines
+    lines = report.program.show(report.part.stl_path)
     last = lines[FIRST_LINES:][-LAST_LINES:]
     left = len(lines[FIRST_LINES:]) - len(last)
     parts = ["<details><summary>What <code>show</code> prints</summary>",

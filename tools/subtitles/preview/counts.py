@@ -5,7 +5,6 @@ from typing import TYPE_CHECKING, Iterable
 
 from ..core.manual import marked_up, shown
 from ..core.times import time_of
-from ..core.told import told_of
 from ..qc.midnight import midnight_words
 from ..qc.subtitle_file import SubtitleFile
 from .program import Verdict, verdict_of
@@ -39,8 +38,8 @@ def place_words(fault: Verdict) -> str:
 def means_and_do(report: Report, number: int) -> tuple[str, str] | None:
     """What a number means, and what to do, as HTML; `None` where no manual says it."""
     meaning = report.meanings.get(number)
-    first = told_of(report.faults.firsts.get(number, ""))
-    of_night = midnight_words(first, SubtitleFile(report.stl)) if first else ""
+    first = report.faults.firsts.get(number)
+    of_night = midnight_words(first, SubtitleFile(report.part.stl_path)) if first else ""
     return (marked_up(meaning.means), marked_up(of_night or meaning.do)) if meaning else None
 
 
@@ -64,7 +63,7 @@ def numbers_table(report: Report) -> str:
         return ""
     rows = []
     for number, count in sorted(faults.counts.items()):
-        first = verdict_of(faults.firsts[number])
+        first = verdict_of(faults.firsts[number].line)
         cells = [f"{count:,}", report.first_link(first)]
         if number == report.verdict.number:
             name, words = "", None

@@ -4,7 +4,7 @@ from __future__ import annotations
 from typing import TYPE_CHECKING
 
 from ..core.manual import number_link
-from ..core.times import time_of
+from ..core.times import frame_of, time_of
 from ..core.told import CONTENT, WITH_CAUSE
 from ..reading.receiver import national_option
 from .counts import place_words
@@ -13,7 +13,8 @@ from .faults import Entry
 from .figures import NOT_READ
 from .fits import frames_words
 from .places import around, between_words, pes_words, units_table
-from .program import Program, Verdict
+from .program import Verdict
+from .seen import Seen
 
 if TYPE_CHECKING:
     from .report import Looks, Report
@@ -24,9 +25,9 @@ MOST_PICTURED = 100  # entries with pictures
 class FaultList:
     """The entries of the list, and the sections that they lead to."""
 
-    def __init__(self, report: Report, looks: Looks, program: Program) -> None:
-        self.report, self.looks, self.program = report, looks, program
-        self.entries, self.figures, self.held = report.faults.entries, looks.figures, report.held
+    def __init__(self, report: Report, looks: Looks, seen: Seen) -> None:
+        self.report, self.looks, self.program = report, looks, report.program
+        self.entries, self.figures, self.held = report.faults.entries, looks.figures, seen
         self.pictured: dict[int, Entry] = {}  # the entry that has the pictures of a frame
 
     def is_shown(self, frame: int | None) -> bool:
@@ -113,12 +114,13 @@ class FaultList:
         last, words = entry.last, []
         if entry.count > 1:
             words.append(f"{entry.count:,} faults, the last at {place_words(last)}")
-        if entry.until_pes is not None:
-            words.append(f"up to PES packet {entry.until_pes}")
-        if entry.until is not None:
-            words.append(f"until {time_of(entry.until)}")
+        if entry.end.pes is not None:
+            words.append(f"up to PES packet {entry.end.pes}")
+        until = frame_of(entry.end.time) if entry.end.time else None
+        if until is not None:
+            words.append(f"until {time_of(until)}")
             if entry.count == 1 and last.frame is not None:
-                words.append(frames_words(entry.until - last.frame + 1))
+                words.append(frames_words(until - last.frame + 1))
         return ", ".join(words)
 
     # The sections
@@ -137,7 +139,7 @@ class FaultList:
         if span:
             parts.append(f"<p>{span[0].upper()}{span[1:]}.</p>")
         if fault.pes is not None:
-            parts.append(pes_words(fault, entry.until_pes, self.report))
+            parts.append(pes_words(fault, entry.end.pes, self.report, self.held))
         parts.append(self.seen(entry, frame))
         return "".join(parts) + "</section>"
 
@@ -146,7 +148,7 @@ class FaultList:
         fault = entry.first
         if frame is None and fault.pes is None:
             return ""
-        if frame is None and not self.held.halt:
+        if frame is None and self.held.halt is None:
             return "<p>There is no frame to look at: no PES packet comes before it.</p>"
         if frame is None or not self.is_shown(frame):
             return f"<p>No pictures: {NOT_READ}.</p>"
@@ -169,7 +171,7 @@ class FaultList:
         return "".join(parts)
 
     def packets(self, entry: Entry, frame: int) -> str:
-        known = self.held.pes_at(frame)
+        known = [one.first for one in self.held.held.members(frame)]
         if not known:
             return f"<p>No PES packet has frame {time_of(frame)}.</p>" if entry.index == 1 else ""
         if entry.index > 1 and entry.first.packet is None:

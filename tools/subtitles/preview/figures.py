@@ -12,7 +12,8 @@ from .drawing import (
     HIDDEN, Cut, Place, cut_of, differences, empty_picture, is_boxed, label_of, picture, words_of)
 
 if TYPE_CHECKING:
-    from .listening import Heard
+    from ..reading.timeline import Timeline
+    from .seen import Seen
 
 NOT_READ = "a receiver can't be followed up to there"
 # What is held beside what is due, with the words for the count of such subtitles.
@@ -25,11 +26,11 @@ KINDS = {SAME: "as due", DIFFERENT: "another page than the one that is due",
 class Figures:
     """The pictures at a frame: due, held, and with complete pages asked for the screen.
 
-    `due` and `held` are what a receiver heard of the program's own schedule, `None` where there is
-    no subtitle, and of the PES file. `header` is that of a page that nobody sent.
+    `due` is what a receiver heard of the program's own schedule, `None` where there is no subtitle,
+    and `held` what is seen of the PES file. `header` is that of a page that nobody sent.
     """
 
-    def __init__(self, due: Heard | None, held: Heard, header: bytes, page: str,
+    def __init__(self, due: Timeline | None, held: Seen, header: bytes, page: str,
                  is_complete: bool) -> None:
         self.due, self.held, self.header = due, held, header
         self.page, self.is_complete = page, is_complete

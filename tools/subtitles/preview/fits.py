@@ -2,22 +2,13 @@
 from __future__ import annotations
 
 import bisect
-from typing import TYPE_CHECKING
-
 from ..core.times import time_of
 from ..reading.receiver import BLANK_PAGE, Rows
-
-if TYPE_CHECKING:
-    from .listening import Changes
+from .seen import Changes
 
 
 def frames_words(count: int) -> str:
     return f"{count:,} frame{'s' * (count != 1)}"
-
-
-def is_change(changes: Changes, frame: int) -> bool:
-    at = bisect.bisect_left(changes.frames, frame)
-    return at < len(changes.frames) and changes.frames[at] == frame
 
 
 class Fits:
@@ -28,26 +19,25 @@ class Fits:
 
     def __init__(self, due: Changes, held: Changes, pages: dict[int, tuple[Rows, Rows]]) -> None:
         self.due, self.held, self.pages = due, held, pages
-        self.when_held = held.held([one for one, _ in pages.values()])
-        self.when_due = due.held([other for _, other in pages.values()])
+        self.when_held = {one: held.spans_of(one) for one, _ in pages.values()}
+        self.when_due = {other: due.spans_of(other) for _, other in pages.values()}
         before = due.frames[0] if due.frames else None
-        blank = self.when_due.get(hash(BLANK_PAGE))
-        if blank is not None and before != 0:
-            blank.insert(0, (0, before - 1 if before else 0))
+        if BLANK_PAGE in self.when_due and before != 0:
+            self.when_due[BLANK_PAGE].insert(0, (0, before - 1 if before else 0))
 
     def late(self, frame: int) -> int | None:
         """The frame from which on the due page is held, where that is no sending of its own."""
-        spans = self.when_held[hash(self.pages[frame][0])]
+        spans = self.when_held[self.pages[frame][0]]
         return next((first for first, _ in spans
-                     if first > frame and not is_change(self.due, first)), None)
+                     if first > frame and not self.due.is_change(first)), None)
 
     def early(self, frame: int) -> int | None:
         """The frame from which on the page is due that comes to be held at this one."""
-        if not is_change(self.held, frame):
+        if not self.held.is_change(frame):
             return None
-        spans = self.when_due[hash(self.pages[frame][1])]
+        spans = self.when_due[self.pages[frame][1]]
         return next((first for first, _ in spans
-                     if first > frame and not is_change(self.held, first)), None)
+                     if first > frame and not self.held.is_change(first)), None)
 
     def words(self, frame: int) -> str:
         """The nearest page transmission that would fit; nothing for a frame without pages."""
@@ -61,7 +51,7 @@ class Fits:
         if early is not None:
             return (f"this page transmission is {frames_words(early - frame)} early: what is held "
                     f"is due from {time_of(early)} on")
-        before = [last for _, last in self.when_held[hash(self.pages[frame][0])] if last < frame]
+        before = [last for _, last in self.when_held[self.pages[frame][0]] if last < frame]
         if before:
             return ("no later page transmission fits: the due page was held last at "
                     f"{time_of(before[-1])}, {frames_words(frame - before[-1])} before")

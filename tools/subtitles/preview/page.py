@@ -5,6 +5,7 @@ import os
 from typing import TYPE_CHECKING, Iterable
 
 from ..core.manual import shown
+from ..core.teletext import page_name
 from ..core.words import counted
 from ..qc.delays import spread_of
 from ..qc.hints import HINTED
@@ -17,9 +18,9 @@ from .scope import listed
 if TYPE_CHECKING:
     from ..qc.made_with import Program as Made
     from ..qc.sums import File
-    from .listening import Heard
-    from .report import Asked, Looks, Report
-    from .scope import Recorded
+    from ..qc.asked import Asked
+    from .report import Looks, Report
+    from .seen import Seen
 
 GOOD = ('<svg aria-hidden="true" viewBox="0 0 62 62"><circle cx="31" cy="31" r="27" '
         'fill="none" stroke="currentColor" '
@@ -111,8 +112,7 @@ def document(line: str, title: str, parts: Iterable[str]) -> str:
 
 def report_page(report: Report) -> str:
     """The page, as text."""
-    recording = report.asked.recording
-    names = [report.stl, recording.name if recording else report.pes]
+    names = [report.stl, report.asked.recording]
     title = " and ".join(os.path.basename(name) for name in names if name)
     parts = [navigation(report), verdict_box(report)]
     scope = report.scope()
@@ -120,8 +120,8 @@ def report_page(report: Report) -> str:
         parts.append(scope.box())
     parts += transmission_parts(report, report.looks) if report.looks else \
         refused_file_parts(report)
-    if report.pes:
-        parts.append(pages_table(report))
+    if report.seen:
+        parts.append(pages_table(report, report.seen))
     if report.looks:
         parts += [keys_of(report.asked.within), trusted_words(report)]
     parts.append(foot(report))
@@ -132,7 +132,7 @@ def refused_file_parts(report: Report) -> list[str]:
     """What is said of a subtitle file that is refused."""
     from . import blocks  # a subtitle file that is read needs nothing of it
     told = (verdict_of(line) for line in report.faults.of_blocks)
-    known = blocks.Blocks(report.stl, told)
+    known = blocks.Blocks(report.part.stl_path, told)
     return [blocks.block_place(report, known), faults_head(report),
             blocks.refused_blocks(report, known), blocks.printed(report)]
 
@@ -181,12 +181,14 @@ def verdict_box(report: Report) -> str:
         if report.asked.within:
             parts.append("<p>What receivers show, once they have heard the page: "
                          f"{promised(report.asked)}.</p>")
-    parts += [lost_places(report.asked.lost)] if report.asked.lost else []
-    word = REFUSED if verdict.status else LOST if report.asked.lost else ACCEPTED
-    kind, shape = FRAMES.get(report.asked.word or word, REFUSAL)
-    parts += [f'<p class="note">{shown(words)}</p>' for words in report.asked.notes]
-    sentence = report.asked.sentence
-    said = f'<p class="sentence">{shown(sentence)}</p>' if sentence else ""
+    parts += [lost_places(report.lost)] if report.lost else []
+    judged = report.subject.judged
+    word = REFUSED if verdict.status else LOST if report.lost else ACCEPTED
+    kind, shape = FRAMES.get(judged.word if judged.word in (WAIVED, LOST, WARNED) else word,
+                             REFUSAL)
+    notes = [*report.notes, *([judged.fitted] if judged.fitted else [])]
+    parts += [f'<p class="note">{shown(words)}</p>' for words in notes]
+    said = f'<p class="sentence">{shown(judged.sentence)}</p>'
     return (f'<div class="verdict {kind}">{shape}<div>{said}<p class="line" id="verdict">'
             f'{shown(verdict.line)}</p>{"".join(parts)}</div></div>')
 
@@ -195,7 +197,7 @@ def advice(report: Report) -> str:
     """What the manual says of the verdict's number; where the sentence says what to know of this
     case it is unfolded."""
     words, number = meaning_of_verdict(report), report.verdict.number
-    if report.asked.sentence is None or not report.reasons and number not in HINTED:
+    if not report.reasons and number not in HINTED:
         return words
     return (f"<details><summary>what the manual says of {number}</summary>{words}"
             "</details>")
@@ -221,7 +223,7 @@ def navigation(report: Report) -> str:
         links.append(("causes", "Why"))
     if report.looks:
         links.append(("subtitles", "Subtitles"))
-    if report.pes:
+    if report.seen:
         links.append(("pages", "Headers"))
     if report.looks:
         links.append(("key", "How to read this page"))
@@ -231,12 +233,13 @@ def navigation(report: Report) -> str:
 
 def foot(report: Report) -> str:
     """What the page is made from, by what, and when."""
-    words = [("Options", report.asked.options()), ("Command line", report.command_line)]
+    words = [("Options", report.subject.options()),
+             ("Commands", "\n".join(report.subject.commands))]
     return made_from(report.files, report.date, report.made_with, words) + \
         f'<p class="says">{SAYS}</p>'
 
 
-def made_from(files: Iterable[tuple[str, File | Recorded]], date: str, program: Made,
+def made_from(files: Iterable[tuple[str, File]], date: str, program: Made,
               words: Iterable[tuple[str, str]]) -> str:
     """The files of a page, each with what it is, the program, and commands."""
     rows = "".join(
@@ -258,48 +261,45 @@ COLUMNS = ("Headers", "First PTS", "First frame", "Last PTS", "Last frame",
            "Control bits (headers)")
 
 
-def pages_table(report: Report) -> str:
-    """The pages whose headers the PES file holds, so that a wrong page or origin is seen."""
-    held = report.held
-    parts = ['<h2 id="pages">Headers in the PES file</h2>', f"<p>{reading_words(held)}</p>"]
-    wanted = held.page
-    pages = sorted(held.pages.items(),
-                   key=lambda item: (item[0] != wanted, -item[1].count, item[0]))
-    if wanted not in held.pages:
+def pages_table(report: Report, seen: Seen) -> str:
+    """The subtitle pages whose headers the recording holds, so that a wrong page or origin is seen.
+    """
+    parts = ['<h2 id="pages">Subtitle pages</h2>', f"<p>{reading_words(seen)}</p>"]
+    if seen.page not in seen.pages:
         parts.append(f"<p><b>No header of page {report.page}, which is checked.</b></p>")
     rows = []
-    for (magazine, page), known in pages[:MOST_PAGES]:
-        page_name = f"{magazine or 8}{page:02X}"
-        words = "checked" if (magazine, page) == wanted else "closes others" if page == 0xFF else ""
+    for page, known in [*seen.pages.items()][:MOST_PAGES]:
+        words = " checked" if page == seen.page else ""
         bits = "; ".join(f"{names} ({count})" for names, count in known.bits.most_common(4))
-        cells = [f"{known.count:,}"]
+        cells = [f"{known.number:,}"]
         for pts in (known.first, known.last):
-            cells += [str(pts), place_of_pts(pts, report.origin, report.asked.within)]
-        rows.append(row_of(f"{page_name} {words}", COLUMNS, [*cells, bits]))
+            cells += ["", ""] if pts is None else [
+                str(pts), place_of_pts(pts, report.origin, report.asked.within)]
+        rows.append(row_of(f"{page_name(*page)}{words}", COLUMNS, [*cells, bits]))
     if rows:
         parts.append(f'<table class="pages"><thead><tr>{heads("Page", *COLUMNS)}</tr></thead>'
                      f"<tbody>{''.join(rows)}</tbody></table>")
-    if len(pages) > MOST_PAGES:
-        parts.append(f"<p>{counted(len(pages) - MOST_PAGES, 'more page')} with fewer headers.</p>")
+    if len(seen.pages) > MOST_PAGES:
+        more = counted(len(seen.pages) - MOST_PAGES, "more page")
+        parts.append(f"<p>{more} with fewer headers.</p>")
     return "".join(parts)
 
 
-def reading_words(held: Heard) -> str:
-    """How far the PES file was read and heard."""
-    words = f"{counted(held.count - held.begin, 'PES packet')} read."
-    passed = held.passed.count
+def reading_words(seen: Seen) -> str:
+    """How far the PES packets were read and heard."""
+    words = f"{counted(seen.count, 'PES packet')} read."
+    passed = seen.passed.total()
     if passed:
         words += (f" A receiver is followed without {counted(passed, 'other')} that can't be read, "
                   "or whose PTS is no frame's: what those put on air is not known.")
-        if held.end.status:
-            words += " What comes after them is not read."
-    elif held.end.status:
-        words += (" A receiver is followed up to there, where <code>packets</code> ends with "
-                  f"<code>{shown(held.end.line)}</code>.")
-    if held.halt:
-        order = "before" if held.within else "not after"
-        words += (f" A receiver follows the file as far as PES packet {held.halt[0]}, whose frame "
-                  f"is none, or {order} that of the one before.")
+    if seen.ending:
+        words += " What comes after them is not read." if passed else (
+            " A receiver is followed up to there, where reading ends with "
+            f"<code>{shown(seen.ending.line)}</code>.")
+    if seen.halt is not None:
+        order = "before" if seen.within else "not after"
+        words += (f" A receiver follows the file as far as PES packet {seen.halt}, whose frame is "
+                  f"{order} that of the one before.")
     return words
 
 
@@ -321,6 +321,6 @@ def subtitles_words(report: Report, looks: Looks) -> str:
     links = " ".join(f'<a href="#s{index}">{index}</a>' for index in odd[:MOST_LINKS])
     more = " ..." if len(odd) > MOST_LINKS else ""
     where = f" Not as due: {links}{more}" if links else ""
-    spread = spread_of(report.delays)
+    spread = spread_of(report.part.delays)
     where += f" {spread.words().capitalize()}." if spread else ""
     return f"<p>{words} What a receiver holds then: {kinds}.{where}</p>"

@@ -6,18 +6,11 @@ from typing import NamedTuple, Sequence
 from ..core.manual import shown
 from ..core.times import time_of
 from ..core.words import counted
+from ..qc.sums import File
 
 ROW_0 = "row 0, which the page's header has"
 DELAY = "a delay that all subtitles share: the clock was fitted to the recording"
 BETWEEN = "what is sent between the parts"
-
-
-class Recorded(NamedTuple):
-    """A recording: its name as it was typed, its size and its SHA-256."""
-
-    name: str
-    size: int
-    sha256: str
 
 
 class Scope(NamedTuple):
@@ -26,7 +19,7 @@ class Scope(NamedTuple):
     of how many, whether there are several, and the clock, where more is to be said of it."""
 
     titles: Sequence[str]
-    recording: Recorded | None
+    recording: File | None
     first: int
     last: int
     subtitles: int

@@ -11,7 +11,7 @@ from ..core.times import time_of
 from ..core.words import counted
 from .faults import Entry, Faults
 from .figures import DIFFERENT, KINDS, NOTHING, SAME, Figures
-from .listening import Heard
+from .seen import Seen
 from .timeline import MINUTE, Timeline
 
 ROOM = 10_000_000  # bytes of pictures in a report
@@ -42,7 +42,7 @@ def looked_at(subtitle: Subtitle, frames: int | None, within: int) -> Looked:
 class Entries:
     """The entries of subtitles: those with pictures, as many as there is room for."""
 
-    def __init__(self, figures: Figures, held: Heard, subtitles: list[Subtitle],
+    def __init__(self, figures: Figures, held: Seen, subtitles: list[Subtitle],
                  looked: list[Looked], window: tuple[int, int], faults: Faults,
                  broken: int | None) -> None:
         self.figures, self.held, self.faults = figures, held, faults

@@ -11,8 +11,9 @@ from typing import TYPE_CHECKING, Collection, Iterable, Iterator
 
 from ..core.manual import shown
 from ..core.programme import Subtitle
+from ..core.spans import Span, Spans
 from ..core.times import time_of
-from .faults import Faults, Span, Spans
+from .faults import Faults
 
 if TYPE_CHECKING:
     from .subtitles import Entries

@@ -2,37 +2,31 @@
 
 asked         what is asked of a pair
 pair          a pair judged, from a recording to a verdict
-steps         the steps, each of which runs a command and says it
+steps         the steps: what is asked of the program, and said
 verdict       a verdict, its parts, and what is missing
 unclear       why a pair can't be judged
 
-recording     a recording as a file of PES packets
-kinds         what a recording is, by its first bytes
-source        its bytes, read once
-carriers      the PES packets of a transport stream, one file for a PID
+recording     what is told of a recording, and how the program reads it once more
 feed          a recording that comes through a pipe
-live          `check --all` that hears a feed
-stall         a feed that stands still
+ending        when a feed has all that is judged
 fitting       what is found of its origin: parts with their clocks
 start         the clock by the first picture
 clock         the clock of a part, and what is said of it
 warned        what is strange of a recording
 
-checking      `check --all`, and what it comes to
+checking      `check --all`, and all that its list comes to: it is read here alone
 faults        faults with all that is known of them
 cells         the PES packets and the cells at their places
 subtitle_file the subtitles of a file by blocks and by frames
 status        the verdict in one word, and its exit status: decided here alone
 sentence      it in one sentence for a person
 severity      which faults count
-whole         whether a recording grew, or ends within a PES packet
 sums          SHA-256 of files
 made_with     the program, and what PROVED says of it
 
-why           why the content of a part is refused: asked for, and told as it comes
-naming        the causes of a list, named as soon as they are known
+why           why the content of a part is refused
+naming        the causes of a list
 causes        the cause of a subtitle, by what is due and what is held
-held          the pages that a receiver holds
 due_pages     the subtitles with the pages that are due
 lettering     what a person reads on a page, and where two differ
 option_advice what to do about a letter that the national option lacks

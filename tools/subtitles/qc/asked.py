@@ -11,7 +11,7 @@ from ..core.files import plain_name
 from ..core.national import WORDS, named_by
 from ..core.teletext import page_name
 from ..core.words import (
-    Stop, Words, add_page, add_within, breaks_word, every_word, origin_word, pid_word, run_word,
+    Stop, Words, add_page, add_within, breaks_word, every_word, origin_word, pid_word, range_word,
     start_word, within_words)
 
 AUTO = "auto"  # the national option is that of the language
@@ -37,7 +37,7 @@ class Asked:
     is_loss_allowed: bool
     severity: str | None
     breaks: int
-    run: int | None
+    pes: tuple[int, int] | None
     start: str | None
     within: int = 0  # frames within which a page has to be whole
     is_strict: bool = False  # warnings count
@@ -59,15 +59,6 @@ class Asked:
 
     def within_words(self) -> list[str]:
         return within_words(self.within)
-
-    def within_more(self, within: int) -> Asked:
-        """The same within other frames."""
-        return dataclasses.replace(self, within=within)
-
-    def clock_words(self) -> list[str]:
-        """What tools/origin is told of the clock, as options."""
-        return [*(["--breaks", str(self.breaks)] if self.breaks else []),
-                *(["--run", str(self.run)] if self.run is not None else [])]
 
     def check_words(self) -> list[str]:
         """The options of `check` that a person would type, but for the origin."""
@@ -100,8 +91,9 @@ def add_pair_options(parser: Words) -> None:
                         help="lines `NUMBER error` and `NUMBER warning`")
     parser.add_argument("--breaks", type=breaks_word, default=0, metavar="N",
                         help="the breaks of the programme, none where it is left out")
-    parser.add_argument("--run", type=run_word, metavar="N",
-                        help="which one, where the programme is in the recording more than once")
+    parser.add_argument("--pes", type=range_word, metavar="I-J",
+                        help="the numbers of the first and the last PES packet that may be judged, "
+                             "where the programme is in the recording more than once")
     parser.add_argument("--start", type=start_word, metavar="TIME|tcp",
                         help="the time code of the recording's first picture; tcp: the one of the "
                              "GSI block")

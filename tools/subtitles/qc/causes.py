@@ -13,8 +13,8 @@ from ..core.teletext import page_name
 from ..core.times import time_of
 from ..core.words import counted
 from ..reading.receiver import BLANK_PAGE, Rows
+from ..reading.timeline import LEAST, Span, Timeline
 from .due_pages import DuePages
-from .held import LEAST, Held, Span
 from .lettering import attribute_words, is_moved, is_part, place_words, words_on
 
 LATE, EARLY, NEVER, OTHER = "late", "early", "never sent", "another subtitle's text"
@@ -59,7 +59,7 @@ class Faulty:
 class Namer:
     """Names the causes of subtitles by what is held."""
 
-    def __init__(self, programme: DuePages, held: Held) -> None:
+    def __init__(self, programme: DuePages, held: Timeline) -> None:
         self.programme, self.held = programme, held
         self.subtitles, self.pages = programme.subtitles, programme.pages
 
@@ -280,9 +280,9 @@ class Namer:
     def came_closed(self, place: int) -> bool:
         """Whether rows of a subtitle came in its time when the page was not open."""
         one, page = self.subtitles[place], self.pages[place]
-        return any(one.begin <= frame < one.end and any(
-            content == page[row - 1] for row, content in rows.items())
-            for frame, rows in self.held.strays.items())
+        return any(span.first < one.end and one.begin <= span.last and any(
+            content == page[row - 1] for row, content in texts)
+            for span, texts in self.held.strays)
 
     def closed_words(self) -> str:
         """That in words."""
@@ -344,7 +344,7 @@ class Namer:
                 self.pages[place + 1] == self.held.pages[number]:
             return f"it stays for {counted(following[0].begin - end, 'frame')}, up to " \
                 f"{following[0].name}, which is the same"
-        if until == self.held.last or self.held.is_lost:
+        if until == self.held.last or self.held.halt is not None:
             return ""
         return f"gone {counted(until + 1 - end, 'frame')} later"
 

@@ -1,24 +1,43 @@
-"""`subttx check --all`, asked about a pair: its list in a file, and what it comes to."""
+"""`subttx check --all`, asked about a pair, and all that its list comes to: it is read here alone."""
 from __future__ import annotations
 
+import collections
 import re
 import shutil
 import subprocess
-from typing import BinaryIO, Callable, Iterator
+from typing import BinaryIO, Callable, Iterator, NamedTuple
 
 from ..core.files import naming
+from ..core.spans import Spans
 from ..core.told import (
-    Told, Trusted, accepted_of, count_of, is_line, number_of, told_of, trusted_of)
+    ENDED, PASSED_OVER, REFUSED, Told, Trusted, accepted_of, count_of, frame_of_place, is_line,
+    told_of, trusted_of, words_of)
 from .status import NOT_JUDGED, UNSAID, Said, word_of
 from .unclear import Unclear
 
 TIME = re.compile(r"\d\d:\d\d:\d\d:\d\d")
 
 
+class End(NamedTuple):
+    """Where a fault ended that stood for some time: the time of the last frame, or the last PES
+    packet."""
+
+    time: str | None
+    pes: int | None
+
+
+NO_END = End(None, None)
+
+
 class Answer:
     """What `check --all` printed, line by line; all its lines stand in the file at `path`.
 
-    `first` is the first fault, which is the line of `check` without `--all`.
+    `first` is the first fault, which is the line of `check` without `--all`, and `last_told` the
+    last one. By number, `counts` are how many there are, `firsts` the first of each, and `marks`
+    the frames at which it is told, or stands; `ends` are by the number of a fault in the list, and
+    `anew` the numbers of those that are told right after one has ended.
+    `passed` are the numbers of the PES packets that were passed over, `trusted` the frames that may
+    be trusted.
     """
 
     def __init__(self, path: str) -> None:
@@ -26,29 +45,82 @@ class Answer:
         self.status: int | None = None  # until it has ended
         self.is_accepted = False  # by the last line
         self.strange: str | None = None  # the first line that is none of `check`
-        self.count = 0
-        self.numbers: set[int] = set()
-        self.first: Told | None = None
         self.frames: int | None = None
         self.transmissions: int | None = None
+        self.forget()
         self.file: BinaryIO = open(path, "wb")
+
+    def forget(self) -> None:
+        """No fault was told."""
+        self.count = 0
+        self.counts: collections.Counter[int] = collections.Counter()
+        self.firsts: dict[int, Told] = {}
+        self.first: Told | None = None
+        self.last_told = ""
+        self.marks: dict[int, Spans] = {}
+        self.ends: dict[int, End] = {}
+        self.anew: set[int] = set()
+        self.latest: dict[str, int] = {}  # the number in the list of the last fault of a number
+        self.passing = ""  # the number of the PES packets that were passed over last
+        self.passed, self.trusted = Spans(), Spans()
+
+    @property
+    def numbers(self) -> set[int]:
+        """The numbers of the faults."""
+        return set(self.counts)
 
     def take(self, line: str) -> None:
         """Takes a line as it comes."""
         with naming(self.path):
             self.file.write(line.encode() + b"\n")
-        self.last = line
-        number = number_of(line)
-        self.is_accepted = False
-        if number is not None:
-            self.count += 1
-            self.numbers.add(number)
-            self.first = self.first or told_of(line)
+        self.last, self.is_accepted = line, False
+        words = words_of(line)
+        if words[0] == REFUSED and words[1:] and words[1].isascii() and words[1].isdecimal():
+            self.take_fault(line, words)
+        elif words[0] == ENDED and is_line(line):
+            self.take_end(words)
         elif accepted := accepted_of(line):
             self.frames, self.transmissions = accepted
             self.is_accepted = True
+        elif trusted := trusted_of(line):
+            self.trusted.add(*map(frame_of_place, trusted))
         elif self.strange is None and not is_line(line):
             self.strange = line
+
+    def take_fault(self, line: str, words: list[str]) -> None:
+        """A line `refused`."""
+        number, place = int(words[1]), words[3:5]
+        if number not in self.counts:
+            told = told_of(line)
+            if told:
+                self.firsts[number] = told
+            self.first = self.first or told
+        self.latest[words[1]] = self.count
+        self.count += 1
+        self.counts[number] += 1
+        self.last_told = line
+        if place[:1] == ["frame"]:
+            frame = frame_of_place(place[1])
+            self.marks.setdefault(number, Spans()).add(frame, frame)
+        elif number in PASSED_OVER and place[:1] == ["pes"]:
+            self.passing = words[1]
+            self.passed.add(int(place[1]), int(place[1]))
+
+    def take_end(self, words: list[str]) -> None:
+        """A line `ended`: what stood up to a frame, or for PES packets in a row."""
+        number, (kind, value) = int(words[1]), words[3:5]
+        self.anew.add(self.count)
+        index = self.latest.pop(words[1], None)
+        if index is None:
+            return
+        if kind == "frame":
+            self.ends[index] = End(value, None)
+            marks = self.marks[number]
+            marks.add(marks.begins[-1], frame_of_place(value))
+        else:
+            self.ends[index] = End(None, int(value))
+            if words[1] == self.passing:
+                self.passed.add(self.passed.ends[-1], int(value))
 
     def end(self, status: int) -> None:
         """Takes the status; what is no answer is `Unclear`."""
@@ -78,7 +150,7 @@ class Answer:
     def accept(self, line: str) -> None:
         """Takes a subtitle file without faults, which is all that was asked about."""
         self.last, self.status, self.is_accepted = line, 0, True
-        self.count, self.numbers, self.first = 0, set(), None
+        self.forget()
         with open(self.path, "wb"):
             pass
 
@@ -107,15 +179,13 @@ class Answer:
             for line in file:
                 yield line.rstrip("\n")
 
-    def told(self) -> Iterator[Told]:
-        """The faults, and where they ended, in order."""
-        for line in self.lines():
-            told = told_of(line)
-            if told:
-                yield told
+    def told(self) -> Iterator[tuple[Told, End]]:
+        """The faults in order, each with where it ended."""
+        faults = (told for told in map(told_of, self.lines()) if told and told.is_fault)
+        return ((told, self.ends.get(index, NO_END)) for index, told in enumerate(faults))
 
-    def trusted(self) -> Iterator[Trusted]:
-        """The stretches that may be trusted."""
+    def trusted_lines(self) -> Iterator[Trusted]:
+        """The stretches that may be trusted, as they were told."""
         return filter(None, map(trusted_of, self.lines()))
 
 

@@ -1,17 +1,13 @@
 """After how many frames each subtitle was whole: what a house needs to choose --within N."""
 from __future__ import annotations
 
-from typing import Iterable, NamedTuple
+from typing import Callable, Iterable, NamedTuple
 
-from ..core.pieces import Pieces
 from ..core.programme import Subtitle
 from ..core.words import range_words
 from ..reading.receiver import Rows
-from .asked import Asked
-from .checking import Answer
-from .due_pages import DuePages, due_pages_of
-from .held import Held
-from .naming import Causes
+from ..reading.timeline import Timeline
+from .due_pages import DuePages
 
 # Where none of these is told, within 0, each page is whole at the end of the frame of its TCI.
 MOVED = {*range(30, 33), 44, 45, 60, 62, 63, 71, 72, 74, 77}
@@ -42,14 +38,14 @@ def spread_of(several: Iterable[int | None]) -> Spread | None:
     return Spread(known[0], known[len(known) // 2], known[-1], len(all_of) - len(known))
 
 
-def frames_of(programme: DuePages, held: Held, is_complete: bool) -> list[int | None]:
+def frames_of(programme: DuePages, held: Timeline, is_complete: bool) -> list[int | None]:
     """After how many frames each subtitle was whole, and where complete pages are asked for
     closed."""
     return [frames_until(one, page, held, is_complete)
             for one, page in zip(programme.subtitles, programme.pages)]
 
 
-def frames_until(one: Subtitle, page: Rows, held: Held, is_complete: bool) -> int | None:
+def frames_until(one: Subtitle, page: Rows, held: Timeline, is_complete: bool) -> int | None:
     """The same of one; where nothing of the page was heard before its TCI nobody knows."""
     if held.first > one.begin:
         return None
@@ -64,16 +60,7 @@ def frames_until(one: Subtitle, page: Rows, held: Held, is_complete: bool) -> in
     return None
 
 
-def frames_in(asked: Asked, program: str, stl: str, pieces: Pieces, origin: int, count: int,
-              answer: Answer, causes: Causes | None) -> list[int | None]:
-    """The same of a part that was judged, of so many subtitles: of its subtitle file and its PES
-    packets, or where causes were looked for by what was heard then."""
-    if not asked.within and not answer.numbers & MOVED:
-        return [0] * count
-    if causes:
-        return frames_of(causes.programme, causes.held, asked.is_complete)
-    held = Held(pieces.path, asked.page, origin, within=asked.within,
-                place=(pieces.begin, pieces.end))
-    held.follow()
-    return frames_of(due_pages_of(program, stl, asked.page, asked.option), held,
-                     asked.is_complete)
+def frames_in(is_known: bool, count: int, held: Timeline, due: Callable[[], DuePages],
+              is_complete: bool) -> list[int | None]:
+    """The same of so many subtitles, by what is held, and what is due where that is needed."""
+    return [0] * count if is_known else frames_of(due(), held, is_complete)

@@ -1,4 +1,7 @@
-"""The subtitles of a file with the pages that are due, as the program's own schedule sends them."""
+"""The subtitles of a file with the pages that are due, as the program's own schedule sends them.
+
+This is the one home of what is due: causes, delays, faults and reports read it.
+"""
 from __future__ import annotations
 
 import os
@@ -8,19 +11,23 @@ from ..core.files import temporary_folder
 from ..core.programme import Programme, Subtitle, subtitles_shown
 from ..core.teletext import Page, page_name
 from ..reading.receiver import BLANK_PAGE, Rows
-from .held import Held
+from ..reading.survey import PES, Packets, survey
+from ..reading.timeline import Timeline
 from .lettering import words_on
 from .unclear import Unclear
 
 NOTHING = 82  # the number where there is no subtitle
+EVERY = "1500"  # frames: the fewest repeats
 
 
 class DuePages(Programme):
-    """A programme with the page that is due of each subtitle; which have the same page or words."""
+    """A programme with the page that is due of each subtitle; which have the same page or words.
+    `timeline` is what a receiver holds of it, `None` where there is no subtitle."""
 
-    def __init__(self, subtitles: list[Subtitle], pages: list[Rows]) -> None:
+    def __init__(self, subtitles: list[Subtitle], pages: list[Rows],
+                 timeline: Timeline | None = None) -> None:
         super().__init__(subtitles)
-        self.pages = pages
+        self.pages, self.timeline = pages, timeline
         self.by_page: dict[Rows, list[int]] = {}
         self.by_words: dict[str, list[int]] = {}
         for place, page in enumerate(pages):
@@ -56,11 +63,13 @@ def subtitles_in(program: str, stl: str) -> list[Subtitle]:
 
 def due_pages_of(program: str, stl: str, page: Page, option: str) -> DuePages:
     """Those of a file, by the program at a path."""
+    subtitles = subtitles_in(program, stl)
+    if not subtitles:
+        return DuePages([], [])
     with temporary_folder("subttx-qc-") as folder:
         path = os.path.join(folder, "due.pes")
         asked_of(program, "schedule", "--page", page_name(*page), "--option", option, "--every",
-                 "1500", "--", stl, path)
-        due = Held(path, page, 0)
-        due.follow()
-    subtitles = subtitles_in(program, stl)
-    return DuePages(subtitles, [due.page_at(one.begin) for one in subtitles])
+                 EVERY, "--", stl, path)
+        packets = survey(program, path, page).by_pid.get(PES, Packets(PES))
+    due = Timeline(packets, page, 0)
+    return DuePages(subtitles, [due.page_at(one.begin) for one in subtitles], due)

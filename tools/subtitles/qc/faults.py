@@ -1,6 +1,7 @@
 """The faults of a verdict with all that is known of them, one after another."""
 from __future__ import annotations
 
+import itertools
 from typing import Iterator, TypedDict
 
 from ..core.characters import letters
@@ -10,13 +11,12 @@ from ..core.times import frame_at, time_of
 from ..core.told import CHARACTER, CONTENT, LETTERS, STL_FAULTS, WITH_CAUSE, Told
 from ..reading.receiver import Rows
 from .cause_words import CauseWords, SubtitleWords, Wording
-from .cells import NOWHERE, Place, Places, code_at, passed_over
-from .due_pages import DuePages, due_pages_of
-from .hints import control_words
+from .cells import NOWHERE, Place, code_at, place_of
+from .checking import End
+from .hints import header_words
 from .midnight import midnight_words
 from .option_advice import OptionAdvice
 from .subtitle_file import NamedSubtitle, SubtitleFile
-from .typed import Typed
 from .verdict import Part, Verdict
 
 
@@ -58,67 +58,35 @@ class Fault(TypedDict):
     cause: CauseWords | None
 
 
-class Ends:
-    """Where each fault ended that stood for some time, by its number in the list."""
-
-    def __init__(self, told: Iterator[Told]) -> None:
-        self.by_fault: dict[int, Told] = {}
-        latest: dict[int, int] = {}
-        index = -1
-        for one in told:
-            if one.is_fault:
-                index += 1
-                latest[one.number] = index
-            elif one.word == "ended" and one.number in latest:
-                self.by_fault[latest.pop(one.number)] = one
-
-    def of(self, index: int) -> tuple[str | None, int | None]:
-        """The time of the last frame, or the last PES packet."""
-        ended = self.by_fault.get(index)
-        return (ended.time, ended.pes) if ended else (None, None)
-
-
 class PartFaults:
     """The faults of one part."""
 
-    def __init__(self, verdict: Verdict, part: Part, typed: Typed) -> None:
+    def __init__(self, verdict: Verdict, part: Part) -> None:
         self.verdict, self.part, self.asked = verdict, part, verdict.asked
         self.letters: list[str] = letters(BY_WORD[self.asked.option].bits)
         self.meanings = {number: (plain(one.means), plain(one.do))
                          for number, one in meanings().items()}
-        self.ends = Ends(part.answer.told())
         self.wording = Wording(part.causes, self.asked.option) if part.causes else None
         self.subtitles = SubtitleFile(part.stl_path)
         self.of_letters = OptionAdvice(self.subtitles, self.asked.option)
-        self.due: DuePages | None = None
-        self.places: Places | None = None
-        if part.pieces is not None and part.origin is not None:
-            is_heard = CONTENT in part.answer.numbers
-            if is_heard:
-                self.due = part.causes.programme if part.causes else due_pages_of(
-                    typed.program_path, part.stl_path, self.asked.page, self.asked.option)
-            self.places = Places(part.pieces, self.asked.page,
-                                 (part.origin, self.asked.within),
-                                 passed_over(part.answer.told()), is_heard)
 
     def __iter__(self) -> Iterator[Fault]:
-        faults = (one for one in self.part.answer.told() if one.is_fault)
-        for index, told in enumerate(faults):
-            yield self.fault(index, told)
+        return itertools.starmap(self.fault, self.part.answer.told())
 
-    def fault(self, index: int, told: Told) -> Fault:
+    def fault(self, told: Told, end: End) -> Fault:
         """All that is known of a fault."""
         is_stl = told.number in STL_FAULTS
-        place = self.places.of(told) if self.places and not is_stl else NOWHERE
+        due = self.part.due().page_at(told.frame) if told.number == CONTENT and \
+            told.frame is not None else None
+        place = NOWHERE if is_stl else place_of(told, self.part.packets, self.part.held, due)
         byte, character = self.subtitles.letter(told.block, told.at) \
             if told.number in LETTERS and told.block and told.at is not None else (None, None)
-        subtitle, (until, until_pes) = self.subtitle_of(told), self.ends.of(index)
+        subtitle = self.subtitle_of(told)
         means, do = self.meanings.get(told.number, ("", ""))
         if told.number == CHARACTER and told.block and told.at is not None:
             do = self.of_letters.of(told.block, told.at) or do
         do = midnight_words(told, self.subtitles) or do
-        if place.header:
-            means = "; ".join(control_words(place.header, self.asked.option)) or means
+        means = header_words(place.headers, self.asked.option) or means
         return {
             "part": self.part.number, "line": told.line, "number": told.number,
             "name": told.name, "severity": self.verdict.severity.of(told.number),
@@ -128,8 +96,8 @@ class PartFaults:
             "pes": place.pes if told.pes is None else told.pes,
             "pes_pts": place.pts, "pes_time": self.time_at(place.pts), "packet": told.packet,
             "frame": told.frame, "time": told.time, "row": told.row, "column": told.column,
-            "due": self.due_cell(told), "held": self.held_cell(told, place),
-            "until": until, "until_pes": until_pes, "means": means, "do": do,
+            "due": self.cell(due, told), "held": self.held_cell(told, place),
+            "until": end.time, "until_pes": end.pes, "means": means, "do": do,
             "cause": self.cause_of(told),
         }
 
@@ -153,14 +121,8 @@ class PartFaults:
         frame = frame_at(pts, self.part.origin, self.asked.within)
         return None if frame is None else time_of(frame)
 
-    def due_cell(self, told: Told) -> Cell | None:
-        """The cell of a 72 as it is due."""
-        if self.due is None or told.number != CONTENT or told.frame is None:
-            return None
-        return self.cell(self.due.page_at(told.frame), told)
-
     def held_cell(self, told: Told, place: Place) -> Cell | None:
-        """The same as it is held."""
+        """The cell of a 72 as it is held."""
         return self.cell(place.rows, told) if told.number == CONTENT else None
 
     def cell(self, rows: Rows | None, told: Told) -> Cell | None:
@@ -179,8 +141,8 @@ def words_of_subtitle(subtitle: NamedSubtitle) -> SubtitleWords:
             "end": subtitle.end}
 
 
-def faults_of(verdict: Verdict, typed: Typed) -> Iterator[Fault]:
+def faults_of(verdict: Verdict) -> Iterator[Fault]:
     """The faults of all parts."""
     for part in verdict.parts:
         if part.answer.count:
-            yield from PartFaults(verdict, part, typed)
+            yield from PartFaults(verdict, part)

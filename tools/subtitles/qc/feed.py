@@ -1,174 +1,244 @@
-"""A recording that comes through a pipe: kept as it comes, and judged as soon as that can be."""
+"""A recording that comes through a pipe: handed to `survey`, which tells what it is, and meanwhile
+to `extract`, which keeps its PES packets."""
 from __future__ import annotations
 
+import collections
+import contextlib
+import dataclasses
+import hashlib
+import os
+import queue
+import select
+import subprocess
+import threading
 import time
-from typing import Callable, Iterable, Iterator, NamedTuple
+from typing import BinaryIO, Iterator
 
-from ..core.pes import pts_or_none
-from ..core.times import TICKS, ticks_between, wrapped
-from ..reading.finding import Agreement, Origin
-from .carriers import Carrier, Kept
-from .live import Live
-from .start import Starting
+from ..core.files import PIECE, STANDARD
+from ..core.words import counted, stream_words
+from ..reading.survey import PES, Mark, Packets, Survey, survey, words_of
+from .asked import Asked
+from .ending import Ending
+from .speech import Speech
+from .sums import File
+from .unclear import Unclear
 
-LAST = 10 ** 12 - 1  # stands for the number of a PES packet that is still to come
-ENOUGH = 5  # edges that agree on an origin before anything is judged by it
-WAIT = 5.0  # seconds between two looks for the origin, at least
-AGAIN = 8  # times as long as a look takes, at least
-
-
-class At(NamedTuple):
-    """An origin, and the PES packets that it is of, where PTS went back before."""
-
-    origin: int
-    packets: tuple[int, int] | None = None
+STANDARD_INPUT = "/dev/stdin"  # as the program opens it
+KEPT = 1 << 25  # bytes of what came last, handed to what begins to listen
+LOOK = 0.1  # seconds after which a feed that stands still is looked at again
+PATIENCE = 1.0  # seconds for which it may, until somebody hears of it
 
 
-class Finder:
-    """Looks for the origin of what has come so far; `find` does it for a file of PES packets."""
+class Handing(threading.Thread):
+    """Reads a feed as it comes, and hands its bytes on to all that listen, each from what came last
+    on. `count` bytes have come, the last of them `came` then."""
 
-    def __init__(self, find: Callable[[str], Origin]) -> None:
-        self.find = find
-        self.next, self.count = time.monotonic() + WAIT, 0
+    def __init__(self, name: str, is_summed: bool) -> None:
+        super().__init__(daemon=True)
+        self.file: BinaryIO = open(0 if name == STANDARD else name, "rb", buffering=0,
+                                   closefd=name != STANDARD)
+        self.waiting: queue.SimpleQueue[BinaryIO] = queue.SimpleQueue()  # those that begin to
+        self.listening: list[BinaryIO] = []
+        self.kept: collections.deque[bytes] = collections.deque()
+        self.size = self.count = 0
+        self.came = time.monotonic()
+        self.digest = hashlib.sha256() if is_summed else None
+        self.is_wanted = True
 
-    def is_due(self, kept: Kept) -> bool:
-        """Whether it is time for another look, and there is something new."""
-        return time.monotonic() >= self.next and kept.count > self.count
+    def run(self) -> None:
+        """Hands it on to its end, or as long as it is wanted."""
+        with contextlib.suppress(OSError):
+            while self.is_wanted:
+                ready, _, _ = select.select([self.file], [], [], LOOK)
+                self.begin()
+                data = self.file.read(PIECE) if ready else None
+                if data == b"":
+                    break
+                self.hand(data or b"")
+        self.end()
 
-    def ask(self, kept: Kept) -> Origin:
-        """Asks for the origin of what has come so far."""
-        began, self.count = time.monotonic(), kept.count
-        kept.flush()
-        origin = self.find(kept.path)
-        self.next = time.monotonic() + max(WAIT, AGAIN * (time.monotonic() - began))
-        return origin
+    def end(self) -> None:
+        """Hands nothing more to all that listen."""
+        self.begin()
+        while self.listening:
+            with contextlib.suppress(OSError):
+                self.listening.pop().close()
 
-    def look_for_end(self, kept: Kept, breaks: int, every: int) -> int | None:
-        """The PTS at which all parts of a programme with breaks are over, once all are found."""
-        origin = self.ask(kept)
-        last = origin.parts[-1] if len(origin.parts) == breaks + 1 else None
-        if origin.status or last is None or last.frames is None:
-            return None
-        return wrapped(last.origin + TICKS * (last.frames[1] + every))
+    def begin(self) -> None:
+        """Hands what is kept to those that begin to listen."""
+        while not self.waiting.empty():
+            one = self.waiting.get()
+            self.listening.append(one)
+            for data in self.kept:
+                self.write(one, data)
 
-    def look(self, kept: Kept) -> At | None:
-        """The origin, where it is clear and enough edges agree; or all that there are."""
-        origin = self.ask(kept)
-        if origin.status or len(origin.parts) != 1 or not is_enough(origin.agreement):
-            return None
-        part = origin.parts[0]
-        return At(part.origin, (part.packets[0], LAST) if part.packets else None)
+    def hand(self, data: bytes) -> None:
+        """Hands bytes on, and keeps them."""
+        if not data:
+            return
+        self.count, self.came = self.count + len(data), time.monotonic()
+        for one in [*self.listening]:
+            self.write(one, data)
+        if self.digest:
+            self.digest.update(data)
+        self.kept.append(data)
+        self.size += len(data)
+        while self.size > KEPT:
+            self.size -= len(self.kept.popleft())
 
+    def write(self, one: BinaryIO, data: bytes) -> None:
+        """Writes all of some bytes to what listens, as long as it does."""
+        left = memoryview(data)
+        try:
+            while left:
+                left = left[one.write(left):]
+        except BrokenPipeError:
+            self.listening.remove(one)
 
-def is_enough(one: Agreement | None) -> bool:
-    """Whether so many edges that agree are enough, of those that were due so far and of all that
-    there are: some others may not agree, where the letters are those that are due."""
-    if one is None:
-        return False
-    if one.agree == one.among:
-        return one.agree >= ENOUGH or one.agree == one.edges
-    return one.agree >= ENOUGH and one.letters * 2 >= one.agree
+    def stop(self) -> None:
+        """Hands nothing more on; those that began to listen last still get what is kept."""
+        self.is_wanted = False
+        self.join()
+        self.end()
 
 
 class Feed:
-    """Follows a feed to its end, or to that of the subtitles.
+    """A feed that is heard, with the calls that hear it: `survey`, and for each PID `extract`."""
 
-    `live` judges it, as soon as the origin is known: the one that was given, or one that was found.
-    A programme with breaks is judged when its last part is over. Ends early, and without a
-    judgement, where a second PID carries the page too.
-    """
+    def __init__(self, name: str, asked: Asked, program: str, folder: str,
+                 is_summed: bool) -> None:
+        self.name, self.asked, self.program, self.folder = name, asked, program, folder
+        self.survey = Survey()
+        self.handing = Handing(name, is_summed)
+        words = words_of(program, STANDARD_INPUT, asked.page, asked.pid)
+        self.process = subprocess.Popen(words, stdin=subprocess.PIPE, stdout=subprocess.PIPE,
+                                        bufsize=0)
+        self.calls: dict[int, subprocess.Popen[bytes]] = {}
+        self.kept: BinaryIO | None = None  # PES packets as they come
 
-    def __init__(self, origin: int | None, finder: Finder, start: Callable[[Kept, At], Live],
-                 starting: Starting | None, breaks: int, every: int) -> None:
-        self.at = None if origin is None else At(origin)
-        self.finder, self.start = finder, start
-        self.breaks, self.every = breaks, every
-        self.until: int | None = None  # a PTS
-        self.now: int | None = None  # the last PTS, or PCR
-        self.starting = starting  # waits for the first picture
-        self.carrier: Kept | None = None
-        self.live: Live | None = None
-        self.has_ended = False  # since nothing more is needed, or a second PID carries the page
+    def __enter__(self) -> Feed:
+        assert self.process.stdin
+        self.handing.waiting.put(self.process.stdin)  # type: ignore[arg-type]
+        self.handing.start()
+        return self
 
-    def follow(self, packets: Iterator[tuple[Kept, bytes]], show: Callable[[], None],
-               rest: Iterable[tuple[Kept, bytes]] = ()) -> None:
-        """Takes the PES packets as they come; `show` tells how much is read where none is judged.
-        The PCR may tell that all has come before all has come back: that is the `rest`."""
-        for kept, data in packets:
-            is_over = self.hear(kept, data)
-            if not self.live and not is_over:
-                show()
-            if is_over:
-                if not data:
-                    self.take_rest(rest)
+    def __exit__(self, *_: object) -> None:
+        self.handing.is_wanted = False
+        for call in [self.process, *self.calls.values()]:
+            call.kill()
+        self.handing.join()
+        for call in [self.process, *self.calls.values()]:
+            assert call.stdout
+            call.stdout.close()
+            call.wait()
+
+    def path(self, pid: int) -> str:
+        """Where the PES packets of a PID are kept."""
+        return os.path.join(self.folder, f"feed-{pid}.pes")
+
+    def follow(self, ending: Ending | None, speech: Speech, stalled_after: int) -> None:
+        """Takes what is told of the feed as long as more is needed, or to its end."""
+        stall = Stall(stalled_after, speech)
+        for is_still in self.heard():
+            still = time.monotonic() - self.handing.came
+            stall.take(still)
+            if speech.progress.is_due():
+                name = "standard input" if self.name == STANDARD else self.name
+                speech.show(f"{name}: {self.handing.count / 1e6:,.1f} MB"
+                            + (f"  nothing for {still:.0f} s" if still >= PATIENCE else ""))
+            self.listen()
+            if ending and self.is_over(ending, is_still and still >= PATIENCE):
+                break
+        self.handing.stop()
+        for _ in self.heard():
+            pass
+        status = self.process.wait()
+        if self.survey.head or not self.survey.is_whole:
+            self.survey.refuse(status)
+
+    def heard(self) -> Iterator[bool]:
+        """Takes the lines that come; each time whether for a while none did."""
+        assert self.process.stdout
+        out, rest = self.process.stdout.fileno(), b""
+        while True:
+            if not select.select([out], [], [], PATIENCE)[0]:
+                yield True
+                continue
+            data = os.read(out, 1 << 16)
+            *lines, rest = (rest + data).split(b"\n")
+            for line in lines:
+                self.survey.take(line.decode("ascii", "replace"))
+            if not data:
                 return
+            yield False
 
-    def take_rest(self, packets: Iterable[tuple[Kept, bytes]]) -> None:
-        """Takes the PES packets that come back when nothing more is handed on."""
-        for kept, data in packets:
-            if self.live and kept is self.carrier:
-                self.live.put(data)
+    def listen(self) -> None:
+        """Begins to keep the PES packets that are known by now."""
+        size = self.survey.size
+        if size == PES and self.kept is None:
+            self.kept = open(self.path(PES), "wb", buffering=0)
+            self.handing.waiting.put(self.kept)
+        for pid in self.survey.by_pid.keys() - self.calls.keys() if size else ():
+            words = ["extract", *stream_words(pid, size or 0), "--", STANDARD_INPUT,
+                     self.path(pid)]
+            self.calls[pid] = subprocess.Popen([self.program, *words], stdin=subprocess.PIPE,
+                                               stdout=subprocess.PIPE, bufsize=0)
+            self.handing.waiting.put(self.calls[pid].stdin)  # type: ignore[arg-type]
 
-    def hear(self, kept: Kept, data: bytes) -> bool:
-        """Takes a PES packet, or that time goes on; whether nothing more is needed."""
-        if self.has_ended:
-            return True
-        if kept is not self.carrier and kept.has_page:
-            if self.carrier:
-                self.drop()
-                self.has_ended = True
-                return True
-            self.carrier = kept
-        if kept is self.carrier and data:
-            self.take(kept, data)
-        self.has_ended = kept is self.carrier and self.is_over(kept, data)
-        return self.has_ended
+    def is_over(self, ending: Ending, is_still: bool) -> bool:
+        """Whether nothing more of it is needed: also where a second PID carries the page."""
+        found = [one for one in self.survey.by_pid.values() if one.has_page]
+        return len(found) > 1 or \
+            len(found) == 1 and ending.is_over(self.survey, found[0], is_still)
 
-    def is_over(self, kept: Kept, data: bytes) -> bool:
-        """Whether nothing more is needed."""
-        if self.live:  # the PCR is that of the piece of the feed, of which all has to be heard
-            return self.live.is_over() or \
-                not data and self.live.is_past(kept.pcr(), kept.late())
-        now = pts_or_none(data) if data else kept.pcr()
-        self.now = self.now if now is None else now
-        return self.until is not None and now is not None and ticks_between(self.until, now) > 0
+    def keep(self, packets: Packets, path: str) -> Packets:
+        """Gives what is kept of a PID its name; the PES packets by their numbers there, with what
+        is told of the PID."""
+        if packets.pid in self.calls:
+            call = self.calls[packets.pid]
+            assert call.stdout
+            line = call.stdout.read().decode("utf-8", "replace").strip()
+            if call.wait() not in (0, 1):
+                raise Unclear(f"extract was not answered: {line}, status {call.returncode}")
+        os.replace(self.path(packets.pid), path)
+        if packets.pid == PES:
+            return packets
+        told = survey(self.program, path, self.asked.page).by_pid.get(PES, Packets(PES))
+        return dataclasses.replace(packets, runs=told.runs, held=told.held, strays=told.strays,
+                                   changes=told.changes, marks=marks_of(told, packets))
 
-    def is_settled(self) -> bool:
-        """Whether nothing more is needed of a feed that stands still."""
-        if self.carrier and not self.live:
-            self.begin(self.carrier)
-        if self.until is not None and self.now is not None:  # whether the last TCO has come
-            return ticks_between(self.until, self.now) >= -TICKS * self.every
-        kept, live = self.carrier, self.live
-        return live is not None and (live.is_over() or live.has_last() or kept is not None
-                                     and live.is_past(kept.pcr(), kept.late()))
+    def summed(self) -> File | None:
+        """What was read, where that is asked."""
+        digest = self.handing.digest
+        return File(self.name, self.handing.count, digest.hexdigest()) if digest else None
 
-    def take(self, kept: Kept, data: bytes) -> None:
-        """Takes a PES packet of what carries the page."""
-        if self.live:
-            self.live.put(data)
-        else:
-            self.begin(kept)
 
-    def begin(self, kept: Kept) -> None:
-        """Begins to judge, once the origin is known."""
-        at = self.at
-        if self.starting and not self.starting.began:
-            began = self.starting.look(kept.pid, kept.grid) if isinstance(kept, Carrier) else None
-            at = At(began.clock.origin) if began else None
-        if self.breaks:
-            if self.until is None and self.finder.is_due(kept):
-                self.until = self.finder.look_for_end(kept, self.breaks, self.every)
-            return
-        if at is None and not self.starting and self.finder.is_due(kept):
-            at = self.finder.look(kept)
-        if at is not None:
-            kept.flush()
-            self.live = self.start(kept, at)
-            self.live.put_all(kept.path)
+class Stall:
+    """A feed that stands still: told once, and again when it goes on."""
 
-    def drop(self) -> None:
-        """Judges nothing more."""
-        if self.live:
-            self.live.stop()
-        self.live = None
+    def __init__(self, seconds: int, speech: Speech) -> None:
+        self.seconds, self.speech = seconds, speech
+        self.still, self.is_told = 0.0, False
+
+    def take(self, still: float) -> None:
+        """Takes for how many seconds nothing has come."""
+        if self.is_told and still < self.still:
+            self.is_told = False
+            self.speech.tell(f"the feed goes on, after {counted(round(self.still), 'second')}")
+        elif not self.is_told and still >= self.seconds:
+            self.is_told = True
+            self.speech.tell(f"nothing has come for {counted(self.seconds, 'second')}")
+        self.still = still
+
+
+def marks_of(told: Packets, packets: Packets) -> list[Mark]:
+    """The marks of a file that was taken out of a stream, with what was counted of them there."""
+    known: dict[int | None, list[Mark]] = {}
+    for one in packets.marks:
+        known.setdefault(one.before, []).append(one)
+    found: list[Mark] = []
+    for mark in told.marks:
+        counts = known.get(mark.before, [])
+        one = counts.pop(0) if counts else mark
+        found.append(mark._replace(lost=one.lost, scrambled=one.scrambled))
+    return found

@@ -6,7 +6,8 @@ from typing import NamedTuple, Sequence
 
 from ..core.times import TICKS, time_of
 from ..core.words import counted
-from ..reading.finding import Origin, Packets
+from ..reading.finding import Origin
+from ..reading.survey import Range
 from .clock import RECORDING, Clock
 from .unclear import Unclear
 
@@ -17,7 +18,7 @@ class Found(NamedTuple):
     begin: int
     end: int
     clock: Clock
-    packets: Packets | None = None
+    packets: Range | None = None
 
     @property
     def origin(self) -> int:
@@ -53,7 +54,6 @@ def with_delay(clock: Clock, origin: Origin) -> tuple[Clock, list[str]]:
 def refuse(origin: Origin, again: Sequence[str]) -> None:
     """Where the origin is not clear: `Unclear`, with what there is; `again` is what to type then.
     """
-    lines = [line for line in origin.told if not line.startswith("say which one")]
-    if origin.runs > 1 or origin.breaks is not None:
-        raise Unclear("\n".join(lines), *again)
+    if origin.runs or origin.breaks is not None:
+        raise Unclear("\n".join(origin.told), *again)
     raise Unclear(f"the origin is not clear: {'; '.join(origin.told)}", *again)

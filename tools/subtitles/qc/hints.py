@@ -1,21 +1,21 @@
 """What a person should know of the first fault of some numbers, beside its place."""
 from __future__ import annotations
 
-from typing import Iterator
+from typing import Iterator, Sequence
 
 from ..core.national import BY_BITS, BY_WORD, RESERVED
-from ..core.pieces import Pieces
 from ..core.teletext import ERASE, INHIBIT, NEWSFLASH, SUBTITLE, SUPPRESS, has_bit
 from ..core.times import frame_at
 from ..core.told import (
     CHARACTER, CONTROL, EMPTY_TIME, GAP, OFF_FRAME, OUT_OF_ORDER, PASSED_OVER, Told)
 from ..core.words import MOST_EVERY, counted
 from ..reading.receiver import national_option
-from ..reading.repeat import longest_gap, sendings
+from ..reading.repeat import longest_gap
+from ..reading.survey import HEADER
 from .asked import Asked
-from .cells import Places, passed_over
+from .cells import place_of
 from .midnight import midnight_words
-from .off_frame import off_of, pts_of_file
+from .off_frame import off_of
 from .option_advice import OptionAdvice
 from .subtitle_file import SubtitleFile
 from .verdict import Part, Verdict
@@ -52,15 +52,10 @@ def hints_of(verdict: Verdict) -> Iterator[str]:
 
 def hints_of_part(part: Part, verdict: Verdict) -> Iterator[str]:
     """The same of a part."""
-    waiting = part.answer.numbers & HINTED
-    for told in part.answer.told():
-        if told.is_fault and told.number in waiting:
-            waiting = waiting - {told.number}
-            words = words_of(told, part, verdict)
-            if words:
-                yield f"{told.number}: {words}"
-        if not waiting:
-            break
+    for number, told in part.answer.firsts.items():
+        words = words_of(told, part, verdict) if number in HINTED else ""
+        if words:
+            yield f"{number}: {words}"
 
 
 def words_of(told: Told, part: Part, verdict: Verdict) -> str:
@@ -72,24 +67,26 @@ def words_of(told: Told, part: Part, verdict: Verdict) -> str:
         return OptionAdvice(SubtitleFile(part.stl_path), asked.option).of(told.block, told.at)
     if told.number in (EMPTY_TIME, OUT_OF_ORDER):
         return midnight_words(told, SubtitleFile(part.stl_path))
-    if part.pieces is None or part.origin is None:
+    if part.pes is None or part.origin is None:
         return ""
     if told.number == OFF_FRAME:
-        off = off_of(pts_of_file(part.pieces), part.origin)
+        off = off_of(part.pts(), part.origin)
         return off.words(part.accepted_within) if off else ""
     if told.number == GAP:
-        return gap_words(part.pieces, part.origin, asked, part.answer.numbers)
-    places = Places(part.pieces, asked.page, (part.origin, asked.within),
-                    passed_over(part.answer.told()), False)
-    header = places.of(told).header
-    return "; ".join(control_words(header, asked.option)) if header else ""
+        return gap_words(part.pts(HEADER), part.origin, asked, part.answer.numbers)
+    return header_words(place_of(told, part.packets, part.held).headers, asked.option)
 
 
-def gap_words(pieces: Pieces, origin: int, asked: Asked, numbers: set[int]) -> str:
+def header_words(headers: Sequence[bytes], option: str) -> str:
+    """What is wrong with the control bits of the first header of some of which something is."""
+    wrong = (control_words(one, option) for one in headers)
+    return "; ".join(next(filter(None, wrong), []))
+
+
+def gap_words(headers: Sequence[int], origin: int, asked: Asked, numbers: set[int]) -> str:
     """The longest gap between headers of the page, where all that was sent can be read, and the
     repeat bound that accepts it, where nothing else is refused."""
-    with pieces.open() as file:
-        frames = [frame_at(pts, origin, asked.within) for pts in sendings(file, asked.page)]
+    frames = [frame_at(pts, origin, asked.within) for pts in headers]
     gap = longest_gap(frame for frame in frames if frame is not None)
     if gap <= asked.every or numbers & PASSED_OVER:
         return ""

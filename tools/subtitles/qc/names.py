@@ -3,7 +3,6 @@ from __future__ import annotations
 
 import glob
 import os
-import shutil
 from typing import Iterator
 
 from ..core.files import is_utf_8
@@ -32,7 +31,6 @@ class Names:
                 os.symlink(os.path.abspath(out), self.here)
         self.given = self.given_typed = ""  # the subtitle file, for the program and as it is typed
         self.whole, self.whole_path = self.typed("recording.pes"), self.temporary("recording.pes")
-        self.cut, self.cut_path = self.typed("cut.pes"), self.place("cut.pes")
         self.stl, self.stl_path = self.typed("stl"), self.place("stl")  # of a part
         self.list_path = self.place("txt")
         self.report = self.typed("html")
@@ -61,7 +59,7 @@ class Names:
         somebody's own."""
         if self.out is None:
             return []
-        own = [self.cut_path, self.place("recording.pes"), self.list_path, self.report,
+        own = [self.place("cut.pes"), self.place("recording.pes"), self.list_path, self.report,
                self.typed("json")]
         return own + [path for ending in ENDINGS for path, stem in self.of_parts(ending)
                       if not os.path.exists(f"{stem}.json")
@@ -94,15 +92,6 @@ class Names:
             os.symlink(os.path.abspath(name), path)
         return path
 
-    def judged(self) -> list[str]:
-        """The PES packets that were judged, where they stand in the folder that was asked for."""
-        return [path for path in self.kept() if path.endswith(".cut.pes") and os.path.exists(path)]
-
-    def keep(self) -> None:
-        """Keeps the PES packets of the recording, as `extract` wrote them, in that folder."""
-        if self.here is not None and os.path.exists(self.whole_path):
-            shutil.copyfile(self.whole_path, self.place("recording.pes"))
-
     def as_typed(self, line: str) -> str:
         """A line of a tool, in which files have the names that a person types."""
         if self.given != self.given_typed:
@@ -121,7 +110,7 @@ def again(asked: Asked, typed: Typed, *more: str) -> str:
                ["--origin", str(asked.origin)] if asked.origin is not None else [],
                ["--start", asked.start] if asked.start is not None else [],
                ["--breaks", str(asked.breaks)] if asked.breaks else [],
-               ["--run", str(asked.run)] if asked.run is not None else []]
+               ["--pes", f"{asked.pes[0]}-{asked.pes[1]}"] if asked.pes else []]
     instead = {"--origin": ["--origin", "--start"]}.get(more[0], [more[0]]) if more else []
     words += [word for option in options if not set(option[:1]) & set(instead) for word in option]
     return line_of(*words, *more)

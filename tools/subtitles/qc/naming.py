@@ -1,12 +1,13 @@
-"""The causes of a list of `check --all`, named as soon as they are known."""
+"""The causes of a list of `check --all`."""
 from __future__ import annotations
 
 import collections
-from typing import Callable, Iterable
+from typing import Iterable
 
-from ..core.told import BEGIN, CONTENT, END, Told
+from ..core.told import BEGIN, CONTENT, END
+from ..reading.timeline import Span, Timeline
 from .causes import EARLY, NAMES, NEVER, Cause, Faulty, Namer
-from .held import Held, Span
+from .checking import Answer
 from .due_pages import DuePages
 
 FEW = 3  # subtitles, which have the edges of a part
@@ -16,50 +17,38 @@ BEFORE = f"its page transmission is before what was cut, so {BEGIN} is reported"
 class Causes:
     """The causes of subtitles, by the lines of the list and by what is held.
 
-    `named` are those that are known, in order; `of_frame` is the subtitle whose fault a 72 is, and
-    `of_edge` the one whose fault a 63 or 74 is, where the recording goes on there. `unseen` tells
+    `named` are those that are known, in order; `of_edge` is the subtitle whose fault a 63 or 74 is,
+    where the recording goes on there. `unseen` are
     frames of which not all is known that was sent, beside those that can't be read, and `reach`
     the frames of which the recording is, where that is known of more than its PES packets.
     """
 
-    def __init__(self, programme: DuePages, held: Held,
-                 unseen: Callable[[], Iterable[Span]] = tuple,
-                 reach: Callable[[], Span | None] = lambda: None) -> None:
-        self.programme, self.held, self.unseen, self.reach = programme, held, unseen, reach
+    def __init__(self, programme: DuePages, held: Timeline, unseen: Iterable[Span] = (),
+                 reach: Span | None = None) -> None:
+        self.programme, self.held, self.reach = programme, held, reach
+        held.lost = list(unseen)
         self.namer = Namer(programme, held)
         self.named: dict[int, Cause] = {}
-        self.of_frame: dict[int, int] = {}
         self.of_edge: dict[int, int] = {}
         self.open: dict[int, Faulty] = {}
-        self.begun: int | None = None  # the frame of a 72 that stands
 
-    def take(self, told: Told) -> None:
-        """Takes a line; what is held at its frame has to be heard before."""
-        if told.frame is None:
-            return
-        if told.number == BEGIN:
-            self.look_before(told.frame)
-        elif told.number == END:
-            self.look_after(told.frame)
-        elif told.number != CONTENT:
-            return
-        elif told.is_fault:
-            self.end(told.frame - 1)
-            self.begun = told.frame
-            self.of_frame[told.frame] = self.add(told.frame, told.frame)
-        else:
-            self.end(told.frame)
+    def name(self, answer: Answer) -> None:
+        """Names the causes of all that is told."""
+        begin, end = (answer.firsts.get(number) for number in (BEGIN, END))
+        if begin and begin.frame is not None:
+            self.look_before(begin.frame)
+        for first, last in answer.marks.get(CONTENT, ()):
+            self.add(first, last)
+        if end and end.frame is not None:
+            self.look_after(end.frame)
+        for place in sorted(self.open):
+            self.named[place] = self.named_by(place)
+        self.open = {}
 
-    def end(self, frame: int) -> None:
-        """The 72 that stands has stood up to a frame."""
-        if self.begun is not None and frame > self.begun:
-            self.add(self.begun + 1, frame)
-        self.begun = None
-
-    def add(self, first: int, last: int) -> int:
-        """Takes frames at which another page is held than is due; answers whose the first is."""
-        spans = self.namer.split(first, last)
-        return [self.add_to(self.namer.owner(span.first), span) for span in spans][0]
+    def add(self, first: int, last: int) -> None:
+        """Takes frames at which another page is held than is due."""
+        for span in self.namer.split(first, last):
+            self.add_to(self.namer.owner(span.first), span)
 
     def add_to(self, place: int, span: Span) -> int:
         """Takes such frames as those of a subtitle."""
@@ -72,7 +61,7 @@ class Causes:
     def reached(self) -> Span:
         """The frames of which the recording is."""
         first, last = self.held.first, self.held.last
-        known = self.reach()
+        known = self.reach
         return Span(min(first, known.first), max(last, known.last)) if known else Span(first, last)
 
     def look_before(self, frame: int) -> None:
@@ -104,33 +93,18 @@ class Causes:
                 place = self.add_to(self.namer.owner(span.first), span)
                 self.of_edge.setdefault(number, place)
 
-    def settle(self, is_over: bool) -> list[Cause]:
-        """The causes that are known now, and were not before; at the end all are."""
-        if is_over:
-            self.end(self.held.last)
-        self.held.lost = list(self.unseen()) if self.open else []
-        found = []
-        for place in sorted(self.open):
-            cause = self.named_by(place)
-            if is_over or cause.known <= self.held.last:
-                del self.open[place]
-                self.named[place] = cause
-                found.append(cause)
-        return found
-
     def named_by(self, place: int) -> Cause:
-        """The cause of a subtitle, as it is known by now."""
+        """The cause of a subtitle."""
         cause = self.namer.cause(place, self.open[place])
         is_before = cause.name == EARLY and self.of_edge.get(BEGIN) == place
         return cause._replace(words=BEFORE) if is_before else cause
 
     def of(self, number: int, frame: int) -> Cause | None:
         """The cause of a fault of a number at a frame."""
-        if number != CONTENT:
-            edge = self.of_edge.get(number)
-            return None if edge is None else self.named.get(edge)
-        place = self.of_frame.get(frame)
-        return self.named.get(self.namer.owner(frame) if place is None else place)
+        if number == CONTENT:
+            return self.named.get(self.namer.owner(frame))
+        edge = self.of_edge.get(number)
+        return None if edge is None else self.named.get(edge)
 
     def unsent_from(self) -> int | None:
         """The TCI from which on no subtitle was sent, where these are a few."""

@@ -1,14 +1,10 @@
 """How PTS lie that are no whole frames from the origin (61): they jitter, or they drift."""
 from __future__ import annotations
 
-import itertools
 import statistics
 from typing import NamedTuple, Sequence
 
-from ..core.pes import has_pts, pts_in
-from ..core.pieces import Pieces
 from ..core.times import TICKS, ticks_between
-from .cells import readable
 
 MILLISECOND = 90  # ticks
 FEWEST = 10  # PTS of which a drift can be told
@@ -32,14 +28,9 @@ class Off(NamedTuple):
         return words if within is None else f"{words}; --within {within} accepts that"
 
 
-def pts_of_file(pieces: Pieces) -> list[int]:
-    """The first PTS of some PES packets, as far as they can be read."""
-    return [pts_in(data) for data in itertools.islice(readable(pieces), LOOKED_AT)
-            if has_pts(data)]
-
-
 def off_of(several: Sequence[int], origin: int) -> Off | None:
     """How some PTS lie beside their frames; `None` where all are whole frames."""
+    several = several[:LOOKED_AT]
     off = [ticks_between(0, pts - origin + TICKS // 2) % TICKS - TICKS // 2 for pts in several]
     most = max((abs(one) for one in off), default=0)
     return Off(most, drift_of(several, off)) if most else None

@@ -2,59 +2,45 @@
 from __future__ import annotations
 
 import dataclasses
+import functools
 import os
-from typing import NamedTuple, Sequence
+from typing import Callable, Sequence
 
-from ..core.pieces import Pieces
 from ..core.programme import Subtitle
 from ..core.times import FRAMES_OF_A_DAY, TICKS, frame_in, ticks_between, time_of
-from ..core.told import EMPTY, LOST_PACKETS
-from ..core.words import counted, pid_name, shown
-from ..reading.losses import TOLD, Place, what_of
-from ..reading.origin_words import runs_line
-from .carriers import Carrier, Kept
+from ..core.told import EMPTY, LOST_PACKETS, WITH_CAUSE
+from ..core.words import counted, pid_name
+from ..reading.finding import runs_line
+from ..reading.gaps import Place, what_of
+from ..reading.survey import HEADER
+from . import warned
 from .checking import Answer
 from .clock import GIVEN, RECORDING, TCP, Clock
-from .delays import frames_in
-from .feed import At, Feed, Finder
+from .delays import MOVED, frames_in
+from .due_pages import due_pages_of, subtitles_in
+from .ending import Ending
 from .fitting import Found, found_in, with_delay
 from .hints import words_of
-from .kinds import is_recording
-from .live import Live
 from .names import Names
-from .naming import Causes
-from .recording import Recording
-from .source import STANDARD_INPUT
+from .recording import STANDARD_INPUT, Recording, is_recording
 from .speech import Speech
-from .stall import Stall
-from .start import Starting, refuse_outside
+from .start import NoFirst, began, refuse_outside
 from .status import REFUSED, UNSAID
-from .steps import Steps, Stretch, origin_in, origin_words, packets_words
+from .steps import Steps, Stretch, origin_in
 from .subtitle_file import SubtitleFile
 from .sums import file_of
 from .typed import Typed
 from .unclear import Unclear
 from .verdict import Gap, Part, Verdict
-from .warned import (
-    Warned, of_character_sets, of_counts, of_jumps, of_pauses, of_repeat, of_tables, of_timing)
-from .whole import of_end, of_growth
-from .why import Asking, Following, Heard, Telling
-from .within import Trying, line_of
+from .why import causes_of, tell
+from .within import Trying
 
 NO_CLOCK = Clock(0, RECORDING)  # stands for one that is not found yet
 
 
-class Begun(NamedTuple):
-    """A part that is being judged: its number, what it is, its PES packets, what was told of it."""
-
-    number: int
-    one: Stretch
-    pieces: Pieces
-    answer: Answer
-
-
 class Pair:
-    """A pair that is judged step by step; what is known so far stands in the verdict."""
+    """A pair that is judged step by step; what is known so far stands in the verdict. `draw` draws
+    the report of a part, where that is asked for."""
 
     def __init__(self, verdict: Verdict, typed: Typed, names: Names, speech: Speech,
                  is_summed: bool) -> None:
@@ -62,14 +48,12 @@ class Pair:
         self.typed, self.names, self.speech = typed, names, speech
         self.is_summed = is_summed
         self.stalled_after = 10  # seconds
+        self.draw: Callable[[Part, Names, Sequence[Gap], int], None] = lambda *_: None
         self.recording: Recording | None = None
         self.steps = Steps(self.asked, typed, names, speech)
         # The first and the last frame of the subtitle file, and the clock where it was given.
         self.whole = Found(0, 0, NO_CLOCK)
-        self.count = 1  # of the parts
-        self.times: list[tuple[int, int]] = []  # at which each subtitle comes and goes
-        self.starting = Starting(self.asked, speech) if self.asked.start else None
-        self.begun: Begun | None = None
+        self.begun: Part | None = None  # that is being judged
 
     def judge(self) -> None:
         """Judges the pair; `Unclear` where a step is not clear."""
@@ -86,7 +70,7 @@ class Pair:
         answer = self.steps.check_alone()
         if answer.verdict != REFUSED:
             raise Unclear(f"{UNSAID}: {answer.last}, where there is no PES packet")
-        self.verdict.warnings += of_counts(SubtitleFile(self.names.given))
+        self.verdict.warnings += warned.of_counts(SubtitleFile(self.names.given))
         is_refused = answer.numbers != {EMPTY}
         if is_refused or asked.recording is None:
             self.judge_alone(answer, is_refused)
@@ -96,28 +80,15 @@ class Pair:
             part.was_read = part.was_read or asked.recording is None
 
     def stop(self, now: str) -> str:
-        """Takes what was told before a signal came; at which time that was, of a feed or of `now`,
-        and up to where a file was judged."""
-        live = self.recording.live if self.recording else None
-        if live and live.cut.frame is not None and not self.verdict.parts:
-            return self.stop_live(live, live.cut.frame)
-        if self.begun is None or len(self.verdict.parts) >= self.begun.number:
+        """Takes what was told before a signal came; at which time that was, and up to where the
+        recording was judged."""
+        part = self.begun
+        if part is None or any(one is part for one in self.verdict.parts):
             return now
-        answer = self.begun.answer
-        answer.stop()
-        self.verdict.parts.append(self.part_of(self.begun))
-        time = answer.told_up_to()
+        part.answer.stop()
+        self.verdict.parts.append(part)
+        time = part.answer.told_up_to()
         return f"{now}, when check had reported {f'all up to {time}' if time else 'nothing yet'}"
-
-    def stop_live(self, live: Live, frame: int) -> str:
-        """The same of a feed."""
-        answer = live.stop_early()
-        clock = self.starting.began.clock if self.starting and self.starting.began else \
-            self.given() or Clock(live.origin, RECORDING)
-        self.verdict.parts.append(Part(
-            1, self.asked.stl, self.names.given, Pieces(self.names.cut_path), live.origin,
-            self.whole.begin, frame, None, answer, clock))
-        return time_of(min(frame, FRAMES_OF_A_DAY))
 
     def judge_alone(self, answer: Answer, is_refused: bool) -> None:
         """Ends with the subtitle file, which is refused or is all that there is."""
@@ -128,57 +99,45 @@ class Pair:
                 self.speech.of_list(line)
             self.speech.end_list(answer.last)
         else:
-            count = self.verdict.count = len(self.steps.subtitles(self.names.given))
+            count = len(subtitles_in(self.typed.program_path, self.names.given))
+            self.verdict.count = count
             answer.accept(f"{counted(count, 'subtitle')}, nothing is wrong with "
                           f"{'it' if count == 1 else 'them'}")
-        stl, given = self.asked.stl, self.names.given
-        part = Part(1, stl, given, None, None, None, None, None, answer)
-        part.was_read = self.asked.recording is None
+        part = Part(1, self.asked.stl, self.names.given, None, None, None, None, None, answer,
+                    was_read=self.asked.recording is None, asked=self.asked)
         self.verdict.parts.append(part)
         if answer.first:
             part.hint = words_of(answer.first, part, self.verdict)
         if is_refused:
-            unread = [f"{shown(self.asked.recording)} was not read"] if self.asked.recording else []
-            warned = map(Warned.said, self.verdict.warnings)
-            self.steps.draw(self.names, [given], [stl], Clock(0, GIVEN), [], [*unread, *warned],
-                            self.verdict.report_words())
+            self.draw(part, self.names, [], 1)
 
     def judge_transmission(self) -> None:
         """Judges what was recorded, part by part."""
-        asked, steps = self.asked, self.steps
-        subtitles = steps.subtitles(self.names.given)
-        self.times = [(one.begin, one.end) for one in subtitles]
+        asked = self.asked
+        subtitles = subtitles_in(self.typed.program_path, self.names.given)
         self.verdict.count = len(subtitles)
         if not subtitles:
             raise Unclear(f"{asked.stl} has no subtitle")
         given = self.given()
         self.whole = Found(subtitles[0].begin, subtitles[-1].end, given or NO_CLOCK)
-        stall = Stall(self.stalled_after, self.speech.tell)
-        recording = Recording(asked, self.typed, self.names, self.speech, stall)
+        recording = Recording(asked, self.typed, self.names, self.speech, self.stalled_after)
         self.recording = recording
-        finder = Finder(lambda path: origin_in(path, asked.stl, steps.fit_words(None)))
-        recording.read(self.is_summed, Feed(asked.origin, finder, self.start, self.starting,
-                                            asked.breaks, asked.every))
+        ending = Ending(asked, self.whole.begin, self.whole.end, lambda packets: origin_in(
+            packets, self.steps.sought(recording, None)))
+        recording.read(self.is_summed, ending)
         self.verdict.recording = recording.file
         given = given or self.by_start(recording)
-        if recording.live:
-            answer = recording.live.end()
-            clock = self.clock_of_live(recording, recording.live.origin, given)
-            self.warn(recording, clock.origin)
-            self.end_part(Begun(1, self.all_of(Found(0, 0, clock)), Pieces(self.names.cut_path),
-                                answer), recording)
-        else:
-            found = self.found(recording, given)
-            self.warn(recording, found[0].origin)
-            stretches = self.stretches(found, subtitles)
-            self.count = len(stretches)
-            for number, one in enumerate(stretches, 1):
-                pieces = steps.cut(recording, one)
-                self.begun = Begun(number, one, pieces, Answer(one.names.list_path))
-                steps.check(recording, one, pieces, self.begun.answer)
-                self.end_part(self.begun, recording)
-        if not any(warned.kind == "grew" for warned in self.verdict.warnings):
-            self.verdict.warnings += of_growth(recording)
+        found = self.found(recording, given)
+        self.warn(recording, found[0].origin)
+        stretches = self.stretches(found, subtitles)
+        for number, one in enumerate(stretches, 1):
+            part = self.begun = self.part_of(number, one, recording)
+            assert part.pes
+            self.steps.check(recording, one, part.pes, part.answer)
+            self.verdict.parts.append(part)
+            self.end_part(part, one, recording, len(stretches), subtitles)
+        if not any(one.kind == "grew" for one in self.verdict.warnings):
+            self.verdict.warnings += [one for one in recording.strange() if one.kind == "grew"]
         self.note_gaps(recording.places())
 
     def given(self) -> Clock | None:
@@ -190,12 +149,13 @@ class Pair:
     def found(self, recording: Recording, given: Clock | None) -> list[Found]:
         """The parts with their clocks; the first one has the one that was given."""
         origin = self.steps.fit(recording, given)
-        is_other = origin.runs > 1 and self.asked.run is None and not recording.is_feed
-        if origin.runs > 1 and self.asked.run is None and recording.is_feed:
-            self.verdict.notes.append(first_run_words(origin.runs))
-            origin = self.steps.fit(recording, given, "--run", "1")
+        if origin.runs and recording.is_feed:
+            self.verdict.notes.append(f"{runs_line(len(origin.runs))}: of a feed the first run is "
+                                      "judged")
+            self.steps.inside = origin.runs[0]
+            origin = self.steps.fit(recording, given)
         self.verdict.notes += origin.shifts
-        if given is None or self.asked.breaks or is_other:
+        if given is None or self.asked.breaks or origin.runs:
             found = self.steps.fitted(origin, self.whole, recording)
         else:
             found = found_in(origin, self.whole) or [self.whole]
@@ -205,62 +165,45 @@ class Pair:
             found[0] = found[0]._replace(clock=clock)
         return found
 
-    def clock_of_live(self, recording: Recording, origin: int, given: Clock | None) -> Clock:
-        """The clock of a feed that was judged while it came, with what is seen of it at its end."""
-        seen = self.steps.ask_origin(recording, given)
-        if seen.runs > 1 and self.asked.run is None:
-            self.verdict.notes.append(first_run_words(seen.runs))
-            seen = self.steps.ask_origin(recording, given, "--run", "1")
-        clock, notes = with_delay(given, seen) if given else (Clock(origin, RECORDING), [])
-        self.verdict.notes += [*notes, *(seen.shifts or self.unsent(recording))]
-        return clock
-
-    @staticmethod
-    def unsent(recording: Recording) -> list[str]:
-        """That the last subtitles of a feed did not come: it is not read long enough to tell a
-        break."""
-        causes = recording.live.following.causes if recording.live else None
-        frame = causes.unsent_from() if causes else None
-        return [] if frame is None else [
-            f"from {time_of(frame)} on no subtitle was sent while the feed was read; if the "
-            "programme has a break there, say --breaks 1"]
-
     def by_start(self, recording: Recording) -> Clock | None:
         """The clock that the first picture tells, where it is asked."""
-        if self.starting is None:
+        if self.asked.start is None:
             return None
-        began = self.starting.began or recording.began(self.starting)
-        if began.clock.source == TCP:
-            refuse_outside(self.asked, began, self.whole.begin, self.whole.end, recording.last())
-        return began.clock
+        try:
+            if not recording.is_stream:
+                raise NoFirst("PES packets of Teletext have no pictures")
+            one = began(self.asked, recording.survey, recording.packets)
+        except NoFirst as reason:
+            raise recording.without_first(reason) from None
+        for line in one.lines:
+            self.speech.say(line)
+        if one.clock.source == TCP:
+            refuse_outside(self.asked, one, self.whole.begin, self.whole.end, recording.last())
+        return one.clock
 
     def warn(self, recording: Recording, origin: int) -> None:
         """Takes what is strange of a recording."""
-        self.verdict.warnings += [*of_growth(recording), *of_end(recording)]
-        carrier, carriers = recording.carrier, recording.carriers
-        if carrier and carriers:
-            if carrier.timing.first is None:
+        found, packets, survey = self.verdict.warnings, recording.packets, recording.survey
+        found += recording.strange()
+        if recording.is_stream:
+            if survey.clock_of(packets.pid) is None:
                 self.verdict.notes.append(
-                    f"there is no PCR of the programme of {pid_name(carrier.pid)}: a hole that its "
+                    f"there is no PCR of the programme of {pid_name(packets.pid)}: a hole that its "
                     "counter does not show, as one of 16 TS packets, can't be seen")
-            self.verdict.warnings += [*of_timing(carrier.timing, origin),
-                                      *of_jumps(carrier.holes, origin, self.whole.begin,
-                                                self.whole.end),
-                                      *of_tables(carriers.listing, carrier.pid, self.asked)]
-        self.verdict.warnings += of_character_sets(recording.path, self.asked)
-
-    def all_of(self, found: Found) -> Stretch:
-        """All subtitles, with one clock."""
-        whole = self.whole._replace(clock=found.clock, packets=found.packets)
-        return Stretch(self.asked.stl, self.names.given, self.names, whole)
+            found += [*warned.of_timing(packets, origin),
+                      *warned.of_jumps(packets, origin, self.whole.begin, self.whole.end),
+                      *warned.of_tables(survey, packets.pid, self.asked)]
+        found += warned.of_character_sets(packets, self.asked)
 
     def stretches(self, found: list[Found], subtitles: list[Subtitle]) -> list[Stretch]:
         """What is judged, one after another; each of the subtitles has to be in one, once and as it
         is in the file."""
         if len(found) == 1:
-            return [self.all_of(found[0])]
+            whole = self.whole._replace(clock=found[0].clock, packets=found[0].packets)
+            return [Stretch(self.asked.stl, self.names.given, self.names, whole)]
         stretches = [self.steps.part(number, one) for number, one in enumerate(found, 1)]
-        parted = [one for part in stretches for one in self.steps.subtitles(part.stl_path)]
+        parted = [one for part in stretches
+                  for one in subtitles_in(self.typed.program_path, part.stl_path)]
         left = len(subtitles) - len(parted)
         if left > 0:
             raise Unclear(f"{counted(left, 'subtitle')} of {self.asked.stl} would be in no part, "
@@ -269,93 +212,50 @@ class Pair:
             raise Unclear(f"the parts of {self.asked.stl} would hold other subtitles than it has")
         return stretches
 
-    def end_part(self, begun: Begun, recording: Recording) -> None:
+    def part_of(self, number: int, one: Stretch, recording: Recording) -> Part:
+        """A part that begins to be judged: the PES packets of its time."""
+        found, pes = one.found, self.steps.cut(recording, one)
+        judged = file_of(*recording.judged()) if self.is_summed and not recording.is_file else None
+        due = functools.cache(lambda: due_pages_of(self.typed.program_path, one.stl_path,
+                                                   self.asked.page, self.asked.option))
+        return Part(number, one.stl, one.stl_path, pes, found.origin, found.begin, found.end,
+                    judged, Answer(one.names.list_path), found.clock, recording.stream(),
+                    packets=recording.packets, asked=self.asked, due=due)
+
+    def end_part(self, part: Part, one: Stretch, recording: Recording, count: int,
+                 subtitles: Sequence[Subtitle]) -> None:
         """Takes what `check` said of a part, and draws its report, with what is missing there."""
-        number, one, pieces, answer = begun
-        found, origin = one.found, one.found.origin
-        part = self.part_of(begun)
-        self.verdict.parts.append(part)
-        part.causes = self.causes(one, answer, recording)
-        self.measure(part, one, recording)
+        asked, answer, origin = self.asked, part.answer, one.found.origin
+        if answer.numbers & WITH_CAUSE:
+            part.causes = causes_of(asked, part.due(), recording, one.found, answer)
+        if part.causes:
+            tell(self.speech, part.causes, asked.option)
+        self.measure(part, one, recording, count)
         part.was_read = part.is_read()
         if answer.first:
             part.hint = words_of(answer.first, part, self.verdict)
-        within = [] if part.accepted_within is None else [line_of(part.accepted_within)]
-        for warned in (*of_pauses(pieces, self.asked, origin),
-                       *of_repeat(pieces, self.asked, origin, self.times)):
-            if warned not in self.verdict.warnings:
-                self.verdict.warnings.append(warned)
-        gaps = [gap_of(place, origin, True) for place in recording.places() if is_in(place, part)]
-        lost = [gap.line() for gap in gaps]
-        if len(lost) > TOLD:
-            lost = [*lost[:TOLD], f"and at {counted(len(lost) - TOLD, 'more place')}"]
-        typed = one.names.cut if recording.live else recording.shown
-        path = self.names.as_program(pieces.path)
-        self.steps.draw(one.names, [one.stl_path, path], [one.stl, typed], found.clock,
-                        lost, [*self.verdict.notes, *map(Warned.said, self.verdict.warnings),
-                               *within],
-                        self.verdict.of_part(part, gaps).report_words(), self.verdict.recording,
-                        [*pieces.words(),
-                         *(["--part", str(number), str(self.count)] if self.count > 1 else [])],
-                        around_words(recording, found) if part.causes else ((), ()))
+        times = [(subtitle.begin, subtitle.end) for subtitle in subtitles]
+        for strange in (*warned.of_pauses(part.pts(), asked, origin),
+                        *warned.of_repeat(part.pts(HEADER), asked, origin, times)):
+            if strange not in self.verdict.warnings:
+                self.verdict.warnings.append(strange)
+        self.draw(part, one.names, [gap_of(place, origin, True) for place in recording.places()
+                                    if is_in(place, part)], count)
 
-    def measure(self, part: Part, one: Stretch, recording: Recording) -> None:
+    def measure(self, part: Part, one: Stretch, recording: Recording, count: int) -> None:
         """Takes after how many frames the subtitles of a part were whole, and of one that is
         refused within how many it would be accepted."""
         answer, asked = part.answer, self.asked
-        assert part.pieces
-        if self.is_summed or asked.within:
-            part.delays = frames_in(
-                asked, self.typed.program_path, one.stl_path, part.pieces,
-                one.found.origin, len(SubtitleFile(one.stl_path).begins), answer, part.causes)
+        held = part.causes.held if part.causes else part.held
+        if (self.is_summed or asked.within) and held:
+            part.delays = frames_in(not asked.within and not answer.numbers & MOVED,
+                                    len(SubtitleFile(one.stl_path).begins), held, part.due,
+                                    asked.is_complete)
         is_lost = LOST_PACKETS in answer.numbers or \
             any(is_in(place, part) for place in recording.places())
         if part.is_refused and not (recording.is_feed or is_lost):
-            part.accepted_within = Trying(self.steps, recording, one, part.number,
-                                          self.count).least(answer.numbers, part.causes)
-
-    def causes(self, one: Stretch, answer: Answer, recording: Recording) -> Causes | None:
-        """Why what a part holds is refused; it is said, as far as it was not said before."""
-        if recording.live:
-            return recording.live.following.causes
-        heard = Heard(recording.path, recording.carrier)
-        causes = Asking(self.asked, self.typed).of(one.stl_path, heard, one.found, answer)
-        if causes:
-            telling = Telling(self.speech, self.asked.option)
-            telling.tell(causes, causes.all())
-            telling.end()
-        return causes
-
-    def part_of(self, begun: Begun) -> Part:
-        """A part of which something was told."""
-        number, one, pieces, answer = begun
-        found, recording = one.found, self.recording
-        judged = file_of(pieces.path, one.names.cut) \
-            if self.is_summed and recording and not recording.is_file else None
-        return Part(number, one.stl, one.stl_path, pieces, found.origin, found.begin, found.end,
-                    judged, answer, found.clock, recording.stream() if recording else None)
-
-    # A feed.
-
-    def start(self, kept: Kept, at: At) -> Live:
-        """Begins to judge a feed."""
-        asked, origin = self.asked, at.origin
-        words = [*asked.check_words(), *origin_words(origin), "--all"]
-        taken = [self.typed.tool("ts2pes"), str(asked.recording), f"0x{kept.pid:X}", "|"] \
-            if isinstance(kept, Carrier) else []
-        self.speech.command(*taken, self.typed.tool("cut"), "-" if taken else str(asked.recording),
-                            "--stl", asked.stl, *asked.page_words(), *asked.every_words(),
-                            *asked.within_words(), *origin_words(origin),
-                            *packets_words(at.packets), "-o", "-", "|",
-                            self.typed.program_word, "check", asked.stl, "/dev/stdin", *words)
-        found = self.whole._replace(clock=Clock(origin, RECORDING), packets=at.packets)
-        heard = Heard(kept.path, kept if isinstance(kept, Carrier) else None)
-        following = Following(
-            lambda: Asking(asked, self.typed).begin(self.names.given, heard, found), kept,
-            Telling(self.speech, asked.option))
-        return Live([self.typed.program_path, "check", *words, "--", self.names.given,
-                     "/dev/stdin"],
-                    found, asked, self.names, self.speech, following)
+            part.accepted_within = Trying(self.steps, recording, one, part.number, count).least(
+                answer.numbers, part.causes)
 
     # What is missing.
 
@@ -373,19 +273,6 @@ def are_same(some: Sequence[Subtitle], others: Sequence[Subtitle]) -> bool:
     return placed[0] == placed[1]
 
 
-def first_run_words(runs: int) -> str:
-    """What is judged of a feed in which the programme is more than once."""
-    return f"{runs_line(runs)}: of a feed the first run is judged"
-
-
-def around_words(recording: Recording, found: Found) -> tuple[list[str], list[str]]:
-    """Where the report looks for causes: words as they are given, and as they are typed."""
-    heard = Heard(recording.path, recording.carrier)
-    packets = packets_words(found.packets, "--around-pes")
-    return ([*heard.words(found, recording.path), *packets],
-            [*heard.words(found, recording.shown), *packets])
-
-
 def gap_of(place: Place, origin: int, is_judged: bool) -> Gap:
     """A place at which TS packets are missing, with its times."""
     times = time_at(place.before, origin), time_at(place.after, origin)
@@ -393,12 +280,12 @@ def gap_of(place: Place, origin: int, is_judged: bool) -> Gap:
 
 
 def is_in(place: Place, part: Part) -> bool:
-    """Whether a mark is one of those that are judged with a part; or where none stands, or these
-    have no such numbers, whether frames of the part may lack what is missing there."""
+    """Whether a mark is one of those that are judged with a part; or where none stands, whether
+    frames of the part may lack what is missing there."""
     if part.begin is None or part.end is None or part.origin is None:
         return False
-    if place.mark is not None and part.pieces and part.pieces.last is not None:
-        return part.pieces.first <= place.mark <= part.pieces.last
+    if place.mark is not None and part.pes is not None:
+        return part.pes[0] <= place.mark <= part.pes[1]
     first, last = (part.origin + TICKS * frame for frame in (part.begin, part.end))
     is_before = place.after is not None and ticks_between(first, place.after) <= 0
     is_after = place.before is not None and ticks_between(last, place.before) >= 0

@@ -1,97 +1,156 @@
-"""A recording as a file of PES packets: itself, or what was taken out of a transport stream."""
+"""A recording: what `subttx survey` tells of it, and how the program reads it once more."""
 from __future__ import annotations
 
-import contextlib
+import functools
 import os
-from typing import Iterator
+import shutil
+import stat
+import subprocess
 
-from ..core.files import Damaged, Input
-from ..core.pes import pes_packets
-from ..core.pieces import gaps_in
-from ..core.words import counted, pid_name, stream_words
-from ..reading.listing import Listing
-from ..reading.losses import TOLD, Place, line_of, of_gaps
-from ..reading.pictures import NoFirst
-from ..reading.refused import why_refused
-from ..reading.transport import Reader
+from ..core.pes import START
+from ..core.times import ticks_between
+from ..core.words import PACKET_SIZES, Stop, counted, shown, stream_words
+from ..reading.gaps import TOLD, Place, line_of, places_of, why_refused
+from ..reading.survey import PES, Packets, Survey, survey, words_of
+from ..reading.timing import reach_of
 from .asked import Asked
-from .carriers import Carrier, Carriers, Kept, NoTeletext
+from .ending import Ending
 from .feed import Feed
-from .kinds import is_pes_packets
-from .live import Live
 from .names import Names, again
-from .source import STANDARD_INPUT, Source
 from .speech import Speech
-from .stall import Stall
-from .start import Began, Starting
-from .sums import File
+from .start import NoFirst
+from .sums import File, Files
 from .typed import Typed
 from .unclear import Unclear
-from .whole import size_of
+from .warned import Warned
 
-MEGA = 1 << 20
+STANDARD_INPUT = "-"
+
+
+def is_recording(path: str) -> bool:
+    """Whether a file that should be a subtitle file begins as a recording does."""
+    with open(path, "rb") as file:
+        head = file.read(209)
+    return head.startswith(START) or any(
+        head[at:at + size + 1:size] == b"GG" for at in (0, 4) for size in PACKET_SIZES)
+
+
+def size_of(name: str) -> int | None:
+    """The bytes of a file; `None` for one that can be read only once."""
+    about = os.fstat(0) if name == STANDARD_INPUT else os.stat(name)
+    return about.st_size if stat.S_ISREG(about.st_mode) else None
 
 
 class Recording:
-    """A recording that is read: the file of its PES packets is `path`, typed as `shown`.
-
-    `carrier` is what was taken out of a transport stream; `live` the call of `check` that judged a
-    feed while it came, where there was one. What is judged of a file is a range of the PES packets
-    of that file itself, `name`, which the program reads by the `words`.
-    """
+    """A recording that is read: `packets` are those of the PID with the page. What is judged of a
+    file is a range of the recording itself; the PES packets of what comes through a pipe are kept
+    in a file."""
 
     def __init__(self, asked: Asked, typed: Typed, names: Names, speech: Speech,
-                 stall: Stall) -> None:
-        self.asked, self.typed, self.names, self.speech = asked, typed, names, speech
-        self.stall = stall
+                 stalled_after: int) -> None:
         assert asked.recording is not None
-        self.name = asked.recording
-        self.path, self.shown = names.whole_path, names.whole
-        self.carrier: Carrier | None = None
-        self.carriers: Carriers | None = None
-        self.live: Live | None = None
-        self.file: File | None = None
-        self.known: list[Place] | None = None  # where something is missing
+        self.asked, self.typed, self.names, self.speech = asked, typed, names, speech
+        self.name, self.stalled_after = asked.recording, stalled_after
         self.size = size_of(self.name)
-        self.is_feed = False
+        self.is_feed = self.size is None
+        self.survey, self.packets = Survey(), Packets(PES)
+        self.file: File | None = None
 
-    def read(self, is_summed: bool, feed: Feed) -> None:
+    def read(self, is_summed: bool, ending: Ending) -> None:
         """Reads it: a file to its end, a feed up to the last subtitle at least."""
-        source = Source(self.name, is_summed)
-        self.is_feed = source.is_feed
-        source.wait = lambda seconds: self.wait(source, feed, seconds)
-        source.gone_on = self.stall.go_on
         try:
-            if not is_pes_packets(source):
-                self.take_out(source, feed)
-            elif source.is_feed:
-                self.keep(source, feed)
+            if self.is_file:
+                self.read_file(is_summed)
             else:
-                self.take(source)
-            self.live, self.file = feed.live, source.summed()
-        except KeyboardInterrupt:
-            self.live = feed.live
-            raise
-        except BaseException as reason:
-            feed.drop()
-            if isinstance(reason, Damaged):
-                raise Unclear(f"{self.name}: {reason}") from None
-            raise
-        finally:
-            source.close()
+                self.read_feed(is_summed, ending)
+        except NoFirst as reason:
+            raise self.without_first(reason) from None
+        for place in self.say_read()[:TOLD]:
+            self.speech.say(place)
 
-    def places(self) -> list[Place]:
-        """Where something is missing."""
-        if self.carrier:
-            return self.carrier.places()
-        if self.known is None:
-            self.known = of_gaps(gaps_in(self.path), [])
-        return self.known
+    def read_file(self, is_summed: bool) -> None:
+        """Takes all that is told of a file."""
+        files = Files([self.name]) if is_summed else None
+        words = words_of(self.typed.program_path, self.names.as_program(self.name),
+                         self.asked.page, self.asked.pid)
+        with subprocess.Popen(words, stdout=subprocess.PIPE, encoding="ascii",
+                              errors="replace") as process:
+            assert process.stdout
+            for line in process.stdout:
+                self.survey.take(line.rstrip("\n"))
+                if self.speech.progress.is_due():
+                    self.speech.show(self.name)
+        self.survey.refuse(process.returncode)
+        self.refuse()
+        self.packets = self.chosen()
+        self.file = files.all()[0] if files else None
 
-    def words(self) -> list[str]:
-        """The options by which the program reads the recording."""
-        stream = self.stream()
-        return stream_words(*stream) if stream and self.is_file else []
+    def read_feed(self, is_summed: bool, ending: Ending) -> None:
+        """Takes what comes through a pipe, as long as more is needed, and keeps the PES packets."""
+        feed = Feed(self.name, self.asked, self.typed.program_path, self.names.folder, is_summed)
+        feed.survey = self.survey
+        with feed:
+            feed.follow(ending if self.is_feed else None, self.speech, self.stalled_after)
+            self.refuse()
+            self.packets = self.chosen()
+            self.packets = feed.keep(self.packets, self.names.whole_path)
+        self.file = feed.summed()
+
+    def refuse(self) -> None:
+        """What is no recording of Teletext is told so."""
+        head, name = self.survey.head, self.name
+        if not head:
+            raise Stop(f"{name} is empty")
+        if head[3:6] == b"STL":
+            raise Stop(f"{name} is a subtitle file: the recording stands after the subtitle file")
+        if self.survey.size is None and head.startswith(START[:3]) and head[3:4] != START[3:]:
+            raise Stop(f"{name} has PES packets of another kind than Teletext's: stream_id "
+                       f"{head[3]:02X} instead of BD")
+        if self.survey.size is None:
+            raise Unclear(f"{name}: no transport stream: packets of 188 bytes that begin with 47")
+
+    def chosen(self) -> Packets:
+        """The only PID that carries the page, or the one that was asked for."""
+        page, by_pid = self.asked.page_name, self.survey.by_pid
+        if self.survey.size == PES:
+            return by_pid.setdefault(PES, Packets(PES))
+        if self.asked.pid is not None:
+            one = by_pid.setdefault(self.asked.pid, Packets(self.asked.pid))
+            if one.count:
+                return one
+            raise Unclear(self.said(f"{self.name}: {why_refused(one)}"), *self.other_pids())
+        found = [by_pid[pid] for pid in sorted(by_pid) if by_pid[pid].has_page]
+        if len(found) == 1:
+            return found[0]
+        if not found:
+            raise Unclear(self.said(f"{self.name} has no header of page {page}"),
+                          *([self.again("--page", "P")] if by_pid else []))
+        raise Unclear(self.said(f"page {page} is sent on {len(found)} PIDs of {self.name}"),
+                      *(self.again("--pid", f"0x{one.pid:X}") for one in found))
+
+    def say_read(self) -> list[str]:
+        """What was read, and where something is missing."""
+        packets, first = self.packets, next(self.packets.pts(), None)
+        if packets.damage:
+            self.speech.say(f"{self.name}: {packets.damage}; it was read up to there")
+        if not self.is_stream:
+            return []
+        why = why_refused(packets)
+        if why:
+            self.speech.say(why)
+        places = [line_of(place, first) for place in self.places() if place.mark is not None]
+        if len(places) > TOLD:
+            places[TOLD - 1:] = [f"and at {counted(len(places) - TOLD + 1, 'more place')}"]
+        if self.survey.skipped:
+            self.speech.say(f"{counted(self.survey.skipped, 'byte')} of no TS packet skipped")
+        return places
+
+    # What it is.
+
+    @property
+    def is_stream(self) -> bool:
+        """Whether it is a transport stream."""
+        return bool(self.survey.size)
 
     @property
     def is_file(self) -> bool:
@@ -100,181 +159,78 @@ class Recording:
 
     def stream(self) -> tuple[int, int] | None:
         """The PID, and the bytes from a TS packet to the next one, of a transport stream."""
-        if self.carrier is None or self.carriers is None:
-            return None
-        return self.carrier.pid, self.carriers.packet_size
+        return (self.packets.pid, self.survey.size or 0) if self.is_stream else None
+
+    def words(self) -> list[str]:
+        """The options by which the program reads what is judged."""
+        stream = self.stream() if self.is_file else None
+        return stream_words(*stream) if stream else []
 
     def judged(self) -> tuple[str, str]:
-        """The file that is judged, as it is given to the program and as it is typed: the recording
-        itself; what was kept of one that comes through a pipe."""
+        """The file that is judged, as it is given to the program and as it is typed."""
         if self.is_file:
             return self.names.as_program(self.name), self.name
-        return self.path, self.shown
+        return self.names.whole_path, self.names.whole
 
-    def take(self, source: Source) -> None:
-        """Takes a file of PES packets as it is."""
-        if self.name == STANDARD_INPUT:
-            self.say_kept()
-            with open(self.path, "wb") as file:
-                while data := source.read(MEGA):
-                    file.write(data)
-            return
-        self.path = self.shown = self.name
-        while source.summing and source.read(MEGA):
-            pass
+    def keep(self, path: str) -> None:
+        """Keeps the PES packets in a file, as `extract` gives them."""
+        if not self.is_file:
+            shutil.copyfile(self.names.whole_path, path)
+        elif stream := self.stream():
+            subprocess.run([self.typed.program_path, "extract", *stream_words(*stream), "--",
+                            self.names.as_program(self.name), path], stdin=subprocess.DEVNULL,
+                           stdout=subprocess.DEVNULL, check=True)
 
-    def say_kept(self) -> None:
-        """Says how PES packets that come through a pipe are kept."""
-        words = [] if self.name == STANDARD_INPUT else [self.name]
-        self.speech.command("cat", *words, ">", self.names.whole)
+    def places(self) -> list[Place]:
+        """Where something is missing."""
+        return places_of(self.packets)
 
-    def keep(self, source: Source, feed: Feed) -> None:
-        """Keeps PES packets that come through a pipe."""
-        kept = Kept(self.path, self.asked.page, True)
-
-        def packets() -> Iterator[tuple[Kept, bytes]]:
-            try:
-                for data in pes_packets(source):
-                    yield kept, kept.keep(data)
-            except Damaged as reason:
-                self.speech.say(f"{self.name}: {reason}; it was read up to there")
-
-        feed.follow(packets(), lambda: self.show(source, feed))
-        kept.close()
-        if not feed.live:
-            self.say_kept()
-
-    def take_out(self, source: Source, feed: Feed) -> None:
-        """Takes the PES packets of the PID that carries the page out of a transport stream."""
-        has_start = self.asked.start is not None
-        carriers = Carriers(source, self.asked.page, self.asked.pid, self.names.folder,
-                            self.typed.program_path, has_start)
-        self.carriers = carriers
-        if feed.starting:
-            feed.starting.videos = carriers.videos
-        try:
-            if source.is_feed:
-                source.calls = carriers.calls
-                source.hear = lambda: any(feed.hear(*one) for one in carriers.come())
-                feed.follow(carriers.packets(), lambda: self.show(source, feed), carriers.rest())
-            else:
-                for _ in carriers.packets():
-                    self.show(source, feed)
-                for carrier in carriers.by_pid.values():
-                    carrier.read()
-        except NoTeletext as reason:
-            raise Unclear(self.said(f"{self.name}: {reason}", carriers),
-                          *self.other_pids(carriers)) from None
-        except NoFirst as reason:
-            raise self.without_first(reason) from None
-        finally:
-            carriers.close()
-        self.carrier = carrier = self.chosen(carriers)
-        if not feed.live:
-            self.say_taken(carrier, carriers)
-        if carriers.skipped:
-            self.speech.say(f"{counted(carriers.skipped, 'byte')} of no TS packet skipped")
-        carrier.move(self.path)
-        for other in carriers.by_pid.values():
-            if other is not carrier:
-                os.unlink(other.path)
-
-    def say_taken(self, carrier: Carrier, carriers: Carriers) -> None:
-        """Says the call of `extract`, what it said, and where something is missing."""
-        words = stream_words(carrier.pid, carriers.packet_size)
-        name = "/dev/stdin" if self.name == STANDARD_INPUT else self.name
-        self.speech.command(self.typed.program_word, "extract", name, self.names.whole, *words)
-        made, first = carrier.made, carrier.losses.first
-        if made and made.refusal:
-            self.speech.say(made.refusal.line)
-            self.speech.say(why_refused(made, carrier.losses) or "")
-        elif made:
-            self.speech.say(f"written {made.count} pes {made.gaps} gaps")
-        places = [place for place in carrier.places() if place.mark is not None]
-        for place in places[:TOLD]:
-            self.speech.say(line_of(place, first))
-        if len(places) > TOLD:
-            self.speech.say(f"and at {counted(len(places) - TOLD, 'more place')}")
-
-    def wait(self, source: Source, feed: Feed, still: float) -> bool:
-        """Hears that nothing has come for some seconds; whether nothing more is needed."""
-        self.stall.wait(still)
-        self.show(source, feed, still)
-        return feed.is_settled()
-
-    def show(self, source: Source, feed: Feed, still: float = 0.0) -> None:
-        """How much of the recording is read, and how long nothing has come."""
-        if feed.live:
-            feed.live.show(still)
-        elif self.speech.progress.is_due():
-            name = "standard input" if self.name == STANDARD_INPUT else self.name
-            read = f"{name}: {source.count / 1e6:,.1f} MB"
-            read += "" if source.size is None else f" of {source.size / 1e6:,.1f}"
-            self.speech.show(read + (f"  nothing for {still:.0f} s" if still else ""))
-
-    def chosen(self, carriers: Carriers) -> Carrier:
-        """The only PID that carries the page, or the one that was asked for."""
-        page = self.asked.page_name
-        if carriers.pid is not None:
-            carrier = carriers.by_pid[carriers.pid]  # a reader without packets has told it
-            if carrier.count:
-                return carrier
-            why = carrier.made and why_refused(carrier.made, carrier.losses) or \
-                f"there are no PES packets of {pid_name(carrier.pid)}"
-            raise Unclear(self.said(f"{self.name}: {why}", carriers), *self.other_pids(carriers))
-        found = carriers.with_page()
-        if len(found) == 1:
-            return found[0]
-        if not found:
-            raise Unclear(self.said(f"{self.name} has no header of page {page}", carriers),
-                          *([self.again("--page", "P")] if carriers.by_pid else []))
-        raise Unclear(self.said(f"page {page} is sent on {len(found)} PIDs of {self.name}",
-                                carriers),
-                      *(self.again("--pid", f"0x{carrier.pid:X}") for carrier in found))
-
-    def other_pids(self, carriers: Carriers) -> list[str]:
-        """What to type in the place of a PID that is wrong: those that send the page, as far as
-        they were heard."""
-        streams = carriers.listing.streams
-        known = [f"0x{pid:X}" for pid in sorted(streams)
-                 if self.asked.page_name in streams[pid].pages()]
-        return [self.again("--pid", word) for word in known or ["PID"] * bool(streams)]
-
-    def began(self, starting: Starting) -> Began:
-        """The clock by the first picture, of a recording that is read."""
-        if self.carriers is None or self.carriers.videos is None or self.carrier is None:
-            raise self.without_first(NoFirst("PES packets of Teletext have no pictures"))
-        try:
-            first = self.carriers.videos.first_of(self.carrier.pid)
-        except NoFirst as reason:
-            raise self.without_first(reason) from None
-        return starting.begin(first, self.carrier.grid)
-
-    def without_first(self, reason: NoFirst) -> Unclear:
-        """Why the first picture is not clear, and what there is."""
-        return Unclear(f"{self.name}: there is no first picture for --start: {reason}",
-                       self.again("--origin", "T"))
+    def reach(self) -> tuple[int, int] | None:
+        """From which PTS to which all is there that was sent, by the PCR."""
+        return reach_of(self.survey, self.packets)
 
     def last(self) -> int | None:
         """The last PTS, or the last PCR where that is later."""
-        if self.carrier is None:
-            return None
-        return self.carrier.last()
+        clock, pts = self.survey.clock_of(self.packets.pid), self.packets.begun
+        known = [one for one in (pts, clock and clock[1]) if one is not None]
+        return max(known, default=None, key=functools.partial(ticks_between, known[0])) \
+            if known else None
+
+    def strange(self) -> list[Warned]:
+        """Where it grew while it was read, or ends too early."""
+        found, now = list[Warned](), size_of(self.name)
+        if None not in (self.size, now) and self.size != now:
+            word = "grew" if (now or 0) > (self.size or 0) else "became shorter"
+            found.append(Warned("grew", f"{shown(self.name)} {word} while it was read, from "
+                                f"{self.size:,} bytes to {now:,}: judge it again when it is "
+                                "complete"))
+        if self.is_stream and self.packets.is_cut and not self.is_feed:
+            found.append(Warned("cut", f"{shown(self.name)} ends within a PES packet of the page's "
+                                "PID, which is left out"))
+        if self.packets.damage and not self.is_feed:
+            found.append(Warned("cut", f"{shown(self.name)}: {self.packets.damage}; it was read up "
+                                "to there"))
+        return found
+
+    # What is said.
+
+    def other_pids(self) -> list[str]:
+        """What to type in the place of a PID that is wrong."""
+        known = [f"0x{pid:X}" for pid, one in sorted(self.survey.by_pid.items())
+                 if self.asked.page_name in one.sent]
+        return [self.again("--pid", word)
+                for word in known or ["PID"] * bool(self.survey.by_pid)]
+
+    def without_first(self, reason: NoFirst) -> Unclear:
+        return Unclear(f"{self.name}: there is no first picture for --start: {reason}",
+                       self.again("--origin", "T"))
 
     def again(self, *more: str) -> str:
         return again(self.asked, self.typed, *more)
 
-    def said(self, reason: str, carriers: Carriers) -> str:
-        """A reason, and what there is; of a file the pages that are sent are looked for now."""
-        if not self.is_feed:
-            carriers.listing = listing_of(self.name)
-        return "\n".join([reason, *(carriers.lines() or ["there is no PID with Teletext"])])
-
-
-def listing_of(path: str) -> Listing:
-    """What there is in a transport stream."""
-    listing = Listing()
-    with Input(path) as file, contextlib.suppress(Damaged):
-        for piece in Reader(file):
-            listing.take(piece)
-    return listing
+    def said(self, reason: str) -> str:
+        """A reason, and what there is."""
+        if self.asked.pid is not None and self.is_file:
+            self.survey = survey(self.typed.program_path, self.names.as_program(self.name),
+                                 self.asked.page)
+        return "\n".join([reason, *(self.survey.lines() or ["there is no PID with Teletext"])])

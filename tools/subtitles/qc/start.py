@@ -7,16 +7,39 @@ from typing import NamedTuple
 from ..core.stl import GSI
 from ..core.times import (
     EARLY, TICKS, frame_in, frame_of, frame_of_code, ticks_between, time_of, wrapped)
-from ..core.words import counted, shown
-from ..reading.pictures import First, Videos
+from ..core.words import counted, pid_name, shown
+from ..reading.survey import Packets, Survey
 from .asked import Asked
 from .clock import START, TCP, Clock
-from .speech import Speech
 from .unclear import Unclear
 
+NAMES = {0x01: "MPEG-1", 0x02: "MPEG-2", 0x1B: "H.264", 0x24: "HEVC"}  # stream_type
+# Other video, whose pictures are not looked for.
+OTHERS = {0x10: "MPEG-4 part 2", 0x1E: "MPEG-C", 0x1F: "SVC", 0x20: "MVC", 0x21: "JPEG 2000",
+          0x25: "HEVC sub-bitstream", 0x32: "JPEG XS", 0x33: "VVC", 0x35: "EVC", 0x42: "AVS",
+          0xD1: "Dirac", 0xD2: "AVS2", 0xD4: "AVS3", 0xEA: "VC-1"}
 TCP_PLACE = slice(256, 264)  # of a GSI block
-NO_FLAG = 1500  # PES packets of video after which a feed is not waited for any longer
 FRAMES_NEAR = 25  # frames that the last PCR of a recording may be before its last picture
+LOOKED_AT = 1000  # PTS
+
+
+class NoFirst(Exception):
+    """There is no first picture, or it is not clear which one it is; the text says why."""
+
+
+class First(NamedTuple):
+    """The first picture of a recording: the PID of its video, what kind that is, its PTS, and how
+    many PES packets before it were passed over."""
+
+    pid: int
+    kind: int
+    pts: int
+    passed: int
+
+    def line(self) -> str:
+        return (f"the first picture has PTS {self.pts}, {NAMES[self.kind]} of "
+                f"{pid_name(self.pid)}; {counted(self.passed, 'PES packet')} of video before it "
+                "skipped")
 
 
 class Began(NamedTuple):
@@ -27,71 +50,97 @@ class Began(NamedTuple):
     frame: int
 
 
-class Grid:
-    """The PTS of the first PES packets of a PID, by where they stand between frames."""
+def video_of(survey: Survey, teletext: int) -> tuple[int, int]:
+    """The video PID of the programme of a Teletext PID, and its kind."""
+    programmes = survey.programmes_of(teletext)
+    if not programmes:
+        raise NoFirst(f"no PMT names {pid_name(teletext)}")
+    kinds = {pid: kind for one in programmes for pid, kind in one.kinds.items()}
+    known = NAMES | OTHERS
+    there = ", ".join(f"{pid_name(pid)} {known.get(kind, f'stream_type {kind:02X}')}"
+                      for pid, kind in sorted(kinds.items()))
+    videos = {pid: kind for pid, kind in kinds.items() if kind in known}
+    if len(videos) != 1:
+        raise NoFirst(f"the PMT that names {pid_name(teletext)} has "
+                      f"{'several video PIDs' if videos else 'no video'}: {there}")
+    pid, kind = videos.popitem()
+    if kind not in NAMES:
+        raise NoFirst(f"pictures of {OTHERS[kind]} are not read: {there}")
+    return pid, kind
 
-    MOST = 1000  # PES packets that are looked at
 
-    def __init__(self) -> None:
-        self.first: int | None = None
-        self.ticks: collections.Counter[int] = collections.Counter()
-        self.count = 0
+def first_of(survey: Survey, teletext: int) -> First:
+    """The first picture of the programme whose PMT names a Teletext PID: the one with the smallest
+    PTS from the first with random_access_indicator to the next such one."""
+    pid, kind = video_of(survey, teletext)
+    name, one = f"{NAMES[kind]} of {pid_name(pid)}", survey.videos.get(pid)
+    if one is None:
+        raise NoFirst(f"{pid_name(pid)}, which the PMT names as {NAMES[kind]}, has no PES packets "
+                      "of video that can be read")
+    if not one.pictures:
+        raise NoFirst(f"none of {counted(one.passed, 'PES packet')} of {name} has the "
+                      "random_access_indicator")
+    if one.scrambled:
+        raise NoFirst(f"{name} is scrambled")
+    if one.lost:
+        raise NoFirst(f"{counted(one.lost, 'TS packet')} of {name} lost among its first pictures")
+    pts = [pts for pts in one.pictures if pts is not None]
+    if len(pts) < len(one.pictures):
+        raise NoFirst(f"a picture of {name} has no PTS")
+    return First(pid, kind, min(pts, key=lambda each: ticks_between(pts[0], each)), one.passed)
 
-    def take(self, pts: int) -> None:
-        """Takes the PTS of a PES packet."""
-        self.first = pts if self.first is None else self.first
-        self.ticks[wrapped(pts - self.first) % TICKS] += 1
-        self.count += 1
 
-    def after(self, pts: int, within: int) -> int:
-        """How many ticks after a frame that begins at a PTS most of them are, less than a frame;
-        within 1 and more, where there are some, of those that are near it: fields have two."""
-        assert self.first is not None
-        distance = ticks_between(pts, self.first)
-        known = [(distance + rest) % TICKS for rest, _ in self.ticks.most_common()]
-        near = [ticks for ticks in known if ticks <= EARLY or ticks >= TICKS - EARLY]
-        return (near if within and near else known)[0]
+def is_known(survey: Survey, teletext: int) -> bool:
+    """Whether nothing more of a feed tells the first picture."""
+    try:
+        pid, _ = video_of(survey, teletext)
+    except NoFirst:
+        return bool(survey.programmes_of(teletext))
+    return pid in survey.videos and survey.videos[pid].is_over
+
+
+def after_frame(packets: Packets, pts: int, within: int) -> int:
+    """How many ticks after a frame that begins at a PTS most PTS of the Teletext are, less than a
+    frame; within 1 and more, where there are some, of those that are near it: fields have two."""
+    ticks: collections.Counter[int] = collections.Counter()
+    for _, (one, _) in zip(range(LOOKED_AT), ((one, 0) for one in packets.pts())):
+        ticks[wrapped(one - pts) % TICKS] += 1
+    known = [rest for rest, _ in ticks.most_common()]
+    near = [rest for rest in known if rest <= EARLY or rest >= TICKS - EARLY]
+    return (near if within and near else known)[0]
 
 
 def start_frame(asked: Asked) -> int:
     """The frame of the first picture, as it was given or as the GSI block has it."""
-    assert asked.start is not None
     if asked.start != TCP:
-        frame = frame_of(asked.start)
+        frame = frame_of(asked.start or "")
         assert frame is not None  # the words of the command line were looked at
         return frame
     with open(asked.stl, "rb") as file:
         code = file.read(GSI)[TCP_PLACE].decode("latin-1")
-    digits = [code[at:at + 2] for at in range(0, 8, 2)]
     is_code = code.isascii() and code.isdecimal() and len(code) == 8
-    found = frame_of_code(map(int, digits)) if is_code else None
+    found = frame_of_code(int(code[at:at + 2]) for at in range(0, 8, 2)) if is_code else None
     if found is None:
         raise Unclear(f"the GSI block of {asked.stl} has no time as TCP: {shown(code)!r}")
     return found
 
 
-def began(asked: Asked, first: First, grid: Grid) -> Began:
+def began(asked: Asked, survey: Survey, packets: Packets) -> Began:
     """The clock, moved to the PTS of the Teletext by less than half a frame."""
-    frame = start_frame(asked)
-    origin = wrapped(first.pts - TICKS * frame)
-    after = grid.after(first.pts, asked.within)
+    first, frame = first_of(survey, packets.pid), start_frame(asked)
+    after = after_frame(packets, first.pts, asked.within)
     if after * 2 == TICKS:
         raise Unclear(f"{first.line()}. The PTS of the Teletext are half a frame after it: the "
                       "frame of neither is clear")
     ticks = after if after * 2 < TICKS else after - TICKS
-    moved = wrapped(origin + ticks)
+    moved = wrapped(first.pts - TICKS * frame + ticks)
     source = TCP if asked.start == TCP else START
     name = f"the TCP {time_of(frame)}" if source == TCP else f"--start {time_of(frame)}"
-    return Began(Clock(moved, source), [
-        first.line(), f"{name} there is --origin {moved}, {said_of(ticks)}"], frame)
-
-
-def said_of(ticks: int) -> str:
-    """How far the origin was moved."""
-    if not ticks:
-        return "which the PTS of the Teletext agree with"
-    return (f"moved by {counted(abs(ticks), 'tick')} "
-            f"{'forward' if ticks > 0 else 'back'} to the PTS of the Teletext")
+    said = "which the PTS of the Teletext agree with" if not ticks else \
+        f"moved by {counted(abs(ticks), 'tick')} {'forward' if ticks > 0 else 'back'} to the PTS " \
+        "of the Teletext"
+    return Began(Clock(moved, source), [first.line(), f"{name} there is --origin {moved}, {said}"],
+                 frame)
 
 
 def refuse_outside(asked: Asked, one: Began, begin: int, end: int, last: int | None) -> None:
@@ -104,28 +153,3 @@ def refuse_outside(asked: Asked, one: Began, begin: int, end: int, last: int | N
     if over is not None and end > over + FRAMES_NEAR:
         raise Unclear(f"the last subtitle of {asked.stl} goes at {time_of(end)}, and by the TCP "
                       f"the recording ends at {time_of(over)}")
-
-
-class Starting:
-    """Says the clock by the first picture, in a feed as soon as it is clear; that is `began`."""
-
-    def __init__(self, asked: Asked, speech: Speech) -> None:
-        self.asked, self.speech = asked, speech
-        self.videos: Videos | None = None
-        self.began: Began | None = None
-
-    def begin(self, first: First, grid: Grid) -> Began:
-        """Takes the first picture."""
-        self.began = began(self.asked, first, grid)
-        for line in self.began.lines:
-            self.speech.say(line)
-        return self.began
-
-    def look(self, pid: int, grid: Grid) -> Began | None:
-        """The clock of a Teletext PID, once it is clear; `NoFirst` where it never will be."""
-        videos = self.videos
-        if videos is None or not grid.count:
-            return None
-        if not videos.is_known(pid) and not videos.is_hopeless(pid, NO_FLAG):
-            return None
-        return self.begin(videos.first_of(pid), grid)

@@ -2,19 +2,20 @@
 from __future__ import annotations
 
 import dataclasses
-from typing import Sequence
+import functools
+from typing import Callable, Sequence
 
-from ..core.pes import pes_runs
-from ..core.pieces import Pieces
 from ..core.times import time_of
 from ..core.told import EMPTY, LOST_PACKETS, PASSED_OVER
-from ..reading.losses import Place
+from ..reading.gaps import Place
+from ..reading.survey import PES, Packets, Range
+from ..reading.timeline import Timeline
 from . import sentence
 from .asked import Asked
-from .cells import passed_over
 from .checking import Answer
 from .clock import FITTED, FITTED_LATER, Clock
 from .delays import Spread, spread_of
+from .due_pages import DuePages
 from .naming import Causes
 from .severity import Severity
 from .status import LOST, NOT_JUDGED, REFUSED, WAIVED, WARNED, Decision, Said, Seen, decide
@@ -24,20 +25,26 @@ from .warned import Warned
 FITTED_KIND = "fitted"  # a warning where warnings count: the clock was fitted to the recording
 
 
+def no_pages() -> DuePages:
+    """What is due of a subtitle file that is refused."""
+    return DuePages([], [])
+
+
 @dataclasses.dataclass
 class Part:
     """A part of a pair that was judged by itself: its files, and what `check --all` said.
 
-    `stl` is the subtitle file as it is typed, `stl_path` and `pieces` are to be read. `begin` and
+    `stl` is the subtitle file as it is typed, and `stl_path` is to be read. `pes` are the numbers
+    of the PES packets that are judged, of `packets`, which are those of the recording. `begin` and
     `end` are the first and the last frame of which the verdict speaks. `stream` is the PID, and the
     bytes from a TS packet to the next one, of what is judged of a transport stream; `judged` what
-    is judged of a feed, which nobody can read once more.
+    is judged of a feed, which nobody can read once more. `due` gives the pages that are due.
     """
 
     number: int
     stl: str
     stl_path: str
-    pieces: Pieces | None
+    pes: Range | None
     origin: int | None
     begin: int | None
     end: int | None
@@ -50,6 +57,16 @@ class Part:
     accepted_within: int | None = None  # the least number of frames, of one that is refused
     was_read: bool = False  # something of its recording, or it has none
     hint: str = ""  # what to know of its first fault
+    packets: Packets = dataclasses.field(default_factory=lambda: Packets(PES))
+    asked: Asked | None = None
+    due: Callable[[], DuePages] = no_pages
+
+    @functools.cached_property
+    def held(self) -> Timeline | None:
+        """What a receiver holds of what is judged."""
+        if self.pes is None or self.origin is None or self.asked is None:
+            return None
+        return Timeline(self.packets, self.asked.page, self.origin, self.asked.within, self.pes)
 
     def said(self) -> Said:
         """What the program said of it."""
@@ -61,15 +78,22 @@ class Part:
         return self.answer.verdict == REFUSED
 
     def is_read(self) -> bool:
-        """Whether one of its PES packets at least could be read; the file has to be there still."""
-        if self.pieces is None:
+        """Whether one of its PES packets at least could be read."""
+        if self.pes is None:
             return False
         if not self.answer.numbers or self.answer.numbers - PASSED_OVER - {EMPTY}:
             return True
-        with self.pieces.open() as file:
-            count = sum(len(begins) - 1 for _, begins in pes_runs(file))
-        passed = passed_over(self.answer.told())
-        return count > sum(last + 1 - first for first, last in passed)
+        count = min(self.pes[1] + 1, self.packets.count) - self.pes[0]
+        return count > self.answer.passed.total()
+
+    def pts(self, does: str = "") -> list[int]:
+        """The PTS of its PES packets, of those that do something."""
+        return [*self.packets.pts(self.pes, does)] if self.pes else []
+
+    @property
+    def pes_name(self) -> str | None:
+        """The numbers of its PES packets as the program takes them."""
+        return self.pes and f"{self.pes[0]}-{self.pes[1]}"
 
     def times(self) -> tuple[str | None, str | None]:
         """Those frames as times."""
@@ -183,12 +207,6 @@ class Verdict:
             said = said._replace(first=refused.answer.first, hint=refused.hint,
                                  causes=refused.causes)
         return sentence.sentence_of(said)
-
-    def report_words(self) -> list[str]:
-        """What its report is told of it; in one word where that is not what `check` says."""
-        word = self.word
-        return [*(["--verdict", word] if word in (WAIVED, LOST, WARNED) else []),
-                "--sentence", self.sentence]
 
     def of_part(self, part: Part, gaps: list[Gap]) -> Verdict:
         """The verdict on a part alone, with what is missing of it."""

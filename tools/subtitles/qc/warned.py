@@ -1,29 +1,21 @@
 """What is strange of a recording and breaks no rule of `check`: said, and the status stays."""
 from __future__ import annotations
 
-import contextlib
-from typing import Iterator, NamedTuple
+from typing import Iterator, NamedTuple, Sequence
 
-from ..core.files import Damaged
 from ..core.national import BY_WORD, OTHER_REGIONS, as_sent, of_track
-from ..core.pes import has_pts, pes_batches, pts_in
-from ..core.pieces import Pieces
 from ..core.times import FRAMES_OF_A_DAY, NO_FRAME, frame_in, frames_at, time_of
 from ..core.words import counted, pid_name, shown
-from ..reading.character_sets import character_sets
-from ..reading.holes import Holes
+from ..reading.gaps import SECOND, jumps_of
 from ..reading.languages import ANY, names_of
-from ..reading.listing import Listing
-from ..reading.programmes import KINDS, SUBTITLE_KINDS, Announced
-from ..reading.repeat import measured, sendings
-from ..reading.timing import SECOND, Timing
+from ..reading.repeat import measured
+from ..reading.survey import KINDS, SUBTITLE_KINDS, Announced, Packets, Survey
+from ..reading.timeline import FEW, PAUSE
+from ..reading.timing import SAID, strange_of
 from .asked import LC, Asked
-from .held import FEW, PAUSE
 from .subtitle_file import SubtitleFile
 
 TNB, TNS = slice(238, 243), slice(243, 248)  # of a GSI block: how many TTI blocks and subtitles
-SAID = {"behind": "are behind the PCR", "early": "are more than a second ahead of the PCR",
-        "changed": "moved against the PCR by more than half a second"}
 
 
 class Warned(NamedTuple):
@@ -38,20 +30,20 @@ class Warned(NamedTuple):
         return f"warning: {self.line}"
 
 
-def of_timing(timing: Timing, origin: int) -> Iterator[Warned]:
+def of_timing(packets: Packets, origin: int) -> Iterator[Warned]:
     """Where PTS and PCR do not go together."""
-    for one in timing.strange():
-        frame = frame_in(one.first.pts, origin)
+    for one in strange_of(packets):
+        frame = frame_in(one.pts, origin)
         time = time_of(frame) if frame < FRAMES_OF_A_DAY else None
-        where = f"from {time} on" if time else f"from PTS {one.first.pts} on"
+        where = f"from {time} on" if time else f"from PTS {one.pts} on"
         yield Warned(f"pts_{one.kind}", f"{where} PTS of the Teletext {SAID[one.kind]}, by up to "
                      f"{abs(one.worst) / SECOND:.2f} s: {one.number} of {one.among} that were "
                      "looked at", time)
 
 
-def of_jumps(holes: Holes, origin: int, first: int, last: int) -> Iterator[Warned]:
+def of_jumps(packets: Packets, origin: int, first: int, last: int) -> Iterator[Warned]:
     """Where the clock goes on elsewhere, and no packet is missing, from a frame to another one."""
-    for jump in holes.jumps:
+    for jump in jumps_of(packets):
         frame = FRAMES_OF_A_DAY if jump.before is None else frame_in(jump.before, origin)
         if first <= frame <= last:
             way = "by" if jump.ticks > 0 else "back by"
@@ -68,9 +60,9 @@ def length_words(ticks: int) -> str:
     return f"{seconds // 3600}:{seconds // 60 % 60:02}:{seconds % 60:02}"
 
 
-def of_tables(listing: Listing, pid: int, asked: Asked) -> Iterator[Warned]:
+def of_tables(survey: Survey, pid: int, asked: Asked) -> Iterator[Warned]:
     """Where the PMT announces something else than was asked for."""
-    programmes = listing.programmes_of(pid)
+    programmes = survey.programmes_of(pid)
     if not programmes:
         return
     announced = [page for one in programmes for page in one.pages.get(pid, [])]
@@ -117,18 +109,16 @@ def of_option(languages: list[str], asked: Asked) -> Iterator[Warned]:
                  f"--option {asked.option}")
 
 
-def of_character_sets(path: str, asked: Asked) -> Iterator[Warned]:
+def of_character_sets(packets: Packets, asked: Asked) -> Iterator[Warned]:
     """Where packets name another character set than that of the national option."""
-    with open(path, "rb", buffering=0) as file:
-        found = character_sets(file, asked.page)
-    for one in found:
-        if one.region is None or one.option is None:
+    for number, designation, region, option in packets.sets:
+        if region is None or option is None:
             named = "an unreadable character set"
-        elif one.region or one.option != as_sent(BY_WORD[asked.option]):
-            named = f"character set {one.option:03b} of region {one.region:04b}"
+        elif region or option != as_sent(BY_WORD[asked.option]):
+            named = f"character set {option:03b} of region {region:04b}"
         else:
             continue
-        yield Warned("character_set", f"packet {asked.page_name[0]}/{one.number}/{one.designation} "
+        yield Warned("character_set", f"packet {asked.page_name[0]}/{number}/{designation} "
                      f"names {named}: receivers above level 1 may show other letters")
 
 
@@ -167,14 +157,9 @@ def there_are(count: int) -> str:
     return "there is 1" if count == 1 else f"there are {count:,}"
 
 
-def of_pauses(pieces: Pieces, asked: Asked, origin: int) -> Iterator[Warned]:
+def of_pauses(pts: Sequence[int], asked: Asked, origin: int) -> Iterator[Warned]:
     """Where no PES packet came for some frames, of what else sends one in each frame but few."""
-    frames: list[int] = []
-    with pieces.open() as file, contextlib.suppress(Damaged):
-        for batch in pes_batches(file):
-            timed = [pts_in(data) for data in batch if has_pts(data)]
-            frames += [frame for frame in frames_at(timed, origin, asked.within)
-                       if frame != NO_FRAME]
+    frames = [frame for frame in frames_at([*pts], origin, asked.within) if frame != NO_FRAME]
     pauses = [(first + 1, second) for first, second in zip(frames, frames[1:])
               if second - first - 1 > PAUSE]
     if len(pauses) * FEW <= len(frames):
@@ -183,13 +168,11 @@ def of_pauses(pieces: Pieces, asked: Asked, origin: int) -> Iterator[Warned]:
                          f"{time_of(first)} on", time_of(first))
 
 
-def of_repeat(pieces: Pieces, asked: Asked, origin: int, times: list[tuple[int, int]]) \
+def of_repeat(headers: Sequence[int], asked: Asked, origin: int, times: list[tuple[int, int]]) \
         -> Iterator[Warned]:
     """Where the page is repeated so often that `--every` would not see a repeat that is missing."""
     edges = sorted({frame for pair in times for frame in pair})
-    with pieces.open() as file:
-        frames = [frame_in(pts, origin, asked.within) for pts in sendings(file, asked.page)]
-    every = measured(frames, edges)
+    every = measured((frame_in(pts, origin, asked.within) for pts in headers), edges)
     if every is not None and every * 2 < asked.every:
         yield Warned("repeat", f"the page is repeated each "
                      f"{'frame' if every == 1 else counted(every, 'frame')}; --every {every} would "

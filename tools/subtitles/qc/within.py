@@ -2,20 +2,15 @@
 asked for, and 5 at most."""
 from __future__ import annotations
 
-import subprocess
-
-from ..core.files import Input
-from ..core.pieces import Pieces
 from ..core.told import LOST_PACKETS, accepted_of, told_of
-from ..core.words import within_words
-from ..reading.cutting import Cut, cut_out, times_of_file
-from .asked import MOST_TRIED, Asked
+from ..reading.cutting import Cut
+from .asked import MOST_TRIED
 from .causes import EARLY, LATE, NOT_ERASED, UNKNOWN, Cause
 from .fitting import Found, found_in
 from .naming import Causes
 from .recording import Recording
 from .status import ACCEPTED, Said, word_of
-from .steps import Steps, Stretch, origin_words
+from .steps import Steps, Stretch, origin_in
 
 # Faults that stay whatever N is: of the subtitle file, of PES packets that can't be read.
 FIXED = {*range(10, 26), *range(30, 41), 44, LOST_PACKETS, *range(50, 58), 60}
@@ -37,20 +32,19 @@ class Trying:
                  count: int) -> None:
         self.steps, self.recording, self.one = steps, recording, one
         self.number, self.count = number, count
-        self.asked: Asked = steps.asked
-        self.pieces: Pieces | None = None  # of the recording, within the most frames
 
     def least(self, numbers: set[int], causes: Causes | None) -> int | None:
         """The least such number; `None` where there is none."""
         if not self.may_be(numbers, causes):
             return None
         found = self.clocked(MOST_TRIED)
-        if found is None or not self.cut(found):
+        if found is None:
             return None
-        for within in range(self.asked.within + 1, MOST_TRIED + 1):
-            line, status = self.check(found, within)
+        cut = self.steps.taken(self.recording, found, MOST_TRIED)
+        for within in range(self.steps.asked.within + 1, MOST_TRIED + 1) if cut.range else ():
+            line, status = self.check(found, cut, within)
             if is_accepted(line, status):
-                return within if self.is_same(found, within) else None
+                return within if self.is_same(found, cut, within) else None
             told = told_of(line) if status == 1 else None
             if told is None or told.number not in OF_ENDS:
                 return None
@@ -74,36 +68,23 @@ class Trying:
         found = self.one.found
         if not found.clock.is_fitted:
             return found
-        origin = self.steps.ask_origin(self.recording, None, *within_words(within))
-        parts = found_in(origin, found)
+        sought = self.steps.sought(self.recording, None)._replace(within=within)
+        parts = found_in(origin_in(self.recording.packets, sought), found)
         other = parts[self.number - 1] if len(parts) == self.count else None
         return other if other and other[:2] == found[:2] else None
 
-    def is_same(self, found: Found, within: int) -> bool:
+    def is_same(self, found: Found, cut: Cut, within: int) -> bool:
         """Whether the clock is the same within fewer frames, or accepted by too."""
         other = self.clocked(within) if within < MOST_TRIED else found
-        return other is not None and (other.origin == found.origin or self.cut(other) and
-                                      is_accepted(*self.check(other, within)))
+        if other is None or other.origin == found.origin:
+            return other is not None
+        cut = self.steps.taken(self.recording, other, MOST_TRIED)
+        return cut.range is not None and is_accepted(*self.check(other, cut, within))
 
-    def cut(self, found: Found) -> bool:
-        """Finds the PES packets; whether there are some."""
-        asked, path = self.asked, self.recording.path
-        cut = Cut(*times_of_file(self.one.stl_path), asked.page, found.origin, asked.every,
-                  found.packets, MOST_TRIED)
-        with Input(path) as source:
-            self.pieces = cut_out(cut, path, source)[0]
-        return self.pieces is not None
-
-    def check(self, found: Found, within: int) -> tuple[str, int]:
+    def check(self, found: Found, cut: Cut, within: int) -> tuple[str, int]:
         """The line of `check`, and its status."""
-        assert self.pieces
-        words = [*self.asked.within_more(within).check_words(), *self.pieces.words(),
-                 *origin_words(found.origin)]
-        done = subprocess.run([self.steps.typed.program_path, "check", *words, "--",
-                               self.one.stl_path, self.pieces.path], stdin=subprocess.DEVNULL,
-                              stdout=subprocess.PIPE, encoding="utf-8", errors="replace",
-                              check=False)
-        return "".join(done.stdout.splitlines()[-1:]), done.returncode
+        assert cut.range
+        return self.steps.line_within(self.recording, self.one, cut.range, found.origin, within)
 
 
 def is_accepted(line: str, status: int) -> bool:

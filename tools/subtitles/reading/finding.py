@@ -3,29 +3,42 @@ from __future__ import annotations
 
 import argparse
 import dataclasses
-from typing import NamedTuple, Sequence
+from typing import Iterator, NamedTuple, Sequence
 
-from ..core.files import Damaged, Input, whole_bytes
+from ..core.files import whole_bytes
 from ..core.national import WORDS
-from ..core.pes import pes_batches
 from ..core.stl import letters_on_page, readable, times_of
 from ..core.teletext import Page, page_name
-from ..core.times import ticks_between, time_of
+from ..core.times import (
+    FRAMES_A_SECOND, FRAMES_OF_A_DAY, TICKS, frame_in, pts_of, ticks_between, time_of, wrapped)
 from ..core.words import (
-    Stop, Words, add_page, add_program, add_within, breaks_word, counted, origin_word, run_word,
-    tell)
-from .of_stream import add_stream, pes_of
-from .origin_words import (
-    NAMED, break_lines, is_clear, lateness_lines, part_lines, run_lines, runs_line, shift_lines,
-    time_at)
-from .parts import Part, by_breaks, elections_of, parts_of
-from .runs import find_runs, of_run
-from .sent import Sent, SentInBase
-from .tracks import Stretch, find_row
-from .votes import Election, Shown
+    Stop, Words, add_page, add_program, add_within, breaks_word, counted, origin_word, range_word,
+    range_words, tell)
+from .alignment import (
+    IN_A_ROW, MOST_APART, Base, Fit, Part, Run, Shown, Stretch, bases_of, by_breaks,
+    find_row, parts_of, runs_of)
+from .streams import add_stream, survey_of
+from .survey import Packets, Range
+
+NEAR = 10 * FRAMES_A_SECOND  # to the origin 0
+NAMED = 5  # origins that are as good, or other pages
+MOST_PPM = 1000  # of a drift: more is no clock
+LISTED = 20  # places at which subtitles begin to be late
 
 
-Packets = tuple[int, int]  # the numbers of the first and the last PES packet
+class Sought(NamedTuple):
+    """What is looked for: the subtitle file, and the page with its national option, in a recording
+    by its name; the origin that is known, the frames within which a page has to be whole, and how
+    many breaks there are; of the PES packets with some numbers alone."""
+
+    stl: str
+    name: str
+    page: Page = (0, 0x88)
+    option: str = "english"
+    origin: int | None = None
+    within: int = 0
+    breaks: int = 0
+    inside: Range | None = None
 
 
 class OfPart(NamedTuple):
@@ -33,7 +46,7 @@ class OfPart(NamedTuple):
     first and its last frame."""
 
     origin: int
-    packets: Packets | None = None
+    packets: Range | None = None
     frames: tuple[int, int] | None = None
 
 
@@ -51,17 +64,14 @@ class Agreement(NamedTuple):
 
 @dataclasses.dataclass
 class Origin:
-    """What is found of the origin: its status, as the tool ends with it; `parts`, where they are
-    clear; how often the programme is there; how many breaks, where others were said; by how many
-    ticks the first part is later than the origin that is known.
-
-    `shifts` are lines that tell from when on subtitles are late, `shifted_from` when that is
-    first. `printed` and `told` are all lines that are said.
-    """
+    """What is found: the status, as the tool ends with it; `parts`, where they are clear; the PES
+    packets of each time that the programme is there, where that is more than once; how many breaks, where others were said; by how many ticks the first
+    part is later than the origin that is known; from when on subtitles are late, first, and in
+    words. `printed` and `told` are all lines."""
 
     status: int = 1
     parts: list[OfPart] = dataclasses.field(default_factory=list)
-    runs: int = 1
+    runs: list[Range] = dataclasses.field(default_factory=list)
     breaks: int | None = None
     away: int | None = None
     agreement: Agreement | None = None
@@ -71,11 +81,299 @@ class Origin:
     told: list[str] = dataclasses.field(default_factory=list)
 
 
+def subtitles_of(path: str, option: str) -> list[Shown]:
+    """The subtitles of a file that come and go within a day."""
+    found = []
+    for one in readable(path, whole_bytes(path)):
+        begin, end = times_of(one)
+        if begin is not None and end is not None and begin < end:
+            found.append(Shown(begin, end, (one.row, one.justify, one.text),
+                               letters_on_page(one.text, option)))
+    if not found:
+        raise Stop(f"{path} has no subtitle that comes and goes within a day")
+    return found
+
+
+def find(asked: Sought, packets: Packets) -> Origin:
+    """The origin of a recording, or why it is not clear."""
+    origin = Origin()
+    subtitles = subtitles_of(asked.stl, asked.option)
+    if not is_sent(packets, asked, origin.told):
+        return origin
+    bases = bases_of(subtitles, packets, asked.within, asked.inside)
+    if not bases:
+        origin.told.append("no edge agrees with any origin")
+        return origin
+    runs = runs_of(bases)
+    if len(runs) > 1:
+        origin.runs = [packets_of(runs, number, bases, packets) for number in range(len(runs))]
+        origin.told += [runs_line(len(runs)), *run_lines(runs, origin.runs, bases)]
+        return origin
+    row = find_row(bases)
+    if asked.breaks:
+        take_parts(origin, asked, bases, parts_of(subtitles, bases, by_breaks(row)))
+    else:
+        take_one(origin, asked, bases, row, parts_of(subtitles, bases, row))
+    return origin
+
+
+def is_sent(packets: Packets, asked: Sought, told: list[str]) -> bool:
+    """Whether there is something of the page; else what there is, is told."""
+    count, marks = packets.count, len(packets.marks)
+    timed = sum(run.length for run in packets.timed())
+    if packets.damage:
+        if not count:
+            raise Stop(f"{asked.name}: {packets.damage}")
+        told.append(f"{asked.name}: {packets.damage}; what stands before is used")
+    if not timed:
+        told.append(f"none of {counted(count, 'PES packet')} in {asked.name} has a PTS: check "
+                    "refuses them as 34")
+        return False
+    if marks:
+        told.append(f"{counted(marks, 'mark')} of what is missing skipped: check refuses them as "
+                    "45")
+    if timed + marks < count:
+        told.append(f"{count - timed - marks} of {counted(count, 'PES packet')} have no PTS, and "
+                    "are skipped here: check refuses them as 34")
+    if not packets.changes:
+        own = page_name(*asked.page)
+        others = sorted((one for one in packets.sent if one != own),
+                        key=lambda one: -packets.sent[one])
+        told.append(f"there is no header of page {own} in {asked.name}; other subtitle pages: "
+                    f"{', '.join(others[:NAMED]) or 'none'}")
+    return bool(packets.changes)
+
+
+def take_one(origin: Origin, asked: Sought, bases: Sequence[Base],
+             row: Sequence[Stretch], parts: Sequence[Part]) -> None:
+    """Takes one origin, that of the first part, where it is clear."""
+    if not parts:
+        origin.told.append("no edge agrees with any origin")
+        return
+    part, edges = parts[0], bases[0].edges
+    if is_clear(part):
+        origin.status = 0
+        is_back = len(bases) > 1 and len(parts) == 1
+        add(origin, OfPart(part.origin, part.sent.packets if is_back else None))
+    origin.told += part_lines(part, len(edges))
+    measure(origin, asked.origin, part)
+    if len(parts) > 1:
+        origin.shifted_from = edges[row[1].first].frame
+        origin.shifts = shift_lines(row, parts,
+                                    part.origin if asked.origin is None else asked.origin)
+        origin.told += origin.shifts
+    first, last = (time_at(pts, part.origin) for pts in part.sent.sent)
+    origin.told.append(f"subtitles due from {time_of(edges[0].frame)} to "
+                       f"{time_of(edges[-1].frame)}, page sent from {first} to {last}")
+
+
+def take_parts(origin: Origin, asked: Sought, bases: Sequence[Base],
+               parts: Sequence[Part]) -> None:
+    """Takes all parts, where they are as many as there are to be, and clear."""
+    if len(parts) != asked.breaks + 1:
+        origin.breaks = max(len(parts) - 1, 0)
+        found = counted(origin.breaks, "break") if origin.breaks else "no break"
+        origin.told += [f"{found} found, where --breaks {asked.breaks} is said",
+                        *break_lines(parts)]
+        return
+    if all(map(is_clear, parts)):
+        origin.status = 0
+        for part in parts:
+            add(origin, OfPart(part.origin, part.sent.packets if len(bases) > 1 else None,
+                               (part.begin, part.end)))
+    count = sum(len(part.sent.edges) for part in parts)
+    origin.told += [f"{len(parts)} parts: {sum(part.best.agree for part in parts)} of "
+                    f"{counted(count, 'edge')} agree", *break_lines(parts)]
+    for part in parts:
+        origin.told += part_lines(part, count)
+        if part is parts[0]:
+            measure(origin, asked.origin, part)
+        origin.told += [f"the subtitle from {time_of(one.begin)} to {time_of(one.end)} reaches "
+                        "into the next part, and is in none" for one in part.over]
+
+
+def add(origin: Origin, part: OfPart) -> None:
+    """Takes a part that is clear."""
+    frames = f"--from {time_of(part.frames[0])} --to {time_of(part.frames[1])} " \
+        if part.frames else ""
+    packets = f"--pes {part.packets[0]}-{part.packets[1]} " if part.packets else ""
+    origin.parts.append(part)
+    origin.printed.append(f"{frames}{packets}--origin {part.origin}")
+
+
+def measure(origin: Origin, known: int | None, part: Part) -> None:
+    """Takes how the first part agrees with its origin, and how late it is compared with one that
+    is known, or with 0 near that."""
+    best, apart = part.best, part.sent.apart(part.best)
+    origin.agreement = Agreement(
+        best.agree, best.among, best.letters, len(part.sent.edges),
+        best.agree == best.among or bool(apart and apart.agree == apart.of))
+    away = ticks_between(known or 0, part.origin)
+    origin.away = None if known is None else away
+    if known is not None or abs(away) // TICKS <= NEAR and not 0 <= abs(away) < TICKS:
+        which = f"--origin {known or 0}"
+        origin.told.append(f"that is {frames_words(away)} compared with {which}" if away else
+                           f"that is {which}")
+
+
+# ---- words
+
+def time_at(pts: int, origin: int) -> str:
+    """The time of the day of a PTS, or that it is of none."""
+    frame = frame_in(pts, origin)
+    return time_of(frame) if frame < FRAMES_OF_A_DAY else "outside of the day"
+
+
+def frames_words(ticks: int) -> str:
+    """`2 frames late`, of the ticks between what is due and what is sent."""
+    frames, rest = divmod(abs(ticks), TICKS)
+    more = f" and {rest} ticks" if rest else ""
+    return f"{counted(frames, 'frame')}{more} {'late' if ticks > 0 else 'early'}"
+
+
+def as_good(part: Part) -> list[Fit]:
+    """The origins that are as good as the best of a part, but where beginnings and ends are apart
+    the one of the ends, and those with which nothing is but erased."""
+    best, apart = part.best, part.sent.apart(part.best)
+    ways = (True,) if best.agree >= IN_A_ROW else (True, False)
+    return [fit for fit in part.others if any(fit.points(one) >= best.points(one) for one in ways)
+            and not (apart and (abs(fit.start - best.start) <= MOST_APART or not fit.texts))]
+
+
+def is_clear(part: Part) -> bool:
+    """Whether the origin of a part is clear."""
+    return not as_good(part) and (part.best.agree * 2 >= part.best.among
+                                  or bool(part.sent.apart(part.best)))
+
+
+def part_lines(part: Part, count: int) -> Iterator[str]:
+    """What there is to know of the best origin of a part; the file has so many edges."""
+    best, others, edges = part.best, part.others, len(part.sent.edges)
+    following = f"--origin {others[0].origin} with {others[0].agree}" if others else "none"
+    yield (f"{best.agree} of {counted(best.among, 'edge')} "
+           f"{'agrees' if best.agree == 1 else 'agree'}, {best.letters} with the letters that are "
+           f"due; {'the file' if edges == count else 'this part'} has {edges}; next best: "
+           f"{following}")
+    if part.sent.within:
+        late = sorted(best.late)
+        yield "no edge is late" if not late[-1] else f"edges are " \
+            f"{range_words(late[0], late[-1])} late, {late[len(late) // 2]} in the middle"
+    equal, apart = as_good(part), part.sent.apart(best)
+    if equal:
+        names = ", ".join(f"--origin {fit.origin}" for fit in equal[:NAMED])
+        yield (f"it is not unique: as good as --origin {best.origin} are {names}"
+               + (f" and {len(equal) - NAMED} more" if len(equal) > NAMED else ""))
+    if best.first_other is not None:
+        yield f"the first edge that does not agree is {time_of(best.first_other)}"
+    if apart:
+        some, others_ = ("beginnings", "ends") if apart.is_begin else ("ends", "beginnings")
+        which = "all" if apart.agree == apart.of else f"{apart.agree} of {apart.of}"
+        yield f"{which} {some} are {frames_words(TICKS * apart.late)} compared with the {others_}"
+    if best.exact < best.agree:
+        yield (f"{best.agree - best.exact} of them only to the nearest frame: PTS that are not "
+               "whole frames apart are refused as 61")
+    if best.agree * 2 < best.among and not apart:
+        yield (f"fewer than half of the edges agree with --origin {best.origin}: check that this "
+               "is the right subtitle file")
+
+
+def shift_lines(row: Sequence[Stretch], parts: Sequence[Part], known: int) -> list[str]:
+    """From when on subtitles are late, compared with an origin, and what to say if it is a break.
+    """
+    lines = []
+    for stretch, before, part in zip(row[1:], parts, parts[1:]):
+        late = ticks_between(known, part.origin)
+        frames = round(abs(late) / TICKS)
+        words = f"{frames / FRAMES_A_SECOND:.2f} s ({counted(frames, 'frame')}) " \
+            f"{'late' if late > 0 else 'early'}" if abs(late) >= TICKS else "on time"
+        back = ", where PTS go back," if part.base != before.base else ""
+        lines.append(f"from {time_of(stretch.track.edges[stretch.first].frame)} on{back} subtitles "
+                     f"are {words}")
+    left = lines[LISTED - 1:-1]
+    lines = lines[:LISTED - 1] + [f"and so on, {counted(len(left), 'time')} more"] * bool(left) \
+        + lines[LISTED - 1:][-1:]
+    drift = drift_of([(part.begin, part.origin) for part in parts])
+    if drift is not None:
+        lines[-1] += f"; PTS drift by {drift} ppm against whole frames"
+    elif len(by_breaks(row)) == len(row):
+        breaks = "a break" if len(row) == 2 else "breaks"
+        lines[-1] += f"; if the programme has {breaks} there, say --breaks {len(row) - 1}"
+    return lines
+
+
+def drift_of(parts: Sequence[tuple[int, int]]) -> int | None:
+    """By how many millionths PTS drift, where the origins of three parts or more, each with its
+    first TCI, go on by a frame or two each in the time in which that comes together."""
+    steps = [(second[0] - first[0], ticks_between(first[1], second[1]))
+             for first, second in zip(parts, parts[1:])]
+    frames, ticks = (sum(several) for several in zip(*steps[1:])) if len(steps) > 1 else (0, 0)
+    if frames <= 0 or ticks == 0:
+        return None
+    rate = ticks / (frames * TICKS)
+    is_steady = all(length > 0 and 0.5 <= step / (length * TICKS * rate) <= 2
+                    for length, step in steps[1:])
+    are_small = all(0 < abs(step) <= 2 * TICKS and (step > 0) == (ticks > 0) for _, step in steps)
+    ppm = round(rate * 1e6)
+    return ppm if is_steady and are_small and 0 < abs(ppm) <= MOST_PPM else None
+
+
+def break_lines(parts: Sequence[Part]) -> Iterator[str]:
+    """Where parts begin, and how much longer the recording is there than the file."""
+    for number, (before, part) in enumerate(zip(parts, parts[1:]), 2):
+        frames, rest = divmod(abs(away := ticks_between(before.origin, part.origin)), TICKS)
+        length = time_of(frames) + (f" and {rest} ticks" if rest else "")
+        where = "where PTS go back" if part.base != before.base else \
+            f"after a break of {length}" if away > 0 else f"where the recording lacks {length}"
+        yield f"part {number} begins at {time_of(part.begin)}, {where}"
+
+
+def runs_line(runs: int) -> str:
+    """How often the programme is there."""
+    return f"the programme is there {runs} times"
+
+
+def run_lines(runs: Sequence[Run], packets: Sequence[Range], bases: Sequence[Base]) \
+        -> Iterator[str]:
+    """Where the runs of a programme are."""
+    def after(place: tuple[int, int]) -> str:
+        before = sum(wrapped(last - first) // TICKS
+                     for first, last in (one.sent for one in bases[:place[0]]))
+        return time_of(before + place[1])
+
+    for number, (run, own) in enumerate(zip(runs, packets), 1):
+        first, last = (pts_of(frames, bases[base].first) for base, frames in run)
+        yield (f"run {number} is sent from PTS {first} to PTS {last}, from {after(run.first)} to "
+               f"{after(run.last)} after the first header: --pes {own[0]}-{own[1]}")
+
+
+def packets_of(runs: Sequence[Run], number: int, bases: Sequence[Base],
+               packets: Packets) -> Range:
+    """The PES packets of a run, and all beside it up to the last of the run before and the first of
+    the next one."""
+    first, last = bases[0].packets[0], bases[-1].packets[1]
+    if number:
+        first = number_of_place(runs[number - 1].last, bases, packets) + 1
+    if number + 1 < len(runs):
+        last = number_of_place(runs[number + 1].first, bases, packets) - 1
+    return first, last
+
+
+def number_of_place(place: tuple[int, int], bases: Sequence[Base], packets: Packets) -> int:
+    """The number of the PES packet at a place."""
+    base = bases[place[0]]
+    pts = wrapped(pts_of(place[1], base.first) - TICKS // 2)
+    return next((number for run in packets.inside(*base.packets) if run.last is not None
+                 and ticks_between(pts, run.last) >= 0 for number in range(run.first, run.end)
+                 if ticks_between(pts, run.pts_of(number) or 0) >= 0), base.packets[1])
+
+
+# ---- the tool
+
 def read_words(text: str, words: list[str]) -> argparse.Namespace:
     """The words of the command line; `text` is the help of the tool."""
     parser = Words(text)
     parser.add_argument("stl", metavar="STL", help="the subtitle file")
-    parser.add_argument("pes", metavar="PES",
+    parser.add_argument("name", metavar="PES",
                         help="the recording, a file of PES packets, or with --pid a transport "
                              "stream; - is standard input")
     add_page(parser)
@@ -85,178 +383,19 @@ def read_words(text: str, words: list[str]) -> argparse.Namespace:
     add_within(parser)
     parser.add_argument("--breaks", type=breaks_word, default=0, metavar="N",
                         help="the breaks of the programme, none where it is left out")
-    parser.add_argument("--run", type=run_word, metavar="N",
-                        help="which one, where the programme is there more than once")
+    parser.add_argument("--pes", dest="inside", type=range_word, metavar="I-J",
+                        help="the numbers of the first and the last PES packet, where the "
+                             "programme is there more than once")
     add_stream(parser)
     add_program(parser)
     return parser.parse_args(words)
 
 
-def subtitles_of(path: str, option: str) -> list[Shown]:
-    """The subtitles of a file that come and go within a day."""
-    found = []
-    for one in readable(path, whole_bytes(path)):
-        begin, end = times_of(one)
-        if begin is not None and end is not None and begin < end:
-            look = one.row, one.justify, one.text
-            found.append(Shown(begin, end, look, letters_on_page(one.text, option)))
-    if not found:
-        raise Stop(f"{path} has no subtitle that comes and goes within a day")
-    return found
-
-
-def sent_in(path: str, name: str, page: Page, told: list[str]) -> Sent:
-    """What is sent of the page in a file; what is told of it calls it by a name."""
-    sent = Sent(page)
-    with Input(path) as file:
-        try:
-            for batch in pes_batches(file):
-                sent.take_all(batch)
-        except Damaged as reason:
-            if not sent.bases.count:
-                raise Stop(f"{name}: {reason}") from None
-            told.append(f"{name}: {reason}; what stands before is used")
-    return sent
-
-
-class Finding:
-    """Subtitles and what is sent, as it stands in the time bases of the recording; what comes of
-    that stands in `origin`."""
-
-    def __init__(self, subtitles: Sequence[Shown], bases: Sequence[SentInBase],
-                 elections: Sequence[Election], known: int | None, origin: Origin) -> None:
-        self.subtitles, self.bases, self.known = subtitles, bases, known
-        self.elections, self.row = elections, find_row(elections)
-        self.origin = origin
-
-    def parts(self, row: Sequence[Stretch]) -> list[Part]:
-        """The parts of a row."""
-        return parts_of(self.subtitles, self.elections, row)
-
-    def packets_of(self, part: Part) -> Packets | None:
-        """The PES packets of a part, where PTS go back."""
-        return self.bases[part.base].packets if len(self.bases) > 1 else None
-
-    def add(self, part: OfPart) -> None:
-        """Takes a part that is clear."""
-        frames = f"--from {time_of(part.frames[0])} --to {time_of(part.frames[1])} " \
-            if part.frames else ""
-        packets = f"--pes {part.packets[0]}-{part.packets[1]} " if part.packets else ""
-        self.origin.parts.append(part)
-        self.origin.printed.append(f"{frames}{packets}--origin {part.origin}")
-
-    def measure(self, part: Part) -> None:
-        """Takes how the first part agrees with its origin, and how late it is."""
-        best, apart = part.best, part.election.apart(part.best)
-        are_all = best.agree == best.among or bool(apart and apart.agree == apart.of)
-        self.origin.agreement = Agreement(best.agree, best.among, best.letters, len(part.edges),
-                                          are_all)
-        away = ticks_between(self.known or 0, part.origin)
-        self.origin.away = None if self.known is None else away
-        self.origin.told += lateness_lines(away, self.known)
-
-    def find_one(self) -> None:
-        """Takes one origin, that of the first part, where it is clear."""
-        origin, parts = self.origin, self.parts(self.row)
-        if not parts:
-            origin.told.append("no edge agrees with any origin")
-            return
-        part = parts[0]
-        if is_clear(part):
-            origin.status = 0
-            self.add(OfPart(part.origin, self.packets_of(part) if len(parts) == 1 else None))
-        edges, sent = self.elections[0].edges, self.bases[part.base]
-        origin.told += part_lines(part, len(edges))
-        self.measure(part)
-        if len(parts) > 1:
-            stretch = self.row[1]
-            origin.shifted_from = stretch.track.edges[stretch.first].frame
-            origin.shifts = shift_lines(self.row, parts,
-                                        part.origin if self.known is None else self.known)
-            origin.told += origin.shifts
-        origin.told.append(
-            f"subtitles due from {time_of(edges[0].frame)} to {time_of(edges[-1].frame)}, page "
-            f"sent from {time_at(sent.first, part.origin)} to {time_at(sent.last, part.origin)}")
-
-    def find_parts(self, breaks: int) -> None:
-        """Takes all parts, where they are as many as there are to be, and clear."""
-        origin, parts = self.origin, self.parts(by_breaks(self.row))
-        if len(parts) != breaks + 1:
-            origin.breaks = max(len(parts) - 1, 0)
-            found = counted(origin.breaks, "break") if origin.breaks else "no break"
-            origin.told += [f"{found} found, where --breaks {breaks} is said", *break_lines(parts)]
-            return
-        if all(map(is_clear, parts)):
-            origin.status = 0
-            for part in parts:
-                self.add(OfPart(part.origin, self.packets_of(part), (part.begin, part.end)))
-        count = sum(len(part.edges) for part in parts)
-        origin.told += [f"{len(parts)} parts: {sum(part.best.agree for part in parts)} of "
-                        f"{counted(count, 'edge')} agree", *break_lines(parts)]
-        for number, part in enumerate(parts):
-            origin.told += part_lines(part, count)
-            if not number:
-                self.measure(part)
-            origin.told += [f"the subtitle from {time_of(one.begin)} to {time_of(one.end)} reaches "
-                            "into the next part, and is in none" for one in part.over]
-
-
-def is_sent(sent: Sent, asked: argparse.Namespace, told: list[str]) -> bool:
-    """Whether there is something of the page; else what there is, is told."""
-    bases = sent.bases
-    if not bases.timed:
-        told.append(f"none of {counted(bases.count, 'PES packet')} in {asked.pes} has a PTS: check "
-                    "refuses them as 34")
-        return False
-    if bases.marks:
-        told.append(f"{counted(bases.marks, 'mark')} of what is missing skipped: check refuses "
-                    "them as 45")
-    if bases.timed + bases.marks < bases.count:
-        told.append(f"{bases.count - bases.timed - bases.marks} of "
-                    f"{counted(bases.count, 'PES packet')} have no PTS, and are skipped here: "
-                    "check refuses them as 34")
-    if not sent.changes:
-        pages = [page_name(*page) for page, _ in sent.others.most_common(NAMED)]
-        told.append(f"there is no header of page {page_name(*asked.page)} in {asked.pes}; other "
-                    f"subtitle pages: {', '.join(pages) or 'none'}")
-    return bool(sent.changes)
-
-
-def find(asked: argparse.Namespace, path: str) -> Origin:
-    """The origin of a file of PES packets, or why it is not clear."""
-    origin = Origin()
-    subtitles = subtitles_of(asked.stl, asked.option)
-    sent = sent_in(path, asked.pes, asked.page, origin.told)
-    if not is_sent(sent, asked, origin.told):
-        return origin
-    bases = sent.in_bases()
-    elections = elections_of(subtitles, bases, asked.within)
-    runs = find_runs(elections)
-    if len(runs) > 1:
-        origin.runs = len(runs)
-        origin.told += [runs_line(len(runs)), *run_lines(runs, bases)]
-    if asked.run is not None and asked.run > max(len(runs), 1):
-        origin.told.append(f"there is no run {asked.run} of the programme"
-                           + " but one" * (len(runs) < 2))
-        return origin
-    if len(runs) > 1:
-        if asked.run is None:
-            origin.told.append(f"say which one: --run 1 to --run {len(runs)}")
-            return origin
-        elections = of_run(elections, runs, asked.run)
-    finding = Finding(subtitles, bases, elections, asked.origin, origin)
-    if asked.breaks:
-        finding.find_parts(asked.breaks)
-    else:
-        finding.find_one()
-    return origin
-
-
 def main(text: str, words: list[str]) -> int:
     """Prints the origin, or tells why it is not clear; answers the status."""
     asked = read_words(text, words)
-    with pes_of(asked.pes, asked.pid, asked.packet_size, asked.program) as path:
-        origin = find(asked, path)
+    packets = survey_of(asked.name, asked.page, asked.pid, asked.packet_size, asked.program)
+    origin = find(Sought(*(getattr(asked, name) for name in Sought._fields)), packets)
     for line in origin.printed:
         print(line)
     for line in origin.told:

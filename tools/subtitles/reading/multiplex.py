@@ -3,7 +3,8 @@ from __future__ import annotations
 
 from ..core.teletext import Page
 from ..core.times import wrapped
-from .transport import BEGINS, PACKET, PAYLOAD, SYNC, crc
+
+SYNC, PACKET, BEGINS, PAYLOAD = 0x47, 188, 0x40, 0x10
 
 PROGRAMME, PMT_PID, PCR_PID = 1, 0x100, 0x1FF0
 RESERVED_PIDS = {PMT_PID, PCR_PID}
@@ -85,3 +86,13 @@ class Multiplex:
         data = b"".join(self.parts)
         self.parts, self.size = [], 0
         return data
+
+
+def crc(data: bytes) -> int:
+    """The CRC-32 of a section (annex A); 0 where its own stands at its end."""
+    value = 0xFFFFFFFF
+    for byte in data:
+        value ^= byte << 24
+        for _ in range(8):
+            value = (value << 1 ^ (0x04C11DB7 if value & 0x80000000 else 0)) & 0xFFFFFFFF
+    return value

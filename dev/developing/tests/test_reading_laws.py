@@ -1,0 +1,247 @@
+"""Laws of origins and cuts, on programmes and transmissions at random: what is sent is known, so what
+has to be found is too. No table: each law is tried on some programmes, each made by its number.
+"""
+from __future__ import annotations
+
+import random
+import unittest
+from typing import Sequence
+
+from subtitles.core.times import CLOCK, FRAMES_OF_A_DAY, TICKS, frame_in
+from subtitles.reading.alignment import (
+    AGAIN, Edge, Shown, bases_of, by_breaks, edges_of, find_row, parts_of, runs_of)
+from subtitles.reading.cutting import cut_of
+from subtitles.reading.finding import Origin, Sought, packets_of as packets_of_run, take_one, take_parts
+from subtitles.reading.survey import Change, Packets, Run
+
+SEEDS = range(20)
+Sending = tuple[int, bytes]  # a PTS that does not wrap, and the letters of the page then
+
+
+def programme(chance: random.Random, count: int | None = None) -> list[Shown]:
+    """Subtitles, some of which adjoin, and some have the same text."""
+    frame, made = chance.randrange(FRAMES_OF_A_DAY // 2), []
+    for number in range(count or chance.choice((6, 12, 30))):
+        frame += chance.choice((0, AGAIN + 1, chance.randrange(AGAIN + 1, 200)))
+        end = frame + chance.randrange(12, 150)
+        text = b"text %d" % (number if chance.random() < 0.9 else 0)
+        made.append(Shown(frame, end, (number, text), text))
+        frame = end
+    return made
+
+
+def sent(edges: Sequence[Edge], origin: int) -> list[Sending]:
+    """What a page is when, by an origin."""
+    return [(origin + TICKS * edge.frame, edge.letters) for edge in edges]
+
+
+def packets_of(sendings: Sequence[Sending], every: int = 0, chance: random.Random | None = None) \
+        -> Packets:
+    """The PES packets of sendings, each of which is repeated after so many frames."""
+    made = Packets(0)
+    shown: bytes | None = None
+    for at, (pts, letters) in enumerate(sendings):
+        end = sendings[at + 1][0] if at + 1 < len(sendings) else pts + 1
+        for place in range(pts, max(end, pts + 1), TICKS * every or 1 << 40):
+            number = made.count
+            does = "heo" + "b" * (not letters) if place == pts or chance is None else "ho" + \
+                "b" * (not letters)
+            made.runs.append(Run(number, 1, place % CLOCK, 0, does, ""))
+            if letters != shown:
+                made.changes.append(Change(place % CLOCK, letters, number, ((20, letters),)))
+            shown = letters
+    return made
+
+
+def found(shown: Sequence[Shown], packets: Packets, within: int = 0, known: int | None = None,
+          breaks: int = 0, run: int | None = None) -> Origin:
+    """What tools/origin finds."""
+    asked = Sought("", "", origin=known, breaks=breaks)
+    origin, bases = Origin(), bases_of(shown, packets, within)
+    runs = runs_of(bases)
+    if len(runs) > 1:
+        origin.runs = [packets_of_run(runs, at, bases, packets) for at in range(len(runs))]
+    if run and origin.runs:
+        bases = bases_of(shown, packets, within, origin.runs[run - 1])
+    row = find_row(bases)
+    if breaks:
+        take_parts(origin, asked, bases, parts_of(shown, bases, by_breaks(row)))
+    else:
+        take_one(origin, asked, bases, row, parts_of(shown, bases, row))
+    return origin
+
+
+class Laws(unittest.TestCase):
+    """Each on many programmes."""
+
+    def each(self) -> list[tuple[random.Random, list[Shown], list[Edge], int]]:
+        made = []
+        for seed in SEEDS:
+            chance = random.Random(seed)
+            shown = programme(chance)
+            edges = edges_of(shown)
+            near = -TICKS * edges[len(edges) // 2].frame % CLOCK  # PTS begin again in the midst
+            made.append((chance, shown, edges, chance.choice((0, near, chance.randrange(CLOCK)))))
+        return made
+
+    def test_any_origin_is_found(self) -> None:
+        """Also where a third of the sendings are lost, and with repeats."""
+        for chance, shown, edges, origin in self.each():
+            kept = [one for one in sent(edges, origin) if chance.random() < 0.85]
+            for name, some in (("all", sent(edges, origin)), ("some", kept)):
+                one = found(shown, packets_of(some, chance.choice((0, 25))))
+                with self.subTest(name, origin=origin):
+                    self.assertEqual((one.status, [part.origin for part in one.parts]),
+                                     (0, [origin % CLOCK]), one.told)
+            self.assertEqual(one.runs, [])
+
+    def test_a_delay_is_told(self) -> None:
+        """Compared with the origin that is known."""
+        for chance, shown, edges, origin in self.each():
+            away = chance.randrange(-50, 51) * TICKS + chance.choice((0, 0, 7))
+            one = found(shown, packets_of(sent(edges, origin + away)), known=origin)
+            self.assertEqual(one.away, away)
+
+    def test_off_frames_are_told(self) -> None:
+        """PTS that lie beside whole frames agree to the nearest one."""
+        for chance, shown, edges, origin in self.each():
+            sendings = [(pts + chance.randrange(-900, 901), text) for pts, text in
+                        sent(edges, origin)]
+            one = found(shown, packets_of(sendings))
+            self.assertLessEqual(abs((one.parts[0].origin - origin + 900) % CLOCK - 900), 900)
+            self.assertTrue(any("only to the nearest frame" in line for line in one.told))
+
+    def test_all_ends_may_be_late(self) -> None:
+        """Beginnings and ends that are a constant number of frames apart."""
+        for chance, shown, edges, origin in self.each():
+            shown = [one._replace(end=one.end - 6, letters=b"text %d" % at)
+                     for at, one in enumerate(shown)]  # none adjoin, nor have the same text
+            edges = edges_of(shown)
+            late = chance.choice((-3, -1, 2, 4))
+            sendings = [(pts + late * TICKS * (not text), text) for pts, text in
+                        sent(edges, origin)]
+            if sorted(sendings) != sendings:
+                continue
+            one = found(shown, packets_of(sendings))
+            self.assertEqual([part.origin for part in one.parts], [origin % CLOCK], one.told)
+            word = f"{abs(late)} frame{'s' * (abs(late) > 1)} {'late' if late > 0 else 'early'}"
+            self.assertTrue(any(f"ends are {word} compared with the beginnings" in line
+                                for line in one.told), one.told)
+
+    def test_within(self) -> None:
+        """Each up to N frames late: the origin is that of the least late."""
+        for chance, shown, edges, origin in self.each():
+            within = chance.choice((1, 2, 5))
+            late = [chance.randrange(within + 1) for _ in edges]
+            sendings = [(pts + TICKS * by, text) for (pts, text), by in zip(
+                sent(edges, origin), late)]
+            if any(one >= two for (one, _), (two, _) in zip(sendings, sendings[1:])):
+                continue
+            one = found(shown, packets_of(sendings), within)
+            self.assertEqual([part.origin for part in one.parts],
+                             [(origin + TICKS * min(late)) % CLOCK], one.told)
+
+    def test_breaks(self) -> None:
+        """Each part of the programme has its own origin, also where an encoder begins anew."""
+        for chance, shown, _, origin in self.each():
+            breaks = chance.choice((1, 2))
+            shown = programme(chance, 12 * (breaks + 1))
+            shown = [one._replace(begin=one.begin + 50 * (at // 12), end=one.end + 50 * (at // 12))
+                     for at, one in enumerate(shown)]
+            origins, sendings = [origin], list[Sending]()
+            for number in range(breaks + 1):
+                sendings += sent(edges_of(shown[12 * number:12 * number + 12]), origins[-1])
+                origins.append(origins[-1] + TICKS * chance.choice((300, 4000, -10 ** 6)))
+            one = found(shown, packets_of(sendings), breaks=breaks)
+            self.assertEqual([part.origin for part in one.parts],
+                             [origin % CLOCK for origin in origins[:-1]], one.told)
+            self.assertEqual([part.frames for part in one.parts], [
+                (shown[12 * at].begin, shown[12 * at + 11].end) for at in range(breaks + 1)])
+
+    def test_late_from_one_on(self) -> None:
+        """Where all subtitles from one on are late that is told, with its time and length."""
+        for chance, _, _, origin in self.each():
+            shown = programme(chance, 30)
+            edges, at = edges_of(shown), 2 * chance.randrange(4, 11)
+            late = chance.choice((7, 40, 250))
+            sendings = [(pts + TICKS * late * (number >= at), text)
+                        for number, (pts, text) in enumerate(sent(edges, origin))]
+            one = found(shown, packets_of(sendings))
+            self.assertEqual([part.origin for part in one.parts], [origin % CLOCK])
+            self.assertEqual(one.shifted_from, edges[at].frame, one.told)
+            self.assertIn(f"({late} frames) late", one.shifts[0])
+
+    def test_runs(self) -> None:
+        """The programme once, twice and three times."""
+        for chance, shown, edges, origin in self.each():
+            runs = chance.choice((1, 2, 3))
+            step = TICKS * (edges[-1].frame - edges[0].frame + chance.randrange(100, 5000))
+            sendings = [one for run in range(runs) for one in sent(edges, origin + step * run)]
+            if sendings[-1][0] - sendings[0][0] >= CLOCK // 2:
+                continue
+            for number in range(1, runs + 1):
+                one = found(shown, packets_of(sendings), run=number)
+                self.assertEqual((len(one.runs), [part.origin for part in one.parts]),
+                                 (runs if runs > 1 else 0, [(origin + step * (number - 1)) % CLOCK]), one.told)
+
+    def test_what_fits_twice_is_not_clear(self) -> None:
+        """One subtitle whose length another one has too, with no text of its own."""
+        shown = [Shown(100, 150, 1, b"own")]
+        other = [Shown(100, 150, 1, b"other"), Shown(300, 350, 2, b"another")]
+        one = found(shown, packets_of(sent(edges_of(other), 0)))
+        self.assertEqual((one.status, one.parts), (1, []))
+        self.assertTrue(any("not unique" in line for line in one.told))
+
+
+class Cuts(unittest.TestCase):
+    """What is taken, beside what a plain reading of the rule takes."""
+
+    def test_beside_a_plain_reading(self) -> None:
+        for seed in range(400):
+            chance = random.Random(seed)
+            frames = sorted(chance.sample(range(1000, 1400), chance.randrange(3, 60)))
+            origin = chance.choice((0, CLOCK - TICKS * 1200, chance.randrange(CLOCK)))
+            made, is_blank = Packets(0), True
+            for number, frame in enumerate(frames):
+                has_header = chance.random() < 0.7
+                before, is_blank = is_blank, chance.random() < 0.5 if has_header else is_blank
+                does = ("heo" if has_header else "o") + "b" * is_blank
+                made.runs.append(Run(number, 1, (origin + TICKS * frame) % CLOCK, 0, does, ""))
+                if before != is_blank:
+                    made.changes.append(Change(0, b"", number))
+            begin = chance.randrange(1100, 1250)
+            end, every = begin + chance.randrange(150), chance.choice((None, 25, 100))
+            with self.subTest(seed=seed):
+                self.assertEqual(cut_of(made, begin, end, origin, every).range,
+                                 plain(made, frames, begin, end, every))
+
+    def test_a_range_and_a_wrong_pts(self) -> None:
+        """PES packets outside of a range are not taken; one PTS that is far off ends nothing."""
+        made = Packets(0, [Run(at, 1, TICKS * (100 + at), 0, "ho", "") for at in range(20)])
+        self.assertEqual(cut_of(made, 100, 119, 0, inside=(3, 7)).range, (3, 7))
+        made.runs[5] = made.runs[5]._replace(pts=TICKS * 10 ** 6)
+        self.assertEqual(cut_of(made, 100, 110, 0).range, (0, 10))
+        self.assertEqual(cut_of(made, 300, 400, 0).range, None)
+        self.assertEqual(frame_in(TICKS * 105, 0), 105)
+
+
+def plain(packets: Packets, frames: Sequence[int], begin: int, end: int,
+          every: int | None) -> tuple[int, int] | None:
+    """The rule, sentence by sentence, for PES packets whose frames rise."""
+    does = [run.does for run in packets.runs]
+    changed = {one.number for one in packets.changes}
+    early = [at for at, frame in enumerate(frames) if max(begin - (every or 0), 0) <= frame < begin]
+    own = [at for at, frame in enumerate(frames)
+           if begin <= frame <= (end if every is None else end + every)]
+    blank = [at for at in early if "h" in does[at] and "b" in does[at]]
+    if not own:
+        return None
+    at_begin = frames[own[0]] == begin and early and "b" not in does[early[-1]] and own[0] in changed
+    first: int | None = blank[-1] if blank and not at_begin else next(
+        (at for at in own if "h" in does[at]), None)
+    if first is None:
+        return None
+    last: int | None = own[-1]
+    if every is not None:
+        last = next((at for at in own if frames[at] >= end and "h" in does[at] and at >= first), last)
+    return first, last or 0

@@ -1,0 +1,105 @@
+"""Where something of a PID is missing, and where its clock jumps, in words."""
+from __future__ import annotations
+
+import dataclasses
+from typing import Iterator, NamedTuple
+
+from ..core.times import TICKS, ticks_between, time_of, wrapped
+from ..core.words import counted, pid_name
+from .survey import Packets
+
+SECOND = 90_000  # ticks
+TOLD = 20  # places that are told one by one
+PAUSE = 10  # times as few packets as that time has usually are still a pause of the PCR
+
+
+@dataclasses.dataclass
+class Place:
+    """A place at which something is missing, between the PTS of two PES packets: `lost` TS packets
+    by their counters, some that are `scrambled`, or those of `missing` ticks by the PCR. `mark` is
+    the number of the mark that stands there, where one does."""
+
+    before: int | None
+    after: int | None = None
+    lost: int = 0
+    scrambled: int = 0
+    missing: int = 0
+    mark: int | None = None
+
+
+class Jump(NamedTuple):
+    """The clock goes on by some ticks more, or less, after a PTS of the PID."""
+
+    before: int | None
+    ticks: int
+
+
+def places_of(packets: Packets) -> list[Place]:
+    """Where a mark stands, and where the PCR and the counters of other PIDs alone tell it."""
+    after = {run.first: run.pts for run in packets.runs}
+    following: dict[int, int | None] = {}
+    pts = None
+    for run in reversed(packets.runs):
+        pts = run.pts if run.pts is not None else pts
+        following[run.first] = pts
+    known = [Place(one.before, following[one.number], one.lost, one.scrambled, mark=one.number)
+             for one in packets.marks]
+    holes = [Place(one.before, one.after, missing=one.ticks - round(one.usual))
+             for one in packets.clocked if one.counters == "broken" and one.ticks > 0]
+    return known + [hole for hole in holes if not any(overlap(hole, one) for one in known)]
+
+
+def jumps_of(packets: Packets) -> Iterator[Jump]:
+    """Where nothing is missing and the clock was set anew."""
+    for one in packets.clocked:
+        if one.counters == "whole" and one.packets * PAUSE * one.usual < \
+                one.usual_packets * abs(one.ticks):
+            yield Jump(one.before, one.ticks - round(one.usual))
+
+
+def overlap(one: Place, other: Place) -> bool:
+    """Whether two places lie where the same PES packets are."""
+    return not is_after(one, other) and not is_after(other, one)
+
+
+def is_after(one: Place, other: Place) -> bool:
+    return one.before is not None and other.after is not None and \
+        ticks_between(other.after, one.before) >= 0
+
+
+def what_of(place: Place) -> str:
+    """What is missing at a place."""
+    said = [f"{counted(place.lost, 'TS packet')} lost"] if place.lost else []
+    said += [f"TS packets of {place.missing / SECOND:.2f} s are missing, by the PCR and the "
+             "counters of other PIDs"] if place.missing else []
+    said += [f"{counted(place.scrambled, 'TS packet')} scrambled"] if place.scrambled else []
+    return ", ".join(said) or "a break in the stream"
+
+
+def line_of(place: Place, first: int | None) -> str:
+    """What a place is told as."""
+    known = [pts for pts in (place.before, place.after) if pts is not None]
+    names = " and ".join(map(str, known))
+    times = " and ".join(time_of(wrapped(pts - (first or 0)) // TICKS) for pts in known)
+    where = "between" if len(known) == 2 else "before" if place.before is None else "after"
+    return (f"{where} PTS {names}, {times} on: " if known else "") + what_of(place)
+
+
+def why_refused(packets: Packets) -> str | None:
+    """Why nothing of a PID is given, or nothing more; `None` where all is."""
+    name = pid_name(packets.pid)
+    if not packets.refusal and packets.count:
+        return None
+    if not packets.refusal:
+        if not packets.packets:
+            return f"{name} carries nothing"
+        if packets.scrambled == packets.packets:
+            return f"{name} is scrambled: all {counted(packets.packets, 'TS packet')} of it"
+        return f"{name} has no whole PES packet in {counted(packets.packets, 'TS packet')}"
+    which = "PES packets of private_stream_1" if packets.refusal == 31 else \
+        "PES packets of 184 to 1656 bytes"
+    if not packets.count:
+        return f"{name} has no {which}, as Teletext has"
+    word = "Start" if packets.refusal == 31 else "Length"
+    return f"{name} has other than {which} from PES packet {packets.count} on: refused " \
+        f"{packets.refusal} {word} pes {packets.count}"
