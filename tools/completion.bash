@@ -19,10 +19,10 @@ _subttx_value() {
 # made: values
         --option) _subttx_words 'english german swedish italian french spanish czech' "$2" ;;
         --receiver) _subttx_words 'blank keep drop' "$2" ;;
-        --packet-size) _subttx_words 'survey 188 192 204' "$2" ;;
-        --around-pes | --at | --breaks | --every | --flip | --from | --jobs | --lose | \
-            --origin | --page | --part | --patience | --pes | --pid | --run | --settled | \
-            --skip | --stall | --start | --to | --within | -c)
+        --packet-size) _subttx_words '188 192 204' "$2" ;;
+        --at | --breaks | --every | --flip | --from | --jobs | --lose | --origin | --page | \
+            --patience | --pes | --pid | --settled | --skip | --stall | --start | --to | \
+            --within | -c)
             COMPREPLY=()
             ;;
 # end
@@ -34,7 +34,7 @@ _subttx() {
     local word=${COMP_WORDS[COMP_CWORD]} before=${COMP_WORDS[COMP_CWORD - 1]}
     local command='' at options
 # made: commands
-    local commands='check schedule listen extract show normal packets packet survey'
+    local commands='check schedule listen extract show normal packets packet'
 # end
     for ((at = 1; at < COMP_CWORD; at++)); do
         if [[ " $commands " == *" ${COMP_WORDS[at]} "* ]]; then
@@ -55,7 +55,6 @@ _subttx() {
             --pid --packet-size --pes' ;;
         extract) options='--pid --packet-size' ;;
         packets) options='--pid --packet-size --pes' ;;
-        survey) options='--page --pid --packet-size' ;;
 # end
         *) options= ;;
     esac
