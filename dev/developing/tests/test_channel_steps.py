@@ -326,7 +326,7 @@ class Steps(Case):
     def test_end_of_the_feed(self) -> None:
         """What is judged is ended, what is there is judged, and the others are open; a line that is
         none is not."""
-        lines = self.listed("one", "two") + "none.stl --run 1\n" + self.listed("three")
+        lines = self.listed("one", "two") + "none.stl --pes 1-2\n" + self.listed("three")
         for is_stopped, begun in ((False, ["one", "two"]), (True, ["one"])):
             channel = Told(self, lines, self.path("out"))
             channel.give(sent(self.texts("one"), 900_000, 9))
@@ -343,7 +343,7 @@ class Steps(Case):
                     known[name] = json.load(file)
                 os.unlink(self.path(f"out/{name}.json"))
             self.must("reasons", known["three"]["reason"] == ENDED and known["three"]["open"]
-                      and "--run goes with" in known["line-3"]["reason"]
+                      and "--pes goes with" in known["line-3"]["reason"]
                       and "open" not in known["line-3"], known)
             self.must("verdicts", channel.verdicts.count("not judged") == 4 - len(begun))
             if is_stopped:
@@ -410,8 +410,8 @@ class Steps(Case):
 
     def test_lines_that_are_none(self) -> None:
         """Each is told when its turn has come, and not what stands before it."""
-        for lines, said in ((self.listed("one") + "none.stl --run 1\n", 0),
-                            ("none.stl --run 1\n" + self.listed("one"), 1),
+        for lines, said in ((self.listed("one") + "none.stl --pes 1-2\n", 0),
+                            ("none.stl --pes 1-2\n" + self.listed("one"), 1),
                             ("none.stl\nx.stl --pid 5\n" + self.listed("one"), 2)):
             channel = Told(self, lines)
             channel.give(iter([pes_packet(0, [CLOSING])]))
