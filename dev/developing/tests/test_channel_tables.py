@@ -5,6 +5,7 @@ import argparse
 import contextlib
 import errno
 import os
+from types import SimpleNamespace
 from typing import Any, Sequence
 from unittest import mock
 
@@ -441,7 +442,7 @@ class Saying(Channel):
         self.said.append(line)
 
 
-CALL: Any = None  # nothing is taken out
+CALL: Any = SimpleNamespace(drop=lambda: None, out=None)  # nothing is taken out
 
 
 class Handing(TransportFeed):

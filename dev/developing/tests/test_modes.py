@@ -1,4 +1,4 @@
-"""Which option of tools/qc goes with what: the parser, the refusals and the manual say the same."""
+"""Which option of tools/qc goes with what: the parser and the refusals say the same."""
 from __future__ import annotations
 
 import argparse
@@ -124,17 +124,6 @@ class Modes(Case):
         names = {name for action in parser_of("")._actions for name in action.option_strings}
         self.must("all", names - HIDDEN - ASKING == set(TAKEN_BY), names ^ set(TAKEN_BY))
 
-    def test_manual_has_the_table(self) -> None:
-        """The rows of the manual are those of the tools."""
-        with open(MANUAL, encoding="utf-8") as file:
-            text = file.read().partition("## Which option goes with what\n")[2]
-        rows = [[cell.strip() for cell in line.strip("|").split("|")]
-                for line in text.splitlines() if line.startswith("|")]
-        self.must("its head", rows[0] == ["Option", *(mode.name for mode in MODES)], rows[0])
-        wanted = [[f"`{name}`", *("yes" if mode in taken_by else "" for mode in MODES)]
-                  for name, taken_by in TAKEN_BY.items()]
-        self.must("its rows", rows[2:] == wanted, rows)
-
     def test_modes_of_words(self) -> None:
         """What is asked for, by the words; two at once are refused."""
         for mode, line in CALLS.items():
@@ -193,7 +182,7 @@ class Numbers(unittest.TestCase):
         self.assertEqual(vars(parser_of("").parse_args([])), {
             **dict.fromkeys(self.NONE), **dict.fromkeys(self.FALSE, False), "page": (0, 0x88),
             "every": 250, "option": "english", "is_complete": True, "within": 0, "breaks": 0,
-            "stall": 10})
+            "stall": 10, "passed_on": {}})
 
 
 class Words(unittest.TestCase):

@@ -11,6 +11,7 @@ from ..core.files import temporary_folder
 from ..core.words import Stop, counted, line_of, shown, tell
 from ..qc.asked import Asked
 from ..qc.made_with import program_at
+from ..qc.options import passed_words
 from ..qc.progress import Progress
 from ..qc.status import ACCEPTED, NOT_JUDGED, WAIVED
 from ..qc.typed import Typed
@@ -94,6 +95,7 @@ def words_of(asked: Asked) -> list[str]:
     words += ["--complete" if asked.is_complete else "--no-complete"]
     words += ["--allow-lost"] if asked.is_loss_allowed else []
     words += ["--strict"] if asked.is_strict else []
+    words += passed_words(asked.passed_on)
     return [*words, "--", asked.stl, *([asked.recording] if asked.recording else [])]
 
 

@@ -9,6 +9,7 @@ from ..qc.cause_words import Wording
 from ..qc.faults import faults_of, words_of_subtitle
 from ..qc.made_with import Program
 from ..qc.naming import counts_of
+from ..qc.options import passed_members
 from ..qc.subtitle_file import SubtitleFile
 from ..qc.sums import File
 from ..qc.verdict import Gap, Part, Verdict
@@ -29,7 +30,7 @@ def asked_words(asked: Asked) -> dict[str, Value]:
             "origin": asked.origin, "complete": asked.is_complete, "pid": asked.pid,
             "allow_lost": asked.is_loss_allowed, "severity": asked.severity,
             "breaks": asked.breaks, "pes": asked.pes and list(asked.pes), "start": asked.start,
-            "within": asked.within, "strict": asked.is_strict}
+            "within": asked.within, "strict": asked.is_strict, **passed_members(asked.passed_on)}
 
 
 def part_words(part: Part, is_kept: bool) -> dict[str, Value]:

@@ -1,10 +1,11 @@
-"""What tools/qc is called for, and which options go with which: docs/manual/qc.md has the table."""
+"""What tools/qc is called for, and which options go with which."""
 from __future__ import annotations
 
 import argparse
 from typing import NamedTuple, Sequence
 
 from ..core.words import Stop
+from ..qc.options import PASSED_ON, names_of
 
 
 class Mode(NamedTuple):
@@ -53,6 +54,8 @@ TAKEN_BY: dict[str, tuple[Mode, ...]] = {
     "--jobs": (BATCH, WATCH),
     "--settled": (WATCH,),
     "--patience": (CHANNEL,),
+    **dict.fromkeys(names_of(PASSED_ON, False), TRANSMISSIONS),
+    **dict.fromkeys(names_of(PASSED_ON, True), JUDGED),
 }
 
 

@@ -1,6 +1,7 @@
 """A pair judged, from a recording to a verdict, one idea each; tools/qc is called with `calls`.
 
 asked         what is asked of a pair
+options       options that `check` gets as they are: one table
 pair          a pair judged, from a recording to a verdict
 steps         the steps: what is asked of the program, and said
 verdict       a verdict, its parts, and what is missing

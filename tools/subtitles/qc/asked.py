@@ -13,6 +13,7 @@ from ..core.teletext import page_name
 from ..core.words import (
     Stop, Words, add_page, add_within, breaks_word, every_word, origin_word, pid_word, range_word,
     start_word, within_words)
+from .options import add_passed_on, passed_words
 
 AUTO = "auto"  # the national option is that of the language
 MOST_TRIED = 5  # frames within which a recording is tried, where it is not judged or refused
@@ -41,6 +42,7 @@ class Asked:
     start: str | None
     within: int = 0  # frames within which a page has to be whole
     is_strict: bool = False  # warnings count
+    passed_on: dict[str, str] = dataclasses.field(default_factory=dict)  # that `check` gets too
 
     @property
     def page_name(self) -> str:
@@ -63,7 +65,8 @@ class Asked:
     def check_words(self) -> list[str]:
         """The options of `check` that a person would type, but for the origin."""
         return [*self.page_words(), *self.every_words(), *self.option_words(),
-                *(["--complete"] if self.is_complete else []), *self.within_words()]
+                *(["--complete"] if self.is_complete else []), *self.within_words(),
+                *passed_words(self.passed_on)]
 
 
 def add_pair_options(parser: Words) -> None:
@@ -97,6 +100,7 @@ def add_pair_options(parser: Words) -> None:
     parser.add_argument("--start", type=start_word, metavar="TIME|tcp",
                         help="the time code of the recording's first picture; tcp: the one of the "
                              "GSI block")
+    add_passed_on(parser)
 
 
 def pair_options() -> list[str]:

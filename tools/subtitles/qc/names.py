@@ -8,6 +8,7 @@ from typing import Iterator
 from ..core.files import is_utf_8
 from ..core.words import shown
 from .asked import Asked
+from .options import passed_words
 from .typed import Typed, line_of
 
 
@@ -110,7 +111,8 @@ def again(asked: Asked, typed: Typed, *more: str) -> str:
                ["--origin", str(asked.origin)] if asked.origin is not None else [],
                ["--start", asked.start] if asked.start is not None else [],
                ["--breaks", str(asked.breaks)] if asked.breaks else [],
-               ["--pes", f"{asked.pes[0]}-{asked.pes[1]}"] if asked.pes else []]
+               ["--pes", f"{asked.pes[0]}-{asked.pes[1]}"] if asked.pes else [],
+               passed_words(asked.passed_on)]
     instead = {"--origin": ["--origin", "--start"]}.get(more[0], [more[0]]) if more else []
     words += [word for option in options if not set(option[:1]) & set(instead) for word in option]
     return line_of(*words, *more)

@@ -18,6 +18,7 @@ from .checking import Answer, check
 from .clock import Clock
 from .fitting import Found, found_in, refuse
 from .names import Names, again
+from .options import passed_words
 from .recording import Recording
 from .speech import Speech
 from .typed import Typed
@@ -50,15 +51,16 @@ class Steps:
 
     def check_alone(self) -> Answer:
         """What is wrong with the subtitle file; nothing is said of it yet."""
-        words = ["check", "--option", self.asked.option, "--all", "--", self.names.given,
-                 NO_PES]
+        words = ["check", "--option", self.asked.option,
+                 *passed_words(self.asked.passed_on, True), "--all", "--", self.names.given, NO_PES]
         return check([self.typed.program_path, *words],
                      Answer(self.names.temporary("alone.txt")), lambda line: None)
 
     def say_alone(self) -> None:
         """Says the command for that."""
         self.speech.command(self.typed.program_word, "check", self.asked.stl, NO_PES,
-                            *self.asked.option_words(), "--all")
+                            *self.asked.option_words(), *passed_words(self.asked.passed_on, True),
+                            "--all")
 
     def sought(self, recording: Recording, clock: Clock | None) -> Sought:
         """What is looked for in a recording."""

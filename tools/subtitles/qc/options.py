@@ -1,0 +1,66 @@
+"""Options of qc that `check` gets as they are: a new one is a row of the table here, and a member
+`asked` in docs/verdict.schema.json. Its help, its place in completion and man pages, what a printed
+call has, what --resume compares and what a batch or a channel takes come from the row.
+"""
+from __future__ import annotations
+
+import argparse
+from typing import Any, Callable, NamedTuple, Sequence
+
+
+class PassedOn(NamedTuple):
+    """An option: its name, what its value is called, `None` where it has none, its help, and what
+    takes the word, or says by `ArgumentTypeError` why it is none. `is_of_file`: it changes the
+    verdict on a subtitle file alone, too."""
+
+    name: str
+    metavar: str | None
+    help: str
+    read: Callable[[str], str] = str
+    is_of_file: bool = False
+
+    @property
+    def member(self) -> str:
+        """Its name in a JSON result."""
+        return self.name.strip("-").replace("-", "_")
+
+
+PASSED_ON: tuple[PassedOn, ...] = ()
+
+
+class Keep(argparse.Action):
+    """Keeps the word of such an option, by its name, beside those of others."""
+
+    def __call__(self, parser: object, names: argparse.Namespace, value: Any,
+                 option: str | None = None) -> None:
+        setattr(names, self.dest, {**getattr(names, self.dest, {}),
+                                   self.option_strings[0]: "" if value == [] else value})
+
+
+def add_passed_on(parser: argparse.ArgumentParser) -> None:
+    """These options."""
+    parser.set_defaults(passed_on={})
+    for one in PASSED_ON:
+        if one.metavar is None:
+            parser.add_argument(one.name, action=Keep, dest="passed_on", nargs=0, help=one.help,
+                                default={})
+        else:
+            parser.add_argument(one.name, action=Keep, dest="passed_on", metavar=one.metavar,
+                                type=one.read, help=one.help, default={})
+
+
+def passed_words(given: dict[str, str], is_file: bool = False) -> list[str]:
+    """Those that are given, as words; of a subtitle file alone those that change its verdict."""
+    return [word for one in PASSED_ON if one.name in given and (one.is_of_file or not is_file)
+            for word in ([one.name] if one.metavar is None else [one.name, given[one.name]])]
+
+
+def passed_members(given: dict[str, str]) -> dict[str, object]:
+    """The same as members of a JSON result: `None`, or false, where one is not given."""
+    return {one.member: one.name in given if one.metavar is None else given.get(one.name)
+            for one in PASSED_ON}
+
+
+def names_of(several: Sequence[PassedOn], is_of_file: bool) -> list[str]:
+    """The names of those that a subtitle file alone takes, or does not."""
+    return [one.name for one in several if one.is_of_file == is_of_file]
