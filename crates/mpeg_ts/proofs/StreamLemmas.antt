@@ -32,13 +32,7 @@ pub items_end : (distance : ℕ) (in_step : Bool) (room : ℕ) (bytes : List ℕ
     → length bytes < 188
     → items distance in_step room bytes ≡ []
 unfolding items
-items_end distance in_step zero bytes few = refl
-items_end distance in_step (suc room) bytes few =
-    ap (λ b. if b then [] else (if begins_packet distance in_step bytes then
-    Packet (take packet_size bytes) ∷ items distance true room (drop distance bytes)
-    else Skipped ∷ items distance false room (drop 1 bytes)))
-    (let few_bytes : nat_lt (length bytes) packet_size ≡ true = grind (arith, nat_tests) in
-    few_bytes)
+items_end distance in_step room bytes h1 = grind (arith, nat_tests)
 
 -- A packet, where there is room for an item more.
 pub items_packet : (distance : ℕ) (in_step : Bool) (room : ℕ) (bytes : List ℕ)
@@ -47,9 +41,7 @@ pub items_packet : (distance : ℕ) (in_step : Bool) (room : ℕ) (bytes : List 
     → items distance in_step (suc room) bytes
     ≡ Packet (take packet_size bytes) ∷ items distance true room (drop distance bytes)
 unfolding items
-items_packet distance in_step room bytes many begins =
-    let not_few : nat_lt (length bytes) packet_size ≡ false = grind (arith, nat_tests) in
-    rw (not_few, begins)
+items_packet distance in_step room bytes h1 h2 = grind (arith, nat_tests)
 
 -- A byte that is skipped.
 pub items_skipped : (distance : ℕ) (in_step : Bool) (room : ℕ) (bytes : List ℕ)
@@ -58,14 +50,11 @@ pub items_skipped : (distance : ℕ) (in_step : Bool) (room : ℕ) (bytes : List
     → items distance in_step (suc room) bytes
     ≡ Skipped ∷ items distance false room (drop 1 bytes)
 unfolding items
-items_skipped distance in_step room bytes many begins =
-    let not_few : nat_lt (length bytes) packet_size ≡ false = grind (arith, nat_tests) in
-    rw (not_few, begins)
+items_skipped distance in_step room bytes h1 h2 = grind (arith, nat_tests)
 
 -- A Bool is true or false: the proof of what holds in both cases.
 pub by_bool : {P : Type 0} (b : Bool) → (b ≡ true → P) → (b ≡ false → P) → P
-by_bool true f g = f refl
-by_bool false f g = g refl
+by_bool b h1 h2 = grind (arith, nat_tests)
 
 -- The number of the bytes is room enough.
 items_room : (distance : ℕ) (in_step : Bool) (room : ℕ) (more : ℕ) (bytes : List ℕ)
@@ -73,29 +62,23 @@ items_room : (distance : ℕ) (in_step : Bool) (room : ℕ) (more : ℕ) (bytes 
     → length bytes ≤ room
     → length bytes ≤ more
     → items distance in_step room bytes ≡ items distance in_step more bytes
-items_room distance in_step zero more bytes far le le_more =
-    items_end distance in_step zero bytes (omega arith)
-    ∙ sym (items_end distance in_step more bytes (omega arith))
+items_room distance in_step zero more bytes far le le_more = grind (arith, nat_tests, items_end)
 items_room distance in_step (suc room) zero bytes far le le_more =
-    items_end distance in_step (suc room) bytes (omega arith)
-    ∙ sym (items_end distance in_step zero bytes (omega arith))
+    grind (arith, nat_tests, items_end)
 items_room distance in_step (suc room) (suc more) bytes far le le_more =
-    by_bool (nat_lt (length bytes) 188)
-    (λ few. let short : length bytes < 188 = grind (arith, nat_tests) in
-    items_end distance in_step (suc room) bytes short
-    ∙ sym (items_end distance in_step (suc more) bytes short))
-    (λ many. let long : 188 ≤ length bytes = grind (arith, nat_tests) in
-    by_bool (begins_packet distance in_step bytes)
-    (λ begins. items_packet distance in_step room bytes long begins
-    ∙ ap (λ l. Packet (take packet_size bytes) ∷ l)
-    (items_room distance true room more (drop distance bytes) far
-    (omega (arith, length-drop distance bytes)) (omega (arith, length-drop distance bytes)))
-    ∙ sym (items_packet distance in_step more bytes long begins))
-    (λ skips. items_skipped distance in_step room bytes long skips
-    ∙ ap (λ l. Skipped ∷ l)
-    (items_room distance false room more (drop 1 bytes) far
-    (omega (arith, length-drop 1 bytes)) (omega (arith, length-drop 1 bytes)))
-    ∙ sym (items_skipped distance in_step more bytes long skips)))
+    grind (
+      arith,
+      nat_tests,
+      by_bool,
+      items_end,
+      items_packet,
+      length-drop,
+      items_skipped,
+      items_room distance true room more (drop distance bytes) far
+          (omega (arith, length-drop distance bytes)) (omega (arith, length-drop distance bytes)),
+      items_room distance false room more (drop 1 bytes) far
+          (omega (arith, length-drop 1 bytes)) (omega (arith, length-drop 1 bytes)),
+    )
 
 -- The items of bytes that begin with a packet.
 all_packet : (distance : ℕ) (in_step : Bool) (bytes : List ℕ)
@@ -105,14 +88,8 @@ all_packet : (distance : ℕ) (in_step : Bool) (bytes : List ℕ)
     → items distance in_step (length bytes) bytes
     ≡ Packet (take packet_size bytes)
     ∷ items distance true (length (drop distance bytes)) (drop distance bytes)
-all_packet distance in_step bytes far many begins =
-    let room = length bytes - 1 in
-    let more : length bytes ≡ suc room = omega arith in
-    ap (λ n. items distance in_step n bytes) more
-    ∙ items_packet distance in_step room bytes many begins
-    ∙ ap (λ l. Packet (take packet_size bytes) ∷ l)
-    (items_room distance true room (length (drop distance bytes)) (drop distance bytes) far
-    (omega (arith, length-drop distance bytes)) (omega arith))
+all_packet distance in_step bytes h1 h2 h3 =
+    grind (arith, nat_tests, items_packet, items_room, length-drop)
 
 -- The items of bytes of which the first is skipped.
 all_skipped : (distance : ℕ) (in_step : Bool) (bytes : List ℕ)
@@ -121,14 +98,8 @@ all_skipped : (distance : ℕ) (in_step : Bool) (bytes : List ℕ)
     → begins_packet distance in_step bytes ≡ false
     → items distance in_step (length bytes) bytes
     ≡ Skipped ∷ items distance false (length (drop 1 bytes)) (drop 1 bytes)
-all_skipped distance in_step bytes far many skips =
-    let room = length bytes - 1 in
-    let more : length bytes ≡ suc room = omega arith in
-    ap (λ n. items distance in_step n bytes) more
-    ∙ items_skipped distance in_step room bytes many skips
-    ∙ ap (λ l. Skipped ∷ l)
-    (items_room distance false room (length (drop 1 bytes)) (drop 1 bytes) far
-    (omega (arith, length-drop 1 bytes)) (omega arith))
+all_skipped distance in_step bytes h1 h2 h3 =
+    grind (arith, nat_tests, items_skipped, items_room, length-drop)
 
 -- ---- what they give
 
@@ -176,11 +147,7 @@ stream_ended : (distance number run : ℕ) (in_step : Bool) (j : JoiningValue) (
     → j.pending ≡ []
     → stream_gives distance number run in_step j bytes ≡ []
 unfolding stream_gives
-stream_ended distance number run in_step j bytes ended idle =
-    ap (λ l. l ++ given_later (handed_over j)
-    (notes distance number run (items distance in_step (length bytes) bytes))) idle
-    ∙ later_ended (handed_over j)
-    (notes distance number run (items distance in_step (length bytes) bytes)) ended
+stream_ended distance number run in_step j bytes h1 h2 = grind (arith, nat_tests, later_ended)
 
 -- What the notes of a packet give, and what comes then.
 packet_notes : (distance number : ℕ) (p : List ℕ) (j : JoiningValue) (more : List Note)
@@ -190,10 +157,7 @@ packet_notes : (distance number : ℕ) (p : List ℕ) (j : JoiningValue) (more :
     (if pid p == number then note_of p ∷ more else more)
     ≡ (after_packet number p j).pending
     ++ given_later (handed_over (after_packet number p j)) more
-packet_notes distance number p j more going idle =
-    by_bool (pid p == number)
-    (λ yes. rw yes (later_note j (note_of p) more going idle))
-    (λ no. rw no (ap (λ l. l ++ given_later (handed_over j) more) (sym idle)))
+packet_notes distance number p j more h1 h2 = grind (arith, nat_tests, by_bool, later_note)
 
 -- A packet stands next.
 pub stream_packet : (distance number run : ℕ) (in_step : Bool) (j : JoiningValue) (bytes : List ℕ)
@@ -223,10 +187,7 @@ skipped_notes : (distance run : ℕ) (j : JoiningValue) (more : List Note)
     (if run + 1 == hole_size distance then Hole ∷ more else more)
     ≡ (after_skipped distance run j).pending
     ++ given_later (handed_over (after_skipped distance run j)) more
-skipped_notes distance run j more going idle =
-    by_bool (run + 1 == hole_size distance)
-    (λ yes. rw yes (later_note j Hole more going idle))
-    (λ no. rw no (ap (λ l. l ++ given_later (handed_over j) more) (sym idle)))
+skipped_notes distance run j more h1 h2 = grind (arith, nat_tests, by_bool, later_note)
 
 -- A byte is skipped.
 pub stream_skipped : (distance number run : ℕ) (in_step : Bool) (j : JoiningValue) (bytes : List ℕ)
@@ -252,16 +213,7 @@ stream_skipped distance number run in_step j bytes far many skips going idle =
 -- Bytes behind a prefix, where the prefix is held.
 pub drop-across : (n : ℕ) (xs ys : List ℕ)
     → drop (n - length xs) (drop n xs ++ ys) ≡ drop n (xs ++ ys)
-drop-across n xs ys =
-    by_bool (nat_lt n (length xs))
-    (λ lt. let le : n ≤ length xs = grind (arith, nat_tests) in
-    let none : n - length xs ≡ 0 = omega arith in
-    ap (λ k. drop k (drop n xs ++ ys)) none ∙ sym (drop-append-le n xs ys le))
-    (λ ge. let le : length xs ≤ n = grind (arith, nat_tests) in
-    let whole : length xs + (n - length xs) ≡ n = omega arith in
-    ap (λ l. drop (n - length xs) (l ++ ys)) (drop_all n xs le)
-    ∙ sym (drop-append-add xs ys (n - length xs))
-    ∙ ap (λ k. drop k (xs ++ ys)) whole)
+drop-across n xs ys = grind (arith, nat_tests, by_bool, drop-append-le, drop_all, drop-append-add)
 
 -- The bytes from the next item on, where some of them are held.
 ahead_held : (v : StreamValue) (bytes : List ℕ)
@@ -287,10 +239,7 @@ index-behind (suc i) (x ∷ xs) le = index-behind i xs (omega arith)
 index-ahead : (v : StreamValue) (bytes : List ℕ) (i : ℕ)
     → v.lead + i < length v.window.held
     → slice_index (bytes_ahead v bytes) i ≡ slice_index (drop v.lead v.window.held) i
-index-ahead v bytes i lt =
-    ap (λ l. slice_index l i) (ahead_held v bytes (omega arith))
-    ∙ index-append i (drop v.lead v.window.held) (take v.window.left bytes)
-    (omega (arith, length-drop v.lead v.window.held))
+index-ahead v bytes i h1 = grind (arith, nat_tests, ahead_held, index-append, length-drop)
 
 -- ---- `need`
 
@@ -298,19 +247,14 @@ index-ahead v bytes i lt =
 pub given-kept : (x y : Option (List ℕ)) (v : StreamValue) (w : WindowValue)
     → Keeps (to_come v.window x) (to_come w y)
     → Keeps (still_given v x) (still_given (record v { window = w }) y)
-given-kept None y v w p = tt
-given-kept (Some xs) None v w p = absurd p
-given-kept (Some xs) (Some ys) v w p =
-    ap (λ (l : List ℕ). stream_gives v.distance v.number v.run v.in_step v.joining
-    (drop v.lead l)) p
+given-kept x y v w h1 = grind (arith, nat_tests)
 
 -- A byte that is skipped may be the last of a hole, which gives nothing.
 hole_gives : (j : JoiningValue) (more : List Note)
     → given_later (handed_over (record j { has_break = true })) more ≡ []
     → given_later (handed_over j) (Hole ∷ more) ≡ []
 unfolding given_later
-hole_gives j more none =
-    by_bool (has_ended j.part) (λ ended. rw ended refl) (λ going. rw going none)
+hole_gives j more h1 = grind (arith, nat_tests, by_bool)
 
 -- Out of step no packet stands in so few bytes that none can be seen to have another behind it.
 skipped_give : (distance number run room : ℕ) (j : JoiningValue) (bytes : List ℕ)
@@ -344,19 +288,14 @@ stream_short : (distance number run : ℕ) (in_step : Bool) (j : JoiningValue) (
     → j.pending ≡ []
     → stream_gives distance number run in_step j bytes ≡ []
 unfolding stream_gives
-stream_short distance number run true j bytes few idle =
-    stream_end distance number run true j bytes few idle
-stream_short distance number run false j bytes few idle =
-    ap (λ l. l ++ given_later (handed_over j)
-    (notes distance number run (items distance false (length bytes) bytes))) idle
-    ∙ skipped_give distance number run (length bytes) j bytes (omega arith)
+stream_short distance number run in_step j bytes h1 h2 =
+    grind (arith, nat_tests, stream_end, skipped_give)
 
 -- At least a packet's bytes are needed. For `step`.
 pub needs_packet : (distance : ℕ) (in_step : Bool)
     → 188 ≤ distance
     → 188 ≤ bytes_needed distance in_step
-needs_packet distance true near = omega arith
-needs_packet distance false near = omega arith
+needs_packet distance in_step h1 = grind (arith, nat_tests)
 
 -- Where they are not there, nothing is left.
 pub need_end : (told : Option (List ℕ)) (v : StreamValue)
@@ -365,17 +304,8 @@ pub need_end : (told : Option (List ℕ)) (v : StreamValue)
     → length v.window.held < v.lead + bytes_needed v.distance v.in_step
     → IsAtEnd (left_to_take v.window told)
     → IsAtEnd (still_given v told)
-need_end None v near idle few end = tt
-need_end (Some b) v near idle few end =
-    let none : length (take v.window.left b) ≡ 0 = ap length end in
-    stream_short v.distance v.number v.run v.in_step v.joining (bytes_ahead v b)
-    (omega (
-      arith,
-      none,
-      needs_packet v.distance v.in_step near,
-      length-append v.window.held (take v.window.left b),
-      length-drop v.lead (held_and_left v.window b),
-    )) idle
+need_end told v h1 h2 h3 h4 =
+    grind (arith, nat_tests, stream_short, needs_packet, length-append, length-drop)
 
 -- No byte is asked for behind those that tell what stands next: fewer give nothing.
 pub need_asks : {D : Type 0} (IsPull : D → ℕ → Option ℕ → D → Type 0) (lent : D → List ℕ)
@@ -405,13 +335,7 @@ pub begins_known : (v : StreamValue) (bytes : List ℕ)
     → begins_packet v.distance v.in_step (bytes_ahead v bytes)
     ≡ ((slice_index (drop v.lead v.window.held) 0 == 0x47)
     && (v.in_step || (slice_index (drop v.lead v.window.held) v.distance == 0x47)))
-begins_known v bytes near there =
-    rw (index-ahead v bytes 0 (omega (arith, needs_packet v.distance v.in_step near)))
-    (by_bool v.in_step
-    (λ yes. rw yes refl)
-    (λ no. let behind : v.lead + v.distance < length v.window.held =
-    omega (arith, there, ap (bytes_needed v.distance) no) in
-    rw (no, index-ahead v bytes v.distance behind) refl))
+begins_known v bytes h1 h2 = grind (arith, nat_tests, index-ahead, needs_packet, by_bool)
 
 -- ---- `advance`
 
@@ -421,12 +345,7 @@ pub ahead_moved : (v w : StreamValue) (count : ℕ) (bytes : List ℕ)
     → w.window.left ≡ v.window.left
     → w.lead ≡ (v.lead + count) - length v.window.held
     → bytes_ahead w bytes ≡ drop count (bytes_ahead v bytes)
-ahead_moved v w count bytes held left lead =
-    ap (λ (l : List ℕ). drop w.lead (l ++ take w.window.left bytes)) held
-    ∙ ap (λ (n : ℕ). drop w.lead (drop (v.lead + count) v.window.held ++ take n bytes)) left
-    ∙ ap (λ (n : ℕ). drop n (drop (v.lead + count) v.window.held ++ take v.window.left bytes)) lead
-    ∙ drop-across (v.lead + count) v.window.held (take v.window.left bytes)
-    ∙ sym (drop-drop count v.lead (held_and_left v.window bytes))
+ahead_moved v w count bytes h1 h2 h3 = grind (arith, nat_tests, drop-across, drop-drop)
 
 pub ruleset advancing = (ahead_moved, length-drop)
 
@@ -445,12 +364,7 @@ take-ahead v bytes there =
 long_ahead : (v : StreamValue) (bytes : List ℕ)
     → v.lead + 188 ≤ length v.window.held
     → 188 ≤ length (bytes_ahead v bytes)
-long_ahead v bytes there =
-    omega (
-      arith,
-      length-drop v.lead (held_and_left v.window bytes),
-      length-append v.window.held (take v.window.left bytes),
-    )
+long_ahead v bytes h1 = grind (arith, nat_tests, length-drop, length-append)
 
 -- What is left after a packet.
 pub packet_taken : (v w : StreamValue) (bytes : List ℕ)
@@ -495,30 +409,14 @@ pub byte_skipped : (v w : StreamValue) (bytes : List ℕ)
     → bytes_ahead w bytes ≡ drop 1 (bytes_ahead v bytes)
     → begins_packet v.distance v.in_step (bytes_ahead v bytes) ≡ false
     → given_of w bytes ≡ given_of v bytes
-byte_skipped v w bytes far there going idle distance number run step joining ahead skips =
-    ap (λ (n : ℕ). stream_gives n w.number w.run w.in_step w.joining (bytes_ahead w bytes)) distance
-    ∙ ap (λ (n : ℕ). stream_gives v.distance n w.run w.in_step w.joining (bytes_ahead w bytes))
-    number
-    ∙ ap (λ (n : ℕ). stream_gives v.distance v.number n w.in_step w.joining (bytes_ahead w bytes))
-    run
-    ∙ ap (λ (b : Bool). stream_gives v.distance v.number (v.run + 1) b w.joining
-    (bytes_ahead w bytes)) step
-    ∙ ap (λ (j : JoiningValue). stream_gives v.distance v.number (v.run + 1) false j
-    (bytes_ahead w bytes)) joining
-    ∙ ap (stream_gives v.distance v.number (v.run + 1) false
-    (after_skipped v.distance v.run v.joining)) ahead
-    ∙ stream_skipped v.distance v.number v.run v.in_step v.joining (bytes_ahead v bytes) far
-    (long_ahead v bytes there) skips going idle
+byte_skipped v w bytes h1 h2 h3 h4 h5 h6 h7 h8 h9 h10 h11 =
+    grind (arith, nat_tests, stream_skipped, long_ahead)
 
 -- A packet of another PID changes nothing that is kept. For `join_packet`.
 pub other_pid : (v : StreamValue) (p : List ℕ)
     → (pid p ≡ v.number → ⊥)
     → v ≡ record v { joining = after_packet v.number p v.joining }
-other_pid v p other =
-    let no : (pid p == v.number) ≡ false = grind (arith, nat_tests) in
-    ap (λ (b : Bool). record v {
-      joining = if b then after_note v.joining (note_of p) else v.joining;
-    }) (sym no)
+other_pid v p h1 = grind (arith, nat_tests)
 
 pub ruleset packets = packet_taken
 
@@ -534,9 +432,7 @@ pub item_kept : (before told : Option (List ℕ)) (u v w : StreamValue) (begins 
     → begins_packet v.distance v.in_step (bytes_ahead v bytes) ≡ begins
     → given_of w bytes ≡ given_of v bytes)
     → Keeps (still_given u before) (still_given w told)
-item_kept None told u v w begins keeps known gives = tt
-item_kept (Some xs) None u v w begins keeps known gives = absurd keeps
-item_kept (Some xs) (Some ys) u v w begins keeps known gives = gives ys (known ys) ∙ keeps
+item_kept before told u v w begins h1 h2 h3 = grind (arith, nat_tests)
 
 -- What was asked for it was asked for what comes then.
 pub item_asks : {D : Type 0} (IsPull : D → ℕ → Option ℕ → D → Type 0) (lent : D → List ℕ)
@@ -547,19 +443,15 @@ pub item_asks : {D : Type 0} (IsPull : D → ℕ → Option ℕ → D → Type 0
     → begins_packet v.distance v.in_step (bytes_ahead v bytes) ≡ begins
     → given_of w bytes ≡ given_of v bytes)
     → Asks IsPull lent remaining (gives_some u) before true (gives_some w) after
-item_asks IsPull lent remaining u v w before after begins asks known gives =
-    asks_on (gives_some u) (gives_some v) (gives_some w) before after after true asks
-    (asks_nothing (gives_some v) (gives_some w) after (asked_behind [] (gives_some v) (gives_some w)
-    (λ bytes. ap (λ (l : List ℕ). nat_lt 0 (length l)) (gives bytes (known bytes)))))
+item_asks IsPull lent remaining u v w before after begins h1 h2 h3 =
+    grind (arith, nat_tests, asked_behind)
 
 -- Nothing is left where it has ended.
 pub none_where_ended : (told : Option (List ℕ)) (v : StreamValue)
     → has_ended v.joining.part ≡ true
     → v.joining.pending ≡ []
     → IsAtEnd (still_given v told)
-none_where_ended None v ended idle = tt
-none_where_ended (Some b) v ended idle =
-    stream_ended v.distance v.number v.run v.in_step v.joining (bytes_ahead v b) ended idle
+none_where_ended told v h1 h2 = grind (arith, nat_tests, stream_ended)
 
 pub ruleset steps = (item_kept, item_asks, asks_on, Keeps-trans)
 
@@ -573,11 +465,7 @@ pub given_front : (v : StreamValue) (rest got bytes : List ℕ)
     → given_of v bytes
     ≡ got ++ given_of (record v { joining = record v.joining { pending = rest } }) bytes
 unfolding stream_gives
-given_front v rest got bytes front =
-    let later = given_later (handed_over v.joining)
-    (notes v.distance v.number v.run (items v.distance v.in_step (length (bytes_ahead v bytes))
-    (bytes_ahead v bytes))) in
-    ap (λ (l : List ℕ). l ++ later) front ∙ append_assoc got rest later
+given_front v rest got bytes h1 = grind (arith, nat_tests, append_assoc)
 
 -- It was taken from what is still to be given.
 pub front_consumed : (before told : Option (List ℕ)) (u v : StreamValue) (rest got : List ℕ)
@@ -585,10 +473,7 @@ pub front_consumed : (before told : Option (List ℕ)) (u v : StreamValue) (rest
     → v.joining.pending ≡ got ++ rest
     → Consumes (still_given u before)
     (still_given (record v { joining = record v.joining { pending = rest } }) told) got
-front_consumed None told u v rest got keeps front = tt
-front_consumed (Some xs) None u v rest got keeps front = absurd keeps
-front_consumed (Some xs) (Some ys) u v rest got keeps front =
-    sym keeps ∙ given_front v rest got ys front
+front_consumed before told u v rest got h1 h2 = grind (arith, nat_tests, given_front)
 
 -- ---- packets that are lent
 
@@ -623,8 +508,7 @@ pub lent_within : (lent all : List ℕ) (count : ℕ)
     → take (length lent) all ≡ lent
     → count ≤ length lent
     → count ≤ length all
-lent_within lent all count front within =
-    omega (arith, ap length front, length-take (length lent) all)
+lent_within lent all count h1 h2 = grind (arith, nat_tests, length-take)
 
 -- So many bytes were passed over that the source lends: what is left is what it was, where it is
 -- given by those behind them.
@@ -729,12 +613,7 @@ pub others_given : (v w : StreamValue) (taken bytes : List ℕ) (count : ℕ)
     ≡ stream_gives v.distance v.number 0 true v.joining (drop v.lead (taken ++ rest)))
     → w ≡ record v { window = record v.window { left = v.window.left - count }; lead = 0 }
     → given_of w bytes ≡ given_of v (taken ++ bytes)
-others_given v w taken bytes count long none few step run gives is =
-    let less = v.window.left - count in
-    ap (λ (u : StreamValue). given_of u bytes) is
-    ∙ given_behind v (record v { window = record v.window { left = less }; lead = 0 }) taken bytes
-    none (omega (arith, long)) (λ rest. rw (step, run) (gives rest)) refl
-    (ap (λ n. record v.window { left = v.window.left - n }) (sym long))
+others_given v w taken bytes count h1 h2 h3 h4 h5 h6 h7 = grind (arith, nat_tests, given_behind)
 
 -- The first packet of bytes stands in the first so many. For `take_lent`.
 pub front_within : (lead distance : ℕ) (bytes : List ℕ)
@@ -748,9 +627,7 @@ front_within lead distance bytes near =
 pub same_pid : (number : ℕ) (p : List ℕ) (j : JoiningValue)
     → pid p ≡ number
     → after_packet number p j ≡ after_note j (note_of p)
-same_pid number p j same =
-    let yes : (pid p == number) ≡ true = grind (arith, nat_tests) in
-    ap (λ (b : Bool). if b then after_note j (note_of p) else j) yes
+same_pid number p j h1 = grind (arith, nat_tests)
 
 -- What is left after a packet that was lent.
 pub packet_given : (v w : StreamValue) (taken p bytes : List ℕ) (count : ℕ)

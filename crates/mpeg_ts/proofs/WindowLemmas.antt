@@ -1,4 +1,5 @@
 -- The bytes that are taken from a source and looked at; main lemmas: window-pulled, left_at_end.
+use Rattle.std.proofs.lemmas.Bool.Decides.{nat_tests}
 use Rattle.std.proofs.Common.{◌≡◌, ℕ, zero, suc, ◌+◌, ◌<◌, List, ◌++◌, length, take}
 use Rattle.std.proofs.Common.{Option, Some, None, refl, sym, ap, ◌∙◌, arith, append_assoc}
 use Rattle.std.proofs.Common.{Bool, true, false, ◌≤◌, inr, length-append, length-take}
@@ -20,9 +21,8 @@ asked_few : (held : List ℕ) (left room : ℕ) (is_enough : List ℕ → Bool)
     → (bytes : List ℕ)
     → length bytes < room
     → is_enough (held_and_left (window held left) bytes) ≡ false
-asked_few held left room is_enough few bytes short =
-    few (held ++ take left bytes)
-    (omega (arith, short, length-append held (take left bytes), length-take left bytes))
+asked_few held left room is_enough h1 bytes h2 =
+    grind (arith, nat_tests, length-append, length-take)
 
 -- A piece of the bytes to come was taken.
 pub window-pulled : (x y : Option (List ℕ)) (held got : List ℕ) (left less n : ℕ)
@@ -43,9 +43,7 @@ window-pulled (Some xs) (Some ys) held got left less n long is p =
 pub window-kept : (x y : Option (List ℕ)) (w : WindowValue)
     → Keeps x y
     → Keeps (to_come w x) (to_come w y)
-window-kept None y w p = tt
-window-kept (Some xs) None w p = absurd p
-window-kept (Some xs) (Some ys) w p = ap (held_and_left w) p
+window-kept x y w h1 = grind (arith, nat_tests)
 
 -- Nothing may be taken any more, or nothing is there.
 none_to_take : (n : ℕ) (told : Option (List ℕ))
@@ -127,9 +125,7 @@ window-on IsPull lent remaining before mid after u v w count less ok first then 
 pub window-none : {D : Type 0} (IsPull : D → ℕ → Option ℕ → D → Type 0) (lent : D → List ℕ)
     (remaining : D → Option (List ℕ)) (source : D) (w : WindowValue) (count : ℕ)
     → AsksUpTo IsPull lent remaining count w source true w source
-window-none IsPull lent remaining source w count = record {
-  asks = λ is_enough few. asks_none IsPull lent remaining (ahead_of w is_enough) source;
-}
+window-none IsPull lent remaining source w count = grind (arith, nat_tests, asks_none)
 
 pub ruleset pulling = (window-pulled, window-kept, window-asked, window-failed)
 

@@ -36,10 +36,9 @@ spelled_from (suc n) i b = get_or b i 0 ∷ spelled_from n (suc i) b
 
 -- A list by its first bytes.
 pub list_of_bytes : (n i : ℕ) (b : List ℕ) → i + n ≤ length b → drop i b ≡ spelled_from n i b
-list_of_bytes zero i b le = refl
+list_of_bytes zero i b le = grind (arith, nat_tests)
 list_of_bytes (suc n) i b le =
-    drop-cons b i 0 (omega arith)
-    ∙ ap (λ (x : List ℕ). get_or b i 0 ∷ x) (list_of_bytes n (suc i) b (omega arith))
+    grind (arith, nat_tests, drop-cons, (list_of_bytes n (suc i) b (omega arith)))
 
 -- ---- mirrored bytes
 

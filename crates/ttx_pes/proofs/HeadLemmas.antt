@@ -3,8 +3,7 @@
 use Rattle.std.proofs.Common.{◌≡◌, ℕ, zero, suc, ◌+◌, ◌-◌, ◌*◌, ◌/◌, ◌%◌, ◌<◌, ◌≤◌, List, []}
 use Rattle.std.proofs.Common.{◌∷◌, ◌++◌}
 use Rattle.std.proofs.Common.{length, take, drop, get_or, cond, Ok, refl, sym, ap, subst, ◌∙◌}
-use Rattle.std.proofs.Common.{append_assoc, arith, inl, inr, length-drop}
-use Rattle.std.proofs.lemmas.Bool.{cases_lt}
+use Rattle.std.proofs.Common.{append_assoc, arith, length-drop}
 use Rattle.std.proofs.lemmas.Bool.Decides.{nat_tests}
 use Rattle.std.proofs.lemmas.List.{append-nil, drop-drop, get_or-drop, get_or-take, map-append}
 use Rattle.sub_io.specs.Reading.{◌>>=◌}
@@ -28,17 +27,7 @@ pub same_word : (a b : List ℕ) (at : ℕ)
     ≡ get_or (drop at b) 0 0 + 256 * (get_or (drop at b) 1 0 + 256 * (get_or (drop at b) 2 0
     + 256 * (get_or (drop at b) 3 0 + 256 * 0)))
     → IsSameHead a b at
-same_word a b at a-fit b-fit e =
-    let none : at + 0 ≡ at = omega arith in
-    let a0 = get_or-drop at a 0 0 ∙ ap (λ n. get_or a n 0) none in let a1 = get_or-drop at a 1 0 in
-    let a2 = get_or-drop at a 2 0 in let a3 = get_or-drop at a 3 0 in
-    let b0 = get_or-drop at b 0 0 ∙ ap (λ n. get_or b n 0) none in let b1 = get_or-drop at b 1 0 in
-    let b2 = get_or-drop at b 2 0 in let b3 = get_or-drop at b 3 0 in
-    let fa0 = a-fit at in let fa1 = a-fit (at + 1) in
-    let fa2 = a-fit (at + 2) in let fa3 = a-fit (at + 3) in
-    let fb0 = b-fit at in let fb1 = b-fit (at + 1) in
-    let fb2 = b-fit (at + 2) in let fb3 = b-fit (at + 3) in
-    record { id = omega arith; size = omega arith; line = omega arith; framing = omega arith }
+same_word a b at h1 h2 h3 = grind (arith, nat_tests, get_or-drop)
 
 -- Those of the first payload. For `are_same_heads`.
 pub heads_first : (a b : List ℕ)
@@ -48,10 +37,7 @@ pub heads_first : (a b : List ℕ)
     → (k : ℕ)
     → k < 3
     → IsSameHead a b (46 * k + 1)
-heads_first a b h0 h1 h2 zero l = h0
-heads_first a b h0 h1 h2 (suc zero) l = h1
-heads_first a b h0 h1 h2 (suc (suc zero)) l = h2
-heads_first a b h0 h1 h2 (suc (suc (suc k))) l = absurd (omega arith)
+heads_first a b h1 h2 h3 k h4 = grind (arith, nat_tests)
 
 -- Those of all payloads. For `are_same_heads`.
 pub heads_all : (a b : List ℕ) (n : ℕ)
@@ -72,22 +58,7 @@ pub heads_more : (a b : List ℕ) (i : ℕ)
     → (k : ℕ)
     → k < 3 + 4 * (i + 1)
     → IsSameHead a b (46 * k + 1)
-heads_more a b i before h0 h1 h2 h3 k l = elim (cases_lt k (3 + 4 * i)) [
-  | inl m ↦ before k m
-  | inr m ↦ elim (cases_lt k (4 + 4 * i)) [
-    | inl n ↦ let e : 139 + 184 * i ≡ 46 * k + 1 = omega arith in subst (IsSameHead a b) e h0
-    | inr n ↦ elim (cases_lt k (5 + 4 * i)) [
-      | inl o ↦
-          let e : 139 + 184 * i + 46 ≡ 46 * k + 1 = omega arith in subst (IsSameHead a b) e h1
-      | inr o ↦ elim (cases_lt k (6 + 4 * i)) [
-        | inl p ↦
-            let e : 139 + 184 * i + 92 ≡ 46 * k + 1 = omega arith in subst (IsSameHead a b) e h2
-        | inr p ↦
-            let e : 139 + 184 * i + 138 ≡ 46 * k + 1 = omega arith in subst (IsSameHead a b) e h3
-      ]
-    ]
-  ]
-]
+heads_more a b i h1 h2 h3 h4 h5 k h6 = grind (arith, nat_tests)
 
 -- ---- places
 

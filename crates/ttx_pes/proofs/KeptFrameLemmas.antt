@@ -1,5 +1,6 @@
 -- What is known of a packet by its header and its data field: of one whose units are read,
 -- held_anew, and of one whose data field is that of a packet before, held_again.
+use Rattle.std.proofs.lemmas.Bool.Decides.{nat_tests}
 use Rattle.std.proofs.Common.{◌≡◌, ℕ, ◌/◌, ◌<◌, List, ◌+◌, ◌%◌, ◌≤◌, ◌++◌, [], length, drop}
 use Rattle.std.proofs.Common.{take, Ok, Err, refl, sym, ap, subst, arith, length-drop}
 use Rattle.std.proofs.Common.{◌∙◌}
@@ -111,11 +112,4 @@ field_of_body size count room body is all long fits =
 -- What is known of no packet is so of an empty data field. For a `KeptFrame` without one.
 pub none_held : IsHeld [] no_packet
 unfolding units_at
-none_held = record {
-  count = refl;
-  short = omega arith;
-  within = λ k d l. absurd (omega arith);
-  units = λ l. absurd (omega arith);
-  all = sym no_places;
-  value = grind arith;
-}
+none_held = grind (arith, nat_tests, no_places)

@@ -1,13 +1,11 @@
 -- Bytes that a source lends, taken pull by pull: lent-more. Where they hold a packet, its size is
 -- that of the bytes that are taken first: lent_rest.
 use Rattle.std.proofs.Common.{◌≡◌, ◌≢◌, ℕ, ◌+◌, ◌<◌, ◌≤◌, List, [], ◌++◌, length, take, Some, ap}
-use Rattle.std.proofs.Common.{◌∙◌, Bool, Err, Ok, Result, arith, false, inl, inr, length-append}
-use Rattle.std.proofs.Common.{length-take, length-take-le, refl, sym, true}
-use Rattle.std.proofs.lemmas.Bool.{true≢false}
+use Rattle.std.proofs.Common.{◌∙◌, Bool, Ok, Result, arith, false, length-append}
+use Rattle.std.proofs.Common.{length-take, length-take-le, sym, true}
 use Rattle.std.proofs.lemmas.Bool.Decides.{nat_tests}
 use Rattle.std.proofs.lemmas.List.{take-take}
 use borrow.Rule.Slice.PartMut.{put_mid}
-use lib.Seq.{take-append-le}
 use Rattle.sub_io.proofs.DeviceLemmas.{Consumes-more}
 use Rattle.ttx_pes.specs.LentPacket.{NothingWaits, are_all_of, holds_packet}
 use Rattle.ttx_pes.specs.declared.fault.PesFault.{PesFault}
@@ -51,8 +49,7 @@ pub lent-fails : (held lent left room : List ℕ) (least at : ℕ)
     → at ≤ length room
     → least ≤ length held + length lent
     → ⊥
-lent-fails held lent left room least at whole fails below within many =
-    fails (some_left held lent left room least at whole below within many)
+lent-fails held lent left room least at h1 h2 h3 h4 h5 = grind (arith, nat_tests, some_left)
 
 -- ---- a packet that is lent
 
@@ -70,19 +67,13 @@ pub lent_rest : (lent left room : List ℕ) (got size : ℕ)
     → size_at (take 6 (take got room)) ≡ Ok size
     → size ≤ got + length left
 unfolding holds_packet
-lent_rest lent left room got size holds parts head within sized =
-    let long = length-take-le got room within in
-    let all = ap length parts ∙ length-append (take got room) left in
-    let first : take 6 lent ≡ take 6 (take got room) =
-    ap (take 6) parts ∙ take-append-le 6 (take got room) left (omega (arith, long, head)) in
-    let read : size_at (take 6 lent) ≡ Ok size = ap size_at first ∙ sized in
-    grind (arith, nat_tests)
+lent_rest lent left room got size h1 h2 h3 h4 h5 =
+    grind (arith, nat_tests, length-take-le, length-append)
 
 -- Bytes hold a packet where fewer at their front do.
 all_of_more : (r : Result ℕ PesFault) (m n : ℕ) → m ≤ n → are_all_of m r ≡ true
     → are_all_of n r ≡ true
-all_of_more (Ok size) m n le all = grind (arith, nat_tests)
-all_of_more (Err f) m n le all = refl
+all_of_more r m n h1 h2 = grind (arith, nat_tests)
 
 -- For `hand_on_first`.
 pub held_holds : (held lent : List ℕ)
@@ -119,6 +110,4 @@ pub waits_not : (is_waiting fails : Bool) (lent : List ℕ)
     → (holds_packet lent ≡ true → fails ≡ false)
     → fails ≡ true
     → is_waiting ≡ false
-waits_not is_waiting fails lent (inl still) lends is = still
-waits_not is_waiting fails lent (inr holds) lends is =
-    absurd (true≢false (sym is ∙ lends holds))
+waits_not is_waiting fails lent h1 h2 h3 = grind (arith, nat_tests)

@@ -1,6 +1,6 @@
 -- What comes of PES packets is the next answer and what comes then: outcome_after-next.
-use Rattle.std.proofs.Common.{◌≡◌, ℕ, ◌+◌, ◌≤◌, List, Option, Some, None, Result, Ok, Err, refl}
-use Rattle.std.proofs.Common.{sym, ap, ◌∙◌, arith}
+use Rattle.std.proofs.Common.{◌≡◌, ℕ, ◌+◌, ◌≤◌, List, Option, Some, None, Result, Ok, Err}
+use Rattle.std.proofs.Common.{ap, ◌∙◌, arith}
 use Rattle.std.proofs.lemmas.Bool.Decides.{nat_tests}
 use Rattle.ttx_pes.specs.declared.fault.PesFault.{PesFault}
 use Rattle.ttx_pes.specs.Outcome.{PesOutcome, ends, fails, gives, outcome_after, until_refused}
@@ -26,11 +26,7 @@ same_rest : (given : ℕ) (bytes : List ℕ) (answer : Result (Option PesValue) 
     → answer_at given bytes ≡ answer
     → answer_then answer (outcome_after (given + 1) (behind_piece bytes))
     ≡ answer_then answer (outcome_after (given + 1) (rest_after bytes))
-same_rest given bytes (Err f) is = refl
-same_rest given bytes (Ok None) is = refl
-same_rest given bytes (Ok (Some v)) is =
-    ap (λ (b : List ℕ). gives v (outcome_after (given + 1) b))
-    (sym (behind_packet given bytes v is))
+same_rest given bytes answer h1 = grind (arith, nat_tests, behind_packet)
 
 -- What the bytes that are left after `given` PES packets give, by the next answer.
 pub outcome_after-next : (given : ℕ) (bytes : List ℕ) (answer : Result (Option PesValue) PesFault)

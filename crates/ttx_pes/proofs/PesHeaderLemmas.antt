@@ -47,9 +47,7 @@ pub start_word : (b : List ℕ)
     → nat_eq (get_or b 0 0 + 256 * (get_or b 1 0 + 256 * (get_or b 2 0
     + 256 * (get_or b 3 0 + 256 * 0)))) 0xBD010000
     ≡ is_start b
-start_word b fit =
-    let f0 = fit 0 in let f1 = fit 1 in let f2 = fit 2 in let f3 = fit 3 in
-    grind (arith, nat_tests)
+start_word b h1 = grind (arith, nat_tests)
 
 -- ---- the bytes after them
 

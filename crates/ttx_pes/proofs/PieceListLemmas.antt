@@ -1,5 +1,5 @@
 -- Bytes fall into pieces as they are read one by one. Main lemma: falls_into.
-use Rattle.std.proofs.Common.{◌≡◌, ◌≢◌, ℕ, zero, suc, ◌+◌, ◌-◌, ◌/◌, ◌<◌, ◌≤◌, ◌⊎◌, true}
+use Rattle.std.proofs.Common.{◌≡◌, ◌≢◌, ℕ, zero, suc, ◌+◌, ◌-◌, ◌<◌, ◌≤◌, ◌⊎◌, true}
 use Rattle.std.proofs.Common.{false, List, [], ◌∷◌, ◌++◌, length, take, drop, Option, Some, None}
 use Rattle.std.proofs.Common.{Result, Ok, Err, refl, sym, ap, subst, ◌∙◌, append_assoc, arith, inl}
 use Rattle.std.proofs.Common.{inr, length-append, length-take, length-drop}
@@ -61,10 +61,7 @@ units_fault (suc n) units b f e = elim (answer_cases (unit_at units (take 46 b))
 -- What is wrong in a packet behind its length field.
 value_fault : (b : List ℕ) (f : PesFault) → value_at b ≡ Err f → is_of_piece f ≡ true
 unfolding value_at
-value_fault b f e =
-    let units = units_fault (length (drop 40 b) / 46) [] (drop 40 b) f in
-    let header = pts_fault b f in
-    grind (arith, nat_tests)
+value_fault b f h1 = grind (arith, nat_tests, units_fault, pts_fault)
 
 -- A wrong start or length is no fault of a piece.
 size_fault : (b : List ℕ) (f : PesFault) → size_at b ≡ Err f → is_of_piece f ≡ false
@@ -79,15 +76,7 @@ record Tells (p more : List ℕ) : Type 0 where
   pub some : 184 ≤ length p
 
 tells_size : (p more : List ℕ) → IsPiece p → Tells p more
-tells_size p more h =
-    let lo = h.size.0 in
-    let long = h.long in
-    record {
-      sized = ap (λ (x : List ℕ). size_at (take 6 (x ++ more))) h.bytes
-          ∙ head_complete h.n h.size.0 h.size.1
-          ∙ ap (λ (k : ℕ). Ok k) (sym h.long);
-      some = omega arith;
-    }
+tells_size p more h1 = grind (arith, nat_tests, head_complete)
 
 -- The size that is read is the one that is told.
 size_is : (b : List ℕ) (size : ℕ)
@@ -333,17 +322,7 @@ falls_from (suc room) given (x ∷ b) fit e =
 
 -- Before the first of them.
 all_fall : (bytes : List ℕ) (value : PiecesValue) → Falls 0 bytes value → FallInto bytes value
-all_fall bytes value h = record {
-  packets = h.packets;
-  rest = h.rest;
-  each = h.each;
-  read = h.read;
-  few = let few = h.few in omega arith;
-  joined = h.joined;
-  longest = λ others more each within parts.
-      h.longest others more each (omega arith) parts;
-  left_is = h.left_is (length h.packets) (omega arith);
-}
+all_fall bytes value h1 = grind (arith, nat_tests)
 
 -- The bytes of a file fall into the pieces that are read: the law.
 pub falls_into : LawOfPieces
@@ -374,8 +353,7 @@ no_answer : (given : ℕ) (bytes : List ℕ) (f : PesFault) (v : PesValue)
     → answer_at given bytes ≡ Ok (Some v)
     → ⊥
 unfolding answer_at
-no_answer given [] f v bad e = absurd cc
-no_answer given (x ∷ b) f v bad e = grind (arith, nat_tests)
+no_answer given bytes f v h1 h2 = grind (arith, nat_tests)
 
 -- What is left behind a packet that is read.
 behind_read : (b : List ℕ) (p : PesValue × List ℕ)
@@ -412,12 +390,5 @@ pub behind_taken : (old new : Option (List ℕ)) (bytes : List ℕ) (f : PesFaul
     → TakesPiece old new f
     → old ≡ Some bytes
     → new ≡ Some (behind_piece bytes)
-behind_taken old new bytes f h told =
-    let (rest, parts, new_is) = left old new bytes h.bytes h.consumed told in
-    let t = tells_size h.bytes rest h.is_piece in
-    let some = t.some in
-    let size = size_is (h.bytes ++ rest) (length h.bytes)
-    (omega (arith, length-append h.bytes rest)) t.sized in
-    let all : behind_piece (h.bytes ++ rest) ≡ rest =
-    ap (λ (k : ℕ). drop k (h.bytes ++ rest)) size ∙ drop_at h.bytes rest (length h.bytes) refl in
-    new_is ∙ ap (λ (x : List ℕ). Some x) (sym (ap behind_piece parts ∙ all))
+behind_taken old new bytes f h1 h2 =
+    grind (arith, nat_tests, left, tells_size, size_is, length-append, drop_at)

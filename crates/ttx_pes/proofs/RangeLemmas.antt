@@ -1,9 +1,10 @@
 -- A range of a file that falls into pieces. Main lemma: ranges.
+use Rattle.std.proofs.lemmas.Bool.Decides.{nat_tests}
 use Rattle.std.proofs.Common.{◌≡◌, ℕ, zero, suc, ◌+◌, ◌-◌, ◌*◌, ◌≤◌, List, [], ◌∷◌, ◌++◌, cond}
 use Rattle.std.proofs.Common.{length, take, drop, Option, Some, None, Ok, refl, sym, ap, ◌∙◌, arith}
-use Rattle.std.proofs.Common.{append_assoc, length-append, length-drop, inl, inr, ltb}
+use Rattle.std.proofs.Common.{append_assoc, length-append, length-drop, ltb}
 use Rattle.std.proofs.Common.{take-append-drop, leb, min}
-use Rattle.std.proofs.lemmas.Bool.{cases_lt, le-leb, le-ltb, lt-ltb, lt-leb}
+use Rattle.std.proofs.lemmas.Bool.{le-leb, le-ltb, lt-ltb, lt-leb}
 use Rattle.std.proofs.lemmas.List.{take_at, drop_at, take-take}
 use Rattle.std.proofs.lemmas.List.{length-take-le}
 use Rattle.std.specs.Int.{bytes_high_first}
@@ -70,10 +71,7 @@ rest_is rest fit none = by_size (piece_size rest) refl
 
 -- One more on both sides.
 leb_suc : (a b : ℕ) → leb (suc a) (suc b) ≡ leb a b
-leb_suc a b = elim (cases_lt b a) [
-  | inl lt ↦ lt-leb (suc a) (suc b) (omega (arith, lt)) ∙ sym (lt-leb a b lt)
-  | inr le ↦ le-leb (suc a) (suc b) (omega (arith, le)) ∙ sym (le-leb a b le)
-]
+leb_suc a b = grind (arith, nat_tests, lt-leb, le-leb)
 
 module _ (rest : List ℕ) (end : piece_size rest ≡ None) where
   -- The bytes behind the first of them.
@@ -111,19 +109,20 @@ module _ (rest : List ℕ) (end : piece_size rest ≡ None) where
       → first_pieces n (concat ps ++ rest)
       ≡ concat (take n ps) ++ cond (leb n (length ps)) [] rest
   unfolding first_pieces
-  first_all zero ps each = rw (le-leb 0 (length ps) (omega arith)) refl
-  first_all (suc n) [] each =
-      rw (lt-leb (suc n) 0 (omega arith)) (first_none (suc n) rest (omega arith) end)
+  first_all zero ps each = grind (arith, nat_tests, le-leb)
+  first_all (suc n) [] each = grind (arith, nat_tests, lt-leb, first_none)
   first_all (suc n) (p ∷ ps) each =
-      let joined = append_assoc p (concat ps) rest in
-      ap (first_pieces (suc n)) joined
-      ∙ first_one n (p ++ (concat ps ++ rest)) (length p) (piece_is p (concat ps ++ rest) each.0)
-      ∙ ap (λ l. l ++ first_pieces n (drop (length p) (p ++ (concat ps ++ rest))))
-      (take_at p (concat ps ++ rest) (length p) refl)
-      ∙ ap (λ b. p ++ first_pieces n b) (drop_at p (concat ps ++ rest) (length p) refl)
-      ∙ ap (λ l. p ++ l) (first_all n ps each.1)
-      ∙ sym (append_assoc p (concat (take n ps)) (cond (leb n (length ps)) [] rest))
-      ∙ ap (λ c. (p ++ concat (take n ps)) ++ cond c [] rest) (sym (leb_suc n (length ps)))
+      grind (
+        arith,
+        nat_tests,
+        append_assoc,
+        first_one,
+        piece_is,
+        take_at,
+        drop_at,
+        leb_suc,
+        (first_all n ps each.1),
+      )
 
 -- Pieces behind others are pieces.
 each_behind : (n : ℕ) (ps : List (List ℕ))
@@ -137,12 +136,7 @@ each_behind (suc n) (p ∷ ps) each = each_behind n ps each.1
 last_there : (first last count : ℕ)
     → first ≤ last
     → leb (last + 1 - first) (count - first) ≡ ltb last count
-last_there first last count le = elim (cases_lt last count) [
-  | inl lt ↦
-      le-leb (last + 1 - first) (count - first) (omega (arith, lt, le)) ∙ sym (lt-ltb last count lt)
-  | inr ge ↦
-      lt-leb (last + 1 - first) (count - first) (omega (arith, ge, le)) ∙ sym (le-ltb last count ge)
-]
+last_there first last count h1 = grind (arith, nat_tests, le-leb, lt-ltb, lt-leb, le-ltb)
 
 -- Both: the law.
 pub ranges : LawOfRanges

@@ -3,7 +3,7 @@
 use Rattle.std.proofs.Common.{◌≡◌, ◌↔◌, ℕ, ◌+◌, ◌*◌, ◌≤◌, ◌^◌, ◌%◌, ◌-◌, Bool, true, List, []}
 use Rattle.std.proofs.Common.{◌∷◌, ◌++◌, map, length, take, drop, cond, nat_eq, refl, sym, ap}
 use Rattle.std.proofs.Common.{ap₂, ◌∙◌, ◌/◌, ◌<◌, ◌&&◌, arith, not, w8, eqb-true, eq-eqb}
-use Rattle.std.proofs.Common.{take-append-drop, take_all, get_or, false}
+use Rattle.std.proofs.Common.{take-append-drop, take_all, get_or}
 use Rattle.std.proofs.lemmas.Bool.Decides.{nat_tests}
 use Rattle.std.proofs.lemmas.List.{take-take}
 use Rattle.std.specs.Simd.{first_chunks}
@@ -84,8 +84,7 @@ same_four a b la lb c0 c1 c2 c3 =
 
 -- Both of two tests hold.
 both : (x y : Bool) → (x && y) ≡ true → (x ≡ true) × (y ≡ true)
-both true y e = (refl, e)
-both false y e = absurd cc
+both x y h1 = grind (arith, nat_tests)
 
 -- The four blocks were compared. For `is_same_long_block`.
 pub four_same : (a b : List ℕ) (xs ys : List (List ℕ)) (p q r s : Bool)

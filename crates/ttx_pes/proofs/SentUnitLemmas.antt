@@ -1,5 +1,6 @@
 -- Units by the places of their data units: one more, `one_more`, those that are left,
 -- `places_left`, and one by its number, `unit_at_place`.
+use Rattle.std.proofs.lemmas.Bool.Decides.{nat_tests}
 use Rattle.std.proofs.Common.{◌≡◌, ℕ, ◌+◌, ◌-◌, ◌*◌, ◌<◌, List, [], ◌∷◌, ◌++◌}
 use Rattle.std.proofs.Common.{length, take, drop, get_or, map, sym, ap, subst, ◌∙◌, arith}
 use Rattle.std.specs.List.{AllByRecursion}
@@ -18,8 +19,7 @@ use Rattle.ttx_pes.proofs.LineOrderLemmas.{last_place-push}
 pub sent_units-push : (field places : List ℕ) (at : ℕ)
     → sent_units field (places ++ at ∷ [])
     ≡ sent_units field places ++ unit_of (take 46 (drop at field)) ∷ []
-sent_units-push field places at =
-    map-append (λ k. unit_of (take 46 (drop k field))) places (at ∷ [])
+sent_units-push field places at = grind (arith, nat_tests, map-append)
 
 -- For `take_place`.
 pub ruleset one_more = (sent_units-push, last_place-push, All-push)
@@ -47,13 +47,7 @@ pub has_place : (field places : List ℕ) (units : List UnitValue) (k : ℕ)
     → sent_units field places ≡ units
     → k < length units
     → k < length places
-has_place field places units k is l =
-    omega (
-      arith,
-      l,
-      ap length (sym is),
-      length-map places (λ at. unit_of (take 46 (drop at field))),
-    )
+has_place field places units k h1 h2 = grind (arith, nat_tests, length-map)
 
 module _ (field places : List ℕ) (k : ℕ) (l : k < length places) where
   -- It is that of the data unit at its place.

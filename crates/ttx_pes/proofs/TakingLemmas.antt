@@ -2,14 +2,12 @@
 -- settled_NAME, and what a reader then tells, tells_NAME.
 use Rattle.std.proofs.Common.{◌≡◌, ◌≢◌, ℕ, ◌<◌, ◌≤◌, List, [], length, take, drop, Option, None}
 use Rattle.std.proofs.Common.{Some, Result, Ok, Err, refl, sym, ap, subst, ◌∙◌, append_assoc, arith}
-use Rattle.std.proofs.Common.{inl, inr, length-append, length-take, length-drop, true}
+use Rattle.std.proofs.Common.{inr, length-append, length-take, length-drop, true}
 use Rattle.std.proofs.lemmas.Bool.Decides.{nat_tests}
 use Rattle.std.proofs.lemmas.List.{take-append-drop, append-nil, take-take, drop-drop}
 use Rattle.std.proofs.lemmas.List.{length-take-le}
-use Rattle.std.proofs.KnownBytes.{Consumes-nil}
 use Rattle.std.specs.Prelude.{IfErr, IfOk, IfSome}
 use Rattle.std.specs.Io.KnownBytes.{Consumes, IsAtEnd, Keeps}
-use lib.Seq.{take-append-le}
 use Rattle.sub_io.specs.Reading.{◌>>=◌, AreBytes}
 use Rattle.ttx_pes.specs.declared.fault.PesFault.{PesFault}
 use Rattle.ttx_pes.specs.declared.fault.PesFault.TheVariants as fault
@@ -64,8 +62,7 @@ pub size_settles : (old new : Option (List ℕ)) (taken : List ℕ) (f : PesFaul
     → 6 ≤ length taken
     → size_at (take 6 taken) ≡ Err f
     → Settles old new taken (Err f)
-size_settles old new taken f h le bad =
-    grind (arith, nat_tests, packet_size, length-append, take-append-le)
+size_settles old new taken f h1 h2 h3 = grind (arith, nat_tests, packet_size, length-append)
 
 -- The bytes end within the packet.
 pub cut_settles : (old new : Option (List ℕ)) (taken : List ℕ) (size : ℕ)
@@ -228,54 +225,31 @@ tells_settled given old new taken (Err f) h ne fit kind =
 
 -- Bytes that were taken then were taken since.
 Consumes-on : (x y z : Option (List ℕ)) (b : List ℕ) → Keeps x y → Consumes y z b → Consumes x z b
-Consumes-on None y z b k c = tt
-Consumes-on (Some x) None z b k c = absurd k
-Consumes-on (Some x) (Some y) z b k c = subst (λ l. Consumes (Some l) z b) k c
+Consumes-on x y z b h1 h2 = grind (arith, nat_tests)
 
 -- A packet or a fault that a source tells then, where it told nothing before.
 given_on : (y z : Option (List ℕ)) (r : Result (Option PesValue) PesFault)
     → IfOk r (λ given. IfSome given (TakesPesPacket y z))
     → IfOk r (λ given. IfSome given (TakesPesPacket None z))
-given_on y z (Err f) h = tt
-given_on y z (Ok None) h = tt
-given_on y z (Ok (Some v)) h = record { bytes = h.bytes; is_packet = h.is_packet; consumed = tt }
+given_on y z r h1 = grind (arith, nat_tests)
 
 refused_on : (y z : Option (List ℕ)) (r : Result (Option PesValue) PesFault)
     → IfErr r (λ f. is_format_fault f ≡ true → TakesRefused y z f)
     → IfErr r (λ f. is_format_fault f ≡ true → TakesRefused None z f)
-refused_on y z (Ok v) h = tt
-refused_on y z (Err f) h = λ kind.
-    let taken = h kind in record { bytes = taken.bytes; consumed = tt; refused = taken.refused }
+refused_on y z r h1 = grind (arith, nat_tests)
 
 -- What is told of a packet then. For `read_next`.
 pub tells_on : (p : Progress) (x y z : Option (List ℕ)) (r : Result (Option PesValue) PesFault)
     → Keeps x y
     → TellsPacket p y z r
     → TellsPacket p x z r
-tells_on p (Some x) None z r k t = absurd k
-tells_on p (Some x) (Some y) z r k t = subst (λ l. TellsPacket p (Some l) z r) k t
-tells_on p None y z r k t = record {
-  packet = given_on y z r t.packet;
-  exact = λ given is bytes none. absurd cc;
-  left = λ given is bytes none. absurd cc;
-  refused = refused_on y z r t.refused;
-  too_many = t.too_many;
-  within = λ failed.
-      let w = t.within failed in record { bytes = w.bytes; consumed = tt; begun = w.begun };
-  at_end = t.at_end;
-  ended = t.ended;
-  no_write = t.no_write;
-}
+tells_on p x y z r h1 h2 = grind (arith, nat_tests, given_on, left, refused_on, too_many)
 
 -- Where it failed at that.
 pub tells_failed_on : (given : ℕ) (x y : Option (List ℕ))
     → Keeps x y
     → TellsPacket (Reading given) x y (Err fault.Read)
-tells_failed_on given x y k = tells_failed given x y (record {
-  bytes = [];
-  consumed = Consumes-on x y y [] k (Consumes-nil y);
-  begun = inl (omega arith);
-})
+tells_failed_on given x y h1 = grind (arith, nat_tests, tells_failed, Consumes-on)
 
 -- What was taken of a packet.
 pub takes_on : (x y z : Option (List ℕ)) (v : PesValue) (field : List ℕ)
