@@ -14,7 +14,8 @@ use Rattle.stl_rows.specs.declared.national.National.{National}
 use Rattle.stl_rows.specs.declared.text_code.TextCode.{TextCode}
 use Rattle.stl_rows.specs.DrawnPage.{drawn_by, first_depth}
 use Rattle.stl_rows.specs.DrawnPage.{page_of_placed, placed, placed_fault_kinds, placed_faults}
-use Rattle.stl_rows.specs.DrawnPage.{LawOfDefaultLayout, drawn, placed_lines, rows_off, shown_row, unstripped}
+use Rattle.stl_rows.specs.DrawnPage.{LawOfDefaultLayout, drawn, placed_lines, rows_off, shown_row}
+use Rattle.stl_rows.specs.DrawnPage.{unstripped}
 use Rattle.stl_rows.specs.Layout.{attribute_code, default_items, default_layout}
 use Rattle.stl_rows.specs.Layout.{drawing_by}
 use Rattle.stl_rows.specs.Line.{is_boxed, is_double, prepared, row_of, start_column}
@@ -69,7 +70,8 @@ unfolding default_items
 faults-default number row under [] low = refl
 faults-default number row under (l ∷ ls) low =
     rw (faults-default (number + 1) (row + 1) (is_double l) ls (omega arith))
-    (ap (λ kinds. map (fault_of number) kinds ++ line_faults (number + 1) (row + 1) (is_double l) ls)
+    (ap (λ kinds. map (fault_of number) kinds
+    ++ line_faults (number + 1) (row + 1) (is_double l) ls)
     (kinds-default number row under l low))
 
 -- ---- the page

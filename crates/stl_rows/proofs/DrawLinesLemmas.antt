@@ -24,7 +24,9 @@ module _ (items : LayoutItems) (jc off : ℕ) (place : Place) (page : Rows)
     (cut : cut_lines rest ≡ first ∷ cut_behind behind)
     (is : line ≡ prepared_by items first) where
   all_lines : prepared_cut items rest ≡ line ∷ map (prepared_by items) (cut_behind behind)
-  all_lines = ap (map (prepared_by items)) cut ∙ ap (λ own. own ∷ map (prepared_by items) (cut_behind behind)) (sym is)
+  all_lines =
+      ap (map (prepared_by items)) cut
+      ∙ ap (λ own. own ∷ map (prepared_by items) (cut_behind behind)) (sym is)
 
   -- Its fault is the first of all.
   pub line-fault : (fault : RowFault)

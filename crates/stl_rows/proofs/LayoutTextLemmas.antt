@@ -1,6 +1,7 @@
 -- Layouts read item by item, and their codes pair by pair: items_set-more, codes_filled-step,
 -- stripped_with-more.
-use Rattle.std.proofs.Common.{◌≡◌, ℕ, zero, suc, ◌+◌, ◌<◌, ◌≤◌, Bool, true, false, List, [], ◌∷◌, length, get_or}
+use Rattle.std.proofs.Common.{◌≡◌, ℕ, zero, suc, ◌+◌, ◌<◌, ◌≤◌, Bool, true, false, List, [], ◌∷◌}
+use Rattle.std.proofs.Common.{length, get_or}
 use Rattle.std.proofs.Common.{drop, refl, ap, ◌∙◌, arith, nat_lt, add-one, drop-cons}
 use Rattle.std.proofs.Common.{Option, Some, None, ◌⊎◌, inr}
 use Rattle.std.proofs.lemmas.Bool.Decides.{nat_tests}

@@ -161,7 +161,8 @@ module _ (items : LayoutItems) (jc off : ℕ) where
       (λ is. nothing_below (number + 1) depth under lines low)
       (λ is. nothing-cells (place_of number depth under line)
       (behind items number depth line lines) (has_cells line) low refl
-      (nothing_below (number + 1) (depth + pitch items) (is_double line) lines (omega (arith, low))))
+      (nothing_below (number + 1) (depth + pitch items) (is_double line) lines
+      (omega (arith, low))))
 
   -- Rows from one on show lines without a fault.
   abbrev Show : ℕ → ℕ → List PlacedLine → Type 0
@@ -405,7 +406,8 @@ letters-kept items n place zero (byte ∷ bytes) =
     (code_before n (if strips items byte then 0x80 else byte) (unstripped items bytes)).1
     (unstripped items bytes)))) alike.0
     ∙ ap (λ more. letter_of (code_before n byte bytes).0 ++ more)
-    (ap (λ k. letters (lines_of_codes (codes_after n (place + 1) k (unstripped items bytes)))) alike.1
+    (ap (λ k. letters (lines_of_codes (codes_after n (place + 1) k (unstripped items bytes))))
+    alike.1
     ∙ letters-kept items n (place + 1) (code_before n byte bytes).1 bytes)
     ∙ sym (letters-code (code_before n byte bytes).0
     (lines_of_codes (codes_after n (place + 1) (code_before n byte bytes).1 bytes)))

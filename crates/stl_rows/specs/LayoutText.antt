@@ -1,6 +1,7 @@
 -- Layouts as people write them (own): items joined by commas, none of them twice, in any order.
 use Rattle.std.specs.Prelude.{ℕ, ◌+◌, ◌-◌, ◌*◌, Bool, true, false, ◌&&◌, List, [], ◌∷◌, Option}
-use Rattle.std.specs.Prelude.{Some, None, codes, drop, length, nat_lt, nat_le, option_map, replicate}
+use Rattle.std.specs.Prelude.{Some, None, codes, drop, length, nat_lt, nat_le, option_map}
+use Rattle.std.specs.Prelude.{replicate}
 use Rattle.std.specs.Prelude.{slice_index_or, slice_set, ◌==◌, if◌then◌else◌}
 use Rattle.std.specs.List.{after_first, before_first, position_or_len, slice_split}
 use Rattle.std.specs.Str.{bytes_eq}
@@ -148,7 +149,8 @@ number_set items name value =
 unfoldable pub value_set : LayoutItems → List ℕ → List ℕ → Option (ℕ × LayoutItems)
 value_set items name value =
     if bytes_eq name (codes "strip")
-    then option_map (λ s. (8, record items { strip = s })) (stripped_with (replicate 32 false) value)
+    then option_map (λ s. (8, record items { strip = s }))
+    (stripped_with (replicate 32 false) value)
     else (if bytes_eq name (codes "before")
     then option_map
     (λ (b : List (Option Attribute) × List (Option Attribute)).

@@ -3,7 +3,8 @@ use Rattle.std.proofs.Common.{arith}
 use Rattle.std.proofs.lemmas.Bool.Decides.{nat_tests}
 use Rattle.std.proofs.lemmas.List.{length-set}
 use Rattle.stl_rows.proofs.LayoutTextLemmas.{stripped_with-again, stripped_with-bad}
-use Rattle.stl_rows.proofs.LayoutTextLemmas.{stripped_with-end, stripped_with-more, stripped_with-odd}
+use Rattle.stl_rows.proofs.LayoutTextLemmas.{stripped_with-end, stripped_with-more}
+use Rattle.stl_rows.proofs.LayoutTextLemmas.{stripped_with-odd}
 use Rattle.stl_rows.proofs.layout_text.stripped_of_text.Goals as goal
 
 pub returns-then-at-text : goal.returns-then-at-text

@@ -6,4 +6,9 @@ use Rattle.stl_rows.proofs.line.codes_from.Goals as goal
 
 pub returns : goal.returns
 returns c =
-    grind (arith, nat_tests, row_from-put, row_from-codes c.args.start c.args.line.now c.requires.codes)
+    grind (
+      arith,
+      nat_tests,
+      row_from-put,
+      row_from-codes c.args.start c.args.line.now c.requires.codes,
+    )
