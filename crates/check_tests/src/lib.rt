@@ -23,6 +23,8 @@ mod live;
 #[cfg(test)]
 mod national;
 #[cfg(test)]
+mod pace;
+#[cfg(test)]
 mod passed_over;
 #[cfg(test)]
 mod scope;

@@ -6,9 +6,9 @@ use std::alloc::Global;
 use std::process::Abort;
 use sub_io::MemSink;
 
-// Asserts what is printed of a subtitle file and a transmission, by a row: its PES packets, the
-// options of the check, and the lines that it prints with `--all`.
-fn assert_row(rt: &(impl Abort + Alloc<A = Global>), stl: &[u8], row: &[&[&str]; 3]) {
+/// Asserts what is printed of a subtitle file and a transmission, by a row: its PES packets, the
+/// options of the check, and the lines that it prints with `--all`.
+pub fn assert_row(rt: &(impl Abort + Alloc<A = Global>), stl: &[u8], row: &[&[&str]; 3]) {
     let mut room = [0; 920];
     let mut pes = MemSink::new(&mut room);
     push_spelled(&mut pes, row[0]);

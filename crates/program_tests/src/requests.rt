@@ -176,6 +176,35 @@ fn reads_the_frames_that_are_allowed(rt: HostRuntime) {
     assert_allows(&rt, &["subttx", "listen", "a", "--within", "1", "--at", at], 1);
 }
 
+// The repeat bound and the pace of a check.
+fn bounds(request: &Request<'_>) -> Option<(u64, Option<u64>)> {
+    match request {
+        Request::Check { options, .. } => Some((options.every(), options.pace())),
+        _ => None,
+    }
+}
+
+// Asserts them, by words.
+fn assert_bounds<'a>(
+    rt: &(impl Abort + Alloc<A = Global>),
+    words: &'a [&'a str],
+    want: (u64, Option<u64>),
+) {
+    match Request::parse(rt.alloc(), words) {
+        Ok(request) => assert_same(rt, &bounds(&request), &Some(want)),
+        Err(_) => panic!(rt; "no request"),
+    }
+}
+
+#[rattlefmt::skip]
+#[test]
+fn reads_a_pace(rt: HostRuntime) {
+    assert_bounds(&rt, &["subttx", "check", "a", "b"], (250, None));
+    assert_bounds(&rt, &["subttx", "check", "a", "b", "--pace", "1"], (250, Some(1)));
+    let day = ["subttx", "check", "--pace=2160000", "a", "b", "--every", "2160000"];
+    assert_bounds(&rt, &day, (2_160_000, Some(2_160_000)));
+}
+
 // Asserts that words ask to listen to file a with this page and PTS of frame 0, up to a frame,
 // with this number of packets passed over, and with these flips and lost packets.
 fn assert_listens<'a>(

@@ -124,11 +124,11 @@ const SCHEDULES: [[&str; 5]; 18] = [
     ["", "250", "0", "english", "usage 1 BadPage\n"],
     ["888", "0", "x", "polish", "usage 80 Every\n"],
     ["888", "x", "8589934592", "english", "usage 80 Every\n"],
-    ["888", "1501", "0", "english", "usage 80 Every\n"],
+    ["888", "2160001", "0", "english", "usage 80 Every\n"],
     ["888", "00000000001", "0", "english", "usage 80 Every\n"], // eleven digits
     ["888", "+1", "0", "english", "usage 80 Every\n"],
     ["888", "", "0", "english", "usage 80 Every\n"],
-    ["888", "1500", "8589934592", "polish", "usage 81 Origin\n"],
+    ["888", "2160000", "8589934592", "polish", "usage 81 Origin\n"],
     ["888", "1", "x", "german", "usage 81 Origin\n"],
     ["888", "1", "99999999990", "german", "usage 81 Origin\n"],
     ["888", "1", "8589934591", "polish", "usage 83 BadOption\n"],
@@ -265,6 +265,29 @@ fn assert_refuses_pes(rt: &(impl Abort + Alloc<A = Global>), row: &[&str; 4]) {
 fn refuses_pes_packets_that_can_not_be_meant(rt: HostRuntime) {
     for row in &PES_PACKETS {
         assert_refuses_pes(&rt, row);
+    }
+}
+
+// The PES packets and the pace of a check, and the line.
+#[rattlefmt::skip]
+const PACES: [[&str; 3]; 7] = [
+    // range, pace, line
+    ["2-1", "0", "usage 88 Range\n"],
+    ["0-1", "0", "usage 92 Pace\n"],
+    ["0-1", "2160001", "usage 92 Pace\n"],
+    ["0-1", "00000000001", "usage 92 Pace\n"], // eleven digits
+    ["0-1", "", "usage 92 Pace\n"],
+    ["0-1", "none", "usage 92 Pace\n"],
+    ["0-1", "-1", "usage 92 Pace\n"],
+];
+
+#[test]
+fn refuses_a_pace_that_is_no_number_of_frames_of_a_day(rt: HostRuntime) {
+    for row in &PACES {
+        let words = [
+            "subttx", "check", "a", "b", "--pace", row[1], "--pes", row[0],
+        ];
+        assert_refuses(&rt, &words, row[2]);
     }
 }
 

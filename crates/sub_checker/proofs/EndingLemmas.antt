@@ -19,8 +19,8 @@ use Rattle.sub_checker.specs.Checker.{CheckerValue, after_end, end_marks}
 use Rattle.sub_checker.specs.Checker.{is_overdue_at, is_unfinished_now, late_now}
 use Rattle.sub_checker.specs.Checker.{quiet_end, since_now, stands}
 use Rattle.sub_checker.specs.Following.{HasBegun, Remembers, since_before}
-use Rattle.sub_rules.specs.Events.{end_before, end_events, end_rules, events_at_end}
-use Rattle.sub_rules.specs.Events.{first_cell, gap_length, nothing_stands}
+use Rattle.sub_rules.specs.Events.{end_before, end_events, end_rules, events_at_end, is_silent}
+use Rattle.sub_rules.specs.Events.{first_cell, gap_length, nothing_stands, silent_for}
 use Rattle.sub_rules.specs.Events.{is_incomplete, is_late, is_overdue, is_unfinished}
 use Rattle.sub_rules.specs.Events.{latest, since_frames, since_in_gap, standing_at}
 use Rattle.sub_rules.specs.Events.{standing_before, undue_after, unfinished_from}
@@ -126,6 +126,13 @@ unfolding standing_before
 ends_are g frames zero n f old new last is at now = rw (is, now) (end_from_none _ _ _ _)
 ends_are g frames (suc i) n f old new last is at now = rw (is, now, at (omega arith)) refl
 
+-- Where there is a PES packet, whether one is too long ago goes by the latest of them.
+silent_at : (g : Task) (frames : Transmission) (n f : ℕ) → 0 < n
+    → is_silent g frames n f ≡ silent_for g.pace (latest frames n) f
+unfolding is_silent
+silent_at g frames zero f some = absurd (omega arith)
+silent_at g frames (suc n) f some = refl
+
 -- Whether the page had to be whole, by what is kept.
 pub overdue_is : (g : Task) (c : CheckerValue) (first : ℕ) (since : Option ℕ) (f : ℕ)
     (last : List (List ℕ)) (frames : Transmission) (n : ℕ)
@@ -147,6 +154,7 @@ module _ (g : Task) (frames : Transmission) (i n f : ℕ) (last : List (List ℕ
     (since : 0 < g.within → c.since ≡ since_before g frames i f)
     (on : unfinished_since g frames n f
     ≡ unfinished_from (since_before g frames i f) (is_unfinished g frames n f) f)
+    (some : 0 < n) (latest_is : c.latest ≡ latest frames n)
   where
     -- What was heard up to it.
     abbrev so_far : List (List ℕ)
@@ -194,10 +202,17 @@ module _ (g : Task) (frames : Transmission) (i n f : ℕ) (last : List (List ℕ
         (ap (λ (t : Task). undue_after t.watched.page so_far t.due (frame_at frames 0) f t.within)
         (sym known.task_is))
 
+    silent_is : silent_for c.pace c.latest c.frame ≡ is_silent g frames n f
+    silent_is =
+        rw (latest_is, at)
+        (ap (λ (t : Task). silent_for t.pace (latest frames n) f) (sym known.task_is)
+        ∙ sym (silent_at g frames n f some))
+
     -- What stands broken.
     pub stands_are : (stands so_far c) ≡ standing_at g frames n f
     unfolding standing_at
-    stands_are = rw (late_is, wrong_is, undue_is, incomplete_is, begun.late_is f, at) refl
+    stands_are =
+        rw (silent_is, late_is, wrong_is, undue_is, incomplete_is, begun.late_is f, at) refl
 
     -- What comes there.
     pub marks_are : end_marks so_far c ≡ marks_at_end g frames i n f
@@ -333,13 +348,14 @@ pub quiet_stands : (heard : List (List ℕ)) (c : CheckerValue)
     → wrong_after c.listener.watched.page heard c.listener.comparison.due ≡ None
     → (c.listener.watched.complete && is_open_after (kind c.listener.watched.page) heard) ≡ false
     → c.frame + 1 < c.late_at
+    → silent_for c.pace c.latest c.frame ≡ false
     → (stands heard c ≡ nothing_stands) × (since_now heard c ≡ None)
-quiet_stands heard c due right shut early =
+quiet_stands heard c due right shut early sounds =
     let undue =
     no_undue c.listener.watched.page heard (due_in c.programme) c.listener.comparison.due c.first
     c.frame c.within due right in
     let soon : nat_le c.late_at (c.frame + 1) ≡ false = grind (arith, nat_tests) in (
-      rw (right, undue, shut, soon) (by (c.within == 0 || false)),
+      rw (right, undue, shut, soon, sounds) (by (c.within == 0 || false)),
       rw (right, shut) refl,
     )
   where
@@ -348,6 +364,7 @@ quiet_stands heard c due right shut early =
           content = cond late None None;
           gap = false;
           incomplete = late && false;
+          silent = false;
         } in s)
         ≡ nothing_stands
     by true = refl

@@ -39,7 +39,7 @@ use Rattle.sub_checker.proofs.EndingLemmas.{stands_are}
 -- Nothing is kept. For `new`.
 pub Follows-none :
     (g : Task) (frames : Transmission) (last : List (List ℕ)) (c : CheckerValue)
-    → g ≡ task_with c.programme c.listener.watched c.every c.within g.unread
+    → g ≡ task_with c.programme c.listener.watched c.every c.within c.pace g.unread
     → KnowsLast [] last c.listener
     → c.counts.headers ≡ 0
     → c.counts.frames ≡ 0
@@ -51,7 +51,7 @@ Follows-none g frames last c task knows none sent since stood = grind (arith, na
 
 pub Keeps-none :
     (g : Task) (last : List (List ℕ)) (c : CheckerValue)
-    → g ≡ task_with c.programme c.listener.watched c.every c.within g.unread
+    → g ≡ task_with c.programme c.listener.watched c.every c.within c.pace g.unread
     → KnowsLast [] last c.listener
     → c.counts ≡ nothing_counted
     → c.since ≡ None
@@ -125,7 +125,7 @@ waits_lower g frames n f e last c waits some l m =
 -- One end more. For `cross_gap`.
 module _ (g : Task) (frames : Transmission) (n f : ℕ) (last : List (List ℕ)) (v b : CheckerValue)
     (waits : Waits g frames n f last v) (some : 0 < n) (later : latest frames n < f)
-    (moved : b ≡ at_frame f v)
+    (moved : b ≡ at_frame f v) (known : v.latest ≡ latest frames n)
     (due : b.listener.comparison.due ≡ due_in b.programme b.frame)
   where
     known_there : Remembers g frames n last b
@@ -135,6 +135,9 @@ module _ (g : Task) (frames : Transmission) (n f : ℕ) (last : List (List ℕ))
 
     at_there : b.frame ≡ f
     at_there = ap (λ (c : CheckerValue). c.frame) moved
+
+    latest_there : b.latest ≡ latest frames n
+    latest_there = ap (λ (c : CheckerValue). c.latest) moved ∙ known
 
     begun_there : HasBegun g frames n b
     begun_there = grind (arith, nat_tests)
@@ -151,18 +154,18 @@ module _ (g : Task) (frames : Transmission) (n f : ℕ) (last : List (List ℕ))
     pub gap_marks : end_marks (packets_before frames n) b ≡ marks_at_end g frames n n f
     gap_marks =
         marks_are g frames n n f last b known_there begun_there at_there due stood_there
-        before_there since_there (gap_on g frames n f some later)
+        before_there since_there (gap_on g frames n f some later) some latest_there
 
     stands_there : (stands (packets_before frames n) b) ≡ standing_at g frames n f
     stands_there =
         stands_are g frames n n f last b known_there begun_there at_there due stood_there
-        before_there since_there (gap_on g frames n f some later)
+        before_there since_there (gap_on g frames n f some later) some latest_there
 
     since_then : 0 < g.within
         → (after_end (packets_before frames n) b).since ≡ unfinished_since g frames n f
     since_then =
         since_are g frames n n f last b known_there begun_there at_there due stood_there
-        before_there since_there (gap_on g frames n f some later)
+        before_there since_there (gap_on g frames n f some later) some latest_there
 
     pub gap_knows : Knows (packets_before frames n) b.listener
     gap_knows = known_there.knows.knows

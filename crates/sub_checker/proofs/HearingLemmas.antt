@@ -167,13 +167,15 @@ module _ (g : Task) (frames : Transmission) (n : ℕ) (last : List (List ℕ)) (
       pub ending_marks : end_marks heard c ≡ marks_at_end g frames n (suc n) (frame_at frames n)
       ending_marks =
           marks_are g frames n (suc n) (frame_at frames n) last c is.known is.begun is.frame_is due
-          is.standing_is is.last_is is.since_is (frame_on g frames n)
+          is.standing_is is.last_is is.since_is (frame_on g frames n) (omega arith)
+          is.latest_is
 
       stands_then : (stands heard c)
           ≡ standing_at g frames (suc n) (frame_at frames n)
       stands_then =
           stands_are g frames n (suc n) (frame_at frames n) last c is.known is.begun is.frame_is due
-          is.standing_is is.last_is is.since_is (frame_on g frames n)
+          is.standing_is is.last_is is.since_is (frame_on g frames n) (omega arith)
+          is.latest_is
 
       -- The mark there. For `end_sent`.
       pub end_mark : (f : ℕ) (has none : Bool) (d : CheckerValue)
@@ -193,7 +195,8 @@ module _ (g : Task) (frames : Transmission) (n : ℕ) (last : List (List ℕ)) (
       since_then : 0 < g.within → (after_end heard c).since ≡ since_frames g frames (suc n)
       since_then l =
           since_are g frames n (suc n) (frame_at frames n) last c is.known is.begun is.frame_is due
-          is.standing_is is.last_is is.since_is (frame_on g frames n) l
+          is.standing_is is.last_is is.since_is (frame_on g frames n) (omega arith)
+          is.latest_is l
           ∙ since_last g frames n
 
       -- What is kept there. For `end_sent`.

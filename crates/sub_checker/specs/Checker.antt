@@ -7,7 +7,7 @@ use Rattle.stl_rows.specs.Programme.{ProgrammeValue}
 use Rattle.ttx_page.specs.PacketKind.{kind}
 use Rattle.ttx_page.specs.Span.{is_open_after}
 use Rattle.ttx_pes.specs.DataUnit.{UnitValue}
-use Rattle.sub_rules.specs.Events.{end_events, is_missed, undue_after, unfinished_from}
+use Rattle.sub_rules.specs.Events.{end_events, is_missed, undue_after, unfinished_from, silent_for}
 use Rattle.sub_rules.specs.Events.{wrong_after}
 use Rattle.stl_rows.specs.DuePage.{TellsNextEdge, tci_of_ending}
 use Rattle.sub_rules.specs.PacketRules.{header_count, packets_of_units}
@@ -49,8 +49,8 @@ sent_as sending units = record { frame = sending.frame; packets = packets_of_uni
 
 -- ---- what is kept
 
--- The programme, the repeat bound, within how many frames the page has to be whole, what is kept of
--- the packets, the frame of the first PES packet, the greatest one of all, the frame that a page is
+-- The programme, the repeat bound, within how many frames the page has to be whole, how many frames
+-- apart PES packets are at most, where that is asked, what is kept of the packets, the frame of the first PES packet, the greatest one of all, the frame that a page is
 -- due at, that of the last end and what stood broken there, the first of the frames up to it at
 -- whose ends the page was not whole, one more than the first frame at whose end a header is too
 -- long ago, and what was counted.
@@ -58,6 +58,7 @@ pub record CheckerValue : Type 0 where
   pub programme : ProgrammeValue
   pub every : ℕ
   pub within : ℕ
+  pub pace : Option ℕ
   pub listener : Listener
   pub first : ℕ
   pub latest : ℕ
@@ -145,6 +146,7 @@ stands heard c = record {
   incomplete =
       late_now heard c
       && (c.listener.watched.complete && is_open_after (kind c.listener.watched.page) heard);
+  silent = silent_for c.pace c.latest c.frame;
 }
 
 -- What comes there.
@@ -190,4 +192,4 @@ pub record IsAtFrame
   pub in_day : latest < day
   pub last_in_day : last < day
   pub frame_in_day : frame < day
-  pub bound : every ≤ 1500
+  pub bound : every ≤ day

@@ -24,7 +24,7 @@ use Rattle.sub_checker.specs.declared.passing.Stage.{Stage}
 pub record Remembers
     (g : Task) (frames : Transmission) (n : ℕ) (last : List (List ℕ)) (c : CheckerValue)
     : Type 0 where
-  pub task_is : g ≡ task_with c.programme c.listener.watched c.every c.within g.unread
+  pub task_is : g ≡ task_with c.programme c.listener.watched c.every c.within c.pace g.unread
   pub knows : KnowsLast (packets_before frames n) last c.listener
   pub count : c.counts.headers ≡ header_count g.watched.page (packets_before frames n)
 

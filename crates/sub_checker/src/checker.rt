@@ -22,6 +22,8 @@ pub(crate) struct Checker<'a> {
     pub every: u32,
     // Within how many frames the page has to be whole.
     pub within: u32,
+    // How many frames apart PES packets are at most, where that is asked.
+    pub pace: Option<u32>,
     pub listener: Listener,
     // The frame of the first PES packet.
     pub first: u32,
@@ -52,6 +54,7 @@ impl<'a> Model for Checker<'a> {
       programme = c.programme.now;
       every = c.every;
       within = c.within;
+      pace = c.pace;
       listener = c.listener;
       first = c.first;
       latest = c.latest;
@@ -89,6 +92,7 @@ impl<'a> Checker<'a> {
             programme,
             every: options.every() as u32,
             within: options.within() as u32,
+            pace: options.pace().map(|frames| frames as u32),
             listener: Listener::new(watched, programme.due_page(0)),
             first: 0,
             latest: 0,

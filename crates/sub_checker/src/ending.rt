@@ -7,7 +7,7 @@ ghost use Rattle.sub_checker.specs.Checker.{AreFew, is_overdue_at, late_now, sin
 ghost use Rattle.sub_checker.specs.Following.{Follows, Heard, Keeps, quiet_stage};
 ghost use Rattle.sub_checker.specs.Passing.{Moves, StagePasses};
 ghost use Rattle.sub_packets.specs.Listener.{Knows};
-ghost use Rattle.sub_rules.specs.Events.{nothing_stands, undue_after, wrong_after};
+ghost use Rattle.sub_rules.specs.Events.{nothing_stands, silent_for, undue_after, wrong_after};
 ghost use Rattle.sub_rules.specs.FrameRules.{Task, packets_of_frame};
 ghost use Rattle.sub_rules.specs.PieceEvents.{marks_of_ending, marks_of_waiting};
 ghost use Rattle.sub_rules.specs.Transmission.{Transmission};
@@ -50,7 +50,7 @@ impl<'a> Checker<'a> {
         if !self.listener.is_known_right() {
             return false;
         }
-        self.frame + 1 < self.late_at && !self.listener.is_incomplete()
+        self.frame + 1 < self.late_at && !self.listener.is_incomplete() && !self.is_silent()
     }
 
     // What stands broken at the frame that was reached, where the page has to be whole at the end
@@ -63,10 +63,12 @@ impl<'a> Checker<'a> {
         let content = self.listener.first_wrong();
         let gap = self.has_gap();
         let incomplete = self.listener.is_incomplete();
+        let silent = self.is_silent();
         Standing {
             content,
             gap,
             incomplete,
+            silent,
         }
     }
 
@@ -76,6 +78,17 @@ impl<'a> Checker<'a> {
         ensures { result ≡ nat_le self.now.late_at (self.now.frame + 1) }
     {
         self.late_at <= self.frame + 1
+    }
+
+    // Whether a PES packet is too long ago there, whatever is in it.
+    #[inline(always)]
+    fn is_silent(&self) -> bool
+        ensures { result ≡ silent_for self.now.pace self.now.latest self.now.frame }
+    {
+        match self.pace {
+            Some(pace) => u64::from(self.latest) + u64::from(pace) <= u64::from(self.frame),
+            None => false,
+        }
     }
 
     // What is found at the end of the frame that was reached, where the page need not be whole at
@@ -99,10 +112,12 @@ impl<'a> Checker<'a> {
             self.first_undue(differing)
         };
         let gap = self.has_gap();
+        let silent = self.is_silent();
         let standing = Standing {
             content,
             gap,
             incomplete: is_late && is_open,
+            silent,
         };
         EndWithin {
             standing,

@@ -8,7 +8,12 @@ use sub_packets::tell_if;
 use sub_rules::{CheckFault, EndRule, Event, Standing};
 
 // The rules, in the order in which they are told.
-const RULES: [EndRule; 3] = [EndRule::Content, EndRule::Gap, EndRule::Incomplete];
+const RULES: [EndRule; 4] = [
+    EndRule::Content,
+    EndRule::Gap,
+    EndRule::Incomplete,
+    EndRule::Silent,
+];
 
 /// Tells what changes from an end of a frame `before`, where these stood broken, to one of another
 /// frame, where the others stand: of each rule in their order.
@@ -94,6 +99,7 @@ fn fault_of(rule: EndRule, frame: u32, cell: (u8, u8)) -> CheckFault
         EndRule::Content => CheckFault::Content { frame, row, column },
         EndRule::Gap => CheckFault::Gap { frame },
         EndRule::Incomplete => CheckFault::Incomplete { frame },
+        EndRule::Silent => CheckFault::Silent { frame },
     }
 }
 

@@ -82,7 +82,14 @@ two_frames first second =
 -- Page 888, a repeat bound, and PTS 0 at frame 0.
 abbrev pub each : ℕ → OptionsValue
 each every =
-    record { page = page_888; every = every; origin = 0; asks_complete = false; within = 0 }
+    record {
+      page = page_888;
+      every = every;
+      origin = 0;
+      asks_complete = false;
+      within = 0;
+      pace = None;
+    }
 
 -- Frame 900000 with this header and the closing header.
 abbrev pub one_header : List ℕ → Transmission

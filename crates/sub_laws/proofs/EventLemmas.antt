@@ -150,6 +150,7 @@ module _ (g : Task) (frames : Transmission) (Named : CheckFault → Type 0)
   end_named n f read end.Content x e = wrong n f x read e
   end_named n f read end.Gap x e = plain _ refl
   end_named n f read end.Incomplete x e = plain _ refl
+  end_named n f read end.Silent x e = plain _ refl
 
   -- Where nothing stood broken at the end before.
   quiet_told : (n f prior : ℕ) → IsReadTo g frames n f

@@ -3,7 +3,7 @@
 -- of the day: `each_packet`, `any_sent`, `sent_any`.
 use Rattle.std.proofs.Common.{◌≡◌, ℕ, zero, suc, ◌+◌, ◌-◌, ◌<◌, inl, inr, Bool, true, cond, ◌&&◌}
 use Rattle.std.proofs.Common.{nat_le, nat_lt, List, [], ◌∷◌, ◌++◌, length, get_or, All, refl, ap}
-use Rattle.std.proofs.Common.{arith, ◌⊎◌}
+use Rattle.std.proofs.Common.{arith, ◌⊎◌, ◌≤◌}
 use Rattle.std.specs.List.{AllByRecursion, flat_map, list_any}
 use Rattle.std.proofs.lemmas.List.{take_all}
 use Rattle.std.proofs.lemmas.List.Elements.{All-from_recursion}
@@ -15,6 +15,9 @@ use Rattle.ttx_page.specs.PacketKind.{kind, is_this_page}
 use Rattle.ttx_page.specs.Span.{holds_header}
 use Rattle.ttx_page.proofs.SpanLists.{holds-append_left, holds-append_right}
 use Rattle.sub_rules.specs.Transmission.{SentFrame, Transmission, EachPacket, IsRising, packets_of}
+use Rattle.sub_rules.specs.Transmission.{first_frame, last_frame}
+use Rattle.sub_rules.specs.Good.{Repeats}
+use Rattle.std.proofs.lemmas.Bool.{cases_lt}
 
 -- ---- each packet
 
@@ -92,4 +95,21 @@ sent_any w (s ∷ ss) n e =
       | inl here ↦
           grind (arith, nat_tests)
       | inr there ↦ let r = later there in (suc r.0, omega (arith, r.1), r.2, r.3)
+    ]
+
+-- ---- PES packets
+
+-- Where a header of the page comes again within a bound, PES packets are no further apart.
+pub paced_of : (w : Watched) (every frames : ℕ) (t : Transmission) → 0 < length t → every ≤ frames
+    → Repeats w.page every t
+    → (f : ℕ) → first_frame t ≤ f → f ≤ last_frame t
+    → (j : ℕ) × (j < length t) × (frame_at t j ≤ f) × (f < frame_at t j + frames)
+paced_of w every frames [] some l repeats f low high = absurd (omega arith)
+paced_of w every frames (s ∷ ss) some l repeats f low high =
+    elim (cases_lt f (s.frame + frames)) [
+      | inl early ↦ (0, some, low, early)
+      | inr late ↦
+          let (g, from, to, holds) = repeats (f + 1 - every) (omega arith) (omega arith) in
+          let (j, there, at, has) = sent_any w (s ∷ ss) g holds in
+          (j, there, omega arith, omega arith)
     ]

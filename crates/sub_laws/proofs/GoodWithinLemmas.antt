@@ -205,18 +205,18 @@ law_of_longer_delay programme transmission options more longer good =
 -- ---- schedules
 
 pub law_of_plan_within : LawOfPlanWithin
-law_of_plan_within programme options serial is some ok =
-    good_within programme _ options is (law_of_plan programme options serial is some ok)
+law_of_plan_within programme options serial is some ok slow =
+    good_within programme _ options is (law_of_plan programme options serial is some ok slow)
     (λ asks. law_of_complete_plan programme options serial is some ok)
 
 -- Where repeats may keep too.
 pub law_of_plan_repeats : LawOfPlanRepeats
-law_of_plan_repeats keeps programme options serial is some ok = go keeps
+law_of_plan_repeats keeps programme options serial is some ok slow = go keeps
   where
     good : GoodBy false programme (planned programme options serial) options
     good =
         (law_of_no_repeats programme (planned programme options serial) options).1
-        (law_of_plan_within programme options serial is some ok)
+        (law_of_plan_within programme options serial is some ok slow)
 
     go : (b : Bool) → GoodBy b programme (planned programme options serial) options
     go false = good

@@ -31,10 +31,10 @@ use Rattle.sub_rules.specs.Transmission.{EachPacket, SentFrame, Transmission, fi
 use Rattle.sub_rules.specs.Transmission.{last_frame, on_air_until}
 use Rattle.sub_rules.specs.Events.{broken_cell, is_incomplete, is_late, is_pending}
 use Rattle.sub_rules.specs.Good.{Good, KeepsRules, HoldsHeader, IsCleanSpan, IsControlled}
-use Rattle.sub_rules.specs.Good.{IsEnhancement, IsInOneMode, Repeats}
+use Rattle.sub_rules.specs.Good.{IsEnhancement, IsInOneMode, Repeats, KeepsPace}
 use Rattle.sub_laws.specs.OnScreen.{Complete}
 use Rattle.sub_rules.specs.FrameRules.{HasHeader, IsCovered, IsEnded, Task, Unread, end_frame}
-use Rattle.sub_rules.specs.FrameRules.{frame_at, packets_before, packets_of_frame, task_of}
+use Rattle.sub_rules.specs.FrameRules.{frame_at, packets_before, packets_of_frame, task_of, IsPaced}
 use Rattle.sub_rules.specs.FrameRules.{watched_of}
 use Rattle.sub_laws.specs.CleanStretch.{IsEnd}
 use Rattle.sub_rules.specs.declared.end_rule.EndRule.{EndRule}
@@ -51,6 +51,7 @@ use Rattle.sub_laws.proofs.PrefixLemmas.{end_at, end_before_rest, end_high, end_
 use Rattle.sub_laws.proofs.PrefixLemmas.{on_air_is}
 use Rattle.sub_laws.proofs.StandingLemmas.{all_kept, always_late, broken_is, ended_is}
 use Rattle.sub_laws.proofs.StandingLemmas.{gap_decided, incomplete_decided, no_wrong, quiet_parts}
+use Rattle.sub_laws.proofs.StandingLemmas.{silent_decided}
 use Rattle.sub_rules.proofs.FrameLists.{joined_more}
 use Rattle.sub_laws.proofs.CleanSpanLemmas.{MayFollow, clean_cuts, last_clean}
 use Rattle.sub_rules.specs.declared.packet_rule.PacketRule.TheVariants as rule
@@ -181,6 +182,19 @@ module _ (programme : ProgrammeValue) (options : OptionsValue) (unread : Option 
       let parts = (quiet_parts (task_of programme options unread) t n f).0 (quiet_at n f end) in
       (gap_decided (task_of programme options unread) t n f end.1).0 (ap not parts.1)
 
+  -- Nor is a PES packet.
+  paced : KeepsPace options.pace t
+  paced frames f asks low high =
+      let (n, end, on, from) =
+      end_at t rising f some (omega (arith, first-same t)) (omega (arith, last-same t)) in
+      let parts = (quiet_parts (task_of programme options unread) t n f).0 (quiet_at n f end) in
+      let (j, below, near) =
+      (silent_decided (task_of programme options unread) t n f).0 (ap not parts.3) frames
+      asks in
+      let before = rises_to t (length t) rising j (n - 1) (omega (arith, end.0))
+      (omega (arith, end.0, end.1)) in
+      (j, omega (arith, end.1), omega arith, near)
+
   -- Each frame has an end, at which what is on air up to it counts.
   pub end_of : (f : ℕ) → first_frame t ≤ f → f ≤ last_frame t
       → (n : ℕ) × IsEnd t n f × (on_air_until t f ≡ packets_before t n) × (frame_at t (n - 1) ≤ f)
@@ -238,6 +252,7 @@ module _ (programme : ProgrammeValue) (options : OptionsValue) (unread : Option 
     spans = spans_of;
     opens = opens;
     repeats = repeats;
+    paced = paced;
   }
 
   -- ---- within 0 frames
@@ -349,6 +364,18 @@ module _ (programme : ProgrammeValue) (options : OptionsValue) (t : Transmission
         grind (arith, nat_tests, sent_any (watched_of programme options) t r.0 r.3, cases_lt)
   ]
 
+  -- Nor is a PES packet too long ago.
+  paced_at : (n f : ℕ) → first_frame t ≤ f → f ≤ end_frame t
+      → ((j : ℕ) → n ≤ j → j < length t → f < frame_at t j)
+      → IsPaced (task_of programme options None) t n f
+  paced_at n f low high later frames asks =
+      let (j, there, from, near) =
+      rules.paced frames f asks low (omega (arith, last-same t)) in
+      elim (cases_lt j n) [
+        | inl below ↦ (j, below, near)
+        | inr above ↦ absurd (let after = later j above there in omega arith)
+      ]
+
   -- ---- all that is asked
 
   module _ (still : (n f : ℕ) → IsEnd t n f
@@ -362,8 +389,12 @@ module _ (programme : ProgrammeValue) (options : OptionsValue) (t : Transmission
         let covered =
         (gap_decided (task_of programme options None) t n f end.1).1
         (covered_at n f (end_low t rises n f end) (end_before_rest t rises n f end)) in
+        let paced =
+        (silent_decided (task_of programme options None) t n f).1
+        (paced_at n f (omega (arith, first-same t, end_high t rises n f end))
+        (end_low t rises n f end) (end_before_rest t rises n f end)) in
         (quiet_parts (task_of programme options None) t n f).1
-        ((still n f end).0, not_not _ covered, (still n f end).1)
+        ((still n f end).0, not_not _ covered, (still n f end).1, not_not _ paced)
 
     -- All that is asked of each frame holds.
     frame_of : (i : ℕ) → i < length t → FrameOk (task_of programme options None) t i

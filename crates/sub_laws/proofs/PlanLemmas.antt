@@ -41,6 +41,7 @@ use Rattle.sub_plan.proofs.ProgrammeLemmas.{law_of_day}
 use Rattle.sub_rules.specs.Transmission.{SentFrame, Transmission, EachPacket, IsRising, first_frame}
 use Rattle.sub_rules.specs.Transmission.{last_frame, packets_between, packets_of, on_air_until}
 use Rattle.sub_rules.specs.Good.{Good, IsCleanSpan, IsControlled, IsEnhancement, IsSubtitleHeader}
+use Rattle.sub_rules.specs.Good.{Repeats}
 use Rattle.sub_laws.specs.OnScreen.{Complete, LawOfCompletePlan}
 use Rattle.sub_laws.specs.Planned.{LawOfPlan, planned, planned_at, LawOfPlanRead}
 use Rattle.sub_laws.proofs.TransmissionLemmas.{packets_between-split, each_frame, frames, last_push}
@@ -59,6 +60,8 @@ use Rattle.sub_rules.specs.PesFrames.{IsReadAs}
 use Rattle.sub_rules.specs.PesReading.{ReadsAs}
 use Rattle.sub_rules.proofs.PesReadingLemmas.{reads_ended, reads_more}
 use Rattle.ttx_pes.proofs.ReaderLemmas.{nothing}
+use Rattle.sub_laws.proofs.GoodLemmas.{paced_of}
+use Rattle.sub_rules.specs.FrameRules.{watched_of}
 
 -- ---- rows of one page are a clean span
 
@@ -263,13 +266,28 @@ module _
   abbrev IsSerially : List ℕ → Type 0
   IsSerially packet = (h : Header) → header packet ≡ Some h → c11 h ≡ serial
 
-  -- All rules together.
-  good : Good programme T o
-  good =
+  -- A header of the page comes again within the repeat bound.
+  repeats : Repeats w o.every T
+  repeats start low high =
+      let found = sending_in_gap due o.every first last start ok.least
+      (omega (arith, first_is, low)) (omega (arith, last_is, high)) in (
+        found.0,
+        found.1,
+        found.2,
+        holds_at found.0 found.3
+            (omega (arith, found.1, first_is, low)) (omega (arith, found.2, last_is, high)),
+      )
+
+  some : 0 < length T
+  some = subst (λ frames. 0 < length frames) (sym starts) (omega arith)
+
+  -- All rules together, where no pace is less than that.
+  good : IfSome o.pace (λ frames. o.every ≤ frames) → Good programme T o
+  good slow =
       let serially : EachPacket IsSerially T = each_sent IsSerially (λ packet is. is.mode) in
       record {
         rules = record {
-          not_empty = subst (λ frames. 0 < length frames) (sym starts) (omega arith);
+          not_empty = some;
           rising = rising;
           whole = each_sent (λ packet. length packet ≡ 42) (λ packet is. is.whole.size);
           starts = subst (λ x. IfSome x (λ t. first_frame T ≤ t)) tci (omega (arith, first_is));
@@ -284,15 +302,10 @@ module _
           spans = λ f n l. spans f n;
           opens = subst (λ g. IsTrue (holds_header (kind w) (packets_of T g))) (sym first_is)
               (holds_at first first_sends (omega arith) order);
-          repeats = λ start low high.
-              let found = sending_in_gap due o.every first last start ok.least
-              (omega (arith, first_is, low)) (omega (arith, last_is, high)) in (
-                found.0,
-                found.1,
-                found.2,
-                holds_at found.0 found.3
-                    (omega (arith, found.1, first_is, low)) (omega (arith, found.2, last_is, high)),
-              );
+          repeats = repeats;
+          paced = λ frames f asks.
+              let slow_is = subst (λ x. IfSome x (λ k. o.every ≤ k)) asks slow in
+              paced_of (watched_of programme o) o.every frames T some slow_is repeats f;
         };
         content = content;
       }
@@ -311,7 +324,8 @@ plan_between : (programme : ProgrammeValue) (o : OptionsValue) (serial : Bool) (
     → IsProgramme programme.drawing programme.records
     → (programme.records ≡ [] → ⊥)
     → IsOptions o
-    → Good programme (planned programme o serial) o × Complete (planned programme o serial) o
+    → (IfSome o.pace (λ frames. o.every ≤ frames) → Good programme (planned programme o serial) o)
+    × Complete (planned programme o serial) o
 plan_between programme o serial None b h k is some ok = absurd (some (none_in programme.records h))
 plan_between programme o serial (Some a) None h k is some ok = grind (arith, nat_tests, some_out)
 plan_between programme o serial (Some a) (Some b) h k is some ok =
@@ -321,9 +335,9 @@ plan_between programme o serial (Some a) (Some b) h k is some ok =
 
 -- The schedule of a programme with a subtitle is good.
 pub law_of_plan : LawOfPlan
-law_of_plan programme o serial is some ok =
+law_of_plan programme o serial is some ok slow =
     (plan_between programme o serial (first_in programme.records)
-    (last_out programme.records) refl refl is some ok).0
+    (last_out programme.records) refl refl is some ok).0 slow
 
 -- The schedule of a programme with a subtitle is one of complete pages.
 pub law_of_complete_plan : LawOfCompletePlan

@@ -178,6 +178,7 @@ module _ (one other : Bool) (programme : ProgrammeValue) (transmission : Transmi
           (good.rules.spans f n high);
       opens = good.rules.opens;
       repeats = good.rules.repeats;
+      paced = good.rules.paced;
     };
     codes = λ f row column low high named.
         subst (IsDueWithin programme transmission options f row column)
@@ -253,6 +254,7 @@ module _ (programme : ProgrammeValue) (transmission : Transmission) (options : O
         (rules.spans f n high);
     opens = rules.opens;
     repeats = rules.repeats;
+    paced = rules.paced;
   }
 
   rules_by :
@@ -286,6 +288,7 @@ module _ (programme : ProgrammeValue) (transmission : Transmission) (options : O
         (rules.spans f n high);
     opens = rules.opens;
     repeats = rules.repeats;
+    paced = rules.paced;
   }
 
 -- Where repeats may not keep, it is what is good within these frames.
@@ -362,6 +365,7 @@ module _ (keeps : Bool) (programme : ProgrammeValue) (transmission : Transmissio
       spans = good.rules.spans;
       opens = good.rules.opens;
       repeats = good.rules.repeats;
+      paced = good.rules.paced;
     };
     codes = λ f row column low high named.
         elim (good.codes f row column low high named) [

@@ -4,7 +4,7 @@
 -- anything stands broken, `quiet_parts`; and rule by rule, `stands_broken`.
 use Rattle.std.proofs.Common.{◌≡◌, ◌↔◌, ℕ, zero, suc, ◌+◌, ◌-◌, ◌<◌, ◌≤◌, Bool, true, false, []}
 use Rattle.std.proofs.Common.{length, take, Option, Some, None, refl, sym, subst, arith, not, ◌||◌}
-use Rattle.std.proofs.Common.{◌&&◌, ◌==◌, ◌∙◌, ap, get_or, is_some, option_map}
+use Rattle.std.proofs.Common.{◌&&◌, ◌==◌, ◌∙◌, ap, get_or, is_some, option_map, inl, inr}
 use Rattle.std.specs.Prelude.{option_and_then}
 use Rattle.std.specs.List.{list_any}
 use Rattle.std.proofs.lemmas.Bool.{cases_lt, true≢false}
@@ -18,10 +18,11 @@ use Rattle.ttx_packet.specs.OneBit.{first_below}
 use Rattle.ttx_packet.proofs.OneBitLemmas.{first_below_is}
 use Rattle.ttx_page.specs.Page.{IsCell, cell}
 use Rattle.ttx_page.specs.Shown.{shown}
-use Rattle.sub_rules.specs.Events.{broken_at, broken_cell, covers, first_cell, is_gap}
+use Rattle.sub_rules.specs.Events.{broken_at, broken_cell, covers, first_cell, is_gap, is_silent}
 use Rattle.sub_rules.specs.Events.{is_incomplete, is_late, standing_at, wrong_after, wrong_cell}
+use Rattle.sub_rules.specs.Events.{silent_for, latest}
 use Rattle.sub_rules.specs.FrameRules.{HasHeader, IsCovered, IsEnded, ShowsDue, Task, frame_at}
-use Rattle.sub_rules.specs.FrameRules.{packets_before}
+use Rattle.sub_rules.specs.FrameRules.{packets_before, IsPaced}
 use Rattle.sub_rules.specs.Transmission.{SentFrame, Transmission}
 use Rattle.sub_rules.proofs.TestLemmas.{below_before, below_none, holds}
 use Rattle.sub_rules.specs.declared.end_rule.EndRule.{EndRule}
@@ -190,6 +191,55 @@ module _ (g : Task) (frames : Transmission) (n f : ℕ) where
   unfolding is_gap
   gap_decided l = let near = near_decided n l in grind (arith, nat_tests)
 
+  -- One of the first m frames of the list is less than so many frames before f, or after it.
+  abbrev IsNear : ℕ → ℕ → Type 0
+  IsNear pace m = (j : ℕ) × (j < m) × (f < frame_at frames j + pace)
+
+  latest_near : (pace m : ℕ) → f < latest frames (suc m) + pace → IsNear pace (suc m)
+  unfolding latest
+  latest_near pace zero l = (0, omega arith, grind (arith, nat_tests))
+  latest_near pace (suc m) l = elim (cases_lt f (frame_at frames (suc m) + pace)) [
+    | inl here ↦ (suc m, omega arith, here)
+    | inr far ↦
+        let (j, below, near) = latest_near pace m (grind (arith, nat_tests)) in
+        (j, omega arith, near)
+  ]
+
+  near_latest : (pace m : ℕ) → IsNear pace m → f < latest frames m + pace
+  unfolding latest
+  near_latest pace zero (j, below, near) = absurd (omega arith)
+  near_latest pace (suc m) (j, below, near) = elim (cases_lt j m) [
+    | inl earlier ↦
+        let before = near_latest pace m (j, earlier, near) in grind (arith, nat_tests)
+    | inr late ↦
+        let same : j ≡ m = omega arith in
+        let here = ap (frame_at frames) same in grind (arith, nat_tests)
+  ]
+
+  -- Whether a PES packet is too long ago.
+  pub silent_decided : Decides (not (is_silent g frames n f)) (IsPaced g frames n f)
+  unfolding is_silent
+  silent_decided = by n g.pace refl
+    where
+      by : (m : ℕ) (pace : Option ℕ) → g.pace ≡ pace
+          → Decides (not (is_silent g frames m f)) (IsPaced g frames m f)
+      by zero None is =
+          (λ e k asks. absurd (none-some k (sym is ∙ asks)), λ h. ap (λ o. not (is_some o)) is)
+      by zero (Some pace) is =
+          (λ e. grind (arith, nat_tests), λ h. absurd (let near = h pace is in omega (arith, near.1)))
+      by (suc m) None is = (
+        λ e k asks. absurd (none-some k (sym is ∙ asks)),
+        λ h. ap (λ o. not (silent_for o (latest frames (suc m)) f)) is,
+      )
+      by (suc m) (Some pace) is =
+          let test = ap (λ o. not (silent_for o (latest frames (suc m)) f)) is in (
+            λ e k asks.
+                let same : pace ≡ k = same_Some _ _ (sym is ∙ asks) in
+                subst (λ k. IsNear k (suc m)) same
+                (latest_near pace m (grind (arith, nat_tests))),
+            λ h. let near = near_latest pace (suc m) (h pace is) in grind (arith, nat_tests),
+          )
+
   pub incomplete_decided : Decides (not (is_incomplete g frames n)) (IsEnded g frames n)
   unfolding is_incomplete
   incomplete_decided = grind (arith, nat_tests)
@@ -198,12 +248,17 @@ module _ (g : Task) (frames : Transmission) (n f : ℕ) where
   pub quiet_parts : IsQuiet g frames n f
       ↔ ((broken_cell g frames n f ≡ None)
       × (is_gap g frames n f ≡ false)
-      × ((is_late g frames n f && is_incomplete g frames n) ≡ false))
+      × ((is_late g frames n f && is_incomplete g frames n) ≡ false)
+      × (is_silent g frames n f ≡ false))
   unfolding standing_at
   quiet_parts = (
-    λ quiet.
-        (ap (λ s. s.content) quiet, ap (λ s. s.gap) quiet, ap (λ s. s.incomplete) quiet),
-    λ parts. rw (parts.0, parts.1, parts.2) refl,
+    λ quiet. (
+      ap (λ s. s.content) quiet,
+      ap (λ s. s.gap) quiet,
+      ap (λ s. s.incomplete) quiet,
+      ap (λ s. s.silent) quiet,
+    ),
+    λ parts. rw (parts.0, parts.1, parts.2, parts.3) refl,
   )
 
   -- ---- within 0 frames
@@ -230,6 +285,7 @@ module _ (g : Task) (frames : Transmission) (n f : ℕ) where
         (λ e. none_wrong (sym broken_is ∙ e), λ shows. broken_is ∙ no_wrong shows)
     kept_is l end.Gap = grind (arith, nat_tests, gap_decided l)
     kept_is l end.Incomplete = let ended = ended_is in grind (arith, nat_tests, incomplete_decided)
+    kept_is l end.Silent = grind (arith, nat_tests, silent_decided)
 
     -- So all are kept where nothing stands broken.
     pub all_kept : n ≤ length frames → IsQuiet g frames n f → (rule : EndRule)

@@ -8,8 +8,8 @@ use Rattle.stl_rows.specs.Programme.{IsProgramme, ProgrammeValue}
 use Rattle.sub_plan.specs.Options.{OptionsValue}
 use Rattle.sub_rules.specs.Events.{broken_at, first_header_events, first_told, late_events}
 use Rattle.sub_rules.specs.Events.{order_events, standing_at}
-use Rattle.sub_rules.specs.FrameRules.{HasHeader, IsCovered, IsEnded, ShowsDue, Task, Unread}
-use Rattle.sub_rules.specs.FrameRules.{end_frame, frame_at, task_of}
+use Rattle.sub_rules.specs.FrameRules.{HasHeader, IsCovered, IsEnded, IsPaced, ShowsDue, Task}
+use Rattle.sub_rules.specs.FrameRules.{Unread, end_frame, frame_at, task_of}
 use Rattle.sub_rules.specs.Good.{Good}
 use Rattle.sub_rules.specs.GoodWithin.{GoodWithin}
 use Rattle.sub_rules.specs.PieceEvents.{all_of_pieces}
@@ -38,6 +38,7 @@ IsKept end.Content g frames n f =
     (row column : ℕ) → IsCell row column → ShowsDue g frames n f row column
 IsKept end.Gap g frames n f = IsCovered g frames n f
 IsKept end.Incomplete g frames n f = IsEnded g frames n
+IsKept end.Silent g frames n f = IsPaced g frames n f
 
 -- What stands broken there: a rule exactly where it is not kept; content at the first cell that is
 -- wrong.

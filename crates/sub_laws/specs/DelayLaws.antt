@@ -1,6 +1,6 @@
 -- The laws of a transmission that may be late: what is promised of one that is good within as many
 -- frames as the options give, and how these numbers of frames hang together.
-use Rattle.std.specs.Prelude.{◌≡◌, ◌↔◌, ℕ, ◌≤◌, Bool, [], IsTrue}
+use Rattle.std.specs.Prelude.{◌≡◌, ◌↔◌, ℕ, ◌≤◌, Bool, [], IfSome, IsTrue}
 use Rattle.ttx_page.specs.Receiver.{ReceiverClass}
 use Rattle.stl_rows.specs.Programme.{IsProgramme, ProgrammeValue}
 use Rattle.sub_plan.specs.Options.{IsOptions, OptionsValue}
@@ -106,11 +106,13 @@ LawOfLongerDelay =
     → GoodWithin programme transmission (record options { within = more })
 
 -- The schedule of a programme that has a subtitle is good within any number of frames, in both
--- modes. So a checker with the same options accepts it.
+-- modes, where no pace is asked for that is less than the repeat bound. So a checker with the same
+-- options accepts it.
 abbrev pub LawOfPlanWithin : Type 0
 LawOfPlanWithin =
     (programme : ProgrammeValue) (options : OptionsValue) (serial : Bool)
     → IsProgramme programme.drawing programme.records
     → (programme.records ≡ [] → ⊥)
     → IsOptions options
+    → IfSome options.pace (λ frames. options.every ≤ frames)
     → GoodWithin programme (planned programme options serial) options

@@ -1,5 +1,5 @@
 -- The transmission that a schedule is, that it is good, and that its bytes are read as it.
-use Rattle.std.specs.Prelude.{◌≡◌, ℕ, Bool, [], map, None}
+use Rattle.std.specs.Prelude.{◌≡◌, ℕ, ◌≤◌, Bool, [], IfSome, map, None}
 use Rattle.ttx_page.specs.Page.{Rows}
 use Rattle.stl_rows.specs.declared.national.National.{National}
 use Rattle.stl_rows.specs.Programme.{IsProgramme, ProgrammeValue}
@@ -21,7 +21,8 @@ abbrev pub planned : ProgrammeValue → OptionsValue → Bool → Transmission
 planned programme o serial =
     map (planned_at (due_in programme) o programme.drawing.national serial) (plan_frames programme o.every)
 
--- The schedule of a programme that has a subtitle is a good transmission of it, in both modes.
+-- The schedule of a programme that has a subtitle is a good transmission of it, in both modes, where
+-- no pace is asked for that is less than the repeat bound.
 -- So a checker with the same options accepts it, and every receiver shows what is due.
 abbrev pub LawOfPlan : Type 0
 LawOfPlan =
@@ -29,6 +30,7 @@ LawOfPlan =
     → IsProgramme programme.drawing programme.records
     → (programme.records ≡ [] → ⊥)
     → IsOptions options
+    → IfSome options.pace (λ frames. options.every ≤ frames)
     → Good programme (planned programme options serial) options
 
 -- The bytes of the schedule of a programme are read to their end as that transmission.

@@ -1,7 +1,7 @@
 -- What is promised where repeats may keep the page: of receivers that may forget it at a header
 -- that does not erase it, wherever they start, whatever bits are wrong and whatever rows are lost.
 use Rattle.std.specs.Prelude.{◌≡◌, ℕ, ◌+◌, ◌<◌, ◌≤◌, ◌||◌, Bool, false, List, [], Some, not}
-use Rattle.std.specs.Prelude.{IsTrue}
+use Rattle.std.specs.Prelude.{IfSome, IsTrue}
 use Rattle.ttx_page.specs.DroppedRows.{ExcusedBy}
 use Rattle.ttx_page.specs.LostRows.{IsHitOrLost, arrivals_of}
 use Rattle.ttx_page.specs.Page.{IsCell, Rows, cell}
@@ -179,13 +179,15 @@ LawOfLongerRepeats =
     → GoodBy keeps programme transmission options
     → GoodBy keeps programme transmission (record options { within = more })
 
--- The schedule of a programme that has a subtitle is good, where repeats may keep too.
+-- The schedule of a programme that has a subtitle is good, where repeats may keep too, and no pace
+-- is asked for that is less than the repeat bound.
 abbrev pub LawOfPlanRepeats : Type 0
 LawOfPlanRepeats =
     (keeps : Bool) (programme : ProgrammeValue) (options : OptionsValue) (serial : Bool)
     → IsProgramme programme.drawing programme.records
     → (programme.records ≡ [] → ⊥)
     → IsOptions options
+    → IfSome options.pace (λ frames. options.every ≤ frames)
     → GoodBy keeps programme (planned programme options serial) options
 
 -- At the end of each frame of a transmission that keeps rules 1 to 6, with no wrong bit, a receiver

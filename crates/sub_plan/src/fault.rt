@@ -7,8 +7,8 @@ use thiserror::Error;
 /// What is wrong with options, in the order in which it is told (own).
 #[derive(Clone, Copy, Debug, PartialEq, Eq, Error)]
 pub enum OptionFault {
-    /// The repeat bound is not 1 to 1500 frames, a minute.
-    #[error("the repeat bound is not 1 to 1500 frames")]
+    /// The repeat bound is not 1 to 2,160,000 frames, a day.
+    #[error("the repeat bound is not 1 to 2160000 frames")]
     Every,
     /// The PTS of frame 0 does not fit in 33 bits.
     #[error("the PTS of frame 0 is 2^33 or more")]
@@ -16,6 +16,9 @@ pub enum OptionFault {
     /// More than 50 frames, two seconds, are allowed.
     #[error("the page is allowed more than 50 frames")]
     Within,
+    /// The pace is not 1 to 2,160,000 frames, a day.
+    #[error("the pace is not 1 to 2160000 frames")]
+    Pace,
 }
 
 /// Why a schedule is not written (own).

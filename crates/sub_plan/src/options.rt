@@ -1,10 +1,11 @@
 //! The options of a schedule and of what is asked of one: the page, the repeat bound, the PTS of
-//! frame 0, and how late the page may be whole.
-ghost use Rattle.std.specs.Prelude.{◌≡◌, ◌≢◌, ℕ, ◌^◌, ◌<◌, ◌≤◌, ◌↔◌, ◌⊎◌, Some, Err};
+//! frame 0, how late the page may be whole, and how far apart PES packets are.
+ghost use Rattle.std.specs.Prelude.{◌≡◌, ◌≢◌, ℕ, ◌^◌, ◌<◌, ◌≤◌, ◌↔◌, ◌⊎◌, None, Some, Err};
 ghost use Rattle.std.specs.Prelude.{IfErr, IfOk, false, true};
 ghost use Rattle.stl_file.specs.TimeCode.{day};
 ghost use Rattle.sub_plan.specs.FrameTime.{clock_of, frame_of_pts, near_frame, pts_of};
-ghost use Rattle.sub_plan.specs.declared.fault.OptionFault.TheVariants.{Every, Origin, Within};
+ghost use Rattle.sub_plan.specs.declared.fault.OptionFault.TheVariants.{Every, Origin, Pace};
+ghost use Rattle.sub_plan.specs.declared.fault.OptionFault.TheVariants.{Within};
 
 use crate::fault::OptionFault;
 use std::marker::Model;
@@ -20,8 +21,8 @@ const PTS_END: u64 = 8_589_934_592;
 /// Frames of a day at 25 a second: a PES file has a packet for each at most.
 const FRAMES_OF_DAY: u64 = MOST_PACKETS as u64;
 
-/// The greatest repeat bound, in frames: a minute (own).
-const MOST_EVERY: u64 = 1500;
+/// The greatest repeat bound, and the greatest pace, in frames: a day (own).
+const MOST_FRAMES: u64 = FRAMES_OF_DAY;
 
 /// The most frames within which the page may have to be whole: two seconds (own).
 const MOST_WITHIN: u64 = 50;
@@ -30,9 +31,10 @@ const MOST_WITHIN: u64 = 50;
 const TICKS_EARLY: u64 = 900;
 
 /// The page on which subtitles are sent, how often they are repeated, the PTS of frame 0, whether
-/// complete pages are asked for, and within how many frames the page that is due has to be whole.
+/// complete pages are asked for, within how many frames the page that is due has to be whole, and
+/// how many frames apart PES packets are at most.
 ///
-/// Contracts see the five as an `OptionsValue`.
+/// Contracts see the six as an `OptionsValue`.
 #[derive(Clone, Copy, Debug, PartialEq, Eq)]
 pub struct Options {
     page: PageId,
@@ -40,6 +42,7 @@ pub struct Options {
     origin: u64,
     asks_complete: bool,
     within: u64,
+    pace: Option<u64>,
 }
 
 impl Model for Options {
@@ -53,6 +56,7 @@ impl Model for Options {
       origin = o.origin;
       asks_complete = o.asks_complete;
       within = o.within;
+      pace = o.pace;
     } };
 
     ghost invariant = { λ o. IsOptions (record {
@@ -61,6 +65,7 @@ impl Model for Options {
       origin = o.origin;
       asks_complete = o.asks_complete;
       within = o.within;
+      pace = o.pace;
     }) };
 
     ghost inverse = { λ v. record {
@@ -69,6 +74,7 @@ impl Model for Options {
       origin = v.origin;
       asks_complete = v.asks_complete;
       within = v.within;
+      pace = v.pace;
     } };
 }
 
@@ -76,10 +82,11 @@ impl Options {
     ghost use Rattle.sub_plan.specs.Options.{IsOptions};
 
     /// The options of a page, a repeat bound and the PTS of frame 0. They don't ask for complete
-    /// pages, and the page that is due has to be whole at the end of each frame.
+    /// pages, the page that is due has to be whole at the end of each frame, and PES packets may be
+    /// as far apart as they like.
     ///
-    /// `every` is in frames, 1 to 1500: in that many frames the page's header is sent at least once
-    /// (own). `origin` is in ticks of 90 kHz, below 2^33 (EN 300 472, PTS).
+    /// `every` is in frames, 1 to 2,160,000, a day: in that many frames the page's header is sent
+    /// at least once (own). `origin` is in ticks of 90 kHz, below 2^33 (EN 300 472, PTS).
     ///
     /// # Errors
     ///
@@ -92,14 +99,15 @@ impl Options {
               origin = origin;
               asks_complete = false;
               within = 0;
+              pace = None;
             }) }
         ensures options { IfOk result IsOptions }
-        ensures every { (result ≡ Err Every) ↔ ((every < 1) ⊎ (1500 < every)) }
+        ensures every { (result ≡ Err Every) ↔ ((every < 1) ⊎ (day < every)) }
         ensures origin { (result ≡ Err Origin)
-            ↔ ((1 ≤ every) × (every ≤ 1500) × (2 ^ 33 ≤ origin)) }
-        ensures others { result ≢ Err Within }
+            ↔ ((1 ≤ every) × (every ≤ day) × (2 ^ 33 ≤ origin)) }
+        ensures others { (result ≢ Err Within) × (result ≢ Err Pace) }
     {
-        if every < 1 || every > MOST_EVERY {
+        if every < 1 || every > MOST_FRAMES {
             return Err(OptionFault::Every);
         }
         if origin >= PTS_END {
@@ -113,6 +121,7 @@ impl Options {
             origin,
             asks_complete: false,
             within: 0,
+            pace: None,
         })
     }
 
@@ -163,6 +172,36 @@ impl Options {
         self.within
     }
 
+    /// The same options, which ask that PES packets are at most so many frames apart, 1 to
+    /// 2,160,000, a day (own). So no loss goes unseen, however long.
+    ///
+    /// # Errors
+    ///
+    /// `Pace` for another number.
+    pub fn pacing(self, frames: u64) -> Result<Options, OptionFault>
+        ensures value { IfOk result (λ o. o ≡ record self { pace = Some frames }) }
+        ensures options { IfOk result IsOptions }
+        ensures pace { (result ≡ Err Pace) ↔ ((frames < 1) ⊎ (day < frames)) }
+        ensures others { IfErr result (λ fault. fault ≡ Pace) }
+    {
+        if frames < 1 || frames > MOST_FRAMES {
+            return Err(OptionFault::Pace);
+        }
+        Ok(Options {
+            pace: Some(frames),
+            ..self
+        })
+    }
+
+    /// How many frames apart PES packets are at most, 1 to 2,160,000. `None` where that is not
+    /// asked.
+    pub fn pace(&self) -> Option<u64>
+        ensures value { result ≡ self.now.pace }
+        ensures options { IsOptions self.now }
+    {
+        self.pace
+    }
+
     /// The page that is sent.
     pub fn page(&self) -> PageId
         ensures value { result ≡ self.now.page }
@@ -171,7 +210,7 @@ impl Options {
         self.page
     }
 
-    /// The repeat bound in frames, 1 to 1500.
+    /// The repeat bound in frames, 1 to 2,160,000.
     pub fn every(&self) -> u64
         ensures value { result ≡ self.now.every }
         ensures options { IsOptions self.now }

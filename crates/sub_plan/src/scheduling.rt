@@ -60,7 +60,7 @@ fn repeat_at<K: Sink>(
 fn step_of(options: &Options) -> u32
     ensures value { result ≡ options.now.every }
     ensures least { 1 ≤ result }
-    ensures most { result ≤ 1500 }
+    ensures most { result ≤ day }
 {
     options.every() as u32
 }

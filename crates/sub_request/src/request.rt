@@ -27,8 +27,8 @@ pub enum UsageFault {
     /// 1: the page is not a digit 1 to 8 and two hexadecimal digits, or is a page FF.
     #[error("the page is not 100 to 8FE")]
     BadPage,
-    /// 80: the repeat bound is not 1 to 1500 frames.
-    #[error("the repeat bound is not 1 to 1500 frames")]
+    /// 80: the repeat bound is not 1 to 2,160,000 frames.
+    #[error("the repeat bound is not 1 to 2160000 frames")]
     Every,
     /// 81: the PTS of frame 0 is not below 2^33.
     #[error("the PTS of frame 0 does not have 33 bits")]
@@ -51,6 +51,9 @@ pub enum UsageFault {
     /// 89: the layout is none of those that `Layout::parse` reads.
     #[error("there is no such layout")]
     BadLayout,
+    /// 92: the frames by which PES packets are apart at most are not 1 to 2,160,000.
+    #[error("the pace is not 1 to 2160000 frames")]
+    Pace,
     /// 6: the time is not `HH:MM:SS:FF` of a day.
     #[error("the time is not HH:MM:SS:FF of a day")]
     BadTime,
@@ -94,6 +97,7 @@ impl UsageFault {
             UsageFault::PacketSize => FaultCode::new(87, "PacketSize"),
             UsageFault::Range => FaultCode::new(88, "Range"),
             UsageFault::BadLayout => FaultCode::new(89, "Layout"),
+            UsageFault::Pace => FaultCode::new(92, "Pace"),
             UsageFault::BadTime => FaultCode::new(6, "BadTime"),
             UsageFault::BadSkip => FaultCode::new(8, "BadSkip"),
             UsageFault::BadFlip => FaultCode::new(5, "BadFlip"),

@@ -3,7 +3,7 @@
 -- told before its end.
 use Rattle.std.proofs.Common.{◌≡◌, ℕ, zero, suc, ◌+◌, ◌-◌, ◌≤◌, map, take}
 use Rattle.std.proofs.Common.{Option, refl, sym, ap, ◌∙◌, arith, take-take}
-use Rattle.sub_rules.specs.Events.{end_before, events_at_end, gap_length, is_gap}
+use Rattle.sub_rules.specs.Events.{end_before, events_at_end, gap_length, is_gap, is_silent}
 use Rattle.sub_rules.specs.Events.{is_incomplete, is_late, is_unfinished, latest, order_events}
 use Rattle.sub_rules.specs.Events.{since_frames, since_in_gap, standing_at, standing_before}
 use Rattle.sub_rules.specs.Events.{unfinished_since}
@@ -84,9 +84,15 @@ module _ (g : Task) (xs ys : Transmission) (n : ℕ)
     unfolding is_late
     is_late-same k f l = rw (unfinished_since-same k f l, frame_at-same 0) refl
 
+    is_silent-same : (k f : ℕ) → is_silent g xs k f ≡ is_silent g ys k f
+    unfolding is_silent
+    is_silent-same zero f = refl
+    is_silent-same (suc k) f = rw (latest-same (suc k)) refl
+
     pub standing_at-same : (k f : ℕ) → k ≤ n → standing_at g xs k f ≡ standing_at g ys k f
     unfolding standing_at is_gap is_incomplete
-    standing_at-same k f l = rw (is_late-same k f l, frames_same k l, frame_at-same 0) refl
+    standing_at-same k f l =
+        rw (is_late-same k f l, frames_same k l, frame_at-same 0, is_silent-same k f) refl
 
     pub standing_before-same : (i f : ℕ) → i ≤ n
         → standing_before g xs i f ≡ standing_before g ys i f

@@ -6,7 +6,7 @@ use Rattle.std.proofs.Common.{◌≡◌, ℕ, zero, suc, ◌+◌, ◌-◌, ◌<�
 use Rattle.std.proofs.Common.{length, get_or, Option, refl, arith}
 use Rattle.std.proofs.lemmas.List.{get_or_append_left, length-map, map-append}
 use lib.Seq.{take-append-le}
-use Rattle.sub_rules.specs.Events.{end_before, events_at_end}
+use Rattle.sub_rules.specs.Events.{end_before, events_at_end, is_silent}
 use Rattle.sub_rules.specs.Events.{first_header_events, gap_length}
 use Rattle.sub_rules.specs.Events.{is_gap, is_incomplete, is_late, is_unfinished, latest}
 use Rattle.sub_rules.specs.Events.{order_events, since_frames, since_in_gap}
@@ -94,11 +94,21 @@ module _ (g : Task) (u : Option Unread) (done more : Transmission) where
 
   -- ---- what stands broken
 
+  is_silent-prefix : (n f : ℕ) → n ≤ length done → is_silent g all n f ≡ is_silent h done n f
+  unfolding is_silent
+  is_silent-prefix zero f l = refl
+  is_silent-prefix (suc n) f l = rw (latest-prefix (suc n) l) refl
+
   pub standing_at-prefix : (n f : ℕ) → 0 < length done → n ≤ length done
       → standing_at g all n f ≡ standing_at h done n f
   unfolding standing_at is_gap is_incomplete
   standing_at-prefix n f some l =
-      rw (is_late-prefix n f some l, take-append-le n done more l, frame_at-prefix 0 some) refl
+      rw (
+        is_late-prefix n f some l,
+        take-append-le n done more l,
+        frame_at-prefix 0 some,
+        is_silent-prefix n f l,
+      ) refl
 
   before_same : (i f : ℕ) → 0 < length done → i ≤ length done
       → end_before all i f ≡ end_before done i f

@@ -37,7 +37,7 @@ use Rattle.sub_rules.specs.declared.standing.Standing.{Standing}
 
 -- The rules of a frame's end, in the order in which they are told.
 unfoldable pub end_rules : List EndRule
-end_rules = end.Content ∷ end.Gap ∷ end.Incomplete ∷ []
+end_rules = end.Content ∷ end.Gap ∷ end.Incomplete ∷ end.Silent ∷ []
 
 -- A rule of the whole frame is broken: at no cell, (0, 0).
 abbrev pub whole_frame : Bool → Option (ℕ × ℕ)
@@ -49,10 +49,11 @@ abbrev pub broken_at : EndRule → Standing → Option (ℕ × ℕ)
 broken_at end.Content s = s.content
 broken_at end.Gap s = whole_frame s.gap
 broken_at end.Incomplete s = whole_frame s.incomplete
+broken_at end.Silent s = whole_frame s.silent
 
 -- Nothing stands broken.
 abbrev pub nothing_stands : Standing
-nothing_stands = record { content = None; gap = false; incomplete = false }
+nothing_stands = record { content = None; gap = false; incomplete = false; silent = false }
 
 -- The first cell that passes a test: by its row, 1 to 24, then by its column, 0 to 39.
 unfoldable pub first_cell : (ℕ → ℕ → Bool) → Option (ℕ × ℕ)
@@ -96,6 +97,17 @@ is_unfinished g frames n f = is_some (wrong_cell g frames n f) || is_incomplete 
 unfoldable pub latest : Transmission → ℕ → ℕ
 latest frames zero = 0
 latest frames (suc n) = max (latest frames n) (frame_at frames n)
+
+-- As many frames as a pace end with f, all after this one.
+abbrev pub silent_for : Option ℕ → ℕ → ℕ → Bool
+silent_for None last f = false
+silent_for (Some pace) last f = nat_le (last + pace) f
+
+-- As many frames as the pace end with f, all after the first n frames of the list, whatever is in
+-- these; or there is none of them.
+unfoldable pub is_silent : Task → Transmission → ℕ → ℕ → Bool
+is_silent g frames zero f = is_some g.pace
+is_silent g frames (suc n) f = silent_for g.pace (latest frames (suc n)) f
 
 -- How many frames of the day lie after all of the first i frames of the list and before frame i.
 unfoldable pub gap_length : Transmission → ℕ → ℕ
@@ -178,6 +190,7 @@ standing_at g frames n f = record {
   content = broken_cell g frames n f;
   gap = is_gap g frames n f;
   incomplete = is_late g frames n f && is_incomplete g frames n;
+  silent = is_silent g frames n f;
 }
 
 -- ---- what is told at an end
@@ -187,6 +200,7 @@ abbrev pub end_fault : EndRule → ℕ → ℕ × ℕ → CheckFault
 end_fault end.Content f cell = fault.Content f cell.0 cell.1
 end_fault end.Gap f cell = fault.Gap f
 end_fault end.Incomplete f cell = fault.Incomplete f
+end_fault end.Silent f cell = fault.Silent f
 
 -- What is told of a rule, where it stood broken there at the end before, of frame `before`, and
 -- stands broken here at the end of frame f.

@@ -1,6 +1,6 @@
 -- What is asked at the end of each frame, in terms of the first frames of a transmission and of a
 -- task: what the transmission is checked against.
-use Rattle.std.specs.Prelude.{◌≡◌, ℕ, ◌+◌, ◌-◌, ◌<◌, ◌⊎◌, true, List, [], Option, map, take}
+use Rattle.std.specs.Prelude.{◌≡◌, ℕ, ◌+◌, ◌-◌, ◌<◌, ◌⊎◌, true, List, [], Option, Some, map, take}
 use Rattle.std.specs.Prelude.{length, IsTrue, IsFalse}
 use Rattle.std.specs.Prelude.{slice_index, slice_index_or, flat_map}
 use Rattle.ttx_page.specs.Page.{Rows, cell}
@@ -22,13 +22,15 @@ pub data Unread : Type 0 where
   NoFrame : Unread
 
 -- What a transmission is checked against: the page and its national option, the repeat bound,
--- within how many frames the page that is due has to be whole, the page that is due at each frame,
--- the TCI of the subtitle whose TCO a frame is, the first TCI and the last TCO; and what keeps the
--- PES file from being read to its end, if anything does.
+-- within how many frames the page that is due has to be whole, how many frames apart PES packets
+-- are at most, where that is asked, the page that is due at each frame, the TCI of the subtitle
+-- whose TCO a frame is, the first TCI and the last TCO; and what keeps the PES file from being read
+-- to its end, if anything does.
 pub record Task : Type 0 where
   pub watched : Watched
   pub every : ℕ
   pub within : ℕ
+  pub pace : Option ℕ
   pub due : ℕ → Rows
   pub ending : ℕ → Option ℕ
   pub first_in : Option ℕ
@@ -44,12 +46,14 @@ watched_of programme options = record {
   complete = options.asks_complete;
 }
 
--- The task of a programme, where this is watched with this repeat bound, within these frames.
-abbrev pub task_with : ProgrammeValue → Watched → ℕ → ℕ → Option Unread → Task
-task_with programme watched every within unread = record {
+-- The task of a programme, where this is watched with this repeat bound, within these frames, with
+-- this pace.
+abbrev pub task_with : ProgrammeValue → Watched → ℕ → ℕ → Option ℕ → Option Unread → Task
+task_with programme watched every within pace unread = record {
   watched = watched;
   every = every;
   within = within;
+  pace = pace;
   due = due_in programme;
   ending = tci_of_ending programme.records;
   first_in = first_in programme.records;
@@ -60,7 +64,8 @@ task_with programme watched every within unread = record {
 -- The task of a programme and options.
 abbrev pub task_of : ProgrammeValue → OptionsValue → Option Unread → Task
 task_of programme options unread =
-    task_with programme (watched_of programme options) options.every options.within unread
+    task_with programme (watched_of programme options) options.every options.within options.pace
+    unread
 
 -- The number of frame i of the list, from 0.
 abbrev pub frame_at : Transmission → ℕ → ℕ
@@ -93,6 +98,12 @@ abbrev pub IsCovered : Task → Transmission → ℕ → ℕ → Type 0
 IsCovered g frames n f =
     (f + 1 < frame_at frames 0 + g.every)
     ⊎ ((j : ℕ) × (j < n) × (f < frame_at frames j + g.every) × HasHeader g frames j)
+
+-- Where a pace is asked for, one of the first n frames of the list is less than that many frames
+-- before frame f, or after it.
+abbrev pub IsPaced : Task → Transmission → ℕ → ℕ → Type 0
+IsPaced g frames n f =
+    (pace : ℕ) → g.pace ≡ Some pace → (j : ℕ) × (j < n) × (f < frame_at frames j + pace)
 
 -- Where complete pages are asked for, the page is not open after n frames of the list.
 abbrev pub IsEnded : Task → Transmission → ℕ → Type 0

@@ -1,6 +1,6 @@
 -- The seven rules of a good transmission. All are read on the packets as they are sent.
 use Rattle.std.specs.Prelude.{◌≡◌, ℕ, ◌+◌, ◌<◌, ◌≤◌, List, Some, length, take}
-use Rattle.std.specs.Prelude.{All, IfSome, IsTrue, IsFalse}
+use Rattle.std.specs.Prelude.{All, IfSome, IsTrue, IsFalse, Option}
 use Rattle.ttx_packet.specs.declared.header.Header.{Header}
 use Rattle.ttx_packet.specs.PacketAddress.{PacketAddress, address}
 use Rattle.ttx_packet.specs.PageHeader.{header, HasExactWords}
@@ -18,6 +18,7 @@ use Rattle.stl_rows.specs.Programme.{ProgrammeValue, first_in, last_out}
 use Rattle.sub_plan.specs.Options.{OptionsValue}
 use Rattle.sub_plan.specs.Schedule.{due_in}
 use Rattle.sub_plan.specs.Sending.{national_bits}
+use Rattle.sub_rules.specs.FrameRules.{frame_at}
 use Rattle.sub_rules.specs.Transmission.{Transmission, IsRising, EachPacket, first_frame}
 use Rattle.sub_rules.specs.Transmission.{last_frame, packets_of, on_air_until}
 
@@ -76,6 +77,18 @@ Repeats page every transmission =
     → start + every ≤ last_frame transmission + 1
     → (f : ℕ) × (start ≤ f) × (f < start + every) × HoldsHeader page transmission f
 
+-- Where a pace is asked for, each frame from the first to the last is one of the transmission's, or
+-- one of these is less than so many frames before it.
+abbrev pub KeepsPace : Option ℕ → Transmission → Type 0
+KeepsPace pace transmission =
+    (frames f : ℕ)
+    → pace ≡ Some frames
+    → first_frame transmission ≤ f → f ≤ last_frame transmission
+    → (j : ℕ)
+    × (j < length transmission)
+    × (frame_at transmission j ≤ f)
+    × (f < frame_at transmission j + frames)
+
 -- At the end of each frame from the first to the last, with packets of its own or not, the page
 -- that is due is shown.
 abbrev pub ShowsDuePages : ProgrammeValue → PageIdValue → Transmission → Type 0
@@ -111,6 +124,8 @@ pub record KeepsRules
   -- another.
   pub opens : HoldsHeader options.page transmission (first_frame transmission)
   pub repeats : Repeats options.page options.every transmission
+  -- And where a pace is asked for, PES packets are at most so many frames apart.
+  pub paced : KeepsPace options.pace transmission
 
 -- A good transmission of a programme.
 pub record Good

@@ -24,7 +24,7 @@ use Rattle.stl_rows.specs.SubSets.{sub_set}
 use Rattle.sub_plan.specs.Options.{OptionsValue}
 use Rattle.sub_plan.specs.Schedule.{due_in}
 use Rattle.sub_plan.specs.Sending.{national_bits}
-use Rattle.sub_rules.specs.Good.{HoldsHeader, IsCleanSpan, IsInOneMode, Repeats}
+use Rattle.sub_rules.specs.Good.{HoldsHeader, IsCleanSpan, IsInOneMode, KeepsPace, Repeats}
 use Rattle.sub_rules.specs.GoodWithin.{GoodWithin, HasEndedPage, IsDueWithin}
 use Rattle.sub_rules.specs.Transmission.{EachPacket, IsRising, Transmission, first_frame}
 use Rattle.sub_rules.specs.Transmission.{last_frame, on_air_until}
@@ -144,9 +144,10 @@ pub record KeepsRulesBy
       → f ≤ last_frame transmission
       → IsCleanSpan options.page
       (text_span keeps (kind options.page) (take n (on_air_until transmission f)))
-  -- 6 as there.
+  -- 6 as there, and the pace.
   pub opens : HoldsHeader options.page transmission (first_frame transmission)
   pub repeats : Repeats options.page options.every transmission
+  pub paced : KeepsPace options.pace transmission
 
 -- Frame f is finished, as in `IsFinished`: at its end each cell is right and, where complete pages
 -- are asked for, the page is not open.

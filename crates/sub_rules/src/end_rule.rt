@@ -12,6 +12,8 @@ pub enum EndRule {
     Gap,
     /// Where complete pages are asked for, the page is not open.
     Incomplete,
+    /// Where a pace is asked for, a PES packet is not too long ago.
+    Silent,
 }
 
 impl EndRule {
@@ -25,6 +27,7 @@ impl EndRule {
             EndRule::Content => FaultCode::new(72, "Content"),
             EndRule::Gap => FaultCode::new(73, "Gap"),
             EndRule::Incomplete => FaultCode::new(77, "Incomplete"),
+            EndRule::Silent => FaultCode::new(79, "Silent"),
         }
     }
 }

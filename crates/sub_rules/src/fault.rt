@@ -120,6 +120,11 @@ pub enum CheckFault {
         /// The frame.
         frame: u32,
     },
+    /// As many frames as the pace end here without a PES packet.
+    Silent {
+        /// The last of these frames.
+        frame: u32,
+    },
     /// The last TCO is after the last frame. Where frames are allowed, also that the page was not
     /// whole at the end of the last frame, before they were over.
     Late {
@@ -166,6 +171,7 @@ impl CheckFault {
             CheckFault::Incomplete { frame } => {
                 end_row(EndRule::Incomplete, FaultPlace::Frame { frame })
             }
+            CheckFault::Silent { frame } => end_row(EndRule::Silent, FaultPlace::Frame { frame }),
             CheckFault::Late { frame } => frame_row(74, "Late", frame),
         }
     }

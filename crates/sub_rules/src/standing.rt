@@ -14,6 +14,8 @@ pub struct Standing {
     pub gap: bool,
     /// Complete pages are asked for, and the page is open.
     pub incomplete: bool,
+    /// A PES packet is too long ago.
+    pub silent: bool,
 }
 
 impl Standing {
@@ -25,6 +27,7 @@ impl Standing {
             content: None,
             gap: false,
             incomplete: false,
+            silent: false,
         }
     }
 
@@ -36,7 +39,7 @@ impl Standing {
         ensures none { result ≡ stands_none self.now }
     {
         // One test for all, since it is asked at each end.
-        self.content.is_none() & !self.gap & !self.incomplete
+        self.content.is_none() & !self.gap & !self.incomplete & !self.silent
     }
 
     /// Where a rule stands broken, if it does: at its first wrong cell, or, where it is one of the
@@ -48,6 +51,7 @@ impl Standing {
             EndRule::Content => self.content,
             EndRule::Gap => whole_frame(self.gap),
             EndRule::Incomplete => whole_frame(self.incomplete),
+            EndRule::Silent => whole_frame(self.silent),
         }
     }
 }

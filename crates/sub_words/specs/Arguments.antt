@@ -36,13 +36,13 @@ abbrev pub between : ℕ → ℕ → Option ℕ → Option ℕ
 between least most None = None
 between least most (Some n) = if nat_le least n && nat_le n most then Some n else None
 
--- `[--page P] [--origin T] [--complete]`: the options of a repeat bound of 1 to 1500 frames, with a
--- PTS of 33 bits; the first fault where a number is missing or out of range. Of a command that has
--- no flag `complete` none is given.
+-- `[--page P] [--origin T] [--complete]`: the options of a repeat bound of 1 to 2,160,000 frames, a
+-- day, with a PTS of 33 bits; the first fault where a number is missing or out of range. Of a command
+-- that has no flag `complete` none is given.
 abbrev pub options_of : Option ℕ → List Row → Result OptionsValue UsageFault
 options_of every rows = do
   page ← ok_or (page_of_text (argument (codes "page") rows)) fault.BadPage
-  every ← ok_or (between 1 1500 every) fault.Every
+  every ← ok_or (between 1 day every) fault.Every
   origin ← ok_or (between 0 (2 ^ 33 - 1) (number_of_text (argument (codes "origin") rows)))
       fault.Origin
   let asked = is_given (codes "complete") rows in
@@ -52,6 +52,7 @@ options_of every rows = do
         origin = origin;
         asks_complete = asked;
         within = 0;
+        pace = None;
       })
 
 -- `[--within N]`: the options, where the page has to be whole within so many frames, 0 to 50.
@@ -59,6 +60,16 @@ abbrev pub allowing_of : OptionsValue → List Row → Result OptionsValue Usage
 allowing_of options rows = do
   frames ← ok_or (between 0 50 (number_of_text (argument (codes "within") rows))) fault.Within
   Ok (record options { within = frames })
+
+-- `[--pace K]`: the options, where PES packets are at most so many frames apart, 1 to 2,160,000;
+-- as they are where it is left out.
+abbrev pub pacing_of : OptionsValue → List Row → Result OptionsValue UsageFault
+pacing_of options rows =
+    option_map_or
+    (λ text. do
+      frames ← ok_or (between 1 day (number_of_text text)) fault.Pace
+      Ok (record options { pace = Some frames }))
+    (first_of (codes "pace") rows) (Ok options)
 
 -- `[--option O]`
 abbrev pub national_of : List Row → Result National UsageFault

@@ -61,6 +61,10 @@ recording_rules others =
 abbrev pub within_rule : Rule
 within_rule = option_rule (codes "within") (codes "0")
 
+-- `[--pace K]`
+abbrev pub pace_rule : Rule
+pace_rule = bare_option_rule (codes "pace")
+
 -- The commands, each with the rules of its arguments.
 abbrev pub commands : List (Text × List Rule)
 commands =
@@ -77,11 +81,12 @@ commands =
     ∷ (codes "schedule", pair_rules (codes "pes") (flag_rule (codes "serial") ∷ []))
     -- check STL PES [--page P] [--origin T] [--every N] [--option O] [--layout TEXT]
     -- [--from TIME] [--to TIME] [--open] [--within N] [--pid P] [--packet-size S] [--pes I-J]
-    -- [--complete] [--all]
+    -- [--pace K] [--complete] [--all]
     ∷ (
       codes "check",
       pair_rules (codes "recording") (within_rule
-          ∷ recording_rules (flag_rule (codes "complete") ∷ flag_rule (codes "all") ∷ [])),
+          ∷ recording_rules (pace_rule ∷ flag_rule (codes "complete") ∷ flag_rule (codes "all")
+          ∷ [])),
     )
     -- listen PES [--page P] [--origin T] [--within N] [--pid P] [--packet-size S] [--pes I-J]
     -- --at TIME [--skip N] [--flip F] [--lose L] [--receiver R] [--complete]

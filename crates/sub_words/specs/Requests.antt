@@ -13,8 +13,8 @@ use Rattle.stl_rows.specs.declared.national.National.{National}
 use Rattle.sub_plan.specs.Options.{OptionsValue}
 use Rattle.ts_survey.specs.declared.recording.SurveyOptions.{SurveyOptions}
 use Rattle.sub_words.specs.Arguments.{PesAsked, allowing_of, argument, is_given, listed_of}
-use Rattle.sub_words.specs.Arguments.{layout_of, national_of, options_of, packet_size_of}
-use Rattle.sub_words.specs.Arguments.{pes_packets_of, required_pid_of, scope_of}
+use Rattle.sub_words.specs.Arguments.{layout_of, national_of, options_of, pacing_of}
+use Rattle.sub_words.specs.Arguments.{packet_size_of, pes_packets_of, required_pid_of, scope_of}
 use Rattle.sub_words.specs.Arguments.{survey_options_of}
 use Rattle.sub_words.specs.Commands.{are_sound, command_in, clap_refusals}
 use Rattle.sub_words.specs.Texts.{flip_of_text, frame_of_text, is_same_byte, number_of_text}
@@ -97,15 +97,16 @@ schedule_asked rows = do
   Ok (Schedule names.0 names.1 options (is_given (codes "serial") rows) national layout scope)
 
 -- `check STL PES [--page P] [--every N] [--origin T] [--option O] [--within N] [--pid P]
--- [--packet-size S] [--pes I-J] [--layout TEXT] [--from TIME] [--to TIME] [--open] [--complete]
--- [--all]`
+-- [--packet-size S] [--pes I-J] [--layout TEXT] [--pace K] [--from TIME] [--to TIME] [--open]
+-- [--complete] [--all]`
 abbrev pub check_asked : List Row → Result Asked UsageFault
 check_asked rows = do
   plain ← options_of (number_of_text (argument (codes "every") rows)) rows
   national ← national_of rows
-  options ← allowing_of plain rows
+  allowing ← allowing_of plain rows
   pes ← pes_packets_of rows
   layout ← layout_of rows
+  options ← pacing_of allowing rows
   scope ← scope_of rows
   let all = is_given (codes "all") rows in
       Ok (Check (argument (codes "stl") rows) pes options national layout scope all)

@@ -3,10 +3,9 @@ ghost use Rattle.std.specs.Prelude.{◌≡◌, IfErr, IfOk, ok_or, option_map, t
 ghost use Rattle.std.specs.Result.{result_map_both};
 ghost use Rattle.clap.specs.Words.{first_of, found_of, rows_of};
 ghost use Rattle.sub_words.specs.Arguments.{allowing_of, argument, is_given, layout_of, listed_of};
-ghost use Rattle.sub_words.specs.Arguments.{options_of};
-ghost use Rattle.sub_words.specs.Arguments.{packet_size_of, pes_packets_of, range_given_of};
-ghost use Rattle.sub_words.specs.Arguments.{given_as, required_pid_of, scope_of, stream_of};
-ghost use Rattle.sub_words.specs.Arguments.{survey_options_of};
+ghost use Rattle.sub_words.specs.Arguments.{given_as, options_of, pacing_of, packet_size_of};
+ghost use Rattle.sub_words.specs.Arguments.{pes_packets_of, range_given_of, required_pid_of};
+ghost use Rattle.sub_words.specs.Arguments.{scope_of, stream_of, survey_options_of};
 ghost use Rattle.sub_words.specs.Texts.{frame_of_text};
 ghost use Rattle.sub_words.specs.Requests.{is_own, pes_asked};
 
@@ -83,16 +82,34 @@ pub fn allowing_at<'a>(matches: &ArgMatches<'a>, options: Options) -> Result<Opt
         .map_err(usage_fault_of)
 }
 
+/// The options, with the pace that `--pace` says; as they are where it is left out.
+///
+/// # Errors
+///
+/// `Pace` alone.
+pub fn pacing_at<'a>(matches: &ArgMatches<'a>, options: Options) -> Result<Options, UsageFault>
+    ensures { result ≡ pacing_of options (rows_of (found_of matches.now)) }
+{
+    let Some(text) = given_at(matches, "pace") else {
+        return Ok(options);
+    };
+    // A number that is missing stands for one that is out of range.
+    let frames = parse_number(text);
+    options.pacing(frames.unwrap_or(0)).map_err(usage_fault_of)
+}
+
 // A fault of options, as one of the words.
 fn usage_fault_of(fault: OptionFault) -> UsageFault
     ensures every { fault ≡ OptionFault.Every → result ≡ UsageFault.Every }
     ensures origin { fault ≡ OptionFault.Origin → result ≡ UsageFault.Origin }
     ensures within { fault ≡ OptionFault.Within → result ≡ UsageFault.Within }
+    ensures pace { fault ≡ OptionFault.Pace → result ≡ UsageFault.Pace }
 {
     match fault {
         OptionFault::Every => UsageFault::Every,
         OptionFault::Origin => UsageFault::Origin,
         OptionFault::Within => UsageFault::Within,
+        OptionFault::Pace => UsageFault::Pace,
     }
 }
 

@@ -76,6 +76,7 @@ const COMMANDS: [(&str, &[Argument]); 9] = [
             Argument::BareOption("pid"),
             Argument::Option("packet-size", "188"),
             Argument::BareOption("pes"),
+            Argument::BareOption("pace"),
             Argument::Flag("complete"),
             Argument::Flag("all"),
         ],

@@ -5,8 +5,8 @@ ghost use Rattle.sub_words.specs.Requests.{extract_asked, listen_asked, normal_a
 ghost use Rattle.sub_words.specs.Requests.{packets_asked, schedule_asked, survey_asked};
 
 use crate::arguments::{
-    allowing_at, flag_at, layout_at, list_at, options_at, packet_size_at, pes_at, pid_at, scope_at,
-    survey_options_at, text_at,
+    allowing_at, flag_at, layout_at, list_at, options_at, pacing_at, packet_size_at, pes_at,
+    pid_at, scope_at, survey_options_at, text_at,
 };
 use crate::numbers::parse_number;
 use crate::times::{parse_receiver, parse_time};
@@ -105,8 +105,8 @@ fn read_schedule<'a>(matches: &ArgMatches<'a>) -> Result<Request<'a>, UsageFault
 }
 
 // `check STL PES [--page P] [--every N] [--origin T] [--option O] [--within N] [--pid P]
-// [--packet-size S] [--pes I-J] [--layout TEXT] [--from TIME] [--to TIME] [--open] [--complete]
-// [--all]`
+// [--packet-size S] [--pes I-J] [--layout TEXT] [--pace K] [--from TIME] [--to TIME] [--open]
+// [--complete] [--all]`
 fn read_check<'a>(matches: &ArgMatches<'a>) -> Result<Request<'a>, UsageFault>
     ensures { IsReadExactly (check_asked (rows_of (found_of matches.now))) result }
 {
@@ -114,12 +114,13 @@ fn read_check<'a>(matches: &ArgMatches<'a>) -> Result<Request<'a>, UsageFault>
     let Some(national) = National::parse(text_at(matches, "option")) else {
         return Err(UsageFault::BadOption);
     };
-    let options = allowing_at(matches, plain)?;
+    let allowing = allowing_at(matches, plain)?;
     let pes = match pes_at(matches) {
         Ok(pes) => pes,
         Err(fault) => return Err(fault),
     };
     let layout = layout_at(matches)?;
+    let options = pacing_at(matches, allowing)?;
     let scope = scope_at(matches)?;
     Ok(Request::Check {
         stl: text_at(matches, "stl"),

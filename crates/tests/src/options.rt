@@ -8,9 +8,9 @@ use ttx_packet::PageId;
 #[test]
 fn refuses_a_bound_before_an_origin(rt: HostRuntime) {
     let page = PageId::parse("888").expect(&rt, "page 888");
-    let both = Options::new(page, 1501, 0x2_0000_0000).err();
+    let both = Options::new(page, 2_160_001, 0x2_0000_0000).err();
     assert_same(&rt, &both, &Some(OptionFault::Every));
-    let origin = Options::new(page, 1500, 0x2_0000_0000).err();
+    let origin = Options::new(page, 2_160_000, 0x2_0000_0000).err();
     assert_same(&rt, &origin, &Some(OptionFault::Origin));
 }
 
@@ -74,6 +74,22 @@ fn allows_two_seconds_at_most(rt: HostRuntime) {
     assert!(rt; asking.is_ok_and(|options| options.asks_complete() && options.within() == 3));
     let none = allowing(&rt, 7, 3).allowing(0);
     assert!(rt; none.is_ok_and(|options| options == of_origin(&rt, 7)));
+}
+
+#[test]
+fn asks_for_a_pace_of_a_day_at_most(rt: HostRuntime) {
+    let plain = of_origin(&rt, 7);
+    assert_same(&rt, &plain.pace(), &None);
+    for frames in [1, 2_160_000] {
+        let paced = plain.pacing(frames).map(|options| options.pace());
+        assert_same(&rt, &paced, &Ok(Some(frames)));
+    }
+    for frames in [0, 2_160_001, u64::MAX] {
+        assert_same(&rt, &plain.pacing(frames).err(), &Some(OptionFault::Pace));
+    }
+    // What was asked before stays.
+    let asking = allowing(&rt, 7, 3).asking_complete().pacing(5);
+    assert!(rt; asking.is_ok_and(|options| options.asks_complete() && options.within() == 3));
 }
 
 // Asserts the frame of a PTS where so many frames are allowed.

@@ -49,5 +49,5 @@ returns-in_err-tell_of-clause-told g c =
 pub returns-clause-told : goal.returns-clause-told
 unfolding end_rules end_events
 returns-clause-told g c =
-    let all : c.loop-rule.rule-index ≡ 3 = omega arith in
+    let all : c.loop-rule.rule-index ≡ 4 = omega arith in
     c.loop-rule.invariant.told _ (Ok tt) (rw all (Tells-none c.loop-rule.audience))

@@ -46,16 +46,18 @@ loop-f-preserved g c =
           let latest_is = follows.latest_is some in omega arith in
           let due = c.in_ok-end_of_frame.ensures.due in
           let knows =
-          gap_knows task frames n c.loop-f.f last _ _ before.1 some past c.move_to.ensures due in
+          gap_knows task frames n c.loop-f.f last _ _ before.1 some past c.move_to.ensures
+          (i.latest_is ∙ follows.latest_is some) due in
           let told = c.in_ok-end_of_frame.ensures.told (packets_before frames n) knows in
           let marks =
-          gap_marks task frames n c.loop-f.f last _ _ before.1 some past c.move_to.ensures due in (
+          gap_marks task frames n c.loop-f.f last _ _ before.1 some past c.move_to.ensures
+          (i.latest_is ∙ follows.latest_is some) due in (
             whole_two (gap_more task frames n c.loop-f.f _ past refl) before.0
                 (whole_ok (sym marks) told),
             subst (Waits task frames n _ last)
                 (sym (c.in_ok-end_of_frame.ensures.ended (packets_before frames n) knows))
                 (gap_waits task frames n c.loop-f.f last _ _ before.1 some past c.move_to.ensures
-                due _ refl),
+                (i.latest_is ∙ follows.latest_is some) due _ refl),
           );
     }
 
@@ -74,10 +76,12 @@ returns-in_err-end_of_frame-clause-told g c = λ task frames n last follows some
     let latest_is = follows.latest_is some in omega arith in
     let due = c.in_err-end_of_frame.ensures.due in
     let knows =
-    gap_knows task frames n c.loop-f.f last _ _ before.1 some past c.move_to.ensures due in
+    gap_knows task frames n c.loop-f.f last _ _ before.1 some past c.move_to.ensures
+    (i.latest_is ∙ follows.latest_is some) due in
     let told = c.in_err-end_of_frame.ensures.told (packets_before frames n) knows in
     let marks =
-    gap_marks task frames n c.loop-f.f last _ _ before.1 some past c.move_to.ensures due in
+    gap_marks task frames n c.loop-f.f last _ _ before.1 some past c.move_to.ensures
+    (i.latest_is ∙ follows.latest_is some) due in
     let here = c.loop-f-test.true in
     let size = gap_length-is frames n some ∙ ap (λ f. f - (latest frames n + 1)) is in
     let split =

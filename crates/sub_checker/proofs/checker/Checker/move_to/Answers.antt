@@ -19,6 +19,7 @@ returns-then-is_before c =
       programme = i.programme.now;
       every = i.every;
       within = i.within;
+      pace = i.pace;
       listener = i.listener;
       first = i.first;
       latest = i.latest;
