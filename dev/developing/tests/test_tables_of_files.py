@@ -336,6 +336,12 @@ class Words(Case):
                 (OSError("a  word"), "the output: a word"),
                 (ValueError("x  y"), "a mistake of this tool, ValueError in no line: x y")):
             self.assertEqual(words.line_of(reason), wanted)
+        for value, lines in (("0", 0), ("1", 1)):
+            with mock.patch.dict(os.environ, {"SUBTTX_DEBUG": value}), \
+                    mock.patch("traceback.print_exception") as traced:
+                words.line_of(ValueError("x"))
+                words.line_of(Stop("x"))
+            self.assertEqual(traced.call_count, lines)
         for name, wanted in (("a", "a"), ("-", "./-"), ("-a", "./-a"), ("=a", "./=a"),
                              ("+a", "./+a"), ("@a", "./@a"), ("a-", "a-"), ("/-a", "/-a")):
             self.assertEqual(plain_name(name), wanted)

@@ -7,6 +7,7 @@ import os
 import re
 import shlex
 import sys
+import traceback
 from typing import IO, Callable, NoReturn, TextIO
 
 from .teletext import page_of
@@ -259,7 +260,8 @@ def answer(main: Callable[[list[str]], int]) -> int:
 
 
 def line_of(reason: BaseException) -> str:
-    """What is told of a tool that ended early, on one line."""
+    """What is told of a tool that ended early, on one line; with SUBTTX_DEBUG=1 where a mistake of
+    the tool comes from is printed before it."""
     if isinstance(reason, KeyboardInterrupt):
         return "stopped"
     if isinstance(reason, OSError):
@@ -268,6 +270,8 @@ def line_of(reason: BaseException) -> str:
     text = " ".join(str(reason).split())
     if isinstance(reason, Stop):
         return text
+    if os.environ.get("SUBTTX_DEBUG") == "1":
+        traceback.print_exception(reason)
     return f"a mistake of this tool, {type(reason).__name__} in {place_of(reason)}: {text}"
 
 
