@@ -21,6 +21,7 @@ import subprocess
 import sys
 import tempfile
 import threading
+import time
 from typing import Any, Iterator, NamedTuple, Sequence
 
 from subtitles.calls.main import main
@@ -330,9 +331,11 @@ class Scenario:
 
 
 def send(path: str, data: bytes) -> None:
-    """Sends a feed, if somebody hears it."""
-    with contextlib.suppress(OSError), open(os.open(path, os.O_WRONLY), "wb") as file:
-        file.write(data)
+    """Sends a feed, if somebody hears it, no faster than `survey` tells of it."""
+    with contextlib.suppress(OSError), open(os.open(path, os.O_WRONLY), "wb", 0) as file:
+        for at in range(0, len(data), 1 << 16):
+            file.write(data[at:at + (1 << 16)])
+            time.sleep(0.002)
 
 
 def tool_here(command: Sequence[str], **options: Any) -> Any:

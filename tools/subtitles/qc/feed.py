@@ -14,7 +14,7 @@ import threading
 import time
 from typing import BinaryIO, Iterator
 
-from ..core.files import PIECE, STANDARD
+from ..core.files import STANDARD
 from ..core.words import counted, stream_words
 from ..reading.survey import PES, Mark, Packets, Survey, survey, words_of
 from .asked import Asked
@@ -24,6 +24,8 @@ from .sums import File
 from .unclear import Unclear
 
 STANDARD_INPUT = "/dev/stdin"  # as the program opens it
+# What is handed on at a time: less than `survey` asks for, which then tells all that it knows.
+PART = 320 * 188
 KEPT = 1 << 25  # bytes of what came last, handed to what begins to listen
 LOOK = 0.1  # seconds after which a feed that stands still is looked at again
 PATIENCE = 1.0  # seconds for which it may, until somebody hears of it
@@ -51,7 +53,7 @@ class Handing(threading.Thread):
             while self.is_wanted:
                 ready, _, _ = select.select([self.file], [], [], LOOK)
                 self.begin()
-                data = self.file.read(PIECE) if ready else None
+                data = self.file.read(PART) if ready else None
                 if data == b"":
                     break
                 self.hand(data or b"")

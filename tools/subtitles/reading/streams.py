@@ -26,7 +26,8 @@ def survey_of(name: str, page: Page, pid: int | None, packet_size: int,
     if name != STANDARD:
         os.stat(name)  # a name that is wrong is told as it was typed
     found = survey(program_at(program), "/dev/stdin" if name == STANDARD else name, page, pid)
-    one = found.by_pid.get(PES if pid is None else pid, Packets(PES))
+    wanted = PES if pid is None else pid
+    one = found.by_pid.get(wanted, Packets(wanted))
     if pid is None and found.size != PES:
         one.damage = "PES packet 0 does not begin with 00 00 01 BD" if found.head else None
     why = why_refused(one) if pid is not None and not one.count else None
