@@ -3,6 +3,7 @@ transmissions as the program makes them, of which something is changed.
 """
 from __future__ import annotations
 
+import functools
 import json
 import os
 import tempfile
@@ -13,7 +14,7 @@ from subtitles.calls.claim import claimed
 from subtitles.calls.machine import object_of
 from subtitles.calls.main import parser_of
 from subtitles.calls.objects import found
-from subtitles.calls.single import Files, end_pair, judge_pair, now
+from subtitles.calls.single import Files, draw, end_pair, judge_pair, now
 from subtitles.core.pes import data_field, pes_packet, pts_in, teletext_packets
 from subtitles.core.stl import NEW_LINE, gsi_block, subtitle_blocks
 from subtitles.core.times import CLOCK, TICKS
@@ -88,6 +89,8 @@ def judged(case: Case, *words: str, by: str | None = None, heard: Heard | None =
         files.prepare()
         verdict.found = found(asked)
         pair = Pair(verdict, typed, names, heard, True)
+        if known.out:
+            pair.draw = functools.partial(draw, pair)
         judge_pair(pair, files)
         end_pair(verdict, heard, files)
         result = json.loads("".join(object_of(verdict, Program("1", "0" * 64, None))))

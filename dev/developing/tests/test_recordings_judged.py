@@ -5,6 +5,7 @@ from __future__ import annotations
 
 import hashlib
 import os
+import re
 
 from subtitles.core.pes import pes_packet, pts_in
 from subtitles.core.times import TICKS
@@ -62,13 +63,12 @@ class Recordings(Case):
                 self.must(f"{name} {recording}: part", found.parts("origin", "from", "to") ==
                           [(0, "20:15:00:00", "20:15:09:00")], found.result["parts"])
                 if "feed" in recording:
-                    taken = f"{recording} 0x101 | tools/cut - " if recording[-1] in "468" else \
-                        f"{recording} "
                     every = f" --every {often}" * (often != "250")
-                    name_of = "tools/ts2pes" if "|" in taken else "tools/cut"
-                    self.must(f"{name} {recording}: command", found.lines("+ ") == [
-                        f"{name_of} {taken}--stl {STORY}{every} -o - | {self.bench.program} check "
-                        f"{STORY} /dev/stdin{every} --complete --all"], found.said[0])
+                    wanted = f"{self.bench.program} check {STORY} one.recording.pes --pes I-J" \
+                        f"{every} --complete --all"
+                    self.must(f"{name} {recording}: command", [
+                        re.sub(r"\d+-\d+", "I-J", one, 1) for one in found.lines("+ ")] == [wanted],
+                        found.said)
             self.must(f"{name}: the same list", len(lists) == 1, lists)
 
     def test_warnings(self) -> None:
@@ -130,7 +130,7 @@ class Recordings(Case):
         data = joined(apart(sent, 1000))
         found = judged(self, stl, in_pipe(self, data), "--breaks", "1")
         self.must("in two parts", found.word == "accepted" and found.lines("+ ")[0].startswith(
-            "cat ") and found.parts("origin") == [
+            "tools/part ") and found.parts("origin") == [
             (ORIGIN,), (ORIGIN + 1000 * TICKS,)], found.said)
         pause = [(pts, sent[-1][1]) for pts in range(870 * TICKS, 4500 * TICKS, 25 * TICKS)]
         fed = [one for one in sent if one[0] < 870 * TICKS] + pause
@@ -171,7 +171,7 @@ class Recordings(Case):
         whole = in_stream((TELETEXT_PID, pes))
         junk = whole[:188 * 20] + b"x" * 40 + whole[188 * 20:]
         skipped, cut = " of no TS packet skipped", "it was read up to there"
-        for data, size, count in ((whole, 188, ""), (spaced(whole, 192), 192, "4 bytes"),
+        for data, size, count in ((whole, 188, ""), (spaced(whole, 192), 192, ""),
                                   (spaced(whole, 204), 204, ""), (junk, 188, "40 bytes")):
             for recording in (self.write("one.ts", data), in_pipe(self, data)):
                 found = judged(self, STORY, recording, "--origin", "0")
@@ -230,7 +230,7 @@ class Recordings(Case):
             ([], path, ["html", "json", "txt"]),
             (["--keep"], path, ["html", "json", "recording.pes", "txt"]),
             ([], in_pipe(self, data), ["html", "json", "txt"]),
-            (["--keep"], in_pipe(self, data), ["cut.pes", "html", "json", "recording.pes", "txt"])]
+            (["--keep"], in_pipe(self, data), ["html", "json", "recording.pes", "txt"])]
         for words, recording, kept in rows:
             out = self.path(f"out{len(os.listdir(self.folder))}")
             found = judged(self, STORY, recording, "-o", out, "--origin", "0", *words)
@@ -240,7 +240,7 @@ class Recordings(Case):
             is_feed = recording != path
             self.must(f"{words} {recording}: part", (part["pid"], part["packet_size"]) ==
                       (257, 188) and (part["judged"] is None) != is_feed and
-                      part["pes"] == (None if is_feed else "0-4"), part)
+                      part["pes"] == "0-4", part)
             self.must(f"{words} {recording}: sum", own["name"] == recording and (is_feed or (
                 own["size"], own["sha256"]) == (len(data), hashlib.sha256(data).hexdigest())), own)
             self.must(f"{words} {recording}: subtitles", found.result["inputs"]["stl"]["sha256"] ==
