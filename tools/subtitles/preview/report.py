@@ -10,7 +10,7 @@ from ..core.manual import meanings
 from ..core.programme import Programme
 from ..core.teletext import page_name
 from ..core.times import FRAMES_OF_A_DAY, time_of
-from ..core.words import counted
+from ..core.words import counted, shown
 from ..qc.clock import START, TCP
 from ..qc.made_with import program_at
 from ..qc.sums import File
@@ -88,7 +88,9 @@ class Report:
         self.lost = [gap.line() for gap in subject.judged.gaps]
         if len(self.lost) > TOLD:
             self.lost[TOLD:] = [f"and at {counted(len(self.lost) - TOLD, 'more place')}"]
-        self.notes = [*subject.judged.notes, *(one.said() for one in subject.judged.warnings)]
+        unread = [self.asked.recording] if self.asked.recording and self.part.pes is None else []
+        self.notes = [*(f"{shown(one)} was not read" for one in unread), *subject.judged.notes,
+                      *(one.said() for one in subject.judged.warnings)]
         self.reasons = Reasons(self.part.causes, self.asked.option) if self.part.causes else None
         self.looked = [looked_at(one, frames, self.asked.within)
                        for one, frames in zip(self.subtitles, self.part.delays)]

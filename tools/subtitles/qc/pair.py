@@ -54,6 +54,7 @@ class Pair:
         # The first and the last frame of the subtitle file, and the clock where it was given.
         self.whole = Found(0, 0, NO_CLOCK)
         self.begun: Part | None = None  # that is being judged
+        self.is_shifted = False
 
     def judge(self) -> None:
         """Judges the pair; `Unclear` where a step is not clear."""
@@ -139,6 +140,8 @@ class Pair:
         if not any(one.kind == "grew" for one in self.verdict.warnings):
             self.verdict.warnings += [one for one in recording.strange() if one.kind == "grew"]
         self.note_gaps(recording.places())
+        if recording.is_feed and not asked.breaks and not self.is_shifted:
+            self.note_unsent(self.verdict.parts[-1])
 
     def given(self) -> Clock | None:
         """The clock that was given, `None` where it is to be found."""
@@ -155,6 +158,7 @@ class Pair:
             self.steps.inside = origin.runs[0]
             origin = self.steps.fit(recording, given)
         self.verdict.notes += origin.shifts
+        self.is_shifted = bool(origin.shifts)
         if given is None or self.asked.breaks or origin.runs:
             found = self.steps.fitted(origin, self.whole, recording)
         else:
@@ -258,6 +262,15 @@ class Pair:
                 answer.numbers, part.causes)
 
     # What is missing.
+
+    def note_unsent(self, part: Part) -> None:
+        """That the last subtitles of a feed did not come: it is not read long enough to tell a
+        break."""
+        frame = part.causes.unsent_from() if part.causes else None
+        if frame is not None:
+            self.verdict.notes.append(
+                f"from {time_of(frame)} on no subtitle was sent while the feed was read; if the "
+                "programme has a break there, say --breaks 1")
 
     def note_gaps(self, places: list[Place]) -> None:
         """Between which times TS packets are missing."""
