@@ -20,9 +20,9 @@ _subttx_value() {
         --option) _subttx_words 'english german swedish italian french spanish czech' "$2" ;;
         --receiver) _subttx_words 'blank keep drop' "$2" ;;
         --packet-size) _subttx_words '188 192 204' "$2" ;;
-        --at | --breaks | --every | --flip | --from | --jobs | --lose | --origin | --page | \
-            --patience | --pes | --pid | --settled | --skip | --stall | --start | --to | \
-            --within | -c)
+        --at | --breaks | --every | --flip | --from | --jobs | --layout | --lose | --origin | \
+            --page | --patience | --pes | --pid | --settled | --skip | --stall | --start | \
+            --to | --within | -c)
             COMPREPLY=()
             ;;
 # end
@@ -34,7 +34,7 @@ _subttx() {
     local word=${COMP_WORDS[COMP_CWORD]} before=${COMP_WORDS[COMP_CWORD - 1]}
     local command='' at options
 # made: commands
-    local commands='check schedule listen extract show normal packets packet'
+    local commands='check schedule listen extract show normal packets packet survey'
 # end
     for ((at = 1; at < COMP_CWORD; at++)); do
         if [[ " $commands " == *" ${COMP_WORDS[at]} "* ]]; then
@@ -48,13 +48,14 @@ _subttx() {
             return
             ;;
 # made: options
-        check) options='--page --every --origin --option --complete --within --all --pid
-            --packet-size --pes' ;;
-        schedule) options='--page --every --origin --option --serial' ;;
+        check) options='--page --every --origin --option --layout --open --complete --within --all
+            --pid --packet-size --pes' ;;
+        schedule) options='--page --every --origin --option --layout --open --serial' ;;
         listen) options='--page --origin --complete --within --at --skip --flip --lose --receiver
             --pid --packet-size --pes' ;;
         extract) options='--pid --packet-size' ;;
         packets) options='--pid --packet-size --pes' ;;
+        survey) options='--page --pid --packet-size' ;;
 # end
         *) options= ;;
     esac

@@ -49,7 +49,8 @@ class Option(NamedTuple):
 
     def choices(self) -> list[str]:
         """The words that it takes, where these are few and named."""
-        words = re.findall(r"`([a-z0-9]+)`", self.means)
+        words = [word for word in re.findall(r"`([a-z0-9]+)`", self.means)
+                 if word not in self.commands]
         return words if len(words) > 2 else []
 
 

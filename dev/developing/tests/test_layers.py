@@ -10,9 +10,9 @@ from .bench import Case
 from .test_hints import DEV, PACKAGES, TOOLS, modules
 
 ORDER = ["core", "reading", "qc", "preview", "calls"]  # the packages of users, lowest first
-# The second implementation shares with the tools codes, times and the layout of files.
-SHARED = {"subtitles.core." + name
-          for name in ("built", "pes", "stl", "teletext", "times", "units", "words")}
+# The second implementation shares with the tools codes, times, layouts and the blocks of files.
+SHARED = {"subtitles.core." + name for name in (
+    "built", "layout", "pes", "stl", "teletext", "times", "units", "words")}
 
 
 def name_of(path: str) -> str:

@@ -237,11 +237,12 @@ def plain(packets: Packets, frames: Sequence[int], begin: int, end: int,
     if not own:
         return None
     at_begin = frames[own[0]] == begin and early and "b" not in does[early[-1]] and own[0] in changed
-    first: int | None = blank[-1] if blank and not at_begin else next(
-        (at for at in own if "h" in does[at]), None)
-    if first is None:
+    first = blank[-1] if blank and not at_begin else next(
+        (at for at in own if "h" in does[at]), -1)
+    if first < 0:
         return None
-    last: int | None = own[-1]
+    last = own[-1]
     if every is not None:
-        last = next((at for at in own if frames[at] >= end and "h" in does[at] and at >= first), last)
-    return first, last or 0
+        last = next((at for at in own if frames[at] >= end and "h" in does[at] and at >= first),
+                    own[-1])
+    return first, last

@@ -15,6 +15,7 @@ batch      many PES packets in one step
 stl        blocks of subtitle files
 gsi        the texts of the first of them
 letters    the letters of the others
+layout     how a house draws a text: the layouts of --layout
 programme  the subtitles of a file as the program shows them, and which of them is due
 told       the lines of `check --all` as values
 manual     what docs/manual/refusals.md says a refusal means, and what to do

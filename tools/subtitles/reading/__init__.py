@@ -1,5 +1,6 @@
-"""What is read of recordings and of subtitle files, one idea each. Nothing here judges, and no byte of
-a recording is read: `subttx survey` reads it.
+"""What is read of recordings and of subtitle files, one idea each.
+
+Nothing here judges, and no byte of a recording is read: `subttx survey` reads it.
 
 survey       what `survey` tells of a recording, as values
 timeline     what a receiver holds of a page when
