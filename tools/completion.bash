@@ -48,9 +48,9 @@ _subttx() {
             return
             ;;
 # made: options
-        check) options='--page --every --origin --option --layout --open --complete --within --all
-            --pid --packet-size --pes' ;;
-        schedule) options='--page --every --origin --option --layout --open --serial' ;;
+        check) options='--page --every --origin --option --layout --open --from --to --complete
+            --within --all --pid --packet-size --pes' ;;
+        schedule) options='--page --every --origin --option --serial --layout --open --from --to' ;;
         listen) options='--page --origin --complete --within --at --skip --flip --lose --receiver
             --pid --packet-size --pes' ;;
         extract) options='--pid --packet-size' ;;
