@@ -17,7 +17,7 @@ from .times import CLOCK, frame_of
 HIDDEN = re.compile("[\x00-\x1f\x7f-\x9f\u061c\u200e\u200f\u2028-\u202e\u2066-\u2069"
                     "\ud800-\udfff]")
 INSTALLED = "subttx-"  # before the names of tools that are installed
-MOST_EVERY = 1500  # frames of a repeat bound
+MOST_EVERY = 2_160_000  # frames of a repeat bound: a day
 MOST_WITHIN = 50  # frames within which a page has to be whole
 MOST_DIGITS = 3  # of a number of breaks
 TCP_WORD = "tcp"  # for the time code that the GSI block has
