@@ -93,11 +93,8 @@ class Parts(Case):
                 found.said)
             ranges = [pes for pes, in found.parts("pes")]
             self.must(f"{shifts}: commands", [
-                "" if " --pes " not in line else line.partition(" --pes ")[2].split()[0]
-                for line in found.lines("+ ") if "/cut " in line or " check " in line] == [
-                word for at, pes in enumerate(ranges) for word in (
-                    "" if min(shifts) > 0 else ranges[0] if not at else
-                    f"{self.at[885]}-{len(self.sent) - 1}", pes)], found.lines("+ "))
+                line.partition(" --pes ")[2].split()[0] for line in found.lines("+ ")
+                if " check " in line] == ranges, found.lines("+ "))
             each = [tuple(one[name] for name in ("part", "number", "whole_after"))
                     for one in found.result["subtitles"]]
             self.must(f"{shifts}: each", each == [(1 + (at > 8) + (at > 16) * (count > 2), at, 0)

@@ -50,33 +50,20 @@ class Pairs(Case):
     """Pairs, feeds and subtitle files."""
 
     def test_judges_a_recording(self) -> None:
-        """The five commands are said; typed again one by one, they answer the same."""
+        """One command is said, the one that is proved; typed again it answers the same."""
         done = qc(self, STORY, RECORDING, "-o", "out")
         lines = lines_of(done)
         commands = [line[2:] for line in lines if line.startswith("+ ")]
         self.must("accepted", (done.status, lines[-1], done.told) == (0, ACCEPTED, []), done)
-        names = [os.path.basename(command.split()[0]) for command in commands]
-        program = os.path.basename(self.bench.program)
-        self.must("the five commands", names == [program, "origin", "cut", program, "preview"],
-                  commands)
-        self.must("the verdict is on the two files", commands[3].split()[1:] == [
+        self.must("one command, on the two files", [one.split()[1:] for one in commands] == [[
             "check", STORY, RECORDING, "--pid", "0x101", "--pes", "2-6", "--complete", "--origin",
-            "5000000000", "--all"], commands)
+            "5000000000", "--all"]], commands)
         kept = sorted(os.listdir(self.path("out")))
         self.must("its files", kept == ["story.html", "story.json", "story.txt"], kept)
-        said: dict[str, list[str]] = {}
-        for line in lines:
-            if line.startswith("+ "):
-                answer = said.setdefault(line[2:], [])
-            elif line.startswith("Accepted: "):
-                break
-            elif line:
-                answer.append(line.removeprefix("ts2pes: "))
-        for command in commands:
-            again = self.call(["sh", "-c", command])
-            told = [line.removeprefix("ts2pes: ") for line in again.told]
-            self.must(command, again.status == 0
-                      and again.out.decode().splitlines() + told == said[command], again)
+        again = self.call(["sh", "-c", commands[0]])
+        said = lines[lines.index("+ " + commands[0]) + 1:][:1]
+        self.must("typed again", (again.status, again.out.decode().splitlines()) == (0, said),
+                  again)
 
     def test_takes_pes_packets(self) -> None:
         """From a file and from standard input; the same ends of all ways."""

@@ -125,8 +125,8 @@ class Batches(Case):
                   for fault in verdict["faults"]]
         self.must("until", faults == [
             {"number": 38, "pes": 1, "until": None, "until_pes": 2, "pes_time": "20:15:03:00"},
-            {"number": 72, "pes": None, "until": "20:15:06:24", "until_pes": None,
-             "pes_time": None}],
+            {"number": 72, "pes": 2, "until": "20:15:06:24", "until_pes": None,
+             "pes_time": "20:15:05:12"}],
             faults)
         rows = list(csv.DictReader(self.read("lines.csv").decode().splitlines()))
         self.must("a line a fault",

@@ -55,8 +55,8 @@ def slow_program(case: Case) -> str:
 
 
 def count_judged(case: Case) -> int:
-    """How many pairs were judged: a transmission is checked for the list, and for the report."""
-    return len(case.read("checked").splitlines()) // 2
+    """How many pairs were judged: a transmission is checked once."""
+    return len(case.read("checked").splitlines())
 
 
 def objects_in(case: Case, folder: str) -> dict[str, Any]:

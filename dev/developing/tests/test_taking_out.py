@@ -180,6 +180,10 @@ class Cuts(Case):
             done = here("cut", TS, *TIMES, "--pid", PID, "-p", program)
             self.must(script, done == (2, b"", [f"cut: survey was not answered: {line}"]), done)
 
+
+class Parts(Case):
+    """tools/part."""
+
     def test_calls(self) -> None:
         """Of three subtitles some, in a file and in a pipe; those over an edge are named."""
         story = example_bytes("story.stl")
