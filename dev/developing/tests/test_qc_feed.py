@@ -191,16 +191,12 @@ class Feeds(Case):
                           str(ORIGIN), "-p", "./program")
         maker = Maker([(TELETEXT_PID, PRIVATE, teletext_descriptor())], TELETEXT_PID)
         maker.put_tables()
-        for number, one in enumerate(pes):
+        for one in pes:
             maker.put_pcr(pts_in(one) - 9000)
             maker.put(TELETEXT_PID, one)
-            if number == 9:
-                running.put(maker.data)
-                maker.data = b""
-                self.must("it is judged", running.waits_for("+ "), running.told)
         maker.put_pcr(ORIGIN + (LAST + EVERY + 5) * TICKS)
         running.put(maker.data)
-        self.must("not before all is back", not running.waits_for("", 1.0), running.lines)
+        self.must("not before all is back", not running.waits_for("+ ", 1.0), running.lines)
         self.write("go", b"")
         self.must("accepted", running.ends() == 0, (running.lines, running.told))
         running.close()

@@ -60,7 +60,7 @@ class Ending:
         if self.until is not None:
             late = [ticks_between(self.until, one) for one in (now, clock and clock[1])
                     if one is not None]
-            return max(late, default=-1) > (-TICKS * self.asked.every if is_still else 0)
+            return bool(late) and max(late) >= (-TICKS * self.asked.every if is_still else 1)
         if self.origin is None or self.asked.breaks:
             return False
         frames = [frame_in(one, self.origin, self.asked.within)
