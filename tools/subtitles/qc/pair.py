@@ -10,9 +10,10 @@ from ..core.programme import Subtitle
 from ..core.times import FRAMES_OF_A_DAY, TICKS, frame_in, ticks_between, time_of
 from ..core.told import EMPTY, LOST_PACKETS, WITH_CAUSE
 from ..core.words import counted, pid_name
+from ..reading.cutting import cut_of
 from ..reading.finding import runs_line
 from ..reading.gaps import Place, what_of
-from ..reading.survey import HEADER
+from ..reading.survey import HEADER, Range
 from . import warned
 from .checking import Answer
 from .clock import GIVEN, RECORDING, TCP, Clock
@@ -153,9 +154,11 @@ class Pair:
         """The parts with their clocks; the first one has the one that was given."""
         origin = self.steps.fit(recording, given)
         if origin.runs and recording.is_feed:
-            self.verdict.notes.append(f"{runs_line(len(origin.runs))}: of a feed the first run is "
+            run = self.run_at(recording, given, origin.runs)
+            which = "first run" if run == origin.runs[0] else "run at the origin that was given"
+            self.verdict.notes.append(f"{runs_line(len(origin.runs))}: of a feed the {which} is "
                                       "judged")
-            self.steps.inside = origin.runs[0]
+            self.steps.inside = run
             origin = self.steps.fit(recording, given)
         self.verdict.notes += origin.shifts
         self.is_shifted = bool(origin.shifts)
@@ -168,6 +171,14 @@ class Pair:
             self.verdict.notes[:0] = notes
             found[0] = found[0]._replace(clock=clock)
         return found
+
+    def run_at(self, recording: Recording, given: Clock | None, runs: Sequence[Range]) -> Range:
+        """The run that is at the origin that was given; without one, or where none is, the first.
+        """
+        asked = self.asked
+        own = cut_of(recording.packets, self.whole.begin, self.whole.end, given.origin, asked.every,
+                     asked.within).range if given else None
+        return next((run for run in runs if own and run[0] <= own[0] and own[1] <= run[1]), runs[0])
 
     def by_start(self, recording: Recording) -> Clock | None:
         """The clock that the first picture tells, where it is asked."""
