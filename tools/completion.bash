@@ -21,8 +21,8 @@ _subttx_value() {
         --receiver) _subttx_words 'blank keep drop' "$2" ;;
         --packet-size) _subttx_words '188 192 204' "$2" ;;
         --at | --breaks | --every | --flip | --from | --jobs | --layout | --lose | --origin | \
-            --page | --patience | --pes | --pid | --settled | --skip | --stall | --start | \
-            --to | --within | -c)
+            --pace | --page | --patience | --pes | --pid | --settled | --skip | --stall | \
+            --start | --to | --within | -c)
             COMPREPLY=()
             ;;
 # end
@@ -48,8 +48,8 @@ _subttx() {
             return
             ;;
 # made: options
-        check) options='--page --every --origin --option --layout --open --from --to --complete
-            --within --all --pid --packet-size --pes' ;;
+        check) options='--page --every --origin --option --layout --open --from --to --pace
+            --complete --within --all --pid --packet-size --pes' ;;
         schedule) options='--page --every --origin --option --serial --layout --open --from --to' ;;
         listen) options='--page --origin --complete --within --at --skip --flip --lose --receiver
             --pid --packet-size --pes' ;;
