@@ -231,14 +231,14 @@ MIXED = 388  # TS packets for each PES packet; 5 have Teletext where it has 920 
 
 
 def record(pes: str, ts: str, size: int = 0) -> None:
-    """Writes a transport stream of what tools/pes2ts makes of a PES file, of which for each PES
+    """Writes a transport stream of what dev/pes2ts makes of a PES file, of which for each PES
     packet there are so many TS packets, the others of another PID with random bytes, and the tables
     and the clock at most each fifth frame. Where the size is 0 the packets with Teletext stand
     alone."""
     chance = random.Random(13818)
     filling = b"".join(FILLING + chance.randbytes(PACKET - len(FILLING)) for _ in range(size))
     with open(ts, "wb") as file, subprocess.Popen(
-            [os.path.join(TOOLS, "pes2ts"), pes, hex(PID)], stdout=subprocess.PIPE,
+            [os.path.join(TOOLS, "..", "dev", "pes2ts"), pes, hex(PID)], stdout=subprocess.PIPE,
             stderr=subprocess.DEVNULL) as made:
         assert made.stdout
         frames, group = -1, b""

@@ -22,7 +22,7 @@ _subttx_value() {
         --packet-size) _subttx_words '188 192 204' "$2" ;;
         --at | --breaks | --every | --flip | --from | --jobs | --layout | --lose | --origin | \
             --pace | --page | --patience | --pes | --pid | --settled | --skip | --stall | \
-            --start | --to | --within | -c)
+            --start | --to | --within)
             COMPREPLY=()
             ;;
 # end
@@ -78,5 +78,5 @@ _subttx_tool() {
 }
 
 complete -F _subttx subttx
-complete -F _subttx_tool subttx-cut subttx-origin subttx-part subttx-pes2ts subttx-preview \
-    subttx-poke subttx-qc subttx-text subttx-ts2pes
+complete -F _subttx_tool subttx-cut subttx-origin subttx-part subttx-preview subttx-qc \
+    subttx-text subttx-ts2pes

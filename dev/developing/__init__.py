@@ -18,6 +18,7 @@ planting      the tests that call a function, run with a bug in it
 looks         how a report looks in a browser
 compiled      the tools compiled once for many calls of tests
 mending       a pair mended by what is told
+multiplex     a transport stream that is written
 trial         a run in which something fails, and what has to happen
 every_place   the second implementation; on purpose it shares no more than codes, times and layouts
 tests         the tests of check-tools, of unittest: a module for a tool or an idea

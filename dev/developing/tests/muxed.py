@@ -5,7 +5,7 @@ from typing import Iterator
 
 from subtitles.core.pes import pts_bytes, pts_in
 from subtitles.core.times import CLOCK, TICKS, ticks_between, wrapped
-from subtitles.reading.multiplex import BEGINS, PACKET, PAYLOAD, head, section
+from developing.multiplex import BEGINS, PACKET, PAYLOAD, head, section
 from .bench import packets
 
 RANDOM_ACCESS = 0x40

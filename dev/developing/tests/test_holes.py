@@ -11,7 +11,7 @@ from subtitles.core.times import CLOCK, TICKS
 from subtitles.calls.channel.carriers import Carrier
 from subtitles.calls.channel.holes import Way, counters
 from subtitles.calls.channel.listing import Listing
-from subtitles.reading.multiplex import head
+from developing.multiplex import head
 from subtitles.calls.channel.transport import PACKET, Piece, Reader
 from .bench import Case, packets
 from .judged import judged

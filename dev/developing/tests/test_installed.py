@@ -28,7 +28,7 @@ def runs_the_whole_way(case: Case, prefix: str) -> None:
         return case.call([os.path.join(prefix, "bin", name), *words])
 
     stl = example("story.stl")
-    stream = run("subttx-pes2ts", example("story.pes"), "0x101")
+    stream = case.tool("pes2ts", example("story.pes"), "0x101")
     recording = run("subttx-ts2pes", case.write("story.ts", stream.out), "0x101")
     pes = case.write("recording.pes", recording.out)
     origin = run("subttx-origin", stl, pes).out.decode().split()
@@ -46,8 +46,6 @@ def runs_the_whole_way(case: Case, prefix: str) -> None:
     done = run("subttx-qc", stl, "story.ts")
     case.must("qc", done.out.endswith(b"accepted 226 frames 5 transmissions\n") and
               os.path.join(prefix, "bin", "subttx").encode() in done.out, done)
-    done = run("subttx-poke", stl, "11=20")
-    case.must("poke", done.status == 0 and done.out[11:12] == b" ", done.told)
     done = run("subttx-cut", "--help")
     case.must("its own names in the help", b"subttx-cut PES" in done.out
               and b"tools/" not in done.out, done)

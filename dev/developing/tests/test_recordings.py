@@ -9,7 +9,7 @@ from subtitles.core.pes import pes_packet
 from subtitles.core.times import CLOCK, TICKS
 from subtitles.reading.languages import names_of
 from subtitles.calls.channel.listing import Listing
-from subtitles.reading.multiplex import Multiplex
+from developing.multiplex import Multiplex
 from subtitles.calls.channel.transport import Reader, Stream
 from .bench import Case
 from .parts import HEADER, row

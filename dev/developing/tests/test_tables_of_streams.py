@@ -9,7 +9,7 @@ from subtitles.core.pes import pes_packet
 from subtitles.core.teletext import packet
 from subtitles.core.times import TICKS
 from subtitles.calls.channel.listing import Listing, Tables, Teletext
-from subtitles.reading.multiplex import head, section
+from developing.multiplex import head, section
 from subtitles.calls.channel.programmes import (
     SUBTITLE_KINDS, Announced, ProgramMap, announced_in, program_map_of)
 from subtitles.calls.channel.transport import BEGINS, PACKET, PAYLOAD, Piece, crc

@@ -228,7 +228,7 @@ class Parts(Case):
 
 
 class Streams(Case):
-    """tools/ts2pes and tools/pes2ts."""
+    """tools/ts2pes and dev/pes2ts."""
 
     def stream(self, *words: str) -> list[bytes]:
         """The story as a transport stream, packet by packet."""

@@ -19,7 +19,7 @@ from subtitles.reading.timeline import Span
 from subtitles.qc.pair import is_in, time_at
 from subtitles.qc.why import reach, unseen
 from subtitles.reading.gaps import Place
-from subtitles.reading.multiplex import TENTH, Multiplex
+from developing.multiplex import TENTH, Multiplex
 from subtitles.reading.gaps import SECOND
 from .parts import part_with
 

@@ -14,5 +14,4 @@ alignment    for which origins edges agree: one after another, parts, the progra
 finding      the origin that is found, and what is said of it
 cutting      which PES packets are of some frames
 parting      a subtitle file cut
-multiplex    a transport stream that is written
 """
