@@ -164,7 +164,7 @@ no_piece_read programme options bytes = record {
       let none : pes ≡ 0 = cc in
       rw none (omega arith, ap first_told (no_events programme options bytes));
   content = λ frame row column is. cc;
-  schedule = λ serial same some own fine. absurd (true≢false fine);
+  schedule = λ serial same some slow own fine. absurd (true≢false fine);
 }
 
 -- An answer that tells that a source failed has the status `Fault`.

@@ -244,12 +244,13 @@ module _ (programme : ProgrammeValue) (options : OptionsValue) (is : IsOptions o
       (serial : Bool) (result : Result Accepted CheckFault)
       → bytes ≡ plan programme options serial
       → programme.records ≢ []
+      → IfSome options.pace (λ frames. options.every ≤ frames)
       → Decides programme options bytes result
       → IsOk result
-  plan_accepted serial (Ok a) written some decides = refl
-  plan_accepted serial (Err f) written some decides =
+  plan_accepted serial (Ok a) written some slow decides = refl
+  plan_accepted serial (Err f) written some slow decides =
       let frames = planned programme options serial in
-      let good = law_of_plan_within programme options serial p some is in
+      let good = law_of_plan_within programme options serial p some is slow in
       let reads =
       ap (pes_file_of (clock_of options)) written
       ∙ law_of_plan_read programme options serial p is in
@@ -278,8 +279,8 @@ module _ (programme : ProgrammeValue) (options : OptionsValue) (is : IsOptions o
           (subst
           (λ r. IfErr r (λ f. first_told (all_events_of programme options bytes) ≡ Some f)) e
           (first_from result (decides (ap (failed is_pes_read) e))));
-      schedule = λ serial written some looked fine.
-          plan_accepted serial result written some (decides fine);
+      schedule = λ serial written some slow looked fine.
+          plan_accepted serial result written some slow (decides fine);
     }
 
     -- What is checked where the page has to be whole at the end of each frame.

@@ -1,7 +1,7 @@
 -- What the checker tells of the bytes of a subtitle file and a PES file.
 use Rattle.std.specs.Prelude.{◌≡◌, ◌≢◌, ◌↔◌, ℕ, ◌≤◌, length, take, List, [], Bool, false, true}
 use Rattle.std.specs.Prelude.{Option, Some, None, All, Contains, IsOk, Result, Ok, Err, IfOk, IfErr}
-use Rattle.std.specs.Prelude.{IsTrue, ◌+◌, ◌++◌, flat_map, ⊤}
+use Rattle.std.specs.Prelude.{IfSome, IsTrue, ◌+◌, ◌++◌, flat_map, ⊤}
 use Rattle.sub_io.specs.Device.{failed}
 use Rattle.sub_io.specs.Reading.{IfTold}
 use Rattle.ttx_pes.specs.declared.fault.PesFault.TheVariants.{Read}
@@ -202,11 +202,13 @@ pub record IsCheckedWithin
       → answer ≡ Err (fault.Content frame row column)
       → IsUndueEverywhere programme options
       (joined options.within (pes_file_of (clock_of options) bytes).frames) frame row column
-  -- What `schedule` writes of the programme with the same options is accepted.
+  -- What `schedule` writes of the programme with the same options is accepted, where no pace is
+  -- asked for that is less than the repeat bound.
   pub schedule :
       (serial : Bool)
       → bytes ≡ plan programme options serial
       → programme.records ≢ []
+      → IfSome options.pace (λ frames. options.every ≤ frames)
       → failed is_subtitle_fault answer ≡ false
       → failed is_pes_read answer ≡ false
       → IsOk answer
