@@ -111,8 +111,7 @@ class Words(Case):
                 ((0, 50, 180, 280), 99, {73, 72}, "the longest gap is 130 frames"),
                 ((0, 100), 100, {73}, ""), ((0, 500), 100, {73, 38}, ""),
                 ((0, 101), 100, {73}, "the longest gap is 101 frames: --every 101 accepts it"),
-                ((0, 1501), 100, {73}, "the longest gap is 1501 frames: --every 1501 accepts it"),
-                ((0, 2_160_001), 100, {73}, "the longest gap is 2160001 frames")):
+                ((0, 1501), 100, {73}, "the longest gap is 1501 frames: --every 1501 accepts it")):
             for origin in (ORIGIN, CLOCK - 60 * TICKS):
                 headers = [(origin + TICKS * frame) % CLOCK for frame in frames]
                 asked = asked_for("one.stl", "one.pes", "--every", str(every))
