@@ -10,7 +10,6 @@ from ..qc.faults import faults_of, words_of_subtitle
 from ..qc.made_with import Program
 from ..qc.naming import counts_of
 from ..qc.options import passed_members
-from ..qc.subtitle_file import SubtitleFile
 from ..qc.sums import File
 from ..qc.verdict import Gap, Part, Verdict
 
@@ -120,7 +119,7 @@ def subtitles_of(verdict: Verdict) -> Iterator[dict[str, Value]]:
     """The subtitles of all parts, each with the number of frames after which it was whole."""
     for part in verdict.parts:
         if part.delays:
-            for one, frames in zip(SubtitleFile(part.stl_path).all(), part.delays):
+            for one, frames in zip(part.subtitle_file().all(), part.delays):
                 yield {"part": part.number, **words_of_subtitle(one), "whole_after": frames}
 
 

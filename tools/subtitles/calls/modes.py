@@ -79,6 +79,7 @@ def options_in(parser: argparse.ArgumentParser, line: Sequence[str]) -> list[str
     """The options that a command line gives, as `TAKEN_BY` names them and in its order, by a parser
     that is used for nothing else."""
     names = {}
+    parser._defaults.clear()
     for action in parser._actions:
         action.default = argparse.SUPPRESS
         for name in action.option_strings:

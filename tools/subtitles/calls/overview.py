@@ -66,8 +66,7 @@ def scope(verdict: Verdict) -> str:
 
 def subtitles_of(part: Part) -> int:
     """How many subtitles a part has."""
-    from ..qc.subtitle_file import SubtitleFile  # what is refused needs no more of it
-    return len(SubtitleFile(part.stl_path).begins)
+    return len(part.subtitle_file().begins)
 
 
 def table(verdict: Verdict, names: Names) -> str:

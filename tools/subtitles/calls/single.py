@@ -25,7 +25,6 @@ from ..qc.progress import Progress
 from ..qc.severity import Severity
 from ..qc.speech import Speech
 from ..qc.status import NOT_JUDGED
-from ..qc.sums import file_of
 from ..qc.typed import Typed
 from ..qc.unclear import Unclear
 from ..qc.verdict import Gap, Part, Verdict
@@ -86,8 +85,6 @@ def draw(pair: Pair, part: Part, names: Names, gaps: Sequence[Gap], count: int) 
         program.stream = None
     files = [(kind, file) for kind, file in (
         ("STL", verdict.stl), ("PES", part.judged), ("Recording", verdict.recording)) if file]
-    if part.stl_path != names.given and part.stl != pair.asked.stl:
-        files[:1] = [("STL", file_of(part.stl_path, part.stl))]
     subject = report.Subject(verdict, part, count, program, pair.speech.commands, files)
     try:
         text = page.report_page(report.Report(subject))

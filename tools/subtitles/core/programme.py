@@ -6,6 +6,7 @@ import re
 from dataclasses import dataclass
 from typing import Iterable, Sequence
 
+from .stl import subtitles_in, times_of
 from .times import FRAMES_OF_A_DAY, frame_of
 from .told import told_of
 from .words import Stop
@@ -47,6 +48,16 @@ def subtitles_shown(lines: Sequence[str]) -> list[Subtitle]:
     told = told_of(last)
     if not (told and told.is_fault) and last.split(" ")[0] != str(len(found)):
         raise Stop(f"show was not answered: {last or 'it printed nothing'}")
+    return found
+
+
+def subtitles_read(data: bytes) -> list[Subtitle]:
+    """The subtitles of a file's bytes that come and go within a day, as they stand."""
+    found: list[Subtitle] = []
+    for index, one in enumerate(subtitles_in(data), 1):
+        begin, end = times_of(one)
+        if begin is not None and end is not None and begin < end:
+            found.append(Subtitle(index, one.number, begin, end, one.row, one.justify, one.text))
     return found
 
 

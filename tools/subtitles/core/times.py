@@ -7,7 +7,7 @@ the PTS of that frame on, so that PTS may be a little early, and two fields are 
 from __future__ import annotations
 
 import re
-from typing import Iterable, Sequence
+from typing import Iterable, NamedTuple, Sequence
 
 FRAMES_A_SECOND = 25
 FRAMES_OF_A_DAY = 2_160_000
@@ -15,6 +15,25 @@ CLOCK = 2**33  # a PTS has 33 bits
 TICKS = 3600  # of a frame, at 90 kHz
 NO_FRAME = -1  # stands for a frame where there is none, before all others
 EARLY = TICKS // 4  # ticks that a PTS may be before its frame, within 1 and more
+
+
+class Between(NamedTuple):
+    """The frames from `begin` on and before `end`: a subtitle is of them whose TCI is."""
+
+    begin: int = 0
+    end: int = FRAMES_OF_A_DAY
+
+    def has(self, frame: int) -> bool:
+        """Whether a frame is one of them."""
+        return self.begin <= frame < self.end
+
+    def words(self) -> list[str]:
+        """The options --from and --to for them, where they are not all frames."""
+        return [*(["--from", time_of(self.begin)] if self.begin else []),
+                *(["--to", time_of(self.end)] if self.end < FRAMES_OF_A_DAY else [])]
+
+
+ALL_DAY = Between()
 
 
 def frame_of(time: str) -> int | None:

@@ -31,8 +31,8 @@ FIRST_LINES, LAST_LINES = 200, 20  # of what `show` prints
 class Blocks:
     """The blocks of a file, and the subtitles that they are of."""
 
-    def __init__(self, path: str, told: Iterable[Verdict]) -> None:
-        self.file = SubtitleFile(path)
+    def __init__(self, file: SubtitleFile, told: Iterable[Verdict]) -> None:
+        self.file = file
         self.count = len(self.file.firsts) - 1
         self.passed_over = {one.block for one in told if one.number in OF_FIRST_BLOCK}
 
@@ -62,7 +62,8 @@ class Blocks:
     def before(self, block: int) -> NamedSubtitle | None:
         """The subtitle whose times those of a block's subtitle are held against."""
         for number in range(self.file.firsts[block] - 1, 0, -1):
-            if self.is_text(number) and self.file.firsts[number] not in self.passed_over:
+            if self.is_text(number) and not self.file.is_outside(number) and \
+                    self.file.firsts[number] not in self.passed_over:
                 return self.subtitle(number)
         return None
 

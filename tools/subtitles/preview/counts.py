@@ -6,7 +6,6 @@ from typing import TYPE_CHECKING, Iterable
 from ..core.manual import marked_up, shown
 from ..core.times import time_of
 from ..qc.midnight import midnight_words
-from ..qc.subtitle_file import SubtitleFile
 from .program import Verdict, verdict_of
 
 if TYPE_CHECKING:
@@ -39,7 +38,7 @@ def means_and_do(report: Report, number: int) -> tuple[str, str] | None:
     """What a number means, and what to do, as HTML; `None` where no manual says it."""
     meaning = report.meanings.get(number)
     first = report.faults.firsts.get(number)
-    of_night = midnight_words(first, SubtitleFile(report.part.stl_path)) if first else ""
+    of_night = midnight_words(first, report.part.subtitle_file()) if first else ""
     return (marked_up(meaning.means), marked_up(of_night or meaning.do)) if meaning else None
 
 

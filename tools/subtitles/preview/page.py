@@ -132,7 +132,7 @@ def refused_file_parts(report: Report) -> list[str]:
     """What is said of a subtitle file that is refused."""
     from . import blocks  # a subtitle file that is read needs nothing of it
     told = (verdict_of(line) for line in report.faults.of_blocks)
-    known = blocks.Blocks(report.part.stl_path, told)
+    known = blocks.Blocks(report.part.subtitle_file(), told)
     return [blocks.block_place(report, known), faults_head(report),
             blocks.refused_blocks(report, known), blocks.printed(report)]
 

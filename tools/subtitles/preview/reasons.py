@@ -28,19 +28,20 @@ class Reasons:
 
     def words(self, number: int, frame: int, due: int | None) -> str:
         """The cause of a fault at a frame, and of which subtitle it is, where another one is due,
-        or none; `due` is its number from 1."""
+        or none; `due` is its place in the file, from 1."""
         cause = self.causes.of(number, frame)
         if cause is None:
             return ""
         words = shown(self.wording.said(cause))
-        return words if cause.place + 1 == due else f"{self.link(cause)}: {words}"
+        is_due = self.causes.programme.subtitles[cause.place].index == due
+        return words if is_due else f"{self.link(cause)}: {words}"
 
     def link(self, cause: Cause) -> str:
         """The subtitle of a cause, which leads to its picture where it has one."""
-        index, one = cause.place + 1, self.causes.programme.subtitles[cause.place]
+        one = self.causes.programme.subtitles[cause.place]
         name = one.name
-        if index in self.drawn:
-            name = f'<a href="#s{index}">{name}</a>'
+        if one.index in self.drawn:
+            name = f'<a href="#s{one.index}">{name}</a>'
         return f"{name}, {time_of(one.begin)}"
 
     def section(self) -> str:

@@ -56,8 +56,8 @@ class Subject(NamedTuple):
         words += ["--complete"] * asked.is_complete
         words += [f"--within {asked.within}"] * (asked.within > 0)
         words += [f"--pes {part.pes_name}"] if part.pes else []
-        return " ".join([*words, *map("{} {}".format, ("--from", "--to"),
-                                      map(time_of, self.window))])
+        return " ".join([*words, *(part.between.words() or map(
+            "{} {}".format, ("--from", "--to"), map(time_of, self.window)))])
 
 
 class Report:

@@ -46,7 +46,8 @@ class Entries:
                  looked: list[Looked], window: tuple[int, int], faults: Faults,
                  broken: int | None) -> None:
         self.figures, self.held, self.faults = figures, held, faults
-        self.subtitles, self.looked = subtitles, looked
+        self.subtitles = subtitles
+        self.looked = {one.index: look for one, look in zip(subtitles, looked)}
         self.drawn: dict[int, str] = {}
         self.kinds = {one.index: figures.kind_at(look.frame)
                       for one, look in zip(subtitles, looked)}
@@ -108,7 +109,7 @@ class Entries:
         return self.entry_at[self.entry_frames[at]] if is_one else None
 
     def small(self, subtitle: Subtitle) -> str:
-        looked = self.looked[subtitle.index - 1]
+        looked = self.looked[subtitle.index]
         first, end = time_of(looked.frame), time_of(subtitle.end)
         sent = counted(self.held.sendings_between(subtitle.begin, subtitle.end), "time")
         return (f'<figure class="small" id="s{subtitle.index}"><figcaption title="{subtitle.name} '
@@ -118,7 +119,7 @@ class Entries:
                 f"{self.figures.small_at(looked.frame)}</figure>")
 
     def large(self, subtitle: Subtitle) -> str:
-        looked = self.looked[subtitle.index - 1]
+        looked = self.looked[subtitle.index]
         first, end = time_of(subtitle.begin), time_of(subtitle.end)
         sent = self.held.sendings_between(subtitle.begin, subtitle.end)
         words = f"sent {counted(sent, 'time')} while it is due, {looked.words()}"

@@ -10,10 +10,11 @@ from typing import Sequence
 from ..core.files import plain_name
 from ..core.national import WORDS, named_by
 from ..core.teletext import page_name
+from ..core.times import FRAMES_OF_A_DAY, Between, frame_of, time_of
 from ..core.words import (
     Stop, Words, add_page, add_within, breaks_word, every_word, origin_word, pid_word, range_word,
     start_word, within_words)
-from .options import add_passed_on, passed_words
+from .options import FROM, TO, add_passed_on, passed_words
 
 AUTO = "auto"  # the national option is that of the language
 MOST_TRIED = 5  # frames within which a recording is tried, where it is not judged or refused
@@ -48,6 +49,17 @@ class Asked:
     def page_name(self) -> str:
         name: str = page_name(*self.page)
         return name
+
+    @property
+    def between(self) -> Between:
+        """The frames in which the subtitles come that are judged."""
+        begin, end = (frame_of(self.passed_on.get(name, "")) for name in (FROM, TO))
+        return Between(begin or 0, FRAMES_OF_A_DAY if end is None else end)
+
+    def of_part(self, begin: int, end: int) -> Asked:
+        """The same of the subtitles that come from one frame on and before another."""
+        return dataclasses.replace(self, passed_on={
+            **self.passed_on, FROM: time_of(begin), TO: time_of(end)})
 
     def page_words(self) -> list[str]:
         """The page as an option, where it is not the one that is taken without."""

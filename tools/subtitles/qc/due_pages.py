@@ -7,9 +7,10 @@ from __future__ import annotations
 import os
 import subprocess
 
-from ..core.files import temporary_folder
-from ..core.programme import Programme, Subtitle, subtitles_shown
+from ..core.files import temporary_folder, whole_bytes
+from ..core.programme import Programme, Subtitle, subtitles_read, subtitles_shown
 from ..core.teletext import Page, page_name
+from ..core.times import ALL_DAY, Between
 from ..reading.receiver import BLANK_PAGE, Rows
 from ..reading.survey import PES, Packets, survey
 from ..reading.timeline import Timeline
@@ -56,20 +57,28 @@ def asked_of(program: str, *words: str) -> list[str]:
     return lines
 
 
-def subtitles_in(program: str, stl: str) -> list[Subtitle]:
-    """The subtitles of a file, as the program shows them."""
-    return subtitles_shown(asked_of(program, "show", "--", stl))
+def subtitles_in(program: str, stl: str, between: Between = ALL_DAY) -> list[Subtitle]:
+    """The subtitles of a file that come in some frames, as the program shows them. It shows a whole
+    file or none: where another subtitle is refused they are read here."""
+    try:
+        found = subtitles_shown(asked_of(program, "show", "--", stl))
+    except Unclear:
+        if between == ALL_DAY:
+            raise
+        found = subtitles_read(whole_bytes(stl))
+    return [one for one in found if between.has(one.begin)]
 
 
-def due_pages_of(program: str, stl: str, page: Page, option: str) -> DuePages:
-    """Those of a file, by the program at a path."""
-    subtitles = subtitles_in(program, stl)
+def due_pages_of(program: str, stl: str, page: Page, option: str,
+                 between: Between = ALL_DAY) -> DuePages:
+    """Those of a file that come in some frames, by the program at a path."""
+    subtitles = subtitles_in(program, stl, between)
     if not subtitles:
         return DuePages([], [])
     with temporary_folder("subttx-qc-") as folder:
         path = os.path.join(folder, "due.pes")
         asked_of(program, "schedule", "--page", page_name(*page), "--option", option, "--every",
-                 EVERY, "--", stl, path)
+                 EVERY, *between.words(), "--", stl, path)
         packets = survey(program, path, page).by_pid.get(PES, Packets(PES))
     due = Timeline(packets, page, 0)
     return DuePages(subtitles, [due.page_at(one.begin) for one in subtitles], due)

@@ -67,7 +67,7 @@ class PartFaults:
         self.meanings = {number: (plain(one.means), plain(one.do))
                          for number, one in meanings().items()}
         self.wording = Wording(part.causes, self.asked.option) if part.causes else None
-        self.subtitles = SubtitleFile(part.stl_path)
+        self.subtitles = part.subtitle_file()
         self.of_letters = OptionAdvice(self.subtitles, self.asked.option)
 
     def __iter__(self) -> Iterator[Fault]:

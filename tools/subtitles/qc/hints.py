@@ -17,7 +17,6 @@ from .cells import place_of
 from .midnight import midnight_words
 from .off_frame import off_of
 from .option_advice import OptionAdvice
-from .subtitle_file import SubtitleFile
 from .verdict import Part, Verdict
 
 HINTED = {EMPTY_TIME, CHARACTER, OUT_OF_ORDER, OFF_FRAME, CONTROL, GAP}
@@ -64,9 +63,9 @@ def words_of(told: Told, part: Part, verdict: Verdict) -> str:
     if told.number == CHARACTER:
         if not told.block or told.at is None:
             return ""
-        return OptionAdvice(SubtitleFile(part.stl_path), asked.option).of(told.block, told.at)
+        return OptionAdvice(part.subtitle_file(), asked.option).of(told.block, told.at)
     if told.number in (EMPTY_TIME, OUT_OF_ORDER):
-        return midnight_words(told, SubtitleFile(part.stl_path))
+        return midnight_words(told, part.subtitle_file())
     if part.pes is None or part.origin is None:
         return ""
     if told.number == OFF_FRAME:

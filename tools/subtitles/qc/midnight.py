@@ -1,7 +1,8 @@
-"""Subtitle files that go on beyond midnight: their times fall, and nothing is to be sorted."""
+"""Subtitle files that go on beyond midnight: their times fall, and nothing is to be sorted; and
+files that begin with a title at 00:00:00:00."""
 from __future__ import annotations
 
-from ..core.times import FRAMES_A_SECOND, FRAMES_OF_A_DAY, frame_of_code
+from ..core.times import FRAMES_A_SECOND, FRAMES_OF_A_DAY, frame_of_code, time_of
 from ..core.told import EMPTY_TIME, OUT_OF_ORDER, Told
 from .subtitle_file import SubtitleFile
 
@@ -22,6 +23,16 @@ def midnight_words(told: Told, subtitles: SubtitleFile) -> str:
         is_night = before is not None and falls_at_midnight(
             subtitles.block(before)[TCI], subtitles.block(told.block)[TCI])
     return AT_MIDNIGHT if is_night else ""
+
+
+def title_words(subtitles: SubtitleFile) -> str:
+    """How to leave out what comes at 00:00:00:00, an hour before all else; nothing where it does
+    not."""
+    rest = min((frame for frame in subtitles.begins if frame), default=0)
+    if not rest >= HOUR or subtitles.begins[0]:
+        return ""
+    return (f"the subtitle file begins at 00:00:00:00, and all else comes from {time_of(rest)} on: "
+            f"if that is a title, which is not sent, say --from {time_of(rest)}")
 
 
 def falls_at_midnight(earlier: bytes, later: bytes) -> bool:

@@ -13,7 +13,7 @@ from .typed import Typed, line_of
 
 
 LINK = ".out"  # in the temporary folder
-ENDINGS = ("stl", "cut.pes", "txt", "html")  # of what is made of a part
+ENDINGS = ("cut.pes", "txt", "html")  # of what is made of a part
 
 
 class Names:
@@ -32,7 +32,6 @@ class Names:
                 os.symlink(os.path.abspath(out), self.here)
         self.given = self.given_typed = ""  # the subtitle file, for the program and as it is typed
         self.whole, self.whole_path = self.typed("recording.pes"), self.temporary("recording.pes")
-        self.stl, self.stl_path = self.typed("stl"), self.place("stl")  # of a part
         self.list_path = self.place("txt")
         self.report = self.typed("html")
         self.machine = self.typed("json") if out else None
@@ -56,15 +55,13 @@ class Names:
 
     def kept(self) -> list[str]:
         """What an earlier call may have left in the folder: files of the pair, and of its parts.
-        One beside a JSON result is of another pair, and a subtitle file without a list may be
-        somebody's own."""
+        One beside a JSON result is of another pair."""
         if self.out is None:
             return []
         own = [self.place("cut.pes"), self.place("recording.pes"), self.list_path, self.report,
                self.typed("json")]
         return own + [path for ending in ENDINGS for path, stem in self.of_parts(ending)
-                      if not os.path.exists(f"{stem}.json")
-                      and (ending != "stl" or os.path.exists(f"{stem}.txt"))]
+                      if not os.path.exists(f"{stem}.json")]
 
     def of_parts(self, ending: str) -> Iterator[tuple[str, str]]:
         """Files in the folder that are named as one of a part, each with its name without the

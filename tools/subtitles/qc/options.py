@@ -7,6 +7,8 @@ from __future__ import annotations
 import argparse
 from typing import Any, Callable, NamedTuple, Sequence
 
+from ..core.words import time_word
+
 
 class PassedOn(NamedTuple):
     """An option: its name, what its value is called, `None` where it has none, its help, and what
@@ -25,7 +27,21 @@ class PassedOn(NamedTuple):
         return self.name.strip("-").replace("-", "_")
 
 
-PASSED_ON: tuple[PassedOn, ...] = ()
+FROM, TO = "--from", "--to"
+
+
+def time_text(text: str) -> str:
+    """A time of the day, as it was typed."""
+    time_word(text)
+    return text
+
+
+PASSED_ON: tuple[PassedOn, ...] = (
+    PassedOn(FROM, "TIME", "only the subtitles whose TCI is at TIME or later", time_text,
+             is_of_file=True),
+    PassedOn(TO, "TIME", "only the subtitles whose TCI is before TIME", time_text,
+             is_of_file=True),
+)
 
 
 class Keep(argparse.Action):

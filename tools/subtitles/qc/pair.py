@@ -1,13 +1,12 @@
 """A pair judged: from a recording to a verdict, step by step."""
 from __future__ import annotations
 
-import dataclasses
 import functools
 import os
 from typing import Callable, Sequence
 
 from ..core.programme import Subtitle
-from ..core.times import FRAMES_OF_A_DAY, TICKS, frame_in, ticks_between, time_of
+from ..core.times import ALL_DAY, FRAMES_OF_A_DAY, TICKS, frame_in, ticks_between, time_of
 from ..core.told import EMPTY, LOST_PACKETS, WITH_CAUSE
 from ..core.words import counted, pid_name
 from ..reading.cutting import cut_of
@@ -22,7 +21,9 @@ from .due_pages import due_pages_of, subtitles_in
 from .ending import Ending
 from .fitting import Found, found_in, with_delay
 from .hints import words_of
+from .midnight import title_words
 from .names import Names
+from .options import FROM
 from .recording import STANDARD_INPUT, Recording, is_recording
 from .speech import Speech
 from .start import NoFirst, began, refuse_outside
@@ -72,7 +73,10 @@ class Pair:
         answer = self.steps.check_alone()
         if answer.verdict != REFUSED:
             raise Unclear(f"{UNSAID}: {answer.last}, where there is no PES packet")
-        self.verdict.warnings += warned.of_counts(SubtitleFile(self.names.given))
+        subtitles = SubtitleFile(self.names.given)
+        self.verdict.warnings += warned.of_counts(subtitles)
+        if FROM not in asked.passed_on and (title := title_words(subtitles)):
+            self.verdict.notes.append(title)
         is_refused = answer.numbers != {EMPTY}
         if is_refused or asked.recording is None:
             self.judge_alone(answer, is_refused)
@@ -101,8 +105,7 @@ class Pair:
                 self.speech.of_list(line)
             self.speech.end_list(answer.last)
         else:
-            count = len(subtitles_in(self.typed.program_path, self.names.given))
-            self.verdict.count = count
+            count = self.verdict.count = len(self.subtitles())
             answer.accept(f"{counted(count, 'subtitle')}, nothing is wrong with "
                           f"{'it' if count == 1 else 'them'}")
         part = Part(1, self.asked.stl, self.names.given, None, None, None, None, None, answer,
@@ -113,10 +116,19 @@ class Pair:
         if is_refused:
             self.draw(part, self.names, [], 1)
 
+    def subtitles(self) -> list[Subtitle]:
+        """The subtitles that are judged."""
+        between = self.asked.between
+        found = subtitles_in(self.typed.program_path, self.names.given, between)
+        if not found and between != ALL_DAY:
+            raise Unclear(f"no subtitle of {self.asked.stl} is left: none comes at "
+                          f"{time_of(between.begin)} or later and before {time_of(between.end)}")
+        return found
+
     def judge_transmission(self) -> None:
         """Judges what was recorded, part by part."""
         asked = self.asked
-        subtitles = subtitles_in(self.typed.program_path, self.names.given)
+        subtitles = self.subtitles()
         self.verdict.count = len(subtitles)
         if not subtitles:
             raise Unclear(f"{asked.stl} has no subtitle")
@@ -215,15 +227,15 @@ class Pair:
         is in the file."""
         if len(found) == 1:
             whole = self.whole._replace(clock=found[0].clock, packets=found[0].packets)
-            return [Stretch(self.asked.stl, self.names.given, self.names, whole)]
+            return [Stretch(self.asked, self.names, whole)]
         stretches = [self.steps.part(number, one) for number, one in enumerate(found, 1)]
-        parted = [one for part in stretches
-                  for one in subtitles_in(self.typed.program_path, part.stl_path)]
+        parted = [one for part in stretches for one in subtitles
+                  if part.asked.between.has(one.begin)]
         left = len(subtitles) - len(parted)
         if left > 0:
             raise Unclear(f"{counted(left, 'subtitle')} of {self.asked.stl} would be in no part, "
                           "and nobody would look at it: mend its times")
-        if not are_same(parted, subtitles):
+        if parted != subtitles:
             raise Unclear(f"the parts of {self.asked.stl} would hold other subtitles than it has")
         return stretches
 
@@ -231,11 +243,12 @@ class Pair:
         """A part that begins to be judged: the PES packets of its time."""
         found, pes = one.found, self.steps.cut(recording, one)
         judged = file_of(*recording.judged()) if self.is_summed and not recording.is_file else None
-        due = functools.cache(lambda: due_pages_of(self.typed.program_path, one.stl_path,
-                                                   self.asked.page, self.asked.option))
-        return Part(number, one.stl, one.stl_path, pes, found.origin, found.begin, found.end,
-                    judged, Answer(one.names.list_path), found.clock, recording.stream(),
-                    packets=recording.packets, asked=self.asked, due=due)
+        due = functools.cache(lambda: due_pages_of(
+            self.typed.program_path, self.names.given, one.asked.page, one.asked.option,
+            one.asked.between))
+        return Part(number, one.asked.stl, self.names.given, pes, found.origin, found.begin,
+                    found.end, judged, Answer(one.names.list_path), found.clock,
+                    recording.stream(), packets=recording.packets, asked=one.asked, due=due)
 
     def end_part(self, part: Part, one: Stretch, recording: Recording, count: int,
                  subtitles: Sequence[Subtitle]) -> None:
@@ -264,7 +277,7 @@ class Pair:
         held = part.causes.held if part.causes else part.held
         if (self.is_summed or asked.within) and held:
             part.delays = frames_in(not asked.within and not answer.numbers & MOVED,
-                                    len(SubtitleFile(one.stl_path).begins), held, part.due,
+                                    len(part.subtitle_file().begins), held, part.due,
                                     asked.is_complete)
         is_lost = LOST_PACKETS in answer.numbers or \
             any(is_in(place, part) for place in recording.places())
@@ -289,12 +302,6 @@ class Pair:
             parts = [part for part in self.verdict.parts if is_in(place, part)]
             origin = (parts or self.verdict.parts)[0].origin or 0
             self.verdict.gaps.append(gap_of(place, origin, bool(parts)))
-
-
-def are_same(some: Sequence[Subtitle], others: Sequence[Subtitle]) -> bool:
-    """Whether subtitles of two files are the same, one after another, wherever they stand."""
-    placed = [[dataclasses.replace(one, index=0) for one in several] for several in (some, others)]
-    return placed[0] == placed[1]
 
 
 def gap_of(place: Place, origin: int, is_judged: bool) -> Gap:

@@ -6,12 +6,9 @@ import os
 import subprocess
 from typing import NamedTuple, Sequence
 
-from ..core.files import whole_bytes
-from ..core.times import time_of
 from ..core.words import Stop, line_of
 from ..reading.cutting import Cut, cut_of
 from ..reading.finding import Origin, Sought, find
-from ..reading.parting import Taken
 from ..reading.survey import Packets, Range
 from .asked import MOST_TRIED, Asked
 from .checking import Answer, check
@@ -25,15 +22,13 @@ from .typed import Typed
 from .unclear import Unclear
 
 NO_PES = os.devnull
-NAMED = 20  # subtitles that are left out
 
 
 class Stretch(NamedTuple):
-    """What is judged by itself: its subtitle file as it is typed and where it stands, the files
-    that are made of it, and its frames with their clock."""
+    """What is judged by itself: what is asked, the files that are made of it, and its frames with
+    their clock."""
 
-    stl: str
-    stl_path: str
+    asked: Asked
     names: Names
     found: Found
 
@@ -67,7 +62,7 @@ class Steps:
         asked = self.asked
         return Sought(asked.stl, recording.judged()[1], asked.page, asked.option,
                       None if clock is None else clock.origin, asked.within, asked.breaks,
-                      self.inside)
+                      self.inside, asked.between)
 
     def fit(self, recording: Recording, clock: Clock | None) -> Origin:
         """What is found of the clock, also compared with one that is known; said as tools/origin
@@ -97,22 +92,10 @@ class Steps:
         return [self.again("--within", str(MOST_TRIED))] if found_in(origin, whole) else []
 
     def part(self, number: int, found: Found) -> Stretch:
-        """Cuts the subtitles of a part out of the subtitle file."""
-        names = self.names.of_part(number)
-        times = ["--from", time_of(found.begin), "--to", time_of(found.end)]
-        self.speech.command(self.typed.tool("part"), self.asked.stl, *times, "-o", names.stl)
-        taken = Taken(whole_bytes(self.asked.stl), found.begin, found.end)
-        if not taken.count or taken.damage:
-            raise Unclear("a part of the subtitle file is not clear: "
-                          f"{taken.damage or 'no subtitle comes and goes in its frames'}")
-        with open(names.stl_path, "wb") as file:
-            file.write(taken.file())
-        if taken.over:
-            numbers = [f"{number:05}" for number in taken.over[:NAMED]]
-            numbers += [f"{len(taken.over) - NAMED} more"] if len(taken.over) > NAMED else []
-            self.speech.say("part: left out, since due before or after these frames too: "
-                            f"{', '.join(numbers)}")
-        return Stretch(names.stl, names.stl_path, names, found)
+        """A part: of its subtitles alone the first comes at its first frame or later, and the last
+        goes at its end."""
+        return Stretch(self.asked.of_part(found.begin, found.end), self.names.of_part(number),
+                       found)
 
     def cut(self, recording: Recording, one: Stretch) -> Range:
         """The PES packets of the time of the subtitles in the recording, by their numbers."""
@@ -133,10 +116,10 @@ class Steps:
     def check(self, recording: Recording, one: Stretch, pes: Range, answer: Answer) -> None:
         """Tells all that is broken in these PES packets of the recording."""
         path, shown = recording.judged()
-        words = [*recording.words(), *pes_words(pes), *self.asked.check_words(),
+        words = [*recording.words(), *pes_words(pes), *one.asked.check_words(),
                  *origin_words(one.found.origin), "--all"]
-        self.speech.command(self.typed.program_word, "check", one.stl, shown, *words)
-        check([self.typed.program_path, "check", *words, "--", one.stl_path, path], answer,
+        self.speech.command(self.typed.program_word, "check", self.asked.stl, shown, *words)
+        check([self.typed.program_path, "check", *words, "--", self.names.given, path], answer,
               self.speech.of_list)
         self.speech.end_list(answer.last)
 
@@ -144,10 +127,10 @@ class Steps:
                     within: int) -> tuple[str, int]:
         """The line of `check` within other frames, and its status."""
         words = [*recording.words(), *pes_words(pes),
-                 *dataclasses.replace(self.asked, within=within).check_words(),
+                 *dataclasses.replace(one.asked, within=within).check_words(),
                  *origin_words(origin)]
-        done = subprocess.run([self.typed.program_path, "check", *words, "--", one.stl_path,
-                               recording.judged()[0]], stdin=subprocess.DEVNULL,
+        done = subprocess.run([self.typed.program_path, "check", *words, "--",
+                               self.names.given, recording.judged()[0]], stdin=subprocess.DEVNULL,
                               stdout=subprocess.PIPE, encoding="utf-8", errors="replace",
                               check=False)
         return "".join(done.stdout.splitlines()[-1:]), done.returncode

@@ -7,7 +7,7 @@ from typing import Iterator, NamedTuple
 
 from ..core.letters import ACCENTS, letters_of
 from ..core.stl import GSI, LAST, TTI, UNUSED, USER_DATA
-from ..core.times import frame_of_code, time_of_code
+from ..core.times import ALL_DAY, Between, frame_of_code, time_of_code
 
 COMMENT = 1  # CF
 
@@ -22,9 +22,11 @@ class NamedSubtitle(NamedTuple):
 
 
 class SubtitleFile:
-    """A subtitle file, read as far as there are blocks, whatever stands in them."""
+    """A subtitle file, read as far as there are blocks, whatever stands in them; of one of which
+    some frames are judged, subtitles that come in others are passed over as comments are."""
 
-    def __init__(self, path: str) -> None:
+    def __init__(self, path: str, between: Between = ALL_DAY) -> None:
+        self.between = between
         with open(path, "rb") as file:
             self.data = file.read()
         self.firsts = array.array("I", [0])  # of each block the first one of its subtitle
@@ -41,7 +43,7 @@ class SubtitleFile:
             first, is_open = first if is_open else block, one[3] != LAST
             self.firsts.append(first)
             begin = frame_of_code(one[5:9])
-            if first == block and begin is not None:
+            if first == block and begin is not None and between.has(begin):
                 self.begins.append(begin)
                 self.blocks.append(block)
 
@@ -57,6 +59,11 @@ class SubtitleFile:
         return NamedSubtitle(bisect.bisect_right(self.starts, self.firsts[block]),
                              one[1] + 256 * one[2], time_of_code(one[5:9]),
                              time_of_code(one[9:13]))
+
+    def is_outside(self, block: int) -> bool:
+        """Whether the subtitle of a block comes in another frame than is judged."""
+        begin = frame_of_code(self.block(self.firsts[block])[5:9])
+        return begin is not None and not self.between.has(begin)
 
     def count(self) -> int:
         """How many blocks there are."""
@@ -99,7 +106,7 @@ class SubtitleFile:
         """The last block of each subtitle."""
         for number in range(1, len(self.firsts)):
             one = self.block(number)
-            if one[3] == LAST and one[15] != COMMENT:
+            if one[3] == LAST and one[15] != COMMENT and not self.is_outside(number):
                 yield number
 
     def letter(self, block: int, at: int) -> tuple[str | None, str | None]:

@@ -5,7 +5,7 @@ import dataclasses
 import functools
 from typing import Callable, Sequence
 
-from ..core.times import time_of
+from ..core.times import ALL_DAY, Between, time_of
 from ..core.told import EMPTY, LOST_PACKETS, PASSED_OVER
 from ..reading.gaps import Place
 from ..reading.survey import PES, Packets, Range
@@ -19,6 +19,7 @@ from .due_pages import DuePages
 from .naming import Causes
 from .severity import Severity
 from .status import LOST, NOT_JUDGED, REFUSED, WAIVED, WARNED, Decision, Said, Seen, decide
+from .subtitle_file import SubtitleFile
 from .sums import File
 from .warned import Warned
 
@@ -32,7 +33,7 @@ def no_pages() -> DuePages:
 
 @dataclasses.dataclass
 class Part:
-    """A part of a pair that was judged by itself: its files, and what `check --all` said.
+    """A part of a pair that was judged by itself: what was asked, and what `check --all` said.
 
     `stl` is the subtitle file as it is typed, and `stl_path` is to be read. `pes` are the numbers
     of the PES packets that are judged, of `packets`, which are those of the recording. `begin` and
@@ -67,6 +68,15 @@ class Part:
         if self.pes is None or self.origin is None or self.asked is None:
             return None
         return Timeline(self.packets, self.asked.page, self.origin, self.asked.within, self.pes)
+
+    @property
+    def between(self) -> Between:
+        """The frames in which its subtitles come."""
+        return self.asked.between if self.asked else ALL_DAY
+
+    def subtitle_file(self) -> SubtitleFile:
+        """Its subtitles by their blocks and frames."""
+        return SubtitleFile(self.stl_path, self.between)
 
     def said(self) -> Said:
         """What the program said of it."""

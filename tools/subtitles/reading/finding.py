@@ -10,7 +10,8 @@ from ..core.national import WORDS
 from ..core.stl import letters_on_page, readable, times_of
 from ..core.teletext import Page, page_name
 from ..core.times import (
-    FRAMES_A_SECOND, FRAMES_OF_A_DAY, TICKS, frame_in, pts_of, ticks_between, time_of, wrapped)
+    ALL_DAY, FRAMES_A_SECOND, FRAMES_OF_A_DAY, TICKS, Between, frame_in, pts_of, ticks_between,
+    time_of, wrapped)
 from ..core.words import (
     Stop, Words, add_page, add_program, add_within, breaks_word, counted, origin_word, range_word,
     range_words, tell)
@@ -29,7 +30,8 @@ LISTED = 20  # places at which subtitles begin to be late
 class Sought(NamedTuple):
     """What is looked for: the subtitle file, and the page with its national option, in a recording
     by its name; the origin that is known, the frames within which a page has to be whole, and how
-    many breaks there are; of the PES packets with some numbers alone."""
+    many breaks there are; of the PES packets with some numbers alone, and of the subtitles that come
+    in some frames."""
 
     stl: str
     name: str
@@ -39,6 +41,7 @@ class Sought(NamedTuple):
     within: int = 0
     breaks: int = 0
     inside: Range | None = None
+    between: Between = ALL_DAY
 
 
 class OfPart(NamedTuple):
@@ -81,12 +84,12 @@ class Origin:
     told: list[str] = dataclasses.field(default_factory=list)
 
 
-def subtitles_of(path: str, option: str) -> list[Shown]:
-    """The subtitles of a file that come and go within a day."""
+def subtitles_of(path: str, option: str, between: Between) -> list[Shown]:
+    """The subtitles of a file that come in some frames, and go within the day."""
     found = []
     for one in readable(path, whole_bytes(path)):
         begin, end = times_of(one)
-        if begin is not None and end is not None and begin < end:
+        if begin is not None and end is not None and begin < end and between.has(begin):
             found.append(Shown(begin, end, (one.row, one.justify, one.text),
                                letters_on_page(one.text, option)))
     if not found:
@@ -97,7 +100,7 @@ def subtitles_of(path: str, option: str) -> list[Shown]:
 def find(asked: Sought, packets: Packets) -> Origin:
     """The origin of a recording, or why it is not clear."""
     origin = Origin()
-    subtitles = subtitles_of(asked.stl, asked.option)
+    subtitles = subtitles_of(asked.stl, asked.option, asked.between)
     if not is_sent(packets, asked, origin.told):
         return origin
     bases = bases_of(subtitles, packets, asked.within, asked.inside)
@@ -388,6 +391,7 @@ def read_words(text: str, words: list[str]) -> argparse.Namespace:
                              "programme is there more than once")
     add_stream(parser)
     add_program(parser)
+    parser.set_defaults(between=ALL_DAY)
     return parser.parse_args(words)
 
 

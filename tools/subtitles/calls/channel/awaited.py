@@ -8,7 +8,7 @@ from typing import Iterator, Sequence
 
 from ...core.files import whole_bytes
 from ...core.stl import letters_on_page, readable, times_of
-from ...core.times import EARLY, TICKS, pts_of
+from ...core.times import ALL_DAY, EARLY, TICKS, Between, pts_of
 from ...core.words import Stop
 from ...reading.alignment import REPEATED, Edge, Shown, edges_of
 from .feed_clock import FeedClock
@@ -63,9 +63,10 @@ class Awaited:
     """The edges of a subtitle file, looked for in changes from `since` on, and up to `until`; of
     those that agree one may be so many frames later than another: `within`."""
 
-    def __init__(self, stl: str, option: str, since: int, until: int, within: int = 0) -> None:
+    def __init__(self, stl: str, option: str, since: int, until: int, within: int = 0,
+                 between: Between = ALL_DAY) -> None:
         self.room = TICKS * within
-        shown = list(subtitles_of(stl, option))
+        shown = list(subtitles_of(stl, option, between))
         self.first, self.last = span_of(shown, stl)
         self.edges: Sequence[Edge] = edges_of(shown)
         self.since = self.looked = since  # those before the second were looked at
@@ -117,8 +118,9 @@ class Timed:
     """A programme whose origin is given: it is there when its first TCI has come, the first time
     at which it is not over before `since`."""
 
-    def __init__(self, stl: str, option: str, origin: int, since: int) -> None:
-        self.first, self.last = span_of(list(subtitles_of(stl, option)), stl)
+    def __init__(self, stl: str, option: str, origin: int, since: int,
+                 between: Between = ALL_DAY) -> None:
+        self.first, self.last = span_of(list(subtitles_of(stl, option, between)), stl)
         self.origin, self.since = origin, since
 
     def midnight(self, clock: FeedClock) -> int | None:
@@ -136,10 +138,10 @@ def span_of(shown: Sequence[Shown], stl: str) -> tuple[int, int]:
     return min(one.begin for one in shown), max(one.end for one in shown)
 
 
-def subtitles_of(stl: str, option: str) -> Iterator[Shown]:
-    """The subtitles of a file that come and go within a day."""
+def subtitles_of(stl: str, option: str, between: Between) -> Iterator[Shown]:
+    """The subtitles of a file that come in some frames, and go within the day."""
     for one in readable(stl, whole_bytes(stl)):
         begin, end = times_of(one)
-        if begin is not None and end is not None and begin < end:
+        if begin is not None and end is not None and begin < end and between.has(begin):
             yield Shown(begin, end, (one.row, one.justify, one.text),
                         letters_on_page(one.text, option))

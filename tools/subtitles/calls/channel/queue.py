@@ -45,8 +45,9 @@ class Waiting:
             return
         self.awaited, self.reason = None, None
         try:
-            self.awaited = Awaited(asked.stl, asked.option, since, until, asked.within) \
-                if asked.origin is None else Timed(asked.stl, asked.option, asked.origin, since)
+            self.awaited = Awaited(asked.stl, asked.option, since, until, asked.within,
+                                   asked.between) if asked.origin is None else \
+                Timed(asked.stl, asked.option, asked.origin, since, asked.between)
             self.way = way_of(asked)
         except (Stop, OSError) as reason:
             self.reason = line_of(reason)
