@@ -6,6 +6,7 @@ from __future__ import annotations
 import functools
 import json
 import os
+import shlex
 import tempfile
 import threading
 from typing import Any, Callable, NamedTuple, Sequence
@@ -96,7 +97,26 @@ def judged(case: Case, *words: str, by: str | None = None, heard: Heard | None =
         result = json.loads("".join(object_of(verdict, Program("1", "0" * 64, None))))
         listed = [line for part in verdict.parts for line in part.answer.lines()]
         files.leave(pair)
+        # Of a feed the PES packets that were kept stand for the recording.
+        known_files = [asked.stl, names.whole if pair.recording and not pair.recording.is_file
+                       else asked.recording, os.devnull]
+        for line in verdict.commands:
+            case.must(line, set(shown_files(line)) <= set(known_files), known_files)
     return Judged(verdict, heard.lines, result, listed)
+
+
+def shown_files(line: str) -> list[str]:
+    """The files that a printed command names: its words behind the command of the program, and what
+    stands behind `-o`, but for other options with their values."""
+    words = shlex.split(line)[1:]
+    if words[:1] in (["check"], ["extract"]):
+        words = words[1:]
+    found = []
+    for before, word in zip(["", *words], words):
+        is_value = before.startswith("-") and before not in ("-o", "--all", "--complete")
+        if not word.startswith("-") and not is_value:
+            found.append(word)
+    return found
 
 
 # What is sent.

@@ -1,8 +1,6 @@
 """Functions of qc that decide something, each with its table: no processes but the program's."""
 from __future__ import annotations
 
-from types import SimpleNamespace
-from unittest import mock
 import argparse
 import contextlib
 import io
@@ -17,7 +15,7 @@ from subtitles.calls.watching import Seen, Watch
 from subtitles.core.pes import pes_packet
 from subtitles.core.programme import Subtitle
 from subtitles.core.stl import gsi_block, tti_block
-from subtitles.core.times import TICKS
+from subtitles.core.times import TICKS, time_of
 from subtitles.core.words import Words
 from subtitles.qc.asked import add_pair_options, asked_of_line
 from subtitles.qc.clock import START, Clock
@@ -26,11 +24,11 @@ from subtitles.qc.fitting import Found, refuse, with_delay
 from subtitles.reading.survey import Packets
 from subtitles.reading.timeline import Span, Timeline
 from subtitles.qc.names import Names
+from subtitles.qc.options import passed_words
 from subtitles.qc.pair import Pair
 from subtitles.qc.progress import Progress
 from subtitles.qc.severity import Severity
 from subtitles.qc.speech import Speech
-from subtitles.qc.steps import Stretch
 from subtitles.qc.subtitle_file import NamedSubtitle, SubtitleFile
 from subtitles.qc.typed import Typed
 from subtitles.qc.unclear import Unclear
@@ -172,6 +170,11 @@ class Folders(Case):
         self.must("a pair", [told(at) for at in range(4, 7)] == [0, 0, 0])
         os.unlink(self.path("in/one.ts"))
         self.must("alone once more", [told(at) for at in range(7, 11)] == [0, 1, 0, 0])
+
+
+def subtitle(index: int, begin: int) -> Subtitle:
+    """A subtitle of a frame."""
+    return Subtitle(index, index, begin, begin + 1, 20, 2, b"text")
 
 
 def defaults() -> argparse.Namespace:
@@ -355,41 +358,37 @@ class Pages(Case):
                       == [True, not is_lost])
 
 
-class Cutting(Case):
-    """What is cut out of a subtitle file, and drawn."""
+class Parting(Case):
+    """Which subtitles are of which part, and what is drawn."""
 
     FOUND = Found(0, 9, Clock(7, START), (3, 5))
 
     def test_subtitles_in_no_part(self) -> None:
-        """Each subtitle has to be in a part, once and as it is: of three parts, nine are."""
-        nine = [Subtitle(3 * part + at - 3, 3 * part + at, 9 * part + at, 9 * part + at + 1, 20, 2,
-                         b"text") for part in (1, 2, 3) for at in (1, 2, 3)]
-        last = nine[-1]
-
-        def of_part(program: str, stl: str) -> list[Subtitle]:
-            """Three of each part, by its number."""
-            part = int(stl)
-            return [Subtitle(at, 3 * part + at, 9 * part + at, 9 * part + at + 1, 20, 2, b"text")
-                    for at in (1, 2, 3)]
-
-        for name, subtitles, is_right in (
-                ("as they are", nine, True), ("one more", [*nine, last], False),
-                ("two more", [*nine, last, last], False), ("one less", nine[:-1], False),
-                ("the last is another", [*nine[:-1], replace(last, text=b"test")], False),
-                ("the first comes later", [replace(nine[0], begin=11), *nine[1:]], False),
-                ("one between goes later", [*nine[:4], replace(nine[4], end=30), *nine[5:]], False),
-                ("one is twice, one missing", [*nine[:-1], nine[0]], False),
-                ("another order", nine[::-1], False)):
+        """Each subtitle has to be in a part, once: of three parts, nine are."""
+        nine = [subtitle(3 * part + at, 9 * part + at) for part in range(3) for at in range(3)]
+        three = [(0, 3), (9, 12), (18, 21)]
+        for name, subtitles, parts, is_right in (
+                ("as they are", nine, three, True),
+                ("parts that adjoin", nine, [(0, 9), (9, 18), (18, 27)], True),
+                ("the last goes later", [*nine[:-1], replace(nine[-1], end=99)], three, True),
+                ("one more at an end", [*nine[:3], subtitle(9, 3), *nine[3:]], three, False),
+                ("one before all", nine, [(1, 3), (9, 12), (18, 21)], False),
+                ("one behind all", [*nine, subtitle(9, 21)], three, False),
+                ("one in two", nine, [(0, 10), (9, 12), (18, 21)], False),
+                ("one in two, one missing", nine, [(0, 10), (9, 12), (18, 20)], False),
+                ("another order", nine, three[::-1], False)):
             asked = asked_for("one.stl", "one.pes")
             typed, names = Typed("tools/qc", self.bench.program), Names("one", self.folder, None)
             pair = Pair(Verdict(asked, Severity(None), "now"), typed, names, Speech(Progress()),
                         False)
-            pair.steps = SimpleNamespace(part=lambda at, found: Stretch(  # type: ignore
-                "", str(at), Names(f"one.{at}", self.folder, None), found))
-            with mock.patch("subtitles.qc.pair.subtitles_in", of_part):
-                try:
-                    stretches = pair.stretches([self.FOUND] * 3, subtitles)
-                    found = [one.names.name for one in stretches]
-                except Unclear:
-                    found = []
-            self.must(name, found == ["one.1", "one.2", "one.3"] * is_right, found)
+            found = [self.FOUND._replace(begin=begin, end=end) for begin, end in parts]
+            try:
+                made = pair.stretches(found, subtitles)
+                said = [(one.names.name, one.found) for one in made]
+                words = [passed_words(one.asked.passed_on) for one in made]
+                self.must(f"{name}: words", words == [
+                    ["--from", time_of(begin), "--to", time_of(end)] for begin, end in parts])
+            except Unclear:
+                said = []
+            self.must(name, said == [(f"one.{at}", one) for at, one in enumerate(found, 1)]
+                      * is_right, said)

@@ -164,7 +164,7 @@ class Writes(Case):
             with self.assertRaises(Stop):
                 self.files(self.verdict(), **{name: example("story.stl")}).prepare()
         self.files(self.verdict(), json=self.path("new.json")).prepare()
-        for name in ("one.cut.pes", "one.recording.pes", "one.json", "one.2.stl"):
+        for name in ("one.cut.pes", "one.recording.pes", "one.json", "one.2.txt"):
             for at in ("stl", "recording"):
                 verdict, path = self.verdict(), self.write(f"out/{name}", b"input")
                 setattr(verdict.asked, at, path)

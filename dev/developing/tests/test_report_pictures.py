@@ -13,6 +13,7 @@ from subtitles.preview.figures import DIFFERENT, NOT_KNOWN, NOTHING, SAME, Figur
 from subtitles.preview.program import verdict_of
 from subtitles.preview.subtitles import Entries, Looked, looked_at
 from subtitles.preview.timeline import Strip, Timeline, runs_of
+from subtitles.qc.subtitle_file import SubtitleFile
 from subtitles.reading.receiver import TUNED, State
 from .bench import Case
 from .test_report_faults import SUBTITLES, at, faults
@@ -262,7 +263,7 @@ class Blocks(Case):
                 tti_block(7, 75, 99, 18, 2, b"tw\x8ao ", 0), user,
                 tti_block(7, 75, 99, 18, 2, b"more\x07"), tti_block(3, 60, 70, 20, 2, b"three")]
         path = self.write("one.stl", gsi_block(b"", len(made), 3) + b"".join(made))
-        return blocks.Blocks(path, (verdict_of(line, 1) for line in told))
+        return blocks.Blocks(SubtitleFile(path), (verdict_of(line, 1) for line in told))
 
     def test_of_blocks(self) -> None:
         """The subtitle of each block, its text with that of those behind, and the one before."""
@@ -283,7 +284,7 @@ class Blocks(Case):
     def test_fields(self) -> None:
         """The field that a fault is about, as it stands in the file; of no other fault one."""
         path = self.write("two.stl", gsi_block(b"", 1, 1) + bytes(range(16)) + b"\x8f" * 112)
-        made = blocks.Blocks(path, ())
+        made = blocks.Blocks(SubtitleFile(path), ())
         fields = {11: "DFC STL25.01", 12: "DFC STL25.01", 13: "DSC 1", 14: "CCT 00", 15: "EBN 03",
                   16: "CS 04", 17: "CF 0F", 18: "JC 0E", 19: "VP 0D", 22: "SGN and SN 000102"}
         for number in range(10, 60):

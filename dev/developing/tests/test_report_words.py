@@ -22,9 +22,15 @@ from subtitles.preview.report import end_of_knowledge
 from subtitles.preview.scope import BETWEEN, DELAY, ROW_0, Scope
 from subtitles.qc.made_with import Program
 from subtitles.qc.midnight import AT_MIDNIGHT
+from subtitles.qc.subtitle_file import SubtitleFile
 from subtitles.qc.sums import File
 from .bench import Case, example
 from .test_report_faults import SUBTITLES
+
+
+def part_of(path: str) -> Any:
+    """A part of all subtitles of a file."""
+    return SimpleNamespace(stl_path=path, delays=[], subtitle_file=lambda: SubtitleFile(path))
 
 
 class Box(unittest.TestCase):
@@ -41,7 +47,7 @@ class Box(unittest.TestCase):
             "faults": SimpleNamespace(count=0, counts={}, firsts={}, trusted=Spans()),
             "asked": SimpleNamespace(**asked), "looks": None, "seen": None, "lost": [],
             "notes": [], "subject": SimpleNamespace(judged=SimpleNamespace(**judged)),
-            "part": SimpleNamespace(stl_path=example("story.stl"), delays=[]),
+            "part": part_of(example("story.stl")),
             "is_refused_file": False}
         return SimpleNamespace(**{**known, **more})
 
@@ -133,7 +139,7 @@ class Box(unittest.TestCase):
             with tempfile.NamedTemporaryFile() as file:
                 file.write(gsi_block(b"", 1, 1) + tti_block(1, *times, 20, 2, b"a"))
                 file.flush()
-                one = self.report(part=SimpleNamespace(stl_path=file.name), verdict=verdict_of(told, 1), meanings={
+                one = self.report(part=part_of(file.name), verdict=verdict_of(told, 1), meanings={
                     21: Meaning("EmptyTime", "`a` < b", "do it")}, faults=SimpleNamespace(
                         firsts={21: told_of(told)}))
                 self.assertEqual(means_and_do(one, 21), ("<code>a</code> &lt; b", do))

@@ -42,11 +42,11 @@ class Named(Case):
             names = Names("one", self.folder, out)
             for one, name in ((names, "one"), (names.of_part(2), "one.2")):
                 typed = os.path.join(out or "", name)
-                self.must(f"{out} {name}: typed", [one.whole, one.stl, one.report] == [
-                    f"{typed}.{ending}" for ending in ("recording.pes", "stl", "html")])
-                self.must(f"{out} {name}: here", (one.whole_path, one.stl_path, one.list_path) == (
-                    os.path.join(self.folder, f"{name}.recording.pes"), *(
-                        os.path.join(here, f"{name}.{ending}") for ending in ("stl", "txt"))))
+                self.must(f"{out} {name}: typed", [one.whole, one.report] == [
+                    f"{typed}.{ending}" for ending in ("recording.pes", "html")])
+                self.must(f"{out} {name}: here", (one.whole_path, one.list_path) == (
+                    os.path.join(self.folder, f"{name}.recording.pes"),
+                    os.path.join(here, f"{name}.txt")))
                 self.must(f"{out} {name}: object", one.machine == (f"{typed}.json" if out else
                                                                    None))
             line = f"{self.folder}/one.stl and {self.folder}/x"
@@ -57,9 +57,9 @@ class Named(Case):
         """Files of the pair and of its parts, and of no other pair."""
         out = self.path("out")
         os.mkdir(out)
-        own = ["one.1.stl", "one.1.txt", "one.12.cut.pes", "one.3.txt", "one.9.html"]
-        others = ["one.0.stl", "one.x.stl", "one.1x.stl", "two.1.stl", "one.1.a.stl", "one.01.stl",
-                  "one.stl.1", "one.4.stl", "one.5.html", "one.5.json"]
+        own = ["one.1.txt", "one.12.cut.pes", "one.3.txt", "one.9.html"]
+        others = ["one.0.txt", "one.x.txt", "one.1x.txt", "two.1.txt", "one.1.a.txt", "one.01.txt",
+                  "one.txt.1", "one.1.stl", "one.5.html", "one.5.json"]
         for name in [*own, *others]:
             with open(os.path.join(out, name), "wb"):
                 pass

@@ -1,0 +1,193 @@
+"""Some of a subtitle file judged, by --from and --to; and what the printed commands name."""
+from __future__ import annotations
+
+import os
+
+from subtitles.core.programme import subtitles_read
+from subtitles.core.stl import gsi_block, subtitle_blocks, tti_block
+from subtitles.core.times import FRAMES_OF_A_DAY, Between
+from subtitles.qc.due_pages import subtitles_in
+from subtitles.qc.midnight import HOUR, title_words
+from subtitles.qc.subtitle_file import SubtitleFile
+from .bench import Case
+from .judged import joined, judged, programme, sendings, shown_files
+
+MINUTE = 1500  # frames
+EARLIER, LATER = ("--to", "00:01:00:00"), ("--from", "00:01:00:00")
+BAD = b"no letter: \xe6"
+
+
+def three(first: int) -> list[tuple[int, int]]:
+    """From when to when three subtitles are due, and what they are in a row of 6."""
+    return [(first + 50 * at, first + 50 * at + 40) for at in range(1, 4)]
+
+
+class Ranges(Case):
+    """A day's file, of which one programme was recorded."""
+
+    def day(self, *texts: bytes, name: str = "day.stl") -> str:
+        """Three subtitles in the first minute, and three in the second, with these texts."""
+        times = [*three(0), *three(MINUTE)]
+        blocks = [subtitle_blocks(number, *one, 22, 2, texts[number - 1] if texts else
+                                  b"Number %d" % number) for number, one in enumerate(times, 1)]
+        return self.write(name, gsi_block(b"day", 6, 6) + b"".join(blocks))
+
+    def sent(self, *words: str) -> str:
+        """The second programme as it was sent, or what the words take of the day."""
+        self.schedule(self.day(), "second.pes", *(words or LATER))
+        return self.path("second.pes")
+
+    def test_of_a_day(self) -> None:
+        """Found, counted and judged are the subtitles in the range alone; each has its place in the
+        whole file."""
+        day, second = self.day(), self.sent()
+        for words, word, count in (
+                (LATER, "accepted", 3), (("--from", "00:01:02:00"), "accepted", 3),
+                (("--from", "00:01:02:01"), "accepted", 2), ((), "refused", 6),
+                (EARLIER, "not judged", 3), (("--from", "00:00:06:00"), "refused", 4),
+                ((*LATER, "--to", "00:01:06:00"), "accepted", 2),
+                ((*LATER, "--to", "00:01:06:01"), "accepted", 3)):
+            found = judged(self, day, second, "--origin", "0", *words)
+            self.must(f"{words}", (found.word, found.verdict.count) == (word, count), found.said)
+            self.must(f"{words}: subtitles", word == "not judged" or len(
+                found.result["subtitles"]) == count, found.result["subtitles"])
+        found = judged(self, day, second, *LATER, "-o", self.path("out"))
+        self.must("fitted", found.word == "accepted" and found.parts("from", "to", "stl") == [
+            ("00:01:02:00", "00:01:07:15", day)], found.said)
+        self.must("places", [one["position"] for one in found.result["subtitles"]] == [4, 5, 6])
+        page = self.read("out/one.html")
+        self.must("report", b'id="s4"' in page and b'id="s3"' not in page and
+                  b"--from 00:01:00:00" in page)
+        self.must("files", sorted(os.listdir(self.path("out"))) == [
+            "one.html", "one.json", "one.txt"])
+
+    def test_refused_elsewhere(self) -> None:
+        """What is refused outside of the range is not told, and changes nothing; what is in it is,
+        with its place in the file."""
+        second = self.sent()
+        texts = [b"Number %d" % number for number in range(1, 7)]
+        first_bad, last_bad = self.day(*texts[:2], BAD, *texts[3:], name="first.stl"), \
+            self.day(*texts[:5], BAD, name="last.stl")
+        found = judged(self, first_bad, second, *LATER, "-o", self.path("out"))
+        self.must("outside", found.word == "accepted" and found.verdict.count == 3, found.said)
+        found = judged(self, first_bad, second)
+        self.must("the whole", found.verdict.line == "refused 50 Character block 3 at 11",
+                  found.said)
+        found = judged(self, last_bad, second, *LATER, "-o", self.path("out"))
+        self.must("inside", found.verdict.line == "refused 50 Character block 6 at 11" and
+                  found.result["faults"][0]["subtitle"]["position"] == 6, found.said)
+        for words, word in ((EARLIER, "accepted"), ((), "refused"), (LATER, "refused")):
+            self.must(f"alone {words}", judged(self, last_bad, *words).word == word)
+
+    def test_none_left(self) -> None:
+        """A range without a subtitle is not judged, with a recording and without one."""
+        day, second = self.day(), self.sent()
+        for words in (("--from", "00:02:00:00", "--to", "00:01:00:00"), ("--from", "00:05:00:00"),
+                      ("--to", "00:00:00:00"), (*LATER, "--to", "00:01:02:00")):
+            for recording in ([], [second]):
+                found = judged(self, day, *recording, *words)
+                self.must(f"{words} {recording}", found.word == "not judged" and
+                          f"no subtitle of {day} is left" in found.told[-1], found.said)
+
+    def test_wrong_times(self) -> None:
+        """A text that is no time is a usage error."""
+        for words in (("--from", "1:00"), ("--to", "24:00:00:00"), ("--from", "00:00:00:25")):
+            done = self.tool("qc", self.day(), *words)
+            self.must(f"{words}", done.status == 2 and done.told == [
+                f"qc: argument {words[0]}: {words[1]} is no time of the day: HH:MM:SS:FF, 25 "
+                "frames a second"], done)
+
+    def test_parts_in_a_range(self) -> None:
+        """Breaks of a programme in a day's file: parts are of the range alone."""
+        times = [(100 * at, 100 * at + 60) for at in range(1, 15)]
+        day = programme(self, [*times, (MINUTE * 5, MINUTE * 5 + 9)], name="day.stl")
+        sent = [(pts + (pts >= 780 * 3600) * 3600 * 999, some)
+                for pts, some in sendings(self, programme(self, times))]
+        found = judged(self, day, self.write("day.pes", joined(sent)), "--breaks", "1", "--to",
+                       "00:04:00:00")
+        self.must("accepted", found.word == "accepted" and found.verdict.count == 14, found.said)
+        commands = found.lines("+ ")
+        self.must("commands", len(commands) == 2 and
+                  "--from 00:00:04:00 --to 00:00:30:10" in commands[0] and
+                  "--from 00:00:32:00 --to 00:00:58:10" in commands[1], commands)
+
+    def test_commands(self) -> None:
+        """The files that a command names; `judged` finds no others in any that is printed."""
+        for line, files in (
+                ("subttx check one.stl one.pes --pes 0-9 --all", ["one.stl", "one.pes"]),
+                ("./subttx check 'one of.stl' /dev/null --option german",
+                 ["one of.stl", "/dev/null"]),
+                ("tools/part film.stl --from 00:00:01:00 --to 00:00:02:00 -o out/film.1.stl",
+                 ["film.stl", "out/film.1.stl"]),
+                ("subttx check out/film.1.stl film.ts --pid 0x101", ["out/film.1.stl", "film.ts"]),
+                ("subttx extract film.ts film.pes --pid 0x101", ["film.ts", "film.pes"])):
+            self.must(line, shown_files(line) == files, shown_files(line))
+
+
+class Read(Case):
+    """A subtitle file of which some is passed over."""
+
+    def test_blocks(self) -> None:
+        """A subtitle goes with its first block's TCI; one that is no time is never left out."""
+        made = [tti_block(1, 25, 50, 20, 2, b"one"), tti_block(2, 75, 99, 20, 2, b"tw", 0),
+                tti_block(2, 0, 0, 20, 2, b"o"), tti_block(3, 100, 150, 20, 2, b"three"),
+                tti_block(4, 0, 0, 20, 2, b"note", comment=1),
+                tti_block(5, 200, 225, 20, 2, b"five")]
+        timeless = bytearray(tti_block(6, 0, 0, 20, 2, b"six"))
+        timeless[5] = 99
+        path = self.write("one.stl", gsi_block(b"", 7, 5) + b"".join(made) + timeless)
+        for between, begins, lasts in (
+                (Between(), [25, 75, 100, 200], [1, 3, 4, 6, 7]), (Between(25), [25, 75, 100, 200],
+                                                                   [1, 3, 4, 6, 7]),
+                (Between(26, 100), [75], [3, 7]), (Between(75, 101), [75, 100], [3, 4, 7]),
+                (Between(101, 100), [], [7])):
+            file = SubtitleFile(path, between)
+            self.must(f"{between}", ([*file.begins], [*file.lasts()]) == (begins, lasts),
+                      (file.begins, [*file.lasts()]))
+            at = [file.at_block(block) for block in range(1, 8)]
+            self.must(f"{between}: places", [one and one.position for one in at] == [
+                1, 2, 2, 3, 3, 4, 5], at)
+
+    def test_as_shown(self) -> None:
+        """What is read here is what the program shows, wherever that shows a file."""
+        path = programme(self, [(9, 20), (20, 30), (40, 50)], 2)
+        with open(path, "rb") as file:
+            self.must("read", subtitles_read(file.read()) == subtitles_in(self.bench.program, path))
+
+    def test_words(self) -> None:
+        """The options for some frames, as `check` takes them."""
+        for between, words in ((Between(), ""), (Between(25), "--from 00:00:01:00"),
+                               (Between(0, 50), "--to 00:00:02:00"), (Between(
+                                   9, FRAMES_OF_A_DAY - 1), "--from 00:00:00:09 --to 23:59:59:24")):
+            self.must(f"{between}", " ".join(between.words()) == words)
+        one = Between(5, 9)
+        self.must("has", [one.has(frame) for frame in (4, 5, 8, 9)] == [False, True, True, False])
+
+    def test_titles(self) -> None:
+        """A file that begins at 00:00:00:00 and goes on an hour later, at least."""
+        for begins, time in (
+                ([0, HOUR], "01:00:00:00"), ([0, HOUR - 1], None), ([1, HOUR], None), ([0], None),
+                ([], None), ([0, 0, HOUR + 25, 2 * HOUR], "01:00:01:00"), ([0, 9, HOUR], None),
+                ([HOUR, 0], None), ([0, 10 * HOUR, 9 * HOUR], "09:00:00:00"), ([0, 0], None)):
+            data = b"".join(tti_block(1, begin, begin, 20, 2, b"text") for begin in begins)
+            words = title_words(SubtitleFile(self.write("one.stl", gsi_block(b"", 1, 1) + data)))
+            self.must(f"{begins}", words.endswith(f"say --from {time}") if time else words == "",
+                      words)
+
+    def test_title_told(self) -> None:
+        """It is told, in one sentence; the verdict is that of the whole file, until it is asked."""
+        times = [(10 * HOUR + begin, 10 * HOUR + end) for begin, end in three(0)]
+        without = programme(self, times, name="without.stl")
+        pes = self.write("one.pes", joined(sendings(self, without)))
+        for title, number in (((0, 0), 21), ((0, 25), 63)):
+            whole = programme(self, [title, *times], name="whole.stl", first=0)
+            for recording in ([], [pes, "--origin", "0"]):
+                found = judged(self, whole, *recording)
+                notes = [one for one in found.told if "00:00:00:00" in one]
+                self.must(f"{title} {recording}", len(notes) == 1 and notes[0].endswith(
+                    "say --from 10:00:02:00"), found.said)
+                self.must(f"{title} {recording}: refused", not (recording or number == 21) or
+                          str(number) in (found.verdict.line or ""), found.said)
+                found = judged(self, whole, *recording, "--from", "10:00:02:00")
+                self.must(f"{title} {recording}: without", found.word == "accepted" and not any(
+                    "00:00:00:00" in one for one in found.told), found.said)
