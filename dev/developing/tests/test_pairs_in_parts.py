@@ -37,9 +37,8 @@ def apart(sent: Sent, *shifts: int) -> Sent:
     return [(ORIGIN + pts + TICKS * (0, *shifts)[at], some) for at, (pts, some) in zip(begun, sent)]
 
 
-def cause_of(place: int, number: int, begin: int, by: int) -> str:
-    name = f"subtitle {place}" + f" (SN {number})" * (number != place)
-    return f'{name} at {time_of(begin)}, "Number {number}": late by {counted(by, "frame")}'
+def cause_of(number: int, begin: int, by: int) -> str:
+    return f'subtitle {number} at {time_of(begin)}, "Number {number}": late by {counted(by, "frame")}'
 
 
 class Parts(Case):
@@ -101,7 +100,7 @@ class Parts(Case):
                                                   for at in range(1, 25)])
 
     def test_refused(self) -> None:
-        """The first, the second and the last part, by its own numbers; the least N is that of all
+        """The first, the second and the last part, by the file's numbers; the least N is that of all
         that are refused, and of one that no N accepts there is none."""
         for changes, least in (({3: 2}, 2), ({10: 3}, 3), ({19: 1}, 1), ({3: 2, 10: 4, 19: 3}, 4),
                                ({3: 5, 19: 2}, 5), ({10: 2, 19: 6}, None), ({3: 7, 10: 1}, None)):
@@ -117,7 +116,7 @@ class Parts(Case):
             self.must(f"{changes}: line", found.said[-1].startswith(line) and
                       found.verdict.faults == len(changes), found.said)
             self.must(f"{changes}: causes", found.lines("cause: ") == [
-                cause_of((number - 1) % 8 + 1, number, EACH * number, by)
+                cause_of(number, EACH * number, by)
                 for number, by in changes.items()], found.said)
             self.must(f"{changes}: faults", [
                 (one["part"], one["pes"], one["time"], one["pes_time"], one["pes_pts"],
@@ -127,7 +126,7 @@ class Parts(Case):
                  {"code": "20", "character": " "}, "0B", time_of(EACH * number + by - 1))
                 for number, by in changes.items()], found.result["faults"])
             more = f"; --within {least} accepts it" if least else ""
-            name = cause_of((first - 1) % 8 + 1, first, EACH * first, 0).partition(" at ")[0]
+            name = cause_of(first, EACH * first, 0).partition(" at ")[0]
             self.must(f"{changes}: sentence", found.lines("Refused: ") == [
                 f'at {time_of(EACH * first)} {name}, "Number {first}", is {changes[first]} '
                 f"frame{'s' * (changes[first] > 1)} late{more}."], found.said)

@@ -129,8 +129,9 @@ class Recordings(Case):
         sent = sendings(self, stl)
         data = joined(apart(sent, 1000))
         found = judged(self, stl, in_pipe(self, data), "--breaks", "1")
-        self.must("in two parts", found.word == "accepted" and found.lines("+ ")[0].startswith(
-            "tools/part ") and found.parts("origin") == [
+        self.must("in two parts", found.word == "accepted" and all(
+            f" check {stl} one.recording.pes " in one for one in found.lines("+ ")) and \
+            found.parts("origin") == [
             (ORIGIN,), (ORIGIN + 1000 * TICKS,)], found.said)
         pause = [(pts, sent[-1][1]) for pts in range(870 * TICKS, 4500 * TICKS, 25 * TICKS)]
         fed = [one for one in sent if one[0] < 870 * TICKS] + pause
