@@ -278,7 +278,7 @@ const PACES: [[&str; 3]; 7] = [
     ["0-1", "00000000001", "usage 92 Pace\n"], // eleven digits
     ["0-1", "", "usage 92 Pace\n"],
     ["0-1", "none", "usage 92 Pace\n"],
-    ["0-1", "-1", "usage 92 Pace\n"],
+    ["0-1", "+1", "usage 92 Pace\n"],
 ];
 
 #[test]
