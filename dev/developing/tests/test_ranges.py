@@ -3,6 +3,8 @@ from __future__ import annotations
 
 import os
 
+from subtitles.calls.channel.awaited import Awaited, Timed
+from subtitles.calls.channel.planned import Planned
 from subtitles.core.programme import subtitles_read
 from subtitles.core.stl import gsi_block, subtitle_blocks, tti_block
 from subtitles.core.times import FRAMES_OF_A_DAY, Between
@@ -11,6 +13,7 @@ from subtitles.qc.midnight import HOUR, title_words
 from subtitles.qc.subtitle_file import SubtitleFile
 from .bench import Case
 from .judged import joined, judged, programme, sendings, shown_files
+from .test_channel_tables import defaults
 
 MINUTE = 1500  # frames
 EARLIER, LATER = ("--to", "00:01:00:00"), ("--from", "00:01:00:00")
@@ -110,6 +113,16 @@ class Ranges(Case):
         self.must("commands", len(commands) == 2 and
                   "--from 00:00:04:00 --to 00:00:30:10" in commands[0] and
                   "--from 00:00:32:00 --to 00:00:58:10" in commands[1], commands)
+
+    def test_of_a_channel(self) -> None:
+        """Two programmes of a day's file, a line each: each is waited for by its own times."""
+        day = self.day()
+        for words, span in ((EARLIER, (50, 190)), (LATER, (MINUTE + 50, MINUTE + 190)),
+                            ((), (50, MINUTE + 190))):
+            asked = Planned("list", defaults()).asked_of([day, *words])
+            waited = (Awaited(day, asked.option, 0, 1 << 40, 0, asked.between),
+                      Timed(day, asked.option, 0, 0, asked.between))
+            self.must(f"{words}", [(one.first, one.last) for one in waited] == [span] * 2)
 
     def test_commands(self) -> None:
         """The files that a command names; `judged` finds no others in any that is printed."""
