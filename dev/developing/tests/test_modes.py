@@ -32,7 +32,7 @@ VALUES = {"--page": "801", "--every": "25", "--within": "1", "--option": "german
           "--start": "tcp", "--breaks": "1", "--pes": "2-9", "--pid": "0x101", "--severity": "file",
           "-o": "out", "--json": "x", "--csv": "x", "--junit": "x", "--stall": "5", "-p": "none",
           "--jobs": "2", "--settled": "1", "--patience": "9", "--from": "00:00:01:00",
-          "--to": "00:00:02:00"}
+          "--to": "00:00:02:00", "--layout": "fit"}
 MANUAL = os.path.join(TOP, "docs", "manual", "qc.md")
 HIDDEN = {"--name", "--fitted"}  # of calls that other ones make
 ASKING = {"--batch", "--watch", "--channel", "--collect", "--help", "-h", "--version"}
@@ -169,9 +169,9 @@ class Numbers(unittest.TestCase):
         single: {"SUMMED": 100, "SIGNALS": (2, 15, 1)}, watching: {"LOOK": 1.0, "DONE": ".done"},
         files: {"PIECE": 1 << 20, "OWN_OUTPUT": {"-", "/dev/stdout", "/dev/fd/1",
                                                  "/proc/self/fd/1"}}}
-    NONE = ("batch", "channel", "collect", "csv", "json", "junit", "jobs", "name", "origin", "out",
-            "patience", "pes", "pid", "program", "recording", "settled", "severity", "start", "stl",
-            "watch")
+    NONE = ("batch", "channel", "collect", "csv", "found_layout", "json", "junit", "jobs", "name",
+            "origin", "out", "patience", "pes", "pid", "program", "recording", "settled",
+            "severity", "start", "stl", "watch")
     FALSE = ("is_fitted", "is_kept", "is_loss_allowed", "is_resumed", "is_strict")
 
     def test_own(self) -> None:

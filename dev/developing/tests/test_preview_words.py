@@ -24,7 +24,8 @@ class Words(Case):
         plain: dict[str, Any] = {
             "stl": STL, "recording": PES, "page": (0, 0x88), "every": 250, "origin": 0,
             "option": "english", "is_complete": False, "begin": 0, "end": FRAMES_OF_A_DAY - 1,
-            "within": 0, "pes": None, "pid": None, "packet_size": 188, "program": None, "out": None}
+            "within": 0, "pes": None, "pid": None, "packet_size": 188, "program": None, "out": None,
+            "passed_on": {}}
         rows: list[tuple[list[str], dict[str, Any]]] = [
             ([], {}), (["--page", "150"], {"page": (1, 0x50)}), (["--every", "25"], {"every": 25}),
             (["--origin", "7"], {"origin": 7}), (["--option", "german"], {"option": "german"}),
@@ -32,6 +33,7 @@ class Words(Case):
             (["--from", TIMES[0]], {"begin": 25}), (["--to", TIMES[0]], {"end": 25}),
             (["--pes", "3-7"], {"pes": (3, 7)}), (["--pid", "0x101"], {"pid": 257}),
             (["--packet-size", "204"], {"packet_size": 204}),
+            (["--open", "--layout", "fit,up"], {"passed_on": {"--open": "", "--layout": "fit,up"}}),
             (["-p", self.bench.program], {"program": self.bench.program})]
         for words, change in rows:
             found = preview.read_words([STL, PES, *words])

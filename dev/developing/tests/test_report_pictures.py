@@ -356,12 +356,15 @@ class Blocks(Case):
         """What show prints, without its middle where it is long."""
         for count, left in ((3, 0), (200, 0), (220, 0), (221, 1), (500, 280)):
             lines = [f"line {at}" for at in range(count)]
-            report: Any = SimpleNamespace(part=SimpleNamespace(stl_path="one.stl"), program=SimpleNamespace(
-                show=lambda path: lines))
+            report: Any = SimpleNamespace(
+                part=SimpleNamespace(stl_path="one.stl"), asked=SimpleNamespace(is_open=False),
+                program=SimpleNamespace(show=lambda path: lines))
             said = blocks.printed(report)
             words = f"Lines 201 to {200 + left}, {left} of them" if left else ""
             self.must(f"{count}", words in said and ("left out" in said) == (left > 0) and
                       said.count("line ") == count - left, said[-200:])
+        report.asked.is_open = True
+        self.must("of open subtitles, which it shows not", blocks.printed(report) == "")
 
     def test_list(self) -> None:
         """An item for each block; what is left out; where reading ended."""

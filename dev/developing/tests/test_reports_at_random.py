@@ -173,7 +173,8 @@ class Made:
             stl=self.path_of_stl, recording=None if self.is_refused_file else pes,
             program=BENCH.program, page=self.page, every=chance.choice(
                 (self.every, self.every, 25)), origin=self.origin, option=self.option,
-            is_complete=is_complete, begin=begin, end=end, within=self.within, pes=some,
+            is_complete=is_complete, begin=begin, end=end, within=self.within, passed_on={},
+            pes=some,
             pid=None, packet_size=188)
 
 

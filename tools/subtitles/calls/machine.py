@@ -4,9 +4,11 @@ from __future__ import annotations
 import json
 from typing import Iterable, Iterator, Mapping
 
+from ..core.layout import text_of
 from ..qc.asked import Asked
 from ..qc.cause_words import Wording
 from ..qc.faults import faults_of, words_of_subtitle
+from ..qc.layouts import Choice
 from ..qc.made_with import Program
 from ..qc.naming import counts_of
 from ..qc.options import passed_members
@@ -45,6 +47,12 @@ def part_words(part: Part, is_kept: bool) -> dict[str, Value]:
             "clock": part.clock and part.clock._asdict()}
 
 
+def layout_words(choice: Choice | None) -> dict[str, Value] | None:
+    """The layout that was found."""
+    return choice and {"text": text_of(choice.layout), "drawn": choice.drawn,
+                       "found": choice.found}
+
+
 def gap_words(gap: Gap) -> dict[str, Value]:
     place = gap.place
     return {"after": gap.after, "before": gap.before, "after_pts": place.before,
@@ -79,6 +87,7 @@ def head_of(verdict: Verdict, program: Program) -> dict[str, Value]:
         "warnings": [warned._asdict() for warned in verdict.warnings],
         "notes": verdict.said(),
         "hints": verdict.hints,
+        "layout": layout_words(verdict.layout),
         "inputs": {"stl": file_words(verdict.stl), "recording": file_words(verdict.recording)},
         "program": program._asdict(),
         "commands": verdict.commands,

@@ -14,7 +14,7 @@ from typing import Callable, Iterator, NamedTuple, Sequence
 from ..core.files import (
     OWN_OUTPUT, is_replaced, refuse_input, refuse_name, temporary_folder, whole_file)
 from ..core.words import Stop, counted, escaped, line_of, shown, silence, tell
-from ..qc.asked import Asked, asked_of
+from ..qc.asked import AUTO_OF_FEED, Asked, asked_of
 from ..qc.cause_words import count_line
 from ..qc.faults import faults_of
 from ..qc.hints import hints_of
@@ -22,6 +22,7 @@ from ..qc.made_with import program_at
 from ..qc.names import Names
 from ..qc.pair import Pair
 from ..qc.progress import Progress
+from ..qc.recording import size_of
 from ..qc.severity import Severity
 from ..qc.speech import Speech
 from ..qc.status import NOT_JUDGED
@@ -48,6 +49,7 @@ def now() -> str:
 def judge(words: argparse.Namespace, called: str) -> int:
     """Judges the pair of a command line; answers its status."""
     asked = asked_of(words)
+    refuse_auto(asked)
     out = words.out or None
     is_output_taken = any(path in OWN_OUTPUT for path in (words.json, words.csv, words.junit))
     speech = Speech(Progress(), is_output_taken)
@@ -72,6 +74,17 @@ def judge(words: argparse.Namespace, called: str) -> int:
         finally:
             files.leave(pair)
     return verdict.status
+
+
+def refuse_auto(asked: Asked) -> None:
+    """A layout is looked for in a recording that is there, and in no feed."""
+    if not asked.is_layout_sought:
+        return
+    if asked.recording is None:
+        raise Stop("--layout auto looks at what was sent: give a recording")
+    with contextlib.suppress(OSError):  # a name that is wrong is told later
+        if size_of(asked.recording) is None:
+            raise Stop(AUTO_OF_FEED)
 
 
 def draw(pair: Pair, part: Part, names: Names, gaps: Sequence[Gap], count: int) -> None:

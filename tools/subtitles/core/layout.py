@@ -21,6 +21,9 @@ NAME_OF = {CHARACTER: "Character", CONTROL: "Control", TOO_LONG: "RowTooLong",
 FLAGS = ("fit", "white", "trim", "text", "up", "double", "pack", "last")
 NUMBERS = {"left": range(40), "right": range(40), "free": range(1, 4),
            "row": range(-MOST_SHIFT, MOST_SHIFT + 1)}
+TAKES = {"strip": "codes 00 to 1F, each once", "before": "up to 6 codes 01 to 0D and one * at most",
+         "after": "up to 4 codes 01 to 0D", "left": "0 to 39", "right": "0 to 39",
+         "free": "1, 2 or 3", "row": "-22 to 22"}
 NUMBER = re.compile(r"[0-9]{1,2}")
 HEX = re.compile(r"(?:[0-9A-Fa-f]{2})*")
 
@@ -116,6 +119,21 @@ def layout_of(text: str) -> Layout | None:
         names.add(name)
         found.update(item)
     return Layout(**found)  # type: ignore[arg-type]
+
+
+def fault_in(text: str) -> str | None:
+    """What is wrong with a TEXT, by its first item that means nothing; None where nothing is."""
+    names = set[str]()
+    for word in text.split(","):
+        name, equals, value = word.partition("=")
+        if name in names:
+            return f"{name} is there twice"
+        if item_of(name, value if equals else None) is None:
+            takes = TAKES.get(name, "no value" if name in FLAGS else "")
+            return f"{word or 'nothing between commas'} is no item" + f": {name} takes {takes}" * \
+                bool(takes)
+        names.add(name)
+    return None
 
 
 def items_of(layout: Layout) -> list[str]:

@@ -25,6 +25,7 @@ PLACED = re.compile(
     r"| frame (?P<time>[\d:]+)(?: packet (?P<packet>\d+)"
     r"| row (?P<row>\d+) column (?P<column>\d+))?)?")
 EMPTY = 60  # the number for a file without PES packets
+DISPLAY = 13  # display standard code (DSC)
 EMPTY_TIME, OUT_OF_ORDER = 21, 56  # times of a subtitle file that fall
 OFF_FRAME, GAP = 61, 73
 STL_FAULTS = {*range(10, 26), *range(50, 58)}

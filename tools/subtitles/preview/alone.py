@@ -35,7 +35,8 @@ def report_of(words: argparse.Namespace, folder: str) -> Report:
         raise NoReport(f"{name} is no program")
     path = behind_script(path)  # the script looks for it at each call
     asked = Asked(words.stl, words.recording, words.page, words.every, words.option, words.origin,
-                  words.is_complete, words.pid, False, None, 0, words.pes, None, words.within)
+                  words.is_complete, words.pid, False, None, 0, words.pes, None, words.within,
+                  passed_on=words.passed_on)
     names = [one for one in (words.stl, words.recording) if one is not None]
     summed = Files(names)  # while they are read
     stream = None if words.pid is None else (words.pid, words.packet_size)
@@ -65,8 +66,9 @@ def part_of(asked: Asked, program: str, options: list[str], folder: str) -> Part
     part = Part(1, asked.stl, asked.stl, None, asked.origin, None, None, None, answer,
                 Clock(asked.origin or 0, GIVEN), asked=asked, was_read=True)
     if answer.first is None or answer.first.block is None:
-        part.due = functools.cache(lambda: due_pages_of(program, asked.stl, asked.page,
-                                                        asked.option))
+        part.due = functools.cache(lambda: due_pages_of(
+            program, asked.stl, asked.page, asked.option, words=asked.words_of_pages(),
+            is_open=asked.is_open))
     if part.answer.first and part.answer.first.block is not None or asked.recording is None:
         return part
     pid = PES if asked.pid is None else asked.pid

@@ -182,6 +182,8 @@ def marked_text(text: bytes, faults: list[Verdict]) -> str:
 
 def printed(report: Report) -> str:
     """What `show` prints, the middle of it left out where it is long."""
+    if report.asked.is_open:
+        return ""  # it shows no open subtitles
     lines = report.program.show(report.part.stl_path)
     last = lines[FIRST_LINES:][-LAST_LINES:]
     left = len(lines[FIRST_LINES:]) - len(last)

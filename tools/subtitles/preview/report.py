@@ -90,7 +90,8 @@ class Report:
             self.lost[TOLD:] = [f"and at {counted(len(self.lost) - TOLD, 'more place')}"]
         unread = [self.asked.recording] if self.asked.recording and self.part.pes is None else []
         self.notes = [*(f"{shown(one)} was not read" for one in unread), *subject.judged.notes,
-                      *(one.said() for one in subject.judged.warnings)]
+                      *(one.said() for one in subject.judged.warnings),
+                      *[self.part.otherwise] * bool(self.part.otherwise)]
         self.reasons = Reasons(self.part.causes, self.asked.option) if self.part.causes else None
         self.looked = [looked_at(one, frames, self.asked.within)
                        for one, frames in zip(self.subtitles, self.part.delays)]

@@ -31,6 +31,7 @@ causes        the cause of a subtitle, by what is due and what is held
 due_pages     the subtitles with the pages that are due
 lettering     what a person reads on a page, and where two differ
 option_advice what to do about a letter that the national option lacks
+as_sent       the layout of a recording, looked for and told
 layouts       which layout draws subtitles as they were sent
 hints         what to know of the first fault of some numbers, beside its place
 midnight      times that fall at midnight, and what to do about them

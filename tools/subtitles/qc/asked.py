@@ -14,9 +14,10 @@ from ..core.times import FRAMES_OF_A_DAY, Between, frame_of, time_of
 from ..core.words import (
     Stop, Words, add_page, add_within, breaks_word, every_word, origin_word, pid_word, range_word,
     start_word, within_words)
-from .options import FROM, TO, add_passed_on, passed_words
+from .options import AUTO, FROM, LAYOUT, OPEN, TO, add_passed_on, passed_words, words_of_pages
 
-AUTO = "auto"  # the national option is that of the language
+AUTO_OF_FEED = ("--layout auto reads all that was sent before it judges: try a recording of the "
+                "feed first, and give the TEXT that is found there")
 MOST_TRIED = 5  # frames within which a recording is tried, where it is not judged or refused
 LC = slice(14, 16)  # the field in the GSI block
 
@@ -44,6 +45,7 @@ class Asked:
     within: int = 0  # frames within which a page has to be whole
     is_strict: bool = False  # warnings count
     passed_on: dict[str, str] = dataclasses.field(default_factory=dict)  # that `check` gets too
+    found_layout: str | None = None  # by --layout auto; the empty one is that without an option
 
     @property
     def page_name(self) -> str:
@@ -60,6 +62,28 @@ class Asked:
         """The same of the subtitles that come from one frame on and before another."""
         return dataclasses.replace(self, passed_on={
             **self.passed_on, FROM: time_of(begin), TO: time_of(end)})
+
+    @property
+    def is_layout_sought(self) -> bool:
+        """Whether the layout is still to be found."""
+        return self.passed_on.get(LAYOUT) == AUTO and self.found_layout is None
+
+    @property
+    def is_open(self) -> bool:
+        """Whether open subtitles are taken too."""
+        return OPEN in self.passed_on
+
+    @property
+    def handed_on(self) -> dict[str, str]:
+        """Those of the options that `check` gets too, with the layout that was found."""
+        if self.passed_on.get(LAYOUT) != AUTO:
+            return self.passed_on
+        others = {name: word for name, word in self.passed_on.items() if name != LAYOUT}
+        return {**others, LAYOUT: self.found_layout} if self.found_layout else others
+
+    def words_of_pages(self) -> list[str]:
+        """The options that say which pages are due, of those that are handed on."""
+        return words_of_pages(self.handed_on)
 
     def page_words(self) -> list[str]:
         """The page as an option, where it is not the one that is taken without."""
@@ -78,7 +102,7 @@ class Asked:
         """The options of `check` that a person would type, but for the origin."""
         return [*self.page_words(), *self.every_words(), *self.option_words(),
                 *(["--complete"] if self.is_complete else []), *self.within_words(),
-                *passed_words(self.passed_on)]
+                *passed_words(self.handed_on)]
 
 
 def add_pair_options(parser: Words) -> None:
@@ -113,6 +137,7 @@ def add_pair_options(parser: Words) -> None:
                         help="the time code of the recording's first picture; tcp: the one of the "
                              "GSI block")
     add_passed_on(parser)
+    parser.set_defaults(found_layout=None)
 
 
 def pair_options() -> list[str]:

@@ -6,6 +6,7 @@ from __future__ import annotations
 
 import os
 import subprocess
+from typing import Sequence
 
 from ..core.files import temporary_folder, whole_bytes
 from ..core.programme import Programme, Subtitle, subtitles_read, subtitles_shown
@@ -57,11 +58,13 @@ def asked_of(program: str, *words: str) -> list[str]:
     return lines
 
 
-def subtitles_in(program: str, stl: str, between: Between = ALL_DAY) -> list[Subtitle]:
+def subtitles_in(program: str, stl: str, between: Between = ALL_DAY,
+                 is_open: bool = False) -> list[Subtitle]:
     """The subtitles of a file that come in some frames, as the program shows them. It shows a whole
-    file or none: where another subtitle is refused they are read here."""
+    file or none, and no open one: where another subtitle is refused they are read here."""
     try:
-        found = subtitles_shown(asked_of(program, "show", "--", stl))
+        found = subtitles_read(whole_bytes(stl)) if is_open else \
+            subtitles_shown(asked_of(program, "show", "--", stl))
     except Unclear:
         if between == ALL_DAY:
             raise
@@ -69,16 +72,17 @@ def subtitles_in(program: str, stl: str, between: Between = ALL_DAY) -> list[Sub
     return [one for one in found if between.has(one.begin)]
 
 
-def due_pages_of(program: str, stl: str, page: Page, option: str,
-                 between: Between = ALL_DAY) -> DuePages:
-    """Those of a file that come in some frames, by the program at a path."""
-    subtitles = subtitles_in(program, stl, between)
+def due_pages_of(program: str, stl: str, page: Page, option: str, between: Between = ALL_DAY,
+                 words: Sequence[str] = (), is_open: bool = False) -> DuePages:
+    """Those of a file that come in some frames, by the program at a path and the options that say
+    how pages are drawn."""
+    subtitles = subtitles_in(program, stl, between, is_open)
     if not subtitles:
         return DuePages([], [])
     with temporary_folder("subttx-qc-") as folder:
         path = os.path.join(folder, "due.pes")
         asked_of(program, "schedule", "--page", page_name(*page), "--option", option, "--every",
-                 EVERY, *between.words(), "--", stl, path)
+                 EVERY, *between.words(), *words, "--", stl, path)
         packets = survey(program, path, page).by_pid.get(PES, Packets(PES))
     due = Timeline(packets, page, 0)
     return DuePages(subtitles, [due.page_at(one.begin) for one in subtitles], due)

@@ -8,12 +8,12 @@ from ..core.characters import letters
 from ..core.manual import meanings, plain
 from ..core.national import BY_WORD
 from ..core.times import frame_at, time_of
-from ..core.told import CHARACTER, CONTENT, LETTERS, STL_FAULTS, WITH_CAUSE, Told
+from ..core.told import CHARACTER, CONTENT, DISPLAY, LETTERS, STL_FAULTS, WITH_CAUSE, Told
 from ..reading.receiver import Rows
 from .cause_words import CauseWords, SubtitleWords, Wording
 from .cells import NOWHERE, Place, code_at, place_of
 from .checking import End
-from .hints import header_words
+from .hints import header_words, open_words
 from .midnight import midnight_words
 from .option_advice import OptionAdvice
 from .subtitle_file import NamedSubtitle, SubtitleFile
@@ -85,6 +85,10 @@ class PartFaults:
         means, do = self.meanings.get(told.number, ("", ""))
         if told.number == CHARACTER and told.block and told.at is not None:
             do = self.of_letters.of(told.block, told.at) or do
+        if told.number == DISPLAY:
+            do = open_words(self.subtitles) or do
+        if told.number == CONTENT:
+            do = self.part.otherwise or do
         do = midnight_words(told, self.subtitles) or do
         means = header_words(place.headers, self.asked.option) or means
         return {

@@ -7,7 +7,8 @@ from ..core.national import BY_BITS, BY_WORD, RESERVED
 from ..core.teletext import ERASE, INHIBIT, NEWSFLASH, SUBTITLE, SUPPRESS, has_bit
 from ..core.times import frame_at
 from ..core.told import (
-    CHARACTER, CONTROL, EMPTY_TIME, GAP, OFF_FRAME, OUT_OF_ORDER, PASSED_OVER, Told)
+    CHARACTER, CONTENT, CONTROL, DISPLAY, EMPTY_TIME, GAP, OFF_FRAME, OUT_OF_ORDER, PASSED_OVER,
+    Told)
 from ..core.words import MOST_EVERY, counted
 from ..reading.receiver import national_option
 from ..reading.repeat import longest_gap
@@ -20,6 +21,8 @@ from .option_advice import OptionAdvice
 from .verdict import Part, Verdict
 
 HINTED = {EMPTY_TIME, CHARACTER, OUT_OF_ORDER, OFF_FRAME, CONTROL, GAP}
+NAMED = {DISPLAY, CONTENT}  # for which an option is named, where one helps
+DSC = slice(11, 12)  # the field in the GSI block
 # The control bits that a header of subtitles has set, or clear, and what it is where they are not.
 ASKED = (
     (ERASE, True, "C4 (erase page) is clear: a repeat that does not erase"),
@@ -45,14 +48,14 @@ def control_words(header: bytes, option: str) -> list[str]:
 def hints_of(verdict: Verdict) -> Iterator[str]:
     """The lines for the first fault of each of these numbers, in the order of the list."""
     for part in verdict.parts:
-        if part.answer.numbers & HINTED:
+        if part.answer.numbers & (HINTED | NAMED):
             yield from hints_of_part(part, verdict)
 
 
 def hints_of_part(part: Part, verdict: Verdict) -> Iterator[str]:
     """The same of a part."""
     for number, told in part.answer.firsts.items():
-        words = words_of(told, part, verdict) if number in HINTED else ""
+        words = words_of(told, part, verdict) if number in HINTED | NAMED else ""
         if words:
             yield f"{number}: {words}"
 
@@ -64,6 +67,10 @@ def words_of(told: Told, part: Part, verdict: Verdict) -> str:
         if not told.block or told.at is None:
             return ""
         return OptionAdvice(part.subtitle_file(), asked.option).of(told.block, told.at)
+    if told.number == DISPLAY:
+        return open_words(part.subtitle_file())
+    if told.number == CONTENT:
+        return part.otherwise
     if told.number in (EMPTY_TIME, OUT_OF_ORDER):
         return midnight_words(told, part.subtitle_file())
     if part.pes is None or part.origin is None:
@@ -74,6 +81,12 @@ def words_of(told: Told, part: Part, verdict: Verdict) -> str:
     if told.number == GAP:
         return gap_words(part.pts(HEADER), part.origin, asked, part.answer.numbers)
     return header_words(place_of(told, part.packets, part.held).headers, asked.option)
+
+
+def open_words(subtitles: SubtitleFile) -> str:
+    """What takes a file whose display standard code is that of open subtitles, or none."""
+    kind = {b"0": "0, open subtitles", b" ": "a space, none"}.get(subtitles.data[DSC])
+    return f"its DSC is {kind}: --open takes it" if kind else ""
 
 
 def header_words(headers: Sequence[bytes], option: str) -> str:

@@ -8,7 +8,7 @@ from typing import Iterator
 from ..core.files import is_utf_8
 from ..core.words import shown
 from .asked import Asked
-from .options import passed_words
+from .options import passed_options
 from .typed import Typed, line_of
 
 
@@ -109,7 +109,7 @@ def again(asked: Asked, typed: Typed, *more: str) -> str:
                ["--start", asked.start] if asked.start is not None else [],
                ["--breaks", str(asked.breaks)] if asked.breaks else [],
                ["--pes", f"{asked.pes[0]}-{asked.pes[1]}"] if asked.pes else [],
-               passed_words(asked.passed_on)]
+               *passed_options(asked.passed_on)]
     instead = {"--origin": ["--origin", "--start"]}.get(more[0], [more[0]]) if more else []
     words += [word for option in options if not set(option[:1]) & set(instead) for word in option]
     return line_of(*words, *more)

@@ -7,19 +7,22 @@ from __future__ import annotations
 import argparse
 from typing import Any, Callable, NamedTuple, Sequence
 
+from ..core.layout import fault_in
 from ..core.words import time_word
 
 
 class PassedOn(NamedTuple):
     """An option: its name, what its value is called, `None` where it has none, its help, and what
     takes the word, or says by `ArgumentTypeError` why it is none. `is_of_file`: it changes the
-    verdict on a subtitle file alone, too."""
+    verdict on a subtitle file alone, too; `is_of_pages`: and the pages that are due, so `schedule`
+    takes it."""
 
     name: str
     metavar: str | None
     help: str
     read: Callable[[str], str] = str
     is_of_file: bool = False
+    is_of_pages: bool = False
 
     @property
     def member(self) -> str:
@@ -36,11 +39,31 @@ def time_text(text: str) -> str:
     return text
 
 
+LAYOUT, OPEN = "--layout", "--open"
+AUTO = "auto"  # what is found takes the place of this word
+
+
+def layout_word(text: str) -> str:
+    """A layout, as the program takes it."""
+    fault = fault_in(text)
+    if fault is not None:
+        raise argparse.ArgumentTypeError(f"{text!r} is no layout: {fault}")
+    return text
+
+
+def layout_or_auto(text: str) -> str:
+    """A layout, or the word for one that is to be found."""
+    return text if text == AUTO else layout_word(text)
+
+
 PASSED_ON: tuple[PassedOn, ...] = (
     PassedOn(FROM, "TIME", "only the subtitles whose TCI is at TIME or later", time_text,
              is_of_file=True),
     PassedOn(TO, "TIME", "only the subtitles whose TCI is before TIME", time_text,
              is_of_file=True),
+    PassedOn(LAYOUT, "TEXT|auto", "how the house draws its subtitles; auto: the layout that draws "
+             "them as they were sent", layout_or_auto, is_of_file=True, is_of_pages=True),
+    PassedOn(OPEN, None, "take a file of open subtitles too", is_of_file=True, is_of_pages=True),
 )
 
 
@@ -65,10 +88,31 @@ def add_passed_on(parser: argparse.ArgumentParser) -> None:
                                 type=one.read, help=one.help, default={})
 
 
+def add_drawing(parser: argparse.ArgumentParser) -> None:
+    """Those by which the pages are drawn that are due, where nothing is looked for."""
+    parser.set_defaults(passed_on={})
+    parser.add_argument(LAYOUT, action=Keep, dest="passed_on", metavar="TEXT", type=layout_word,
+                        default={}, help="how the house draws its subtitles")
+    parser.add_argument(OPEN, action=Keep, dest="passed_on", nargs=0, default={},
+                        help="take a file of open subtitles too")
+
+
+def passed_options(given: dict[str, str], is_file: bool = False) -> list[list[str]]:
+    """Those that are given, each as words; of a subtitle file alone those that change its verdict.
+    """
+    return [[one.name] if one.metavar is None else [one.name, given[one.name]]
+            for one in PASSED_ON if one.name in given and (one.is_of_file or not is_file)]
+
+
 def passed_words(given: dict[str, str], is_file: bool = False) -> list[str]:
-    """Those that are given, as words; of a subtitle file alone those that change its verdict."""
-    return [word for one in PASSED_ON if one.name in given and (one.is_of_file or not is_file)
-            for word in ([one.name] if one.metavar is None else [one.name, given[one.name]])]
+    """The same, one word after another."""
+    return [word for words in passed_options(given, is_file) for word in words]
+
+
+def words_of_pages(given: dict[str, str]) -> list[str]:
+    """Those that change the pages that are due, as words."""
+    return passed_words({one.name: given[one.name] for one in PASSED_ON
+                         if one.is_of_pages and one.name in given})
 
 
 def passed_members(given: dict[str, str]) -> dict[str, object]:

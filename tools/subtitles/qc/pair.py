@@ -3,17 +3,21 @@ from __future__ import annotations
 
 import functools
 import os
-from typing import Callable, Sequence
+from typing import Callable, NamedTuple, Sequence
 
+from ..core.layout import text_of
+from ..core.national import BY_WORD
 from ..core.programme import Subtitle
 from ..core.times import ALL_DAY, FRAMES_OF_A_DAY, TICKS, frame_in, ticks_between, time_of
-from ..core.told import EMPTY, LOST_PACKETS, WITH_CAUSE
+from ..core.told import CONTENT, EMPTY, LOST_PACKETS, WITH_CAUSE
 from ..core.words import counted, pid_name
 from ..reading.cutting import cut_of
 from ..reading.finding import runs_line
 from ..reading.gaps import Place, what_of
 from ..reading.survey import HEADER, Range
+from ..reading.timeline import Span, timeline_near
 from . import warned
+from .as_sent import BY_LAYOUT, otherwise, sent_in, told_of, why_none
 from .checking import Answer
 from .clock import GIVEN, RECORDING, TCP, Clock
 from .delays import MOVED, frames_in
@@ -21,9 +25,10 @@ from .due_pages import due_pages_of, subtitles_in
 from .ending import Ending
 from .fitting import Found, found_in, with_delay
 from .hints import words_of
+from .layouts import layout_of_sent
 from .midnight import title_words
 from .names import Names
-from .options import FROM
+from .options import FROM, LAYOUT
 from .recording import STANDARD_INPUT, Recording, is_recording
 from .speech import Speech
 from .start import NoFirst, began, refuse_outside
@@ -38,6 +43,14 @@ from .why import causes_of, tell
 from .within import Trying
 
 NO_CLOCK = Clock(0, RECORDING)  # stands for one that is not found yet
+
+
+class Heard(NamedTuple):
+    """A recording that was read, its parts with their clocks, and the subtitles of the file."""
+
+    recording: Recording
+    found: list[Found]
+    subtitles: list[Subtitle]
 
 
 class Pair:
@@ -56,6 +69,7 @@ class Pair:
         # The first and the last frame of the subtitle file, and the clock where it was given.
         self.whole = Found(0, 0, NO_CLOCK)
         self.begun: Part | None = None  # that is being judged
+        self.heard: Heard | None = None  # before the file was judged
         self.is_shifted = False
 
     def judge(self) -> None:
@@ -70,9 +84,10 @@ class Pair:
             os.stat(asked.recording)  # a name that is wrong is told before anything is judged
         if self.is_summed:
             self.verdict.stl = file_of(asked.stl, asked.stl)
-        answer = self.steps.check_alone()
-        if answer.verdict != REFUSED:
-            raise Unclear(f"{UNSAID}: {answer.last}, where there is no PES packet")
+        answer = self.check_alone()
+        if asked.is_layout_sought and not answer.numbers - {EMPTY} - BY_LAYOUT:
+            self.find_layout()
+            answer = self.check_alone()
         subtitles = SubtitleFile(self.names.given)
         self.verdict.warnings += warned.of_counts(subtitles)
         if FROM not in asked.passed_on and (title := title_words(subtitles)):
@@ -84,6 +99,13 @@ class Pair:
             self.judge_transmission()
         for part in self.verdict.parts:
             part.was_read = part.was_read or asked.recording is None
+
+    def check_alone(self) -> Answer:
+        """What is wrong with the subtitle file; at least there is no PES packet."""
+        answer = self.steps.check_alone()
+        if answer.verdict != REFUSED:
+            raise Unclear(f"{UNSAID}: {answer.last}, where there is no PES packet")
+        return answer
 
     def stop(self, now: str) -> str:
         """Takes what was told before a signal came; at which time that was, and up to where the
@@ -119,14 +141,32 @@ class Pair:
     def subtitles(self) -> list[Subtitle]:
         """The subtitles that are judged."""
         between = self.asked.between
-        found = subtitles_in(self.typed.program_path, self.names.given, between)
+        found = subtitles_in(self.typed.program_path, self.names.given, between,
+                             self.asked.is_open)
         if not found and between != ALL_DAY:
             raise Unclear(f"no subtitle of {self.asked.stl} is left: none comes at "
                           f"{time_of(between.begin)} or later and before {time_of(between.end)}")
         return found
 
-    def judge_transmission(self) -> None:
-        """Judges what was recorded, part by part."""
+    def find_layout(self) -> None:
+        """Finds how the house draws by what was sent; `Unclear` where that is not clear."""
+        asked, option = self.asked, BY_WORD[self.asked.option]
+        heard = self.heard = self.listen()
+        sent = [one for part in heard.found for one in sent_in(
+            (subtitle for subtitle in heard.subtitles
+             if part.begin <= subtitle.begin and subtitle.end <= part.end),
+            timeline_near(heard.recording.packets, asked.page, part.origin, asked.within,
+                          Span(part.begin, part.end), asked.every, part.packets), option)]
+        choice = layout_of_sent(sent, option)
+        text = text_of(choice.layout)
+        if not choice.is_clear:
+            raise Unclear(why_none(choice, sent, option), *(
+                [self.steps.again(LAYOUT, text)] if text and choice.drawn else []))
+        asked.found_layout, self.verdict.layout = text, choice
+        self.speech.say(told_of(choice))
+
+    def listen(self) -> Heard:
+        """Reads the recording, and finds its parts."""
         asked = self.asked
         subtitles = self.subtitles()
         self.verdict.count = len(subtitles)
@@ -141,7 +181,12 @@ class Pair:
         recording.read(self.is_summed, ending)
         self.verdict.recording = recording.file
         given = given or self.by_start(recording)
-        found = self.found(recording, given)
+        return Heard(recording, self.found(recording, given), subtitles)
+
+    def judge_transmission(self) -> None:
+        """Judges what was recorded, part by part."""
+        asked = self.asked
+        recording, found, subtitles = self.heard or self.listen()
         self.warn(recording, found[0].origin)
         stretches = self.stretches(found, subtitles)
         for number, one in enumerate(stretches, 1):
@@ -245,7 +290,7 @@ class Pair:
         judged = file_of(*recording.judged()) if self.is_summed and not recording.is_file else None
         due = functools.cache(lambda: due_pages_of(
             self.typed.program_path, self.names.given, one.asked.page, one.asked.option,
-            one.asked.between))
+            one.asked.between, one.asked.words_of_pages(), one.asked.is_open))
         return Part(number, one.asked.stl, self.names.given, pes, found.origin, found.begin,
                     found.end, judged, Answer(one.names.list_path), found.clock,
                     recording.stream(), packets=recording.packets, asked=one.asked, due=due)
@@ -258,6 +303,10 @@ class Pair:
             part.causes = causes_of(asked, part.due(), recording, one.found, answer)
         if part.causes:
             tell(self.speech, part.causes, asked.option)
+            if CONTENT in answer.numbers and LAYOUT not in asked.passed_on:
+                option = BY_WORD[asked.option]
+                part.otherwise = otherwise(sent_in(part.due().subtitles, part.causes.held, option),
+                                           option)
         self.measure(part, one, recording, count)
         part.was_read = part.is_read()
         if answer.first:

@@ -47,14 +47,14 @@ class Steps:
     def check_alone(self) -> Answer:
         """What is wrong with the subtitle file; nothing is said of it yet."""
         words = ["check", "--option", self.asked.option,
-                 *passed_words(self.asked.passed_on, True), "--all", "--", self.names.given, NO_PES]
+                 *passed_words(self.asked.handed_on, True), "--all", "--", self.names.given, NO_PES]
         return check([self.typed.program_path, *words],
                      Answer(self.names.temporary("alone.txt")), lambda line: None)
 
     def say_alone(self) -> None:
         """Says the command for that."""
         self.speech.command(self.typed.program_word, "check", self.asked.stl, NO_PES,
-                            *self.asked.option_words(), *passed_words(self.asked.passed_on, True),
+                            *self.asked.option_words(), *passed_words(self.asked.handed_on, True),
                             "--all")
 
     def sought(self, recording: Recording, clock: Clock | None) -> Sought:

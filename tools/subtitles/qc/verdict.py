@@ -16,6 +16,7 @@ from .checking import Answer
 from .clock import FITTED, FITTED_LATER, Clock
 from .delays import Spread, spread_of
 from .due_pages import DuePages
+from .layouts import Choice
 from .naming import Causes
 from .severity import Severity
 from .status import LOST, NOT_JUDGED, REFUSED, WAIVED, WARNED, Decision, Said, Seen, decide
@@ -58,6 +59,7 @@ class Part:
     accepted_within: int | None = None  # the least number of frames, of one that is refused
     was_read: bool = False  # something of its recording, or it has none
     hint: str = ""  # what to know of its first fault
+    otherwise: str = ""  # how the house draws, where its content is refused for that
     packets: Packets = dataclasses.field(default_factory=lambda: Packets(PES))
     asked: Asked | None = None
     due: Callable[[], DuePages] = no_pages
@@ -156,6 +158,7 @@ class Verdict:
     seconds: float = 0.0
     was_fitted: bool = False
     count: int = 0  # of the subtitles
+    layout: Choice | None = None  # that was found
 
     @property
     def is_lost(self) -> bool:

@@ -13,7 +13,9 @@ from ...core.pes import has_pts, pts_in
 from ...core.times import FRAMES_OF_A_DAY, TICKS, time_of
 from ...core.words import Stop, counted, tell
 from .carriers import NoTeletext
+from ...qc.asked import AUTO_OF_FEED
 from ...qc.clock import FITTED_SHORT
+from ...qc.options import AUTO, LAYOUT
 from ...qc.progress import Progress
 from .source import Source
 from ...qc.status import NOT_JUDGED, of_all
@@ -288,6 +290,8 @@ def judge(words: argparse.Namespace, called: str) -> int:
     """Judges the programmes of a channel until the feed has ended, or a signal ends it."""
     if words.is_resumed and words.out is None:
         raise Stop("--resume goes with -o, where the results of an earlier call are")
+    if words.passed_on.get(LAYOUT) == AUTO:
+        raise Stop(AUTO_OF_FEED)
     for one in (signal.SIGTERM, signal.SIGINT, signal.SIGHUP):
         signal.signal(one, signal.default_int_handler)
     if words.out is not None:

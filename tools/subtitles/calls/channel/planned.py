@@ -8,7 +8,7 @@ import shlex
 from typing import Iterator, NamedTuple
 
 from ...core.words import Stop, Words
-from ...qc.asked import Asked, add_pair_options, asked_of, pair_options
+from ...qc.asked import AUTO_OF_FEED, Asked, add_pair_options, asked_of, pair_options
 from ..modes import CHANNEL_LINE, refuse_options
 from ..pairs import OwnNames
 
@@ -75,7 +75,10 @@ class Planned:
         parser = line_parser()
         parser.set_defaults(recording="-", **{name: getattr(self.defaults, name)
                                               for name in pair_options()})
-        return asked_of(parser.parse_args(line))
+        asked = asked_of(parser.parse_args(line))
+        if asked.is_layout_sought:
+            raise Stop(AUTO_OF_FEED)
+        return asked
 
 
 def line_parser() -> Words:
