@@ -18,6 +18,7 @@ from .cells import place_of
 from .midnight import midnight_words
 from .off_frame import off_of
 from .option_advice import OptionAdvice
+from .subtitle_file import SubtitleFile
 from .verdict import Part, Verdict
 
 HINTED = {EMPTY_TIME, CHARACTER, OUT_OF_ORDER, OFF_FRAME, CONTROL, GAP}
