@@ -38,7 +38,8 @@ SAID = [
     ("before=0D0B0B", "0D 0B 0B before a line"), ("before=", "nothing before a line"),
     ("before=*0B0B", "its own codes, 0B 0B before a line"),
     ("before=0D*0B0B", "0D, its own codes, 0B 0B before a line"),
-    ("left=2", "2 columns free on the left"), ("strip=0A0B", "no 0A 0B of the text's own"), ("free=2", "JC 0 as JC 2"),
+    ("left=2", "2 columns free on the left"), ("strip=0A0B", "no 0A 0B of the text's own"),
+    ("free=2", "JC 0 as JC 2"),
     ("double,last", "two rows from one line to the next, the last line on row VP")]
 
 
