@@ -8,10 +8,10 @@ import unittest
 from typing import Sequence
 
 from subtitles.core.times import CLOCK, FRAMES_OF_A_DAY, TICKS, frame_in
-from subtitles.reading.alignment import (
-    AGAIN, Edge, Shown, bases_of, by_breaks, edges_of, find_row, parts_of, runs_of)
+from subtitles.reading.alignment import AGAIN, Edge, Shown, bases_of, edges_of
 from subtitles.reading.cutting import cut_of
 from subtitles.reading.finding import Origin, Sought, packets_of as packets_of_run, take_one, take_parts
+from subtitles.reading.stretches import by_breaks, find_row, parts_of, runs_of
 from subtitles.reading.survey import Change, Packets, Run
 
 SEEDS = range(20)

@@ -10,7 +10,8 @@ timing       PTS against the PCR
 receiver     what a model receiver holds, and marks in its cells
 repeat       how often a page is repeated
 languages    languages of subtitle files as PMTs have them
-alignment    for which origins edges agree: one after another, parts, the programme more than once
+alignment    for which origins edges agree
+stretches    origins one after another: parts, and the programme more than once
 finding      the origin that is found, and what is said of it
 cutting      which PES packets are of some frames
 parting      a subtitle file cut

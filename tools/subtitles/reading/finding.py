@@ -15,10 +15,9 @@ from ..core.times import (
 from ..core.words import (
     Stop, Words, add_page, add_program, add_within, breaks_word, counted, origin_word, range_word,
     range_words, tell)
-from .alignment import (
-    IN_A_ROW, MOST_APART, Base, Fit, Part, Run, Shown, Stretch, bases_of, by_breaks,
-    find_row, parts_of, runs_of)
+from .alignment import MOST_APART, Base, Fit, Shown, bases_of
 from .streams import add_stream, survey_of
+from .stretches import IN_A_ROW, Part, Run, Stretch, by_breaks, find_row, parts_of, runs_of
 from .survey import Packets, Range
 
 NEAR = 10 * FRAMES_A_SECOND  # to the origin 0
