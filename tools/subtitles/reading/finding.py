@@ -1,22 +1,17 @@
 """The origin of a recording, found and told: what tools/origin does."""
 from __future__ import annotations
 
-import argparse
 import dataclasses
 from typing import Iterator, NamedTuple, Sequence
 
 from ..core.files import whole_bytes
-from ..core.national import WORDS
 from ..core.stl import letters_on_page, readable, times_of
 from ..core.teletext import Page, page_name
 from ..core.times import (
     ALL_DAY, FRAMES_A_SECOND, FRAMES_OF_A_DAY, TICKS, Between, frame_in, pts_of, ticks_between,
     time_of, wrapped)
-from ..core.words import (
-    Stop, Words, add_page, add_program, add_within, breaks_word, counted, origin_word, range_word,
-    range_words, tell)
+from ..core.words import Stop, counted, range_words
 from .alignment import MOST_APART, Base, Fit, Shown, bases_of
-from .streams import add_stream, survey_of
 from .stretches import IN_A_ROW, Part, Run, Stretch, by_breaks, find_row, parts_of, runs_of
 from .survey import Packets, Range
 
@@ -367,40 +362,3 @@ def number_of_place(place: tuple[int, int], bases: Sequence[Base], packets: Pack
     return next((number for run in packets.inside(*base.packets) if run.last is not None
                  and ticks_between(pts, run.last) >= 0 for number in range(run.first, run.end)
                  if ticks_between(pts, run.pts_of(number) or 0) >= 0), base.packets[1])
-
-
-# ---- the tool
-
-def read_words(text: str, words: list[str]) -> argparse.Namespace:
-    """The words of the command line; `text` is the help of the tool."""
-    parser = Words(text)
-    parser.add_argument("stl", metavar="STL", help="the subtitle file")
-    parser.add_argument("name", metavar="PES",
-                        help="the recording, a file of PES packets, or with --pid a transport "
-                             "stream; - is standard input")
-    add_page(parser)
-    parser.add_argument("--option", default="english", choices=WORDS,
-                        help="the national option, english where it is left out")
-    parser.add_argument("--origin", type=origin_word, metavar="T", help="the origin that you know")
-    add_within(parser)
-    parser.add_argument("--breaks", type=breaks_word, default=0, metavar="N",
-                        help="the breaks of the programme, none where it is left out")
-    parser.add_argument("--pes", dest="inside", type=range_word, metavar="I-J",
-                        help="the numbers of the first and the last PES packet, where the "
-                             "programme is there more than once")
-    add_stream(parser)
-    add_program(parser)
-    parser.set_defaults(between=ALL_DAY)
-    return parser.parse_args(words)
-
-
-def main(text: str, words: list[str]) -> int:
-    """Prints the origin, or tells why it is not clear; answers the status."""
-    asked = read_words(text, words)
-    packets = survey_of(asked.name, asked.page, asked.pid, asked.packet_size, asked.program)
-    origin = find(Sought(*(getattr(asked, name) for name in Sought._fields)), packets)
-    for line in origin.printed:
-        print(line)
-    for line in origin.told:
-        tell(line)
-    return origin.status
