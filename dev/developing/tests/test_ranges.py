@@ -87,7 +87,7 @@ class Ranges(Case):
         day, second = self.day(), self.sent()
         for words in (("--from", "00:02:00:00", "--to", "00:01:00:00"), ("--from", "00:05:00:00"),
                       ("--to", "00:00:00:00"), (*LATER, "--to", "00:01:02:00")):
-            for recording in ([], [second]):
+            for recording in list[list[str]]([[], [second]]):
                 found = judged(self, day, *recording, *words)
                 self.must(f"{words} {recording}", found.word == "not judged" and
                           f"no subtitle of {day} is left" in found.told[-1], found.said)
@@ -120,9 +120,9 @@ class Ranges(Case):
         for words, span in ((EARLIER, (50, 190)), (LATER, (MINUTE + 50, MINUTE + 190)),
                             ((), (50, MINUTE + 190))):
             asked = Planned("list", defaults()).asked_of([day, *words])
-            waited = (Awaited(day, asked.option, 0, 1 << 40, 0, asked.between),
-                      Timed(day, asked.option, 0, 0, asked.between))
-            self.must(f"{words}", [(one.first, one.last) for one in waited] == [span] * 2)
+            sought = Awaited(day, asked.option, 0, 1 << 40, 0, asked.between)
+            timed = Timed(day, asked.option, 0, 0, asked.between)
+            self.must(f"{words}", (sought.first, sought.last) == span == (timed.first, timed.last))
 
     def test_commands(self) -> None:
         """The files that a command names; `judged` finds no others in any that is printed."""
@@ -178,10 +178,11 @@ class Read(Case):
 
     def test_titles(self) -> None:
         """A file that begins at 00:00:00:00 and goes on an hour later, at least."""
-        for begins, time in (
-                ([0, HOUR], "01:00:00:00"), ([0, HOUR - 1], None), ([1, HOUR], None), ([0], None),
-                ([], None), ([0, 0, HOUR + 25, 2 * HOUR], "01:00:01:00"), ([0, 9, HOUR], None),
-                ([HOUR, 0], None), ([0, 10 * HOUR, 9 * HOUR], "09:00:00:00"), ([0, 0], None)):
+        rows: list[tuple[list[int], str | None]] = [
+            ([0, HOUR], "01:00:00:00"), ([0, HOUR - 1], None), ([1, HOUR], None), ([0], None),
+            ([], None), ([0, 0, HOUR + 25, 2 * HOUR], "01:00:01:00"), ([0, 9, HOUR], None),
+            ([HOUR, 0], None), ([0, 10 * HOUR, 9 * HOUR], "09:00:00:00"), ([0, 0], None)]
+        for begins, time in rows:
             data = b"".join(tti_block(1, begin, begin, 20, 2, b"text") for begin in begins)
             words = title_words(SubtitleFile(self.write("one.stl", gsi_block(b"", 1, 1) + data)))
             self.must(f"{begins}", words.endswith(f"say --from {time}") if time else words == "",
@@ -194,7 +195,7 @@ class Read(Case):
         pes = self.write("one.pes", joined(sendings(self, without)))
         for title, number in (((0, 0), 21), ((0, 25), 63)):
             whole = programme(self, [title, *times], name="whole.stl", first=0)
-            for recording in ([], [pes, "--origin", "0"]):
+            for recording in list[list[str]]([[], [pes, "--origin", "0"]]):
                 found = judged(self, whole, *recording)
                 notes = [one for one in found.told if "00:00:00:00" in one]
                 self.must(f"{title} {recording}", len(notes) == 1 and notes[0].endswith(
