@@ -2,12 +2,18 @@
 send them."""
 from __future__ import annotations
 
+import os
 import random
 
 from subtitles.core.layout import (
     NAME_OF, PLAIN, Layout, Refused, drawn, layout_of, page_of, text_of)
 from subtitles.core.national import BY_WORD
+from subtitles.core.stl import gsi_block, subtitle_blocks
+from subtitles.core.teletext import Page, address_of
 from subtitles.qc.layouts import Choice, Sent, count_drawn, is_found, layout_of_sent, simplicity
+from .. import DEV
+from ..every_place.definitions import Packet, rows_in, span_of
+from ..every_place.reading import header_of, pieces_of, sending_in
 from .bench import Case
 
 ENGLISH, GERMAN = BY_WORD["english"], BY_WORD["german"]
@@ -160,3 +166,38 @@ class Searches(Case):
                   and found.drawn >= count_drawn(PLAIN, turns, ENGLISH), found)
         self.must("nine in ten", Choice(PLAIN, 90, 100).is_clear
                   and not Choice(PLAIN, 89, 100).is_clear and not Choice(PLAIN, 9, 9).is_clear)
+
+
+class Rows(Case):
+    """What the program sends of a text and a layout, and that it accepts it: `dev/vectors/
+    layouts.tsv` has the bytes of a text, VP, JC, the TEXT or `-`, and each row that is sent, its
+    column and its cells, or the line that is printed."""
+
+    def test_schedule_sends_and_check_accepts(self) -> None:
+        with open(os.path.join(DEV, "vectors", "layouts.tsv"), encoding="utf-8") as file:
+            rows = [line.split("\t") for line in file.read().splitlines()]
+        self.must("all rows", len(rows) == 146)
+        for number, (text, row, justify, layout, want) in enumerate(rows):
+            stl = self.write("one.stl", gsi_block(b"One", 1, 1) + subtitle_blocks(
+                1, 0, 50, int(row), int(justify), bytes.fromhex(text)))
+            words = [] if layout == "-" else ["--layout", layout]
+            name = f"{number}: {text} {row} {justify} {layout}"
+            done = self.call([self.bench.program, "schedule", stl, "one.pes", *words])
+            if done.status:
+                self.must(name, done.out.decode() == f"{want}\n", (done, want))
+                continue
+            self.must(name, sent_in(self.read("one.pes")) == ("" if want == "blank" else want),
+                      (sent_in(self.read("one.pes")), want))
+            done = self.call([self.bench.program, "check", stl, "one.pes", *words])
+            self.must(f"{name}: check", done.out == b"accepted 51 frames 2 transmissions\n", done)
+
+
+def sent_in(pes: bytes) -> str:
+    """The rows of the first page transmission, each with its number, its column and its cells."""
+    page: Page = (0, 0x88)
+    sending = sending_in(pieces_of(pes)[0][0], 0, 0)
+    assert not isinstance(sending, int)
+    packets = [Packet(one, address_of(one), header_of(one)) for one in sending[1]]
+    rows = rows_in(span_of(packets, page)[0], page)
+    return "; ".join(f"{number} {len(codes) - len(codes.lstrip(b' '))} {codes.strip(b' ').hex()}"
+                     for number, codes in sorted(rows.items()))
