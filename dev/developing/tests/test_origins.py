@@ -8,13 +8,14 @@ from subtitles.core.pes import MARK, data_field, pes_packet, pts_in, teletext_pa
 from subtitles.core.stl import boxed, gsi_block, subtitle_blocks
 from subtitles.core.teletext import packet
 from subtitles.core.times import CLOCK, TICKS, time_of
-from subtitles.reading.finding import (
-    Agreement, Origin, Sought, find, main, read_words)
+from subtitles.reading.finding import Agreement, Origin, Sought, find
 from subtitles.reading.streams import survey_of
 from .at_random import in_process
-from .bench import Case, alone, example, example_bytes, moved, packets, random_subtitles
+from .bench import (
+    Case, alone, example, example_bytes, moved, packets, random_subtitles, script)
 from .parts import CLOSING, HEADER, row
 
+TOOL = script("origin")
 FIRST, COUNT = 1_000_000, 12  # the frame of the first subtitle; how many there are
 Times = Sequence[tuple[int, int, bytes]]  # subtitles: when they come, when they go, their texts
 
@@ -42,7 +43,7 @@ class Origins(Case):
     def find(self, stl: str, pes: Sequence[bytes], *words: str) -> Origin:
         """What is found of a subtitle file and PES packets."""
         path = self.write("one.pes", b"".join(pes))
-        asked = read_words("", [*words, "--", stl, path])
+        asked = TOOL.read_words([*words, "--", stl, path])
         return find(Sought(*(getattr(asked, name) for name in Sought._fields)),
                     survey_of(path, asked.page, None, 188, self.bench.program))
 
@@ -226,7 +227,7 @@ class Origins(Case):
         pes = self.sent(0, [0] * 6 + [1600] * 6)
         found = self.find(self.own(), pes, "--breaks", "1")
         words = ["origin", "-p", self.bench.program, "--breaks", "1", self.own(), self.write("one.pes", b"".join(pes))]
-        status, out, told = in_process(lambda line: main("", line), words)
+        status, out, told = in_process(TOOL.main, words)
         self.must("all", (status, out.splitlines(), told.splitlines()) == (
             0, found.printed, [f"origin: {line}" for line in found.told]) and
                   (len(found.printed), len(found.told)) == (2, 4), (out, told))
