@@ -225,6 +225,9 @@ class Feeds(Case):
             running = Running(self, stl, "-", "--every", str(EVERY), "--no-complete", "--origin",
                               str(ORIGIN), "--json", "one.json", "-o", "out")
             running.put(b"".join(half))
+            end = time.monotonic() + SOON
+            while not os.listdir(running.folder) and time.monotonic() < end:
+                time.sleep(0.05)  # it has not begun
             time.sleep(1.0)
             os.kill(running.process.pid, one)
             status = running.ends()
