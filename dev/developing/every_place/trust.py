@@ -144,8 +144,9 @@ class Trust:
             end = self.ends.get(self.last)
         elif event.is_end and event.frame is not None and self.ends[event.frame].is_late:
             end = self.ends[event.frame]
-        if self.is_refused and self.ends[last].since is not None:
-            end = self.ends[last]
+        own = self.ends.get(last)
+        if self.is_refused and own is not None and own.since is not None:
+            end = own
         return last if end is None or end.since is None else end.since - 1
 
 
