@@ -1,5 +1,5 @@
 -- What is left of a file after some of its subtitles, and what was told of these; main lemmas:
--- goes_on-next, tells-stopped, tells-unread.
+-- goes_on-next, tells-unread.
 use Rattle.std.proofs.Common.{rules, ◌≡◌, ◌<◌, ◌≤◌, ◌+◌, ℕ, Bool, true, false, List, ◌∷◌, ◌++◌, []}
 use Rattle.std.proofs.Common.{take, length, map, Option, Some, None, Ok, refl, sym}
 use Rattle.std.proofs.Common.{◌∙◌, ap, inl, arith, length-take, append_assoc, append-nil}
