@@ -44,7 +44,7 @@ MOST_LOST = 5  # places that are told in the box; more are unfolded
 SAYS = ("The verdict and the faults are lines that <code>subttx check --all</code> printed, and "
         "nothing else on this page accepts or refuses. The pictures are drawn by a script that is "
         "not proved; they show one receiver, tuned in before the first packet.")
-LOST_WORDS = "TS packets of the recording are lost: nobody saw what was sent there"
+LOST_WORDS = "TS packets of the recording are lost: that part was not recorded"
 ACCEPTED_WORDS = ("Frames are counted from the first PES packet's to the last one's, "
                   "transmissions by the headers of the page.")
 
