@@ -106,7 +106,7 @@ def document(line: str, title: str, parts: Iterable[str]) -> str:
             '<html xmlns="http://www.w3.org/1999/xhtml" lang="en"><head><meta charset="UTF-8"/>'
             '<meta name="viewport" content="width=device-width, initial-scale=1"/>'
             f"<title>{shown(line)} &#8211; {shown(title)}</title>"
-            f"<style>\n{style}</style></head><body><h1>Preview of {shown(title)}</h1>")
+            f"<style>\n{style}</style></head><body><h1>Report on {shown(title)}</h1>")
     return "\n".join([head, *parts, "</body></html>\n"])
 
 
