@@ -64,8 +64,8 @@ receiver shows what stands in boxes alone, and what stands outside of them is fa
 letters are underlined with dots. Cells whose code differs from the due page's are framed in orange
 and black. Dotted cells are those of the receiver's old page which nobody sent or erased since it
 was tuned in; dashed ones came with even parity. Mosaics are drawn as &#9618;, and what is concealed
-is shown. Under each large picture stand its rows as <code>subttx listen --at</code> prints them:
-codes as ASCII, and spacing attributes as dots.</p>"""
+is shown. Under each large picture are folded away its rows, as <code>subttx listen --at</code>
+prints them (codes as ASCII, and spacing attributes as dots), and what its header says.</p>"""
 
 
 TRUSTED = ("<p><b>Trusted.</b> Green lines below the axis are the frames that <code>check --all"
