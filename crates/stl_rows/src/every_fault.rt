@@ -85,11 +85,7 @@ pub fn load_all<S: Source, D: Audience<LoadFault>>(
     ensures kinds { IfErr result (λ f. (f.kind ≡ Memory) ⊎ (f.kind ≡ File Read)) }
     ensures count { CountsIf S.failure_count source.old (failed is_read result) source.new }
 {
-    let drawing = Drawing {
-        national,
-        layout,
-        scope,
-    };
+    let drawing = Drawing::new(national, layout, scope);
     match load_all_in(alloc, source, drawing, audience) {
         Ok(Some(subtitles)) => Ok(Some(Programme::of(drawing, subtitles))),
         Ok(None) => Ok(None),

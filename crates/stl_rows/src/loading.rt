@@ -61,11 +61,7 @@ pub fn load<S: Source>(
         (S.remaining source.old) (S.remaining source.new) f.block) }
     ensures count { CountsIf S.failure_count source.old (failed is_read result) source.new }
 {
-    let drawing = Drawing {
-        national,
-        layout,
-        scope,
-    };
+    let drawing = Drawing::new(national, layout, scope);
     match load_in(alloc, source, drawing) {
         Ok(subtitles) => Ok(Programme::of(drawing, subtitles)),
         Err(fault) => Err(fault),

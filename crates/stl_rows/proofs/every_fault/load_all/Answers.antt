@@ -1,6 +1,7 @@
 -- The programme has the subtitles that were loaded.
+use Rattle.std.proofs.Common.{sym}
 use Rattle.stl_rows.proofs.every_fault.load_all.Goals as goal
 
 pub returns-in-Ok-Some-clause-exact : goal.returns-in-Ok-Some-clause-exact
 returns-in-Ok-Some-clause-exact g c = λ bytes e.
-    rw c.of.ensures (rw c.in-Ok-Some.field-0-is at (c.in-Ok-Some.ensures.exact bytes e))
+    rw (c.of.ensures, sym c.new-drawing.ensures) (rw c.in-Ok-Some.field-0-is at (c.in-Ok-Some.ensures.exact bytes e))
