@@ -4,7 +4,7 @@
 -- No time of what is refused is asked: from the last subtitle before it that can be relied on to
 -- the next one, every page may be due.
 use Rattle.std.specs.Prelude.{◌≡◌, ℕ, Bool, false, true, ◌&&◌, ◌||◌, nat_le, nat_lt, List, [], ◌∷◌}
-use Rattle.std.specs.Prelude.{if◌then◌else◌, is_none, map, Option, Some, None, All, IsOk}
+use Rattle.std.specs.Prelude.{if◌then◌else◌, is_none, map, Option, Some, None, All, IsOk, Ok, ◌⊎◌}
 use Rattle.stl_file.specs.Reader.{findings_for}
 use Rattle.stl_file.specs.Reading.{Findings, breaks, finds, no_more, refuses}
 use Rattle.stl_file.specs.Subtitle.{SubtitleValue}
@@ -13,7 +13,7 @@ use Rattle.stl_rows.specs.declared.layout.Drawing.{Drawing}
 use Rattle.stl_rows.specs.declared.times.Times.{Times}
 use Rattle.stl_rows.specs.DrawnPage.{drawn}
 use Rattle.stl_rows.specs.EveryFault.{faults}
-use Rattle.stl_rows.specs.Loading.{records_of}
+use Rattle.stl_rows.specs.Loading.{loaded, records_of}
 use Rattle.stl_rows.specs.Programme.{ProgrammeValue, follow_faults, order_faults, times_of}
 use Rattle.stl_rows.specs.TextCode.{first_of}
 
@@ -130,6 +130,15 @@ is_undecided_in j frame = is_undecided (all_of j) frame
 abbrev pub known : ProgrammeValue → JudgedValue
 known programme =
     record { programme = programme; behind_other = []; is_before_other = false }
+
+-- It is what a file gives to judge by: all of the file where nothing is told of it; else what can
+-- be relied on, where a transmission is judged by that.
+pub record JudgesBy (drawing : Drawing) (file : List ℕ) (j : JudgedValue) : Type 0 where
+  pub all : all_of j ≡ judged_of drawing file
+  pub enough : (judges drawing file ≡ true) ⊎ (faults drawing file ≡ [])
+  pub whole :
+      faults drawing file ≡ []
+      → (loaded drawing file ≡ Ok j.programme) × (j ≡ known j.programme)
 
 -- ---- laws
 

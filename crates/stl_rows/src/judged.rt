@@ -2,8 +2,13 @@
 
 ghost use Rattle.std.specs.Prelude.{◌≡◌};
 ghost use Rattle.stl_rows.specs.Judged.{LawOfKnown, is_undecided_in, known};
+ghost use Rattle.stl_rows.specs.Keeping.{judged_with};
+ghost use Rattle.stl_rows.specs.Programme.{IsProgramme};
 
+use crate::keeping::Kept;
+use crate::layout::Drawing;
 use crate::programme::Programme;
+use std::alloc::Global;
 use std::marker::Model;
 
 /// The subtitles of a file that can be relied on, and between which of them others stand.
@@ -54,20 +59,19 @@ impl<'a> Model for Judging<'a> {
 }
 
 impl JudgedProgramme {
-    // The programme of these subtitles, with their bits.
-    pub(crate) fn of(
-        programme: Programme,
-        behind_other: Vec<bool>,
-        is_before_other: bool,
-    ) -> JudgedProgramme
-        ensures { result ≡ record {
-          programme = programme;
-          behind_other = behind_other.items;
-          is_before_other = is_before_other;
-        } }
+    // The programme of what was kept of a file, with its bits.
+    pub(crate) fn of(drawing: Drawing, kept: Kept<Global>) -> JudgedProgramme
+        requires { IsProgramme drawing kept.records }
+        ensures { result ≡ judged_with drawing kept }
     {
+        let Kept {
+            subtitles,
+            behind_other,
+            is_before_other,
+            is_latest: _,
+        } = kept;
         JudgedProgramme {
-            programme,
+            programme: Programme::of(drawing, subtitles),
             behind_other,
             is_before_other,
         }

@@ -73,7 +73,7 @@ pub fn load<S: Source>(
 /// # Errors
 ///
 /// Those of `load`.
-pub fn load_in<A: Allocator + Drop, S: Source>(
+pub fn load_in<A: Allocator + Copy, S: Source>(
     alloc: A,
     source: &mut S,
     drawing: Drawing,
@@ -91,7 +91,7 @@ pub fn load_in<A: Allocator + Drop, S: Source>(
 {
     let mut first = FirstTold::new();
     match load_all_in(alloc, source, drawing, &mut first) {
-        Ok(Some(subtitles)) => Ok(subtitles),
+        Ok(Some(kept)) => Ok(kept.into_subtitles()),
         Ok(None) => match first.into_first() {
             Some(fault) => Err(fault),
             None => unreachable!(),
