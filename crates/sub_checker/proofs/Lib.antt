@@ -11,3 +11,4 @@ pub mod StageLemmas
 pub mod TakingLemmas
 pub mod TellingLemmas
 pub mod TrustLemmas
+pub mod UndecidedLemmas
