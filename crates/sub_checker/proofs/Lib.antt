@@ -12,3 +12,4 @@ pub mod TakingLemmas
 pub mod TellingLemmas
 pub mod TrustLemmas
 pub mod UndecidedLemmas
+pub mod WholeLemmas

@@ -62,7 +62,8 @@ starts = grind (arith, nat_tests)
 -- After a mark it is so too.
 keeps : (m : Mark) (past : List Mark) (t : Trust) → IsKept past t
     → IsKept (m ∷ past) (after_mark m t)
-unfolding after_mark pes_told last_begun stays_quiet since_of late_of back_of run_of whole_of tells_fall
+unfolding after_mark pes_told last_begun stays_quiet since_of late_of back_of run_of whole_of
+    tells_fall
 keeps (Says e) past t k =
     let now = doubted_now past e in
     let order = order_fall e in

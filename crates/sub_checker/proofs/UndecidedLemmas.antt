@@ -3,8 +3,8 @@
 -- `known_never`.
 use Rattle.std.proofs.lemmas.Bool.Decides.{nat_tests}
 use Rattle.std.proofs.Common.{◌≡◌, ℕ, zero, suc, ◌+◌, ◌-◌, ◌<◌, ◌≤◌, ◌⊎◌, Bool, true, false, ◌&&◌}
-use Rattle.std.proofs.Common.{List, [], ◌∷◌, Option, Some, None, refl, sym, ap, ◌∙◌, arith, inl, inr}
-use Rattle.std.proofs.Common.{nat_lt, subst}
+use Rattle.std.proofs.Common.{List, [], ◌∷◌, Option, Some, None, refl, sym, ap, ◌∙◌, arith}
+use Rattle.std.proofs.Common.{inl, inr, nat_lt, subst}
 use Rattle.std.proofs.lemmas.Bool.{cases_lt}
 use Rattle.stl_file.specs.Subtitle.{SubtitleValue}
 use Rattle.stl_file.specs.TimeCode.{day}
@@ -133,7 +133,8 @@ module _ (j : JudgedValue) (first within frame : ℕ) (edge : Option ℕ)
       → IsKnownFrom (is_undecided_beside j) first within frame edge 0
   known_none none f low small before =
       none_below f
-      ∙ sym (was-none (is_undecided_beside j) first f within (ap (λ b. b && is_undecided_in j f) none)
+      ∙ sym (was-none (is_undecided_beside j) first f within
+      (ap (λ b. b && is_undecided_in j f) none)
       (λ e m reach until. ap (λ b. b && is_undecided_in j e) none))
 
   module _ (is : is_beside j ≡ true) where

@@ -115,8 +115,8 @@ fn close<A: Audience<Event>>(
     tell_rest(checker, pes, fault, stage)
 }
 
-// Whether what is trusted is told whatever came before: beside what is refused of the subtitle file,
-// or since anything is told after the last piece.
+// Whether what is trusted is told whatever came before: beside what is refused of the subtitle
+// file, or since anything is told after the last piece.
 fn tells_trusted(checker: &Checker<'_>, pes: u32, fault: Option<CheckFault>) -> bool
     ensures { (g : Task) (list : Transmission) (last : List (List ℕ))
         → Follows g list (length list) last checker.now

@@ -39,7 +39,7 @@ impl<'a> Checker<'a> {
     // Whether it is known by a few comparisons that nothing stood broken at the last end, and that
     // nothing does at the frame that was reached: so it is most often.
     #[inline(always)]
-    #[tactic(auto, using(crate::proofs::EndingLemmas::quiet_stands))]
+    #[tactic(auto, using(crate::proofs::WholeLemmas::quiet_stands))]
     fn is_quiet(&self) -> bool
         ensures { (heard : List (List ℕ)) → Knows heard self.now.listener → IsTrue result
             → (self.now.standing ≡ nothing_stands) × (stands heard self.now ≡ nothing_stands)

@@ -8,9 +8,9 @@ ghost use Rattle.sub_checker.specs.Checker.{IsKnownFrom};
 
 use stl_rows::Judging;
 
-/// The frame from which on, up to the next edge, it is known what is due and what was due at each of
-/// the `within` frames before, none of them before the frame `first`: none of these frames, where
-/// it is not known at this one, and 0, where it was known all the time.
+/// The frame from which on, up to the next edge, it is known what is due, and what was at each of
+/// the `within` frames before, none of them before the frame `first`. It is a number above all
+/// frames where that is not known at this one, and 0 where it was known all the time.
 pub(crate) fn known_from(
     judging: &Judging<'_>,
     beside: bool,

@@ -2,7 +2,7 @@
 use Rattle.std.proofs.Common.{◌≡◌, subst}
 use Rattle.sub_plan.specs.Schedule.{due_in}
 use Rattle.sub_checker.specs.Checker.{CheckerValue}
-use Rattle.sub_checker.proofs.EndingLemmas.{none_undue}
+use Rattle.sub_checker.proofs.WholeLemmas.{none_undue}
 use Rattle.sub_checker.proofs.checker.Checker.first_undue.Goals as goal
 
 pub returns-then-is_none : goal.returns-then-is_none
