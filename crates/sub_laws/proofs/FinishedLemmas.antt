@@ -34,100 +34,100 @@ none_is o e = grind (arith, nat_tests)
 -- ---- the end of a frame
 
 module _ (programme : ProgrammeValue) (options : OptionsValue) (unread : Option Unread)
-    (beside : Bool) (undecided : ℕ → Bool) (t : Transmission) (rises : RiseTo t (length t))
-  where
-    abbrev g : Task
-    g = task_unsure programme options unread beside undecided
+    (beside : Bool) (undecided : ℕ → Bool) (t : Transmission)
+    (rises : RiseTo t (length t)) where
+  abbrev g : Task
+  g = task_unsure programme options unread beside undecided
 
-    -- The first frame.
-    abbrev first : ℕ
-    first = frame_at t 0
+  -- The first frame.
+  abbrev first : ℕ
+  first = frame_at t 0
 
-    -- A frame's end is unfinished, by what is on air up to it.
-    abbrev un : ℕ → Bool
-    un = unfinished_at g t rises
+  -- A frame's end is unfinished, by what is on air up to it.
+  abbrev un : ℕ → Bool
+  un = unfinished_at g t rises
 
-    -- A frame is finished exactly where its end is not unfinished, and it is known what is due there.
-    pub finished_of : (n f : ℕ) → IsEnd t n f → undecided f ≡ false
-        → is_unfinished g t n f ≡ false
-        → IsFinished programme t options f
-    finished_of n f end known e =
-        let on = end_is_on_air t rises n f end in
-        let parts = or_parts (is_some (wrong_cell g t n f)) (is_incomplete g t n) e in
-        let shut = (incomplete_decided g t n f).0 (ap not parts.1) in
-        record {
-          shows = λ row column named.
-              ap (λ ps. shown options.page ps row column) on
-              ∙ none_wrong g t n f (none_is _ parts.0) known row column named;
-          ended = λ asks.
-              subst (λ ps. IsFalse (is_open_after (kind options.page) ps)) (sym on) (shut asks);
-        }
+  -- A frame is finished exactly where its end is not unfinished, and it is known what is due there.
+  pub finished_of : (n f : ℕ) → IsEnd t n f → undecided f ≡ false
+      → is_unfinished g t n f ≡ false
+      → IsFinished programme t options f
+  finished_of n f end known e =
+      let on = end_is_on_air t rises n f end in
+      let parts = or_parts (is_some (wrong_cell g t n f)) (is_incomplete g t n) e in
+      let shut = (incomplete_decided g t n f).0 (ap not parts.1) in
+      record {
+        shows = λ row column named.
+            ap (λ ps. shown options.page ps row column) on
+            ∙ none_wrong g t n f (none_is _ parts.0) known row column named;
+        ended = λ asks.
+            subst (λ ps. IsFalse (is_open_after (kind options.page) ps)) (sym on) (shut asks);
+      }
 
-    pub of_finished : (n f : ℕ) → IsEnd t n f → IsFinished programme t options f
-        → is_unfinished g t n f ≡ false
-    of_finished n f end finished =
-        let on = end_is_on_air t rises n f end in
-        let wrong : wrong_cell g t n f ≡ None =
-        no_wrong g t n f
-        (λ row column named.
-        ap (λ ps. shown options.page ps row column) (sym on) ∙ finished.shows row column named) in
-        let shut : is_incomplete g t n ≡ false =
-        not_not _
-        ((incomplete_decided g t n f).1
-        (λ asks.
-        subst (λ ps. IsFalse (is_open_after (kind options.page) ps)) on (finished.ended asks))) in
-        rw (wrong, shut) refl
+  pub of_finished : (n f : ℕ) → IsEnd t n f → IsFinished programme t options f
+      → is_unfinished g t n f ≡ false
+  of_finished n f end finished =
+      let on = end_is_on_air t rises n f end in
+      let wrong : wrong_cell g t n f ≡ None =
+      no_wrong g t n f
+      (λ row column named.
+      ap (λ ps. shown options.page ps row column) (sym on) ∙ finished.shows row column named) in
+      let shut : is_incomplete g t n ≡ false =
+      not_not _
+      ((incomplete_decided g t n f).1
+      (λ asks.
+      subst (λ ps. IsFalse (is_open_after (kind options.page) ps)) on (finished.ended asks))) in
+      rw (wrong, shut) refl
 
-    -- Each frame from the first to the last has an end.
-    pub frame_end : (f : ℕ) → 0 < length t → first ≤ f → f ≤ end_frame t → (n : ℕ) × IsEnd t n f
-    frame_end f some low high =
-        let (n, end, on, from) = end_at t rises f some low high in (n, end)
+  -- Each frame from the first to the last has an end.
+  pub frame_end : (f : ℕ) → 0 < length t → first ≤ f → f ≤ end_frame t → (n : ℕ) × IsEnd t n f
+  frame_end f some low high =
+      let (n, end, on, from) = end_at t rises f some low high in (n, end)
 
-    pub finished_at : (f : ℕ) → 0 < length t → first ≤ f → f ≤ end_frame t → undecided f ≡ false
-        → un f ≡ false
-        → IsFinished programme t options f
-    finished_at f some low high known e =
-        let (n, end) = frame_end f some low high in
-        finished_of n f end known (unfinished_is g t rises n f end ∙ e)
+  pub finished_at : (f : ℕ) → 0 < length t → first ≤ f → f ≤ end_frame t → undecided f ≡ false
+      → un f ≡ false
+      → IsFinished programme t options f
+  finished_at f some low high known e =
+      let (n, end) = frame_end f some low high in
+      finished_of n f end known (unfinished_is g t rises n f end ∙ e)
 
-    pub at_finished : (f : ℕ) → 0 < length t → first ≤ f → f ≤ end_frame t
-        → IsFinished programme t options f
-        → un f ≡ false
-    at_finished f some low high finished =
-        let (n, end) = frame_end f some low high in
-        sym (unfinished_is g t rises n f end) ∙ of_finished n f end finished
+  pub at_finished : (f : ℕ) → 0 < length t → first ≤ f → f ≤ end_frame t
+      → IsFinished programme t options f
+      → un f ≡ false
+  at_finished f some low high finished =
+      let (n, end) = frame_end f some low high in
+      sym (unfinished_is g t rises n f end) ∙ of_finished n f end finished
 
-    -- Since which frame the ends are unfinished at an end.
-    pub since_is : (n f : ℕ) → IsEnd t n f
-        → unfinished_since g t n f ≡ since_at un first (f - first)
-    since_is n f end =
-        let low = end_high t rises n f end in
-        since_end g t rises (f - first) n f end (omega arith)
+  -- Since which frame the ends are unfinished at an end.
+  pub since_is : (n f : ℕ) → IsEnd t n f
+      → unfinished_since g t n f ≡ since_at un first (f - first)
+  since_is n f end =
+      let low = end_high t rises n f end in
+      since_end g t rises (f - first) n f end (omega arith)
 
-    -- There is none where it is finished, and else one.
-    pub no_since : (n f : ℕ) → IsEnd t n f → is_unfinished g t n f ≡ false
-        → unfinished_since g t n f ≡ None
-    no_since n f end e =
-        let low = end_high t rises n f end in
-        let at : f ≡ first + (f - first) = omega arith in
-        since_is n f end
-        ∙ none_since un first (f - first)
-        (ap un (sym at) ∙ sym (unfinished_is g t rises n f end) ∙ e)
+  -- There is none where it is finished, and else one.
+  pub no_since : (n f : ℕ) → IsEnd t n f → is_unfinished g t n f ≡ false
+      → unfinished_since g t n f ≡ None
+  no_since n f end e =
+      let low = end_high t rises n f end in
+      let at : f ≡ first + (f - first) = omega arith in
+      since_is n f end
+      ∙ none_since un first (f - first)
+      (ap un (sym at) ∙ sym (unfinished_is g t rises n f end) ∙ e)
 
-    pub since_no : (n f : ℕ) → IsEnd t n f → unfinished_since g t n f ≡ None
-        → is_unfinished g t n f ≡ false
-    since_no n f end e =
-        let low = end_high t rises n f end in
-        let at : f ≡ first + (f - first) = omega arith in
-        unfinished_is g t rises n f end
-        ∙ ap un at
-        ∙ since_none un first (f - first) (sym (since_is n f end) ∙ e)
+  pub since_no : (n f : ℕ) → IsEnd t n f → unfinished_since g t n f ≡ None
+      → is_unfinished g t n f ≡ false
+  since_no n f end e =
+      let low = end_high t rises n f end in
+      let at : f ≡ first + (f - first) = omega arith in
+      unfinished_is g t rises n f end
+      ∙ ap un at
+      ∙ since_none un first (f - first) (sym (since_is n f end) ∙ e)
 
-    -- An end that is not overdue is late only where no frames are allowed.
-    pub late_is : (n f : ℕ) → is_overdue g first (unfinished_since g t n f) f ≡ false
-        → is_late g t n f ≡ (options.within == 0)
-    unfolding is_late
-    late_is n f e = rw e (or_false (options.within == 0))
-      where
-        or_false : (b : Bool) → (b || false) ≡ b
-        or_false b = grind (arith, nat_tests)
+  -- An end that is not overdue is late only where no frames are allowed.
+  pub late_is : (n f : ℕ) → is_overdue g first (unfinished_since g t n f) f ≡ false
+      → is_late g t n f ≡ (options.within == 0)
+  unfolding is_late
+  late_is n f e = rw e (or_false (options.within == 0))
+    where
+      or_false : (b : Bool) → (b || false) ≡ b
+      or_false b = grind (arith, nat_tests)

@@ -40,132 +40,131 @@ not_false b h1 = grind (arith, nat_tests)
 -- ---- a clean stretch
 
 module _ (programme : ProgrammeValue) (transmission : Transmission) (options : OptionsValue)
-    (unread : Option Unread) (beside : Bool) (undecided : ℕ → Bool) (a b : ℕ)
-    (untold : IsUntold (task_unsure programme options unread beside undecided) transmission a b)
-  where
-    -- What it is checked against.
-    abbrev g : Task
-    g = task_unsure programme options unread beside undecided
+    (unread : Option Unread) (beside : Bool) (undecided : ℕ → Bool) (a b : ℕ) (untold :
+    IsUntold (task_unsure programme options unread beside undecided) transmission a b) where
+  -- What it is checked against.
+  abbrev g : Task
+  g = task_unsure programme options unread beside undecided
 
-    -- Its packets keep the rules of which nothing is told.
-    kept : (r : PacketRule) → IsTrue (is_needed r) → (r ≡ rule.RowChanged → ⊥)
-        → AtPackets (KeepsRule r g.watched) transmission a b
-    kept r needed other i k l m low high =
-        (refuted _ (rule_decided g.watched _ _ r (λ e. absurd (other e)))).0
-        (untold.packets r needed i k l m low high)
+  -- Its packets keep the rules of which nothing is told.
+  kept : (r : PacketRule) → IsTrue (is_needed r) → (r ≡ rule.RowChanged → ⊥)
+      → AtPackets (KeepsRule r g.watched) transmission a b
+  kept r needed other i k l m low high =
+      (refuted _ (rule_decided g.watched _ _ r (λ e. absurd (other e)))).0
+      (untold.packets r needed i k l m low high)
 
-    -- While the page is open a row has the codes of the first packet of its row since the last header
-    -- of the page.
-    same_codes : AtPackets (λ heard p. IsTrue (is_open_after (kind options.page) heard)
-        → (row : ℕ) (first : List ℕ)
-        → kind options.page p ≡ Row row
-        → find (λ q. is_row row (kind options.page q)) (span (kind options.page) heard) ≡ Some first
-        → (column : ℕ)
-        → column < 40
-        → slice_index (codes_of first) column ≡ slice_index (codes_of p) column) transmission a b
-    unfolding breaks
-    same_codes i k l m low high up row first is found column below =
-        let equal = untold.packets rule.RowChanged refl i k l m low high in
-        grind (arith, nat_tests, last_of_two, columns_zero, not_false)
+  -- While the page is open a row has the codes of the first packet of its row since the last header
+  -- of the page.
+  same_codes : AtPackets (λ heard p. IsTrue (is_open_after (kind options.page) heard)
+      → (row : ℕ) (first : List ℕ)
+      → kind options.page p ≡ Row row
+      → find (λ q. is_row row (kind options.page q)) (span (kind options.page) heard) ≡ Some first
+      → (column : ℕ)
+      → column < 40
+      → slice_index (codes_of first) column ≡ slice_index (codes_of p) column) transmission a b
+  unfolding breaks
+  same_codes i k l m low high up row first is found column below =
+      let equal = untold.packets rule.RowChanged refl i k l m low high in
+      grind (arith, nat_tests, last_of_two, columns_zero, not_false)
 
-    -- Each packet may follow those before it.
-    fit :
-        (i k : ℕ)
-        → i < length transmission
-        → k < length (packets_of_frame transmission i)
-        → a ≤ frame_at transmission i
-        → frame_at transmission i ≤ b
-        → MayFollow false options.page (before transmission i k) (packet_at transmission i k)
-    fit i k l m low high = record {
-      exact = (
-        kept rule.Address refl (λ is. cc) i k l m low high,
-        kept rule.HeaderCode refl (λ is. cc) i k l m low high,
-      );
-      erases = λ none h is. (kept rule.Control refl (λ is. cc) i k l m low high h is).erases;
-      odd = λ up row is. kept rule.Parity refl (λ is. cc) i k l m low high up row is;
-      same = λ up row column first is found below.
-          sym (code_of_column first column)
-          ∙ same_codes i k l m low high up row first is
-          (ap (find (λ (q : List ℕ). is_row row (kind options.page q)))
-          (sym (text_span-none_keeps (kind options.page) (before transmission i k)))
-          ∙ found)
-          column below
-          ∙ code_of_column (slice_index_or (packets_of_frame transmission i) k []) column;
-    }
+  -- Each packet may follow those before it.
+  fit :
+      (i k : ℕ)
+      → i < length transmission
+      → k < length (packets_of_frame transmission i)
+      → a ≤ frame_at transmission i
+      → frame_at transmission i ≤ b
+      → MayFollow false options.page (before transmission i k) (packet_at transmission i k)
+  fit i k l m low high = record {
+    exact = (
+      kept rule.Address refl (λ is. cc) i k l m low high,
+      kept rule.HeaderCode refl (λ is. cc) i k l m low high,
+    );
+    erases = λ none h is. (kept rule.Control refl (λ is. cc) i k l m low high h is).erases;
+    odd = λ up row is. kept rule.Parity refl (λ is. cc) i k l m low high up row is;
+    same = λ up row column first is found below.
+        sym (code_of_column first column)
+        ∙ same_codes i k l m low high up row first is
+        (ap (find (λ (q : List ℕ). is_row row (kind options.page q)))
+        (sym (text_span-none_keeps (kind options.page) (before transmission i k)))
+        ∙ found)
+        column below
+        ∙ code_of_column (slice_index_or (packets_of_frame transmission i) k []) column;
+  }
 
-    -- Each frame of the list is after the one before.
-    pub rising : RiseTo transmission (length transmission)
-    rising = rises_each transmission untold.rising
+  -- Each frame of the list is after the one before.
+  pub rising : RiseTo transmission (length transmission)
+  rising = rises_each transmission untold.rising
 
-    -- Each frame of the stretch has an end, at which what is on air up to it counts.
-    pub end_of : (f : ℕ) → a ≤ f → f ≤ b
-        → (n : ℕ)
-        × IsEnd transmission n f
-        × (on_air_until transmission f ≡ packets_before transmission n)
-        × (frame_at transmission (n - 1) ≤ f)
-    end_of = stretches.end_of transmission a b untold.stretch untold.rising
+  -- Each frame of the stretch has an end, at which what is on air up to it counts.
+  pub end_of : (f : ℕ) → a ≤ f → f ≤ b
+      → (n : ℕ)
+      × IsEnd transmission n f
+      × (on_air_until transmission f ≡ packets_before transmission n)
+      × (frame_at transmission (n - 1) ≤ f)
+  end_of = stretches.end_of transmission a b untold.stretch untold.rising
 
-    gap_is : (n f : ℕ) → IsEnd transmission n f → a ≤ f → f ≤ b → is_gap g transmission n f ≡ false
-    unfolding standing_at
-    gap_is n f end low high = untold.gap n f end low high
+  gap_is : (n f : ℕ) → IsEnd transmission n f → a ≤ f → f ≤ b → is_gap g transmission n f ≡ false
+  unfolding standing_at
+  gap_is n f end low high = untold.gap n f end low high
 
-    -- At each frame's end a header of the page is less than the repeat bound ago, or the first frame
-    -- is.
-    covered :
-        (f : ℕ)
-        → a ≤ f
-        → f ≤ b
-        → (f + 1 < first_frame transmission + options.every)
-        ⊎ ((j : ℕ)
-        × (j < length transmission)
-        × (frame_at transmission j ≤ f)
-        × (f < frame_at transmission j + options.every)
-        × HasHeader g transmission j)
-    covered f low high =
-        let first = first-same transmission in
-        let (n, end, on, before) = end_of f low high in
-        elim ((gap_decided g transmission n f end.1).0 (ap not (gap_is n f end low high))) [
-          | inl early ↦ inl (omega arith)
-          | inr (j, l, late, has) ↦
-              let rises =
-              rises_to transmission (length transmission) rising j (n - 1) (omega arith)
-              (omega (arith, end.0, end.1)) in
-              inr (j, omega (arith, end.1), omega arith, late, has)
-        ]
+  -- At each frame's end a header of the page is less than the repeat bound ago, or the first frame
+  -- is.
+  covered :
+      (f : ℕ)
+      → a ≤ f
+      → f ≤ b
+      → (f + 1 < first_frame transmission + options.every)
+      ⊎ ((j : ℕ)
+      × (j < length transmission)
+      × (frame_at transmission j ≤ f)
+      × (f < frame_at transmission j + options.every)
+      × HasHeader g transmission j)
+  covered f low high =
+      let first = first-same transmission in
+      let (n, end, on, before) = end_of f low high in
+      elim ((gap_decided g transmission n f end.1).0 (ap not (gap_is n f end low high))) [
+        | inl early ↦ inl (omega arith)
+        | inr (j, l, late, has) ↦
+            let rises =
+            rises_to transmission (length transmission) rising j (n - 1) (omega arith)
+            (omega (arith, end.0, end.1)) in
+            inr (j, omega (arith, end.1), omega arith, late, has)
+      ]
 
-    -- It is sound.
-    pub sound_untold : IsSoundStretch transmission options a b
-    sound_untold =
-        sound_of_repeated transmission options a b
-        (stretches.law_of_followed_stretch false transmission options a b (record {
-          stretch = untold.stretch;
-          rising = untold.rising;
-          packets = fit;
-          repeats = repeats;
-        }))
-      where
-        repeats :
-            (start : ℕ)
-            → a ≤ start
-            → start + options.every ≤ b + 1
-            → (f : ℕ)
-            × (start ≤ f)
-            × (f < start + options.every)
-            × HoldsHeader options.page transmission f
-        repeats start low high =
-            let from = untold.stretch.from in
-            elim (cases_eq options.every 0) [
-              | inl none ↦
-                  grind (arith, nat_tests, covered a (le_refl a) untold.stretch.in_order, le_refl a)
-              | inr every ↦
-                  elim (covered (start + options.every - 1) (omega arith) (omega arith)) [
-                    | inl early ↦ absurd (omega arith)
-                    | inr (j, l, before, late, has) ↦ (
-                      frame_at transmission j,
-                      omega arith,
-                      omega arith,
-                      any_sent (watched_of programme options) transmission j
-                          (frame_at transmission j) l refl has,
-                    )
-                  ]
-            ]
+  -- It is sound.
+  pub sound_untold : IsSoundStretch transmission options a b
+  sound_untold =
+      sound_of_repeated transmission options a b
+      (stretches.law_of_followed_stretch false transmission options a b (record {
+        stretch = untold.stretch;
+        rising = untold.rising;
+        packets = fit;
+        repeats = repeats;
+      }))
+    where
+      repeats :
+          (start : ℕ)
+          → a ≤ start
+          → start + options.every ≤ b + 1
+          → (f : ℕ)
+          × (start ≤ f)
+          × (f < start + options.every)
+          × HoldsHeader options.page transmission f
+      repeats start low high =
+          let from = untold.stretch.from in
+          elim (cases_eq options.every 0) [
+            | inl none ↦
+                grind (arith, nat_tests, covered a (le_refl a) untold.stretch.in_order, le_refl a)
+            | inr every ↦
+                elim (covered (start + options.every - 1) (omega arith) (omega arith)) [
+                  | inl early ↦ absurd (omega arith)
+                  | inr (j, l, before, late, has) ↦ (
+                    frame_at transmission j,
+                    omega arith,
+                    omega arith,
+                    any_sent (watched_of programme options) transmission j
+                        (frame_at transmission j) l refl has,
+                  )
+                ]
+          ]

@@ -90,7 +90,8 @@ module _ (programme : ProgrammeValue) (options : OptionsValue) (unread : Option 
         go false e = refl
         go true e =
             let none =
-            no_since programme options unread beside undecided t up n f end (calm n f end low high (late_of e)) in
+            no_since programme options unread beside undecided t up n f end
+            (calm n f end low high (late_of e)) in
             absurd (true≢false (sym (rw none at e)))
 
     -- Since a frame the ends up to this one are unfinished: not too long, and no subtitle is
@@ -132,7 +133,8 @@ module _ (programme : ProgrammeValue) (options : OptionsValue) (unread : Option 
         let first = holds.from in
         let last = holds.to in
         let (n, end) =
-        frame_end programme options unread beside undecided t up f holds.some (omega arith) (omega arith) in
+        frame_end programme options unread beside undecided t up f holds.some (omega arith)
+        (omega arith) in
         let k : ℕ = f - start in
         let at : start + k ≡ f = omega arith in
         let since = since_is programme options unread beside undecided t up n f end in
@@ -159,7 +161,8 @@ module _ (programme : ProgrammeValue) (options : OptionsValue) (unread : Option 
         let first = holds.from in
         let last = holds.to in
         let (n, end) =
-        frame_end programme options unread beside undecided t up f holds.some (omega arith) (omega arith) in
+        frame_end programme options unread beside undecided t up f holds.some (omega arith)
+        (omega arith) in
         by_within n end (cases_eq options.within 0)
       where
         due_of : (n : ℕ)
@@ -176,7 +179,9 @@ module _ (programme : ProgrammeValue) (options : OptionsValue) (unread : Option 
             → IsDueWithin programme t options f row column
             (shown options.page (on_air_until t f) row column)
         by_within n end (inl none) =
-            let late = late_is programme options unread beside undecided t up n f (not_overdue n f end low high) in
+            let late =
+            late_is programme options unread beside undecided t up n f
+            (not_overdue n f end low high) in
             let is_zero : (options.within == 0) ≡ true = grind (arith, nat_tests) in
             let whole =
             finished_of programme options unread beside undecided t up n f end
@@ -190,7 +195,9 @@ module _ (programme : ProgrammeValue) (options : OptionsValue) (unread : Option 
               whole.shows row column named,
             )
         by_within n end (inr some) =
-            let late = late_is programme options unread beside undecided t up n f (not_overdue n f end low high) in
+            let late =
+            late_is programme options unread beside undecided t up n f
+            (not_overdue n f end low high) in
             let is_zero : (options.within == 0) ≡ false = grind (arith, nat_tests) in
             let not_late : is_late task t n f ≡ false = late ∙ is_zero in
             let none :

@@ -76,8 +76,8 @@ module _ (programme : ProgrammeValue) (options : OptionsValue) (unread : Option 
       let ends : s.tco ≤ last_frame t =
       subst (λ (x : SubtitleValue). x.tco ≤ last_frame t) (sym same)
       (ends_in programme t options is keeps k d l) in
-      subtitle programme options unread false never t (first_frame t) (last_frame t) held is k d l s same begins
-      (omega arith)
+      subtitle programme options unread false never t (first_frame t) (last_frame t) held is k d l s
+      same begins (omega arith)
 
   -- The last frame is finished.
   ends : IsFinished programme t options (last_frame t)
@@ -102,8 +102,8 @@ module _ (programme : ProgrammeValue) (options : OptionsValue) (unread : Option 
               let first = first-same t in
               let last = last-same t in
               let low = end_high t up (length t) (end_frame t) end in
-              calm programme options unread false never t (first_frame t) (last_frame t) held (length t)
-              (end_frame t) end (omega arith) (omega arith) is
+              calm programme options unread false never t (first_frame t) (last_frame t) held
+              (length t) (end_frame t) end (omega arith) (omega arith) is
           go false is =
               since_no programme options unread false never t up (length t) (end_frame t) end
               (none_is _ (pending_parts is))

@@ -239,7 +239,8 @@ module _ (g : Task) where
   unfolding all_of_pieces
   pieces_untold pieces alone = (
     λ none.
-        let quiet = (told_none g pieces alone).0 ((announced_empty (told_of_pieces g pieces)).0 none) in
+        let quiet =
+        (told_none g pieces alone).0 ((announced_empty (told_of_pieces g pieces)).0 none) in
         let sent = said_sent pieces (ap first_told quiet) in
         (sent, sym (pieces_said g pieces sent) ∙ quiet),
     λ parts.

@@ -24,7 +24,7 @@ use Rattle.sub_trusted.proofs.TrustedEndingLemmas.{ending}
 use Rattle.sub_trusted.proofs.TrustedKeptLemmas.{Closed, Opens, opens_said, run_found, run_low}
 use Rattle.sub_trusted.proofs.TrustedKeptLemmas.{stood}
 use Rattle.sub_trusted.proofs.TrustedKeptLemmas.{up_of, whole_found}
-use Rattle.sub_trusted.proofs.TrustedStepLemmas.{Backs, Looks, with_end}
+use Rattle.sub_trusted.proofs.TrustedLookLemmas.{Backs, Looks, with_end}
 use Rattle.sub_trusted.proofs.AllTrustedStretchLemmas.{Fits, end_back, own_in}
 use Rattle.sub_trusted.proofs.LateDoubtLemmas.{end_doubt, header_none}
 use Rattle.sub_trusted.proofs.AllTrustedLeadLemmas.{IsTold, Leads, Leads-append, Leads-both}

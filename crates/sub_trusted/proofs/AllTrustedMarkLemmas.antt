@@ -19,7 +19,7 @@ use Rattle.sub_rules.specs.declared.event.Event.{Event}
 use Rattle.sub_laws.specs.CleanStretch.{IsEnd}
 use Rattle.sub_trusted.specs.TrustedFrames.{rising_part}
 use Rattle.sub_trusted.proofs.TrustedKeptLemmas.{SeesNone, whole_found}
-use Rattle.sub_trusted.proofs.TrustedStepLemmas.{Backs, Looks, with_end}
+use Rattle.sub_trusted.proofs.TrustedLookLemmas.{Backs, Looks, with_end}
 use Rattle.sub_trusted.proofs.AllTrustedStretchLemmas.{Fits}
 use Rattle.sub_trusted.proofs.LateDoubtLemmas.{before_is, end_doubt, seen_since}
 use Rattle.sub_trusted.proofs.AllTrustedLeadLemmas.{Leads, Leads-cons, said_told}

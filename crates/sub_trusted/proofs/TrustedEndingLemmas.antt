@@ -24,7 +24,8 @@ use Rattle.sub_laws.proofs.PrefixLemmas.{before, rises_to}
 use Rattle.sub_laws.proofs.RisingEndLemmas.{latest_at}
 use Rattle.sub_trusted.proofs.SayMarkLemmas.{Goes-append, Goes-cons, Goes-nil, Goes-says}
 use Rattle.sub_trusted.proofs.TrustedRunLemmas.{Run}
-use Rattle.sub_trusted.proofs.TrustedStepLemmas.{HasEnd, Passes, Tells, end_tells}
+use Rattle.sub_trusted.proofs.TrustedLookLemmas.{HasEnd}
+use Rattle.sub_trusted.proofs.TrustedStepLemmas.{Passes, Tells, end_tells}
 use Rattle.sub_trusted.proofs.TrustedStepLemmas.{keeps_end}
 use Rattle.sub_trusted.proofs.SayMarkLemmas.{rose}
 use Rattle.sub_rules.specs.Trusted.{Mark, back_of, stays_quiet, last_begun, late_of, run_of}

@@ -63,7 +63,8 @@ law_of_trusted programme options unread beside undecided pieces from to at_once 
     }
 
 pub law_of_trusted_with_delay : LawOfTrustedWithDelay
-law_of_trusted_with_delay programme options unread beside undecided pieces from to holds within told =
+law_of_trusted_with_delay programme options unread beside undecided pieces from to holds within
+    told =
     let g : Task = task_unsure programme options unread beside undecided in
     let frames : Transmission = sent_by_pieces g pieces in
     let part : Transmission = rising_part frames in
