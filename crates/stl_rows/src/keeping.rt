@@ -13,7 +13,8 @@ use stl_file::Subtitle;
 
 /// The subtitles of a file that can be relied on, by what was read of it.
 ///
-/// Contracts see them, with a bit each, whether another subtitle of the file stands before it.
+/// Contracts see these, a bit for each, whether another subtitle of the file stands before it, and
+/// whether one stands behind the last.
 #[derive(Drop)]
 pub struct Kept<A: Allocator + Copy> {
     pub(crate) subtitles: Vec<Subtitle, A>,
@@ -114,8 +115,8 @@ impl<A: Allocator + Copy> Kept<A> {
         self.behind_other.truncate(left);
     }
 
-    // One more of the file, whose times are in order with those of the one before it or not, and of
-    // which nothing is told, or something. Where times are not in order neither of the two is kept.
+    // One more of the file: whether its times are in order with those of the one before it, and
+    // whether nothing is told of it. Where they are not in order neither of the two is kept.
     pub(crate) fn put(
         &mut self,
         in_order: bool,

@@ -1,5 +1,7 @@
 //! Subtitle files and the programmes that they give; memory that is refused. Files that are refused
 //! are tested by the lines that the program prints.
+ghost use Rattle.std.specs.Prelude.{⊤, false};
+
 use crate::asserting::{assert_same, assert_same_in};
 use fixtures::{HEAD, HI, TEN, block, file_of_two, gsi, head, put};
 use linked_list_allocator::LocalHeap;
@@ -7,8 +9,11 @@ use std::alloc::Global;
 use std::process::Abort;
 use std::test::Fail;
 use stl_file::Scope;
-use stl_rows::{Drawing, Layout, LoadFaultKind, National, Programme, load, load_in};
-use sub_io::MemSource;
+use stl_rows::{
+    Drawing, Judging, Layout, LoadFault, LoadFaultKind, National, Programme, load, load_all,
+    load_in,
+};
+use sub_io::{Audience, MemSource, Stopped};
 use ttx_page::Page;
 
 // Asserts the first frame after this one at which another page may be due, and the first cell that
@@ -122,4 +127,63 @@ fn tells_each_growth_that_is_refused(rt: HostRuntime) {
         false, true, true, true, false, true, false, false, false, true,
     ];
     assert_same(&rt, &told, &growths);
+}
+
+// A device that counts what it is told.
+#[derive(Drop)]
+struct Counts {
+    told: u32,
+}
+
+impl Audience<LoadFault> for Counts {
+    ghost is_told = { λ _ _ _. ⊤ };
+
+    ghost has_stopped = { λ _. false };
+
+    fn tell(&mut self, _fault: LoadFault) -> Result<(), Stopped> {
+        self.told = self.told.saturating_add(1);
+        Ok(())
+    }
+}
+
+// Asserts of these frames whether it is known what is due.
+fn assert_undecided(rt: &impl Abort, judging: &Judging<'_>, frames: &[u32], undecided: bool) {
+    for frame in frames {
+        assert_same_in(rt, &judging.is_undecided(*frame), &undecided, frame);
+    }
+}
+
+#[test]
+fn keeps_what_can_be_judged_beside_a_refused_subtitle(rt: HostRuntime) -> Result<(), Fail> {
+    let refused = block(&head(TEN + 50, TEN + 100, 22), &[0xE6]);
+    let mut file = [0; 1408];
+    put(&mut file, 0, &file_of_two(&block(&HEAD, &HI), &refused));
+    put(
+        &mut file,
+        1280,
+        &block(&head(TEN + 120, TEN + 150, 22), &HI),
+    );
+    let mut counts = Counts { told: 0 };
+    let judged = load_all(
+        rt.alloc(),
+        &mut MemSource::new(&file),
+        National::English,
+        Layout::default(),
+        Scope::whole(),
+        &mut counts,
+    )?
+    .expect(&rt, "two subtitles to judge by");
+    assert_same(&rt, &counts.told, &1);
+    assert_same(&rt, &judged.programme().len(), &2);
+    let judging = judged.judging();
+    assert_undecided(&rt, &judging, &[TEN + 50, TEN + 100, TEN + 119], true);
+    assert_undecided(
+        &rt,
+        &judging,
+        &[0, TEN, TEN + 49, TEN + 120, TEN + 150],
+        false,
+    );
+    let known = Judging::known(judged.programme());
+    assert_undecided(&rt, &known, &[0, TEN + 50, TEN + 100, TEN + 150], false);
+    Ok(())
 }
