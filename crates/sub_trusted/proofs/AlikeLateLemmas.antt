@@ -18,13 +18,30 @@ use Rattle.sub_rules.specs.Events.{wrong_after, wrong_cell}
 use Rattle.sub_rules.specs.FrameRules.{Task, frame_at, packets_before}
 use Rattle.sub_rules.specs.Transmission.{Transmission, on_air_until}
 use Rattle.sub_laws.specs.CleanStretch.{IsEnd}
-use Rattle.sub_trusted.specs.TrustedAlike.{AsksAlike, task_known}
 use Rattle.sub_laws.proofs.DueCodeLemmas.{MayShow, none_undue, undue_none}
 use Rattle.sub_laws.proofs.FrameByFrame.{IsQuiet}
 use Rattle.sub_laws.proofs.PrefixLemmas.{RiseTo, end_high}
 use Rattle.sub_laws.proofs.StandingLemmas.{always_known, known_at, known_back, quiet_parts, undue_is}
 use Rattle.sub_laws.proofs.UnfinishedLemmas.{none_since, since_at, since_end, since_none, since_some}
 use Rattle.sub_laws.proofs.UnfinishedLemmas.{unfinished_at}
+
+-- The task where at each frame it is known what is due: these pages; with the TCI of the subtitle
+-- whose TCO a frame is, the first TCI and the last TCO.
+abbrev pub task_known : Task → (ℕ → Rows) → (ℕ → Option ℕ) → Option ℕ → Option ℕ → Task
+task_known g due ending first_in last_out =
+    record g {
+      due = due;
+      ending = ending;
+      first_in = first_in;
+      last_out = last_out;
+      beside = false;
+      undecided = λ frame. false;
+    }
+
+-- It asks what the other one asks, wherever that one knows what is due.
+pub record AsksAlike (g : Task) (due : ℕ → Rows) (ending : ℕ → Option ℕ) : Type 0 where
+  pub due_is : (f : ℕ) → g.undecided f ≡ false → due f ≡ g.due f
+  pub ending_is : (f : ℕ) → g.undecided f ≡ false → ending (f + 1) ≡ g.ending (f + 1)
 
 or_true : (b : Bool) → (b || true) ≡ true
 or_true b = grind (arith, nat_tests)

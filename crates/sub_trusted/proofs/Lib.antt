@@ -1,4 +1,5 @@
 pub mod AlikeLateLemmas
+pub mod AlikeProgrammeLemmas
 pub mod AllTrustedEndingLemmas
 pub mod AllTrustedLeadLemmas
 pub mod AllTrustedLemmas

@@ -1,15 +1,15 @@
 -- For `law_of_trusted_alike`.
--- Frames that are told as trusted beside what is refused of a subtitle file can stay whatever had
--- stood in place of that: `law_of_trusted_alike`.
+-- Frames that are told as trusted beside what is refused of a subtitle file are so by each task that
+-- asks alike wherever it is known what is due: `told_too`.
 use Rattle.std.proofs.Common.{◌≡◌, ◌≢◌, ℕ, ◌-◌, ◌<◌, ◌≤◌, inl, inr, true}
 use Rattle.std.proofs.Common.{List, [], Contains, Option, Some, length, refl, sym, ap, ◌∙◌}
-use Rattle.std.proofs.Common.{arith, subst, IsFalse}
+use Rattle.std.proofs.Common.{arith, subst}
 use Rattle.std.proofs.lemmas.Bool.{cases_lt}
 use Rattle.std.proofs.lemmas.List.Elements.{All-contains}
 use Rattle.ttx_page.specs.Page.{Rows}
 use Rattle.ttx_page.specs.PacketKind.{kind}
 use Rattle.ttx_page.specs.Span.{holds_header}
-use Rattle.sub_rules.specs.Events.{end_rules, is_unfinished, nothing_stands, standing_at}
+use Rattle.sub_rules.specs.Events.{end_rules, nothing_stands, standing_at}
 use Rattle.sub_rules.specs.FrameRules.{HasHeader, Task, Unread, end_frame, frame_at}
 use Rattle.sub_rules.specs.PieceEvents.{all_of_pieces, sent_by_pieces}
 use Rattle.sub_rules.specs.Pieces.{Piece}
@@ -18,14 +18,14 @@ use Rattle.sub_rules.specs.Trusted.{stands_none}
 use Rattle.sub_rules.specs.declared.event.Event.TheVariants.{Trusted}
 use Rattle.sub_rules.specs.declared.standing.Standing.{Standing}
 use Rattle.sub_rules.proofs.EndRuleLemmas.{stands_nothing}
-use Rattle.sub_laws.specs.CleanStretch.{AtEnds, IsEnd, IsUntold}
+use Rattle.sub_laws.specs.CleanStretch.{IsEnd, IsUntold}
 use Rattle.sub_laws.proofs.FrameByFrame.{IsQuiet}
 use Rattle.sub_laws.proofs.GoodLemmas.{rises_each}
 use Rattle.sub_laws.proofs.PrefixLemmas.{RiseTo, frame_at-take, packets-take, rises_to}
 use Rattle.sub_laws.proofs.StandingLemmas.{known_at}
-use Rattle.sub_trusted.specs.TrustedAlike.{AsksAlike, LawOfTrustedAlike, task_known}
+use Rattle.sub_trusted.specs.TrustedAlike.{AreTrusted, IsWholeAt}
 use Rattle.sub_trusted.specs.TrustedFrames.{CanStay, rising_part}
-use Rattle.sub_trusted.proofs.AlikeLateLemmas.{alike_quiet, same_unfinished}
+use Rattle.sub_trusted.proofs.AlikeLateLemmas.{AsksAlike, alike_quiet, same_unfinished, task_known}
 use Rattle.sub_trusted.proofs.AllTrustedLemmas.{law_of_all_trusted}
 use Rattle.sub_trusted.proofs.DoubtLemmas.{OnTrusted}
 use Rattle.sub_trusted.proofs.TrustedFrameLemmas.{count_most, part_last, part_length, part_rises}
@@ -113,9 +113,8 @@ module _ (g : Task) (due : ℕ → Rows) (ending : ℕ → Option ℕ) (first_in
   ]
 
   module _ (b : ℕ) (low : from ≤ b) (high : b ≤ to)
-      (whole : 0 < g.within
-      → AtEnds (λ n f. IsFalse (is_unfinished g part n f)) part b b) where
-    finished : 0 < g.within → AtEnds (λ n f. IsFalse (is_unfinished h part n f)) part b b
+      (whole : 0 < g.within → IsWholeAt g pieces b) where
+    finished : 0 < g.within → IsWholeAt h pieces b
     unfolding standing_at
     finished within n f end after before =
         let known =
@@ -158,12 +157,8 @@ module _ (g : Task) (due : ℕ → Rows) (ending : ℕ → Option ℕ) (first_in
           before_unread = λ u is. let past = before_unread u is in omega arith;
         }
 
-    told_too : all_of_pieces h pieces ≢ []
-        → (first : ℕ)
-        × (last : ℕ)
-        × (first ≤ from)
-        × (b ≤ last)
-        × Contains (all_of_pieces h pieces) (Trusted first last)
+    -- So they are told as trusted there too.
+    pub told_too : all_of_pieces h pieces ≢ [] → AreTrusted h pieces from b
     told_too something =
         let j : ℕ = stays.run.j in
         let inside : j < risen frames = j_low g frames from to stays in
@@ -177,7 +172,3 @@ module _ (g : Task) (due : ℕ → Rows) (ending : ℕ → Option ℕ) (first_in
         law_of_all_trusted h pieces from b j can (omega arith) (omega arith) (omega arith) header
         something in
         (first, last, omega arith, end, c)
-
-pub law_of_trusted_alike : LawOfTrustedAlike
-law_of_trusted_alike g due ending first_in last_out pieces from to b alike told low high whole =
-    told_too g due ending first_in last_out alike pieces from to told b low high whole

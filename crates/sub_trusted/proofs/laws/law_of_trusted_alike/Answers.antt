@@ -1,5 +1,5 @@
--- The law: TrustedAlikeLemmas.
-use Rattle.sub_trusted.proofs.TrustedAlikeLemmas.{law_of_trusted_alike}
+-- The law: AlikeProgrammeLemmas.
+use Rattle.sub_trusted.proofs.AlikeProgrammeLemmas.{law_of_trusted_alike}
 use Rattle.sub_trusted.proofs.laws.law_of_trusted_alike.Goals as goal
 
 pub returns : goal.returns
