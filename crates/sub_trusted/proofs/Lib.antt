@@ -1,3 +1,5 @@
+pub mod AlikeLateLemmas
+pub mod AlikeProgrammeLemmas
 pub mod AllTrustedEndingLemmas
 pub mod AllTrustedLeadLemmas
 pub mod AllTrustedLemmas
@@ -8,6 +10,7 @@ pub mod AllTrustedStretchLemmas
 pub mod DoubtLemmas
 pub mod LateDoubtLemmas
 pub mod SayMarkLemmas
+pub mod TrustedAlikeLemmas
 pub mod TrustedAsReadLemmas
 pub mod TrustedEndingLemmas
 pub mod TrustedFinishedLemmas

@@ -134,7 +134,7 @@ module _ (g : Task) (frames : Transmission) (from to : ℕ) (stays : StaysTo g f
   end_few n f (some_n, below, place) high =
       grind (arith, nat_tests, cases_lt, part_length, frame_at-take, later)
 
-  stands_quiet : (n f : ℕ) → IsEnd part n f → from ≤ f → f ≤ to
+  pub stands_quiet : (n f : ℕ) → IsEnd part n f → from ≤ f → f ≤ to
       → stands_none (standing_at g part n f) ≡ true
   stands_quiet n f at low high =
       let few = end_few n f at high in

@@ -38,6 +38,15 @@ use Rattle.sub_rules.specs.Trusted.{since_of, tells_fall, tells_none, told_after
 use Rattle.sub_rules.specs.Trusted.{trusted, whole_of}
 use Rattle.std.specs.List.{list_any}
 
+-- What is trusted at the end of a file is before this frame.
+abbrev pub last_late : Task → Transmission → ℕ
+last_late g frames =
+    if is_some g.unread then end_frame frames else end_frame frames + 1
+
+late_low_bound : (left : Bool) (last : ℕ)
+    → (last ≤ (if left then last else last + 1)) × ((if left then last else last + 1) ≤ last + 1)
+late_low_bound left last = grind (arith, nat_tests)
+
 module _ (g : Task) (frames : Transmission) (base : ℕ) where
   abbrev P : ℕ → ℕ → Type 0
   P = Passes g frames base
@@ -84,9 +93,9 @@ module _ (g : Task) (frames : Transmission) (base : ℕ) where
 
   -- ---- the end of the file
 
-  -- It may be trusted up to the last frame.
+  -- It may be trusted up to the last frame, or where bytes are left to the one before it.
   abbrev pub Last : ℕ → ℕ → Type 0
-  Last = MayPass g frames base (end_frame frames + 1)
+  Last = MayPass g frames base (last_late g frames)
 
   closing_own : (pes n : ℕ) → length frames ≡ n
       → EachTrusted Last (closing_of_pieces g frames pes n)
@@ -98,7 +107,8 @@ module _ (g : Task) (frames : Transmission) (base : ℕ) where
   end_low : (since back : Option ℕ) (left : Bool) (last : ℕ)
       → ((r : ℕ) → since ≡ Some r → r ≤ last)
       → ((r : ℕ) → back ≡ Some r → r ≤ last)
-      → unwrap_or since (if left then unwrap_or back last else suc last) ≤ last + 1
+      → unwrap_or since (if left then unwrap_or back last else suc last)
+      ≤ (if left then last else last + 1)
   end_low since back left last h k = grind (arith, nat_tests)
 
   closing : (pes : ℕ) (t : List Mark) → Closed g frames base (length frames) t
@@ -116,8 +126,8 @@ module _ (g : Task) (frames : Transmission) (base : ℕ) where
       (Goes-says Last (λ u. List Mark) t1 es (closing_own pes n refl)
       (λ x from w doubt run whole l. absurd (none-some from run)) (λ u said. u)).each
     where
-      low : (from : ℕ) → run_of t ≡ Some from → closing_at t (is_some g.unread)
-          ≤ end_frame frames + 1
+      low : (from : ℕ) → run_of t ≡ Some from
+          → closing_at t (is_some g.unread) ≤ last_late g frames
       low from run =
           let below = (closed.keeps.run from run).below in
           let at = closed.last (omega arith) in
@@ -128,7 +138,9 @@ module _ (g : Task) (frames : Transmission) (base : ℕ) where
           let rises = run_rises (rose t) (run_of t) from closed.keeps.falls run in
           let low = (closed.back rises r is).1 in
           omega arith) in
-          omega arith
+          subst
+          (λ (f : ℕ). closing_at t (is_some g.unread) ≤ (if is_some g.unread then f else f + 1))
+          at top
 
       last : (b : Bool) → EachTrusted Last
           (if b then trusted (run_of t) (whole_of t) (closing_at t (is_some g.unread)) else [])
@@ -137,13 +149,14 @@ module _ (g : Task) (frames : Transmission) (base : ℕ) where
           each_put Last (run_of t) (whole_of t) (closing_at t (is_some g.unread))
           (λ from w run whole l.
           let high = low from run in
-          passes_before g frames base (end_frame frames + 1) (length frames)
+          let few = late_low_bound (is_some g.unread) (end_frame frames) in
+          passes_before g frames base (last_late g frames) (length frames)
           (end_frame frames + 1) (closing_at t (is_some g.unread)) t closed.keeps (record {
             within = omega arith;
-            low = high;
+            low = omega arith;
             next = λ more. absurd (omega arith);
             last = λ all. high;
-          }) (omega arith) (omega arith) from w run whole l)
+          }) few.0 few.1 from w run whole l)
 
   -- What comes of pieces, and after the last one.
   pub all_pass : (sent : Transmission) (pes count : ℕ) (t : List Mark) (pieces : List Piece)
@@ -172,7 +185,10 @@ module _ (g : Task) (frames : Transmission) (base : ℕ) where
       (λ from to p. record {
         stands = p.stands;
         above = p.above;
-        early = λ rises. let low = p.early rises in omega arith;
+        early = λ rises.
+            let low = p.early rises in
+            let few = late_low_bound (is_some g.unread) (end_frame frames) in
+            omega arith;
       }) goes.each)
       (closing count (past_after t first) goes.after))
 
@@ -184,24 +200,29 @@ module _ (g : Task) (frames : Transmission) where
   start = grind (arith, nat_tests)
 
   told_stays : (pieces : List Piece) → sent_by_pieces g pieces ≡ frames
-      → EachTrusted (MayStand g frames) (told_of_pieces g pieces)
+      → EachTrusted (Last g frames 0) (told_of_pieces g pieces)
   unfolding told_of_pieces
   told_stays pieces all =
       subst
-      (λ (fs : Transmission). EachTrusted (MayStand g frames) (told_after []
+      (λ (fs : Transmission). EachTrusted (Last g frames 0) (told_after []
       (marks_of_each g [] 0 pieces
       ++ marks_of_waiting g fs
       ++ marks_of_closing g fs (length pieces) (length fs))))
       (sym all)
-      (each-weaker (Last g frames 0) (MayStand g frames) _ (λ from to p. p.stands)
-      (all_pass g frames 0 [] 0 (length pieces) [] pieces all (inl (inr refl, start))))
+      (all_pass g frames 0 [] 0 (length pieces) [] pieces all (inl (inr refl, start)))
 
-  -- What is told as trusted of pieces may stay.
+  -- What is told as trusted of pieces may pass, and stay.
+  pub all_pass_within : (pieces : List Piece) → sent_by_pieces g pieces ≡ frames
+      → EachTrusted (Last g frames 0) (all_of_pieces g pieces)
+  unfolding all_of_pieces
+  all_pass_within pieces all =
+      let told : List Event = told_of_pieces g pieces in
+      All-append (OnTrusted (Last g frames 0)) (all_announced no_run told) _
+      (each-announced (Last g frames 0) no_run told (told_stays pieces all))
+      (each-ended (Last g frames 0) (passed_after_all no_run told))
+
   pub all_stay_within : (pieces : List Piece) → sent_by_pieces g pieces ≡ frames
       → EachTrusted (MayStand g frames) (all_of_pieces g pieces)
-  unfolding all_of_pieces
   all_stay_within pieces all =
-      let told : List Event = told_of_pieces g pieces in
-      All-append (OnTrusted (MayStand g frames)) (all_announced no_run told) _
-      (each-announced (MayStand g frames) no_run told (told_stays pieces all))
-      (each-ended (MayStand g frames) (passed_after_all no_run told))
+      each-weaker (Last g frames 0) (MayStand g frames) (all_of_pieces g pieces)
+      (λ from to p. p.stands) (all_pass_within pieces all)

@@ -1,2 +1,3 @@
+pub mod TrustedAlike
 pub mod TrustedFrames
 pub mod TrustedWithDelay

@@ -1,6 +1,7 @@
 //! What is told as trusted of a PES file may stay, and nothing that may stay is left out.
 //!
 //! The functions do nothing: the contract of each is a law over the definitions of `specs/`.
+ghost use Rattle.sub_trusted.specs.TrustedAlike.{LawOfTrustedAlike};
 ghost use Rattle.sub_trusted.specs.TrustedFrames.{LawOfAllTrusted, LawOfTrusted};
 ghost use Rattle.sub_trusted.specs.TrustedFrames.{LawOfTrustedKnown};
 ghost use Rattle.sub_trusted.specs.TrustedWithDelay.{LawOfTrustedWithDelay};
@@ -23,6 +24,12 @@ pub fn law_of_trusted_with_delay()
 /// and where the page may be late, at each of so many before one of them.
 pub fn law_of_trusted_known()
     ensures { LawOfTrustedKnown }
+{}
+
+/// And whatever had stood in place of what is refused, these frames are told as trusted, all in
+/// one, where anything is told; up to each at whose end the page is whole.
+pub fn law_of_trusted_alike()
+    ensures { LawOfTrustedAlike }
 {}
 
 /// No frame that may stay is left out: where anything is told of a PES file, each stretch of which

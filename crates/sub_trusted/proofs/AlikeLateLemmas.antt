@@ -1,0 +1,224 @@
+-- For `law_of_trusted_alike`.
+-- Two tasks that ask alike wherever the one knows what is due: where that was so at the last frames
+-- an end is late for both or for none, `late_same`, and where nothing stands broken for the one
+-- nothing does for the other, `alike_quiet`.
+use Rattle.std.proofs.lemmas.Bool.Decides.{nat_tests}
+use Rattle.std.proofs.Common.{◌≡◌, ℕ, ◌+◌, ◌-◌, ◌≤◌, inl, inr, Bool, true, false}
+use Rattle.std.proofs.Common.{◌&&◌, ◌||◌, ◌==◌, nat_le, Option, Some, None, length, refl, sym, ap}
+use Rattle.std.proofs.Common.{◌∙◌, arith, le_refl, is_some}
+use Rattle.std.proofs.lemmas.Bool.{cases_eq, cases_lt, true≢false}
+use Rattle.std.proofs.lemmas.Option.{none-some}
+use Rattle.ttx_page.specs.Page.{Rows, cell}
+use Rattle.ttx_page.specs.PacketKind.{kind}
+use Rattle.ttx_page.specs.Span.{is_open_after}
+use Rattle.sub_rules.specs.Events.{broken_cell, is_gap, is_incomplete, is_late}
+use Rattle.sub_rules.specs.Events.{is_overdue, is_silent}
+use Rattle.sub_rules.specs.Events.{is_unfinished, undecided_within, undue_cell}
+use Rattle.sub_rules.specs.Events.{wrong_after, wrong_cell}
+use Rattle.sub_rules.specs.FrameRules.{Task, frame_at, packets_before}
+use Rattle.sub_rules.specs.Transmission.{Transmission, on_air_until}
+use Rattle.sub_laws.specs.CleanStretch.{IsEnd}
+use Rattle.sub_laws.proofs.DueCodeLemmas.{MayShow, none_undue, undue_none}
+use Rattle.sub_laws.proofs.FrameByFrame.{IsQuiet}
+use Rattle.sub_laws.proofs.PrefixLemmas.{RiseTo, end_high}
+use Rattle.sub_laws.proofs.StandingLemmas.{always_known, known_at, known_back, quiet_parts, undue_is}
+use Rattle.sub_laws.proofs.UnfinishedLemmas.{none_since, since_at, since_end, since_none, since_some}
+use Rattle.sub_laws.proofs.UnfinishedLemmas.{unfinished_at}
+
+-- The task where at each frame it is known what is due: these pages; with the TCI of the subtitle
+-- whose TCO a frame is, the first TCI and the last TCO.
+abbrev pub task_known : Task → (ℕ → Rows) → (ℕ → Option ℕ) → Option ℕ → Option ℕ → Task
+task_known g due ending first_in last_out =
+    record g {
+      due = due;
+      ending = ending;
+      first_in = first_in;
+      last_out = last_out;
+      beside = false;
+      undecided = λ frame. false;
+    }
+
+-- It asks what the other one asks, wherever that one knows what is due.
+pub record AsksAlike (g : Task) (due : ℕ → Rows) (ending : ℕ → Option ℕ) : Type 0 where
+  pub due_is : (f : ℕ) → g.undecided f ≡ false → due f ≡ g.due f
+  pub ending_is : (f : ℕ) → g.undecided f ≡ false → ending (f + 1) ≡ g.ending (f + 1)
+
+or_true : (b : Bool) → (b || true) ≡ true
+or_true b = grind (arith, nat_tests)
+
+late_true : (since within f : ℕ) → since + within ≤ f → nat_le (since + within) f ≡ true
+late_true since within f l = grind (arith, nat_tests)
+
+module _ (g : Task) (due : ℕ → Rows) (ending : ℕ → Option ℕ) (first_in last_out : Option ℕ)
+    (alike : AsksAlike g due ending) where
+  abbrev h : Task
+  h = task_known g due ending first_in last_out
+
+  -- An end is unfinished for both or for none where it is known what is due.
+  pub same_unfinished : (t : Transmission) (n f : ℕ) → g.undecided f ≡ false
+      → is_unfinished h t n f ≡ is_unfinished g t n f
+  unfolding is_incomplete
+  same_unfinished t n f known = rw (known, alike.due_is f known) refl
+
+  module _ (t : Transmission) (up : RiseTo t (length t)) where
+    abbrev first : ℕ
+    first = frame_at t 0
+
+    abbrev un : ℕ → Bool
+    un = unfinished_at g t up
+
+    abbrev un_known : ℕ → Bool
+    un_known = unfinished_at h t up
+
+    same_un : (f : ℕ) → g.undecided f ≡ false → un_known f ≡ un f
+    same_un f known = rw (known, alike.due_is f known) refl
+
+    -- What is unfinished for the one is for the other.
+    more_un : (f : ℕ) → un f ≡ true → un_known f ≡ true
+    more_un f e = go (g.undecided f) refl
+      where
+        go : (b : Bool) → g.undecided f ≡ b → un_known f ≡ true
+        go false is = same_un f is ∙ e
+        go true is =
+            let still :
+            (g.watched.complete && is_open_after (kind g.watched.page) (on_air_until t f)) ≡ true =
+            rw is at e in
+            rw still
+            (or_true (is_some (wrong_after g.watched.page (on_air_until t f) (due f))))
+
+    -- At the frames up to f, as many as the page may be late by, it is known what is due.
+    abbrev pub IsKnownTo : ℕ → Type 0
+    IsKnownTo f = (e : ℕ) → first ≤ e → e ≤ f → f ≤ e + g.within → g.undecided e ≡ false
+
+    overdue_same : (k f : ℕ) → f ≡ first + k → IsKnownTo f
+        → (o p : Option ℕ) → since_at un first k ≡ o → since_at un_known first k ≡ p
+        → is_overdue h first p f ≡ is_overdue g first o f
+    overdue_same k f at known None None is so = refl
+    overdue_same k f at known None (Some r) is so =
+        let own : g.undecided f ≡ false = known f (omega arith) (le_refl f) (omega arith) in
+        let whole : un f ≡ false = ap un at ∙ since_none un first k is in
+        let none : un_known (first + k) ≡ false =
+        ap un_known (sym at) ∙ same_un f own ∙ whole in
+        absurd (none-some r (sym (none_since un_known first k none) ∙ so))
+    overdue_same k f at known (Some r) None is so =
+        let top = (since_some un first k r is).high in
+        let open_here = (since_some un first k r is).all f (omega arith) (omega arith) in
+        let none : un_known f ≡ false = ap un_known at ∙ since_none un_known first k so in
+        absurd (true≢false (sym (more_un f open_here) ∙ none))
+    overdue_same k f at known (Some s) (Some r) is so =
+        let own : g.undecided f ≡ false = known f (omega arith) (le_refl f) (omega arith) in
+        let one = since_some un first k s is in
+        let other = since_some un_known first k r so in
+        let low = one.low in
+        let high = one.high in
+        let bottom = other.low in
+        let top = other.high in
+        elim (cases_eq r s) [
+          | inl same ↦
+              rw (same, alike.ending_is f own) refl
+          | inr differ ↦
+              let long : s + g.within ≤ f =
+              elim (cases_lt s r) [
+                | inl later ↦ elim other.begins [
+                  | inl start ↦ absurd (omega arith)
+                  | inr (after, whole) ↦
+                      absurd
+                      (true≢false
+                      (sym (more_un (r - 1) (one.all (r - 1) (omega arith) (omega arith))) ∙ whole))
+                ]
+                | inr not_later ↦ elim one.begins [
+                  | inl start ↦ absurd (omega arith)
+                  | inr (after, whole) ↦ elim (cases_lt (s - 1 + g.within) f) [
+                    | inl before ↦ omega arith
+                    | inr near ↦
+                        let sure : g.undecided (s - 1) ≡ false =
+                        known (s - 1) (omega arith) (omega arith) near in
+                        absurd
+                        (true≢false
+                        (sym (other.all (s - 1) (omega arith) (omega arith))
+                        ∙ same_un (s - 1) sure
+                        ∙ whole))
+                  ]
+                ]
+              ] in
+              let earlier : r + g.within ≤ f =
+              elim (cases_lt s r) [
+                | inl later ↦ elim other.begins [
+                  | inl start ↦ absurd (omega arith)
+                  | inr (after, whole) ↦
+                      absurd
+                      (true≢false
+                      (sym (more_un (r - 1) (one.all (r - 1) (omega arith) (omega arith))) ∙ whole))
+                ]
+                | inr not_later ↦ omega arith
+              ] in
+              rw (late_true s g.within f long, late_true r g.within f earlier) refl
+        ]
+
+    -- An end is late for both or for none.
+    late_same : (n f : ℕ) → IsEnd t n f → IsKnownTo f → is_late h t n f ≡ is_late g t n f
+    unfolding is_late
+    late_same n f end known =
+        let low = end_high t up n f end in
+        let k : ℕ = f - first in
+        let at : f ≡ first + k = omega arith in
+        ap (λ (b : Bool). (g.within == 0) || b)
+        (ap (λ (o : Option ℕ). is_overdue h first o f) (since_end h t up k n f end at)
+        ∙ overdue_same k f at known (since_at un first k) (since_at un_known first k) refl refl
+        ∙ sym (ap (λ (o : Option ℕ). is_overdue g first o f) (since_end g t up k n f end at)))
+
+    module _ (n f : ℕ) (sure : undecided_within g t f ≡ false) where
+      known_to : IsKnownTo f
+      known_to e low high near = known_back g t n f first g.within sure e high near (inl low)
+
+      here : g.undecided f ≡ false
+      here = known_at g t n f sure
+
+      wrong_too : wrong_cell g t n f ≡ None → wrong_cell h t n f ≡ None
+      wrong_too e =
+          let none : wrong_after g.watched.page (packets_before t n) (g.due f) ≡ None =
+          rw here at e in
+          rw (alike.due_is f here) none
+
+      shows_too : (row column : ℕ)
+          → MayShow g.watched.page (packets_before t n) g.due first f g.within row column
+          → MayShow g.watched.page (packets_before t n) due first f g.within row column
+      shows_too row column (inl blank) = inl blank
+      shows_too row column (inr (e, from, high, low, same)) =
+          let known = known_back g t n f first g.within sure e high low from in
+          inr (
+            e,
+            from,
+            high,
+            low,
+            same ∙ sym (ap (λ (rows : Rows). cell rows row column) (alike.due_is e known)),
+          )
+
+      undue_too : undue_cell g t n f ≡ None → undue_cell h t n f ≡ None
+      undue_too e =
+          undue_is h t n f (always_known first f g.within)
+          ∙ none_undue g.watched.page (packets_before t n) due first f g.within
+          (λ row column named.
+          shows_too row column
+          (undue_none g.watched.page (packets_before t n) g.due first f g.within
+          (sym (undue_is g t n f sure) ∙ e) row column named))
+
+      content_too : (b : Bool) → is_late h t n f ≡ b → is_late g t n f ≡ b
+          → broken_cell g t n f ≡ None
+          → broken_cell h t n f ≡ None
+      content_too true so is e = rw so (wrong_too (rw is at e))
+      content_too false so is e = rw so (undue_too (rw is at e))
+
+      -- Where nothing stands broken for the one nothing does for the other.
+      pub alike_quiet : IsEnd t n f → IsQuiet g t n f → IsQuiet h t n f
+      unfolding is_gap is_incomplete is_silent
+      alike_quiet end quiet =
+          let parts = (quiet_parts g t n f).0 quiet in
+          let late = late_same n f end known_to in
+          (quiet_parts h t n f).1 (
+            content_too (is_late g t n f) late refl parts.0,
+            parts.1,
+            ap (λ (b : Bool). b && is_incomplete g t n) late ∙ parts.2,
+            parts.3,
+            always_known first f g.within,
+          )

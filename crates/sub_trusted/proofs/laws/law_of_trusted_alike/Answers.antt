@@ -1,0 +1,6 @@
+-- The law: AlikeProgrammeLemmas.
+use Rattle.sub_trusted.proofs.AlikeProgrammeLemmas.{law_of_trusted_alike}
+use Rattle.sub_trusted.proofs.laws.law_of_trusted_alike.Goals as goal
+
+pub returns : goal.returns
+returns c = law_of_trusted_alike
