@@ -5,6 +5,7 @@
 //!
 //! ```text
 //! law_of_trusted: Contains (all_of_pieces g pieces) (Trusted from to) → MayStay .. from to
+//! law_of_trusted_known: .. → from ≤ f + g.within → .. → IsFalse (g.undecided f)
 //! law_of_all_trusted: CanStay g pieces a b → .. → Contains (all_of_pieces g pieces) (Trusted ..)
 //! ```
 #![tactic(auto)]
