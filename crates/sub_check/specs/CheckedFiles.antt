@@ -72,23 +72,27 @@ pub record Mean
   -- PTS and the Teletext packets of that frame.
   pub carries : Carries origin pes transmission
 
--- What acceptance means for the bytes of both files, where the page has to be whole at the end of
--- each frame.
+-- The bytes of both files are accepted, where the page has to be whole at the end of each frame:
+-- they mean some subtitles and a good transmission of these, of complete pages where the options
+-- ask for them.
+pub record IsAccepted
+    (drawing : Drawing) (options : OptionsValue) (stl pes : List ℕ) : Type 0 where
+  pub subtitles : List SubtitleValue
+  pub transmission : Transmission
+  pub mean : Mean drawing options.origin stl pes subtitles transmission
+  pub good : Good (record { drawing = drawing; records = subtitles }) transmission options
+  pub complete : IsTrue options.asks_complete → Complete transmission options
+
+-- What is answered for the bytes of both files, where the page has to be whole at the end of each
+-- frame.
 pub record AreAccepted
     (drawing : Drawing) (options : OptionsValue) (stl pes : List ℕ)
     (answer : Result Accepted CheckFault)
     : Type 0 where
-  -- They are accepted exactly where they mean some subtitles and a good transmission of these, of
-  -- complete pages where the options ask for them, but for sources that failed and memory that was
+  -- It is `Ok` exactly where they are accepted, but for sources that failed and memory that was
   -- refused.
   pub accepted :
-      failed is_failure answer ≡ false
-      → IsOk answer
-      ↔ ((subtitles : List SubtitleValue)
-      × (transmission : Transmission)
-      × Mean drawing options.origin stl pes subtitles transmission
-      × Good (record { drawing = drawing; records = subtitles }) transmission options
-      × (IsTrue options.asks_complete → Complete transmission options))
+      failed is_failure answer ≡ false → IsOk answer ↔ IsAccepted drawing options stl pes
   -- What is accepted keeps all promises; and its pages are complete where the options ask for it.
   pub serves :
       (subtitles : List SubtitleValue) (transmission : Transmission)
@@ -112,20 +116,24 @@ pub record MeanWithin
   pub drawable : All (λ t. IsOk (drawn drawing t)) subtitles
   pub carries : CarriesBy (clock_of options) options.within pes transmission
 
--- What acceptance means for the bytes of both files, within as many frames as the options give.
+-- The bytes of both files are accepted, within as many frames as the options give: they mean some
+-- subtitles and a transmission of these that is good within these frames.
+pub record IsAcceptedWithin
+    (drawing : Drawing) (options : OptionsValue) (stl pes : List ℕ) : Type 0 where
+  pub subtitles : List SubtitleValue
+  pub transmission : Transmission
+  pub mean : MeanWithin drawing options stl pes subtitles transmission
+  pub good : GoodWithin (record { drawing = drawing; records = subtitles }) transmission options
+
+-- What is answered for the bytes of both files, within as many frames as the options give.
 pub record AreAcceptedWithin
     (drawing : Drawing) (options : OptionsValue) (stl pes : List ℕ)
     (answer : Result Accepted CheckFault)
     : Type 0 where
-  -- They are accepted exactly where they mean some subtitles and a transmission of these that is
-  -- good within these frames, but for sources that failed and memory that was refused.
+  -- It is `Ok` exactly where they are accepted so, but for sources that failed and memory that was
+  -- refused.
   pub accepted :
-      failed is_failure answer ≡ false
-      → IsOk answer
-      ↔ ((subtitles : List SubtitleValue)
-      × (transmission : Transmission)
-      × MeanWithin drawing options stl pes subtitles transmission
-      × GoodWithin (record { drawing = drawing; records = subtitles }) transmission options)
+      failed is_failure answer ≡ false → IsOk answer ↔ IsAcceptedWithin drawing options stl pes
   -- What is accepted keeps all promises of a transmission that may be late.
   pub serves :
       (subtitles : List SubtitleValue) (transmission : Transmission)
