@@ -11,7 +11,7 @@ use Rattle.std.proofs.KnownBytes.{Appends-trans}
 use Rattle.sub_io.proofs.DeviceLemmas.{AppendsPrefix-first, AppendsPrefix-second}
 use Rattle.sub_io.specs.Device.{AppendsPrefix, RisesIf, failed}
 use Rattle.stl_rows.specs.EveryFault.{load_fault}
-use Rattle.stl_rows.specs.Loading.{loaded}
+use Rattle.stl_rows.specs.Loading.{LawOfLoading, loaded}
 use Rattle.stl_rows.specs.Programme.{ProgrammeValue}
 use Rattle.stl_rows.proofs.LoadingLaw.{none_of_loaded}
 use Rattle.stl_rows.specs.declared.fault.LoadFaultKind.TheVariants as load
@@ -19,6 +19,7 @@ use Rattle.stl_rows.specs.declared.layout.Drawing.{Drawing}
 use Rattle.sub_plan.specs.Options.{OptionsValue}
 use Rattle.sub_check.specs.CheckedFiles.{answer_by, first_answer}
 use Rattle.sub_rules.specs.Events.{first_told}
+use Rattle.sub_check.proofs.FilesLemmas.{accepted-loads, accepted-loads_within}
 use Rattle.sub_check.proofs.RuleToldLemmas.{first_of_rule}
 use Rattle.sub_check.proofs.FirstToldLemmas.{of_rule}
 use Rattle.sub_rules.specs.declared.event.Event.TheVariants.{Ended, PassedUntil, Told, Trusted}
@@ -212,6 +213,7 @@ pub answers_end :
     (drawing : Drawing) (options : OptionsValue) (stl pes : SourceCall) (first : Option ℕ)
     (Untouched : Type 0) (old new : PrinterValue) (given : Result (Option Accepted) CheckFault)
     (end : Option (List ℕ)) (end_count : ℕ) (status : Status)
+    → LawOfLoading
     → TellsBoth drawing options stl pes first Untouched old new given
     → new.failed ≡ false
     → old.refused ≡ 0
@@ -221,7 +223,8 @@ pub answers_end :
     (sink old.contents old.count end end_count) status
 unfolding counted
 answers_end
-    drawing options stl pes first Untouched old new given end end_count status t holds none last =
+    drawing options stl pes first Untouched old new given end end_count status loading t holds none
+    last =
     let refused : new.refused ≡ min (refusals t.events) most_counted =
     t.prints.put_refused holds ∙ ap (λ n. min (n + refusals t.events) most_counted) none
     ∙ (let none_before : 0 + refusals t.events ≡ refusals t.events = omega arith in
@@ -251,17 +254,17 @@ answers_end
           t.ended
           (t.listed file heard)
           (λ a is.
-          exactly-accepted drawing options file bytes (first_answer t.events a)
+          exactly-accepted drawing options file bytes (first_answer t.events a) loading
           (λ p loads. ((rw is at (t.checked holds file heard bytes known)) p loads).1 none))
-          (λ is. (is.programme, is.loads)))
+          (accepted-loads drawing options file bytes loading))
           (λ runs file heard bytes known.
           done-exactly drawing options file bytes pes.told t.number t.events t.answer _ known runs
           t.ended
           (t.listed file heard)
           (λ a is.
-          exactly-accepted_within drawing options file bytes (first_answer t.events a)
+          exactly-accepted_within drawing options file bytes (first_answer t.events a) loading
           (λ p loads. ((rw is at (t.checked holds file heard bytes known)) p loads).0))
-          (λ is. (is.programme, is.loads)))
+          (accepted-loads_within drawing options file bytes loading))
           (answer-fails t.number t.events t.answer t.ended)
           (λ block memory text. (
             block,

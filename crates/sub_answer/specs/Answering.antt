@@ -27,6 +27,7 @@ use Rattle.sub_answer.specs.BothFiles.{TellsSources, TellsStatus}
 use Rattle.sub_answer.specs.EveryFault.{AnswersAll}
 use Rattle.sub_answer.specs.FaultListing.{accepted_line}
 use Rattle.sub_listing.specs.Faults.{check_told}
+use Rattle.sub_listing.specs.Help.{help_text}
 use Rattle.sub_answer.specs.ListenListing.{listen_told, Listens}
 use Rattle.sub_listing.specs.Listing.{Listing, PrintsListing, PrintsOrFails, done, packet_listing}
 use Rattle.sub_listing.specs.Listing.{told_listing}
@@ -136,6 +137,7 @@ input_call remaining failure_count number old new = record {
 -- no byte of the second source was read.
 abbrev pub Answers :
     Request → InputCall → InputCall → Type 0 → SinkCall → SinkCall → Status → Type 0
+Answers ask.Help first second Untouched file out status = PrintsOrFails out (done help_text) status
 Answers (ask.Packet bytes) first second Untouched file out status =
     PrintsOrFails out (packet_listing bytes) status
 Answers (ask.Packets pes) first second Untouched file out status =

@@ -13,7 +13,7 @@ ghost use Rattle.sub_listing.specs.Told.{line_of, told_from};
 
 use crate::answering::check::print_accepted;
 use std::alloc::Global;
-use stl_rows::{Drawing, load_all};
+use stl_rows::{Drawing, law_of_loading, load_all};
 use sub_check::{Accepted, CheckFault, check_all};
 use sub_io::{Flush, Sink, Source, put_all};
 use sub_listing::{
@@ -54,6 +54,7 @@ pub fn print_every_fault<N: FirstPacket<T>, S: Source, T: Source, K: Flush>(
         → T.failure_count pes.old < T.failure_count pes.new
         → HoldsLastLine K.contents K.held K.is_push out.new }
 {
+    law_of_loading();
     let mut printer = Printer {
         out,
         refused: 0,
