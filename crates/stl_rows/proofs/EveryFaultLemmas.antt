@@ -1,21 +1,28 @@
 -- The first of all faults is the one that `load` tells; main lemmas: tells-first, none-told.
 use Rattle.std.proofs.Common.{◌≡◌, ℕ, List, ◌∷◌, Option, Some, None, []}
+use Rattle.std.proofs.Common.{Ok, map, inl, inr}
 use Rattle.std.proofs.Common.{Err, refl, sym, ◌<◌, ◌≤◌, ◌⊎◌, Bool, true, false, arith, take}
 use Rattle.std.proofs.lemmas.Bool.Decides.{nat_tests}
 use Rattle.std.specs.Prelude.{◌↔◌, ◌≢◌, is_some}
 use Rattle.std.specs.List.{filter}
-use Rattle.sub_io.specs.Telling.{KeepsFirst}
+use Rattle.sub_io.specs.Telling.{KeepsFirst, Tells}
 use Rattle.sub_io.proofs.TellingLemmas.{first_is}
-use Rattle.stl_file.specs.declared.fault.StlFault.TheVariants.{Ended, Unfinished}
+use Rattle.stl_file.specs.declared.fault.StlFault.TheVariants.{Ended, Read, Unfinished}
 use Rattle.stl_rows.specs.declared.fault.LoadFault.{LoadFault}
 use Rattle.stl_rows.specs.declared.fault.LoadFaultKind.{LoadFaultKind}
 use Rattle.stl_rows.specs.declared.layout.Drawing.{Drawing}
-use Rattle.stl_rows.specs.declared.fault.LoadFaultKind.TheVariants.{File}
+use Rattle.stl_rows.specs.declared.fault.LoadFaultKind.TheVariants.{File, Memory}
 use Rattle.stl_rows.specs.EveryFault.{FailsTelling, TellsFaults, TellsOfFile, faults, is_of_file}
-use Rattle.stl_rows.specs.EveryFault.{is_told_before, load_fault}
-use Rattle.stl_rows.specs.Loading.{FailsLoading, TellsFault, loaded, unless_told}
+use Rattle.stl_rows.specs.EveryFault.{EndsAfter, WantsMemory, is_told_before, load_fault}
+use Rattle.stl_rows.specs.Judged.{JudgedValue, JudgesBy}
+use Rattle.stl_rows.specs.Loading.{EndsBehind, EndsRecord, FailsLoading, TellsFault, loaded}
+use Rattle.stl_rows.specs.Loading.{unless_told}
 use Rattle.stl_rows.specs.Fault.{is_read, is_read_kind}
-use Rattle.stl_rows.specs.Programme.{ProgrammeValue}
+use Rattle.stl_rows.specs.Programme.{ProgrammeValue, follow_faults, times_of}
+use Rattle.stl_rows.specs.declared.times.Times.{Times}
+use Rattle.stl_file.specs.Reader.{findings_for}
+use Rattle.stl_file.specs.Reading.{Findings, breaks, finds, no_more, refuses}
+use Rattle.stl_rows.proofs.FaultlessLemmas.{empty_parts, map_empty}
 use Rattle.stl_rows.specs.TextCode.{first_of}
 
 -- A file is refused for the first of its faults.
@@ -110,3 +117,47 @@ none-told drawing old new block None none failed = record {
       ((first_fault drawing all fault).0 e)
       (sym (first_is None _ (failed.told all is))));
 }
+
+-- Where nothing was told all is loaded.
+pub loads-all : (drawing : Drawing) (file : List ℕ) (j : JudgedValue)
+    → JudgesBy drawing file j
+    → Tells KeepsFirst None None (faults drawing file)
+    → loaded drawing file ≡ Ok j.programme
+loads-all drawing file j judged told =
+    (judged.whole (sym (first_is None (faults drawing file) told))).0
+
+-- Where nothing is told before a subtitle that is kept nothing is wrong up to it.
+ends_behind : (drawing : Drawing) (before : Option Times) (at : ℕ) (left : Findings)
+    → EndsAfter drawing before [] at left
+    → EndsBehind drawing before at left
+ends_behind drawing before at no_more e = e
+ends_behind drawing before at (breaks f block) e = e
+ends_behind drawing before at (refuses f block left) e = absurd (let none = e.1 in cc)
+ends_behind drawing before at (finds t block left) (inl here) = (here.2, inl here.0)
+ends_behind drawing before at (finds t block left) (inr later) =
+    let parts =
+    empty_parts (map (load_fault block) (follow_faults drawing before t)) later.0 (sym later.1) in
+    let own = map_empty (load_fault block) (follow_faults drawing before t) parts.0 in
+    (own, inr (ends_behind drawing (Some (times_of t)) at left (rw parts.1 at later.2)))
+
+-- Memory was refused before anything was told.
+pub ends-record : (drawing : Drawing) (file : List ℕ) (block : ℕ)
+    → WantsMemory drawing file KeepsFirst None None block
+    → EndsRecord drawing file block
+ends-record drawing file block wants =
+    let none = first_is None _ wants.told in
+    ends_behind drawing None block (findings_for drawing.scope file) (rw (sym none) at wants.ends)
+
+-- The source failed or memory was refused, and nothing was told.
+pub tells-failed : (drawing : Drawing) (file : List ℕ) (block : ℕ) (kind : LoadFaultKind)
+    → (kind ≡ Memory) ⊎ (kind ≡ File Read)
+    → (kind ≡ Memory → WantsMemory drawing file KeepsFirst None None block)
+    → TellsFault drawing file block kind
+tells-failed drawing file block kind (inl is) wants =
+    rw is (ends-record drawing file block (wants is))
+tells-failed drawing file block kind (inr is) wants = rw is tt
+
+-- A device that did not say stop keeps nothing.
+pub keeps-none : (first : Option LoadFault) → (is_some first ≡ true → ⊥) → first ≡ None
+keeps-none None goes_on = refl
+keeps-none (Some fault) goes_on = absurd (goes_on refl)

@@ -1,14 +1,16 @@
--- What can be relied on in a file: judged_drawn; all of it, where nothing is told: all_decided.
+-- What can be relied on in a file: judged_drawn; all of it, where nothing is told: all_decided. And
+-- at which frames it is not known what is due: undecided-last, undecided-next.
 use Rattle.std.proofs.Common.{◌≡◌, ℕ, Bool, false, true, List, [], ◌∷◌, ◌++◌, Option, Some, None}
-use Rattle.std.proofs.Common.{map, refl, ap, arith, inl, inr, Result, Ok, Err}
+use Rattle.std.proofs.Common.{map, refl, ap, arith, inl, inr, Result, Ok, Err, zero, suc, ◌<◌, ◌≤◌}
+use Rattle.std.proofs.Common.{get_or, length}
 use Rattle.std.proofs.lemmas.Bool.{cases_Bool}
 use Rattle.std.proofs.lemmas.Bool.Decides.{nat_tests}
 use Rattle.std.proofs.lemmas.List.Elements.{All-cons, All-nil}
-use Rattle.std.specs.Prelude.{All, IsOk, is_none}
+use Rattle.std.specs.Prelude.{All, IsOk, is_none, nat_lt, ◌&&◌}
 use Rattle.ttx_page.specs.Page.{Rows}
 use Rattle.stl_file.specs.Reader.{findings_for}
 use Rattle.stl_file.specs.Reading.{Findings, breaks, finds, no_more, refuses}
-use Rattle.stl_file.specs.Subtitle.{SubtitleValue}
+use Rattle.stl_file.specs.Subtitle.{IsSubtitle, SubtitleValue}
 use Rattle.stl_rows.specs.declared.fault.LoadFaultKind.{LoadFaultKind}
 use Rattle.stl_rows.specs.declared.fault.RowFault.{RowFault}
 use Rattle.stl_rows.specs.declared.layout.Drawing.{Drawing}
@@ -16,7 +18,8 @@ use Rattle.stl_rows.specs.declared.times.Times.{Times}
 use Rattle.stl_rows.specs.DrawnPage.{drawn}
 use Rattle.stl_rows.specs.EveryFault.{faults, faults_behind, load_fault}
 use Rattle.stl_rows.specs.Judged.{AllJudged, JudgedSubtitle, LawOfDecided, LawOfJudged}
-use Rattle.stl_rows.specs.Judged.{is_followed_in_order}
+use Rattle.stl_rows.specs.Judged.{LawOfKnown, is_followed_in_order, is_undecided_in}
+use Rattle.stl_rows.specs.Judged.{with_bits}
 use Rattle.stl_rows.specs.Judged.{is_undecided_from, judged_before, judged_behind, judged_of}
 use Rattle.stl_rows.specs.Loading.{records_of}
 use Rattle.stl_rows.specs.Programme.{follow_faults, order_faults, row_faults, times_of}
@@ -123,3 +126,91 @@ unfolding faults judged_of
 all_decided drawing file none =
     let all = all_behind drawing None (findings_for drawing.scope file) none in
     (all.0, λ frame. all.1.1 0 frame)
+
+-- ---- what callers see
+
+-- Where no bit is set nothing is undecided.
+none_set : (ts : List SubtitleValue) (start frame : ℕ)
+    → is_undecided_from start (with_bits ts []) false frame ≡ false
+none_set [] start frame = grind (arith, nat_tests)
+none_set (t ∷ ts) start frame = let rest = none_set ts t.tco frame in grind (arith, nat_tests)
+
+pub undecided-none : (ts : List SubtitleValue) (bits : List Bool) (start frame : ℕ)
+    → length bits ≡ 0
+    → is_undecided_from start (with_bits ts bits) false frame ≡ false
+undecided-none ts [] start frame none = none_set ts start frame
+undecided-none ts (bit ∷ bits) start frame none = absurd (omega arith)
+
+pub all_known : LawOfKnown
+unfolding is_undecided_in
+all_known programme frame = none_set programme.records 0 frame
+
+-- Before a start nothing is undecided.
+none_before : (ts : List SubtitleValue) (bits : List Bool) (other : Bool) (start frame : ℕ)
+    → frame < start
+    → All (λ (t : SubtitleValue). frame < t.tco) ts
+    → is_undecided_from start (with_bits ts bits) other frame ≡ false
+none_before [] bits other start frame early after = grind (arith, nat_tests)
+none_before (t ∷ ts) [] other start frame early after =
+    let rest = none_before ts [] other t.tco frame (after 0 t (omega arith))
+    (λ k d h. after (suc k) d (omega arith)) in
+    grind (arith, nat_tests)
+none_before (t ∷ ts) (bit ∷ bits) other start frame early after =
+    let rest = none_before ts bits other t.tco frame (after 0 t (omega arith))
+    (λ k d h. after (suc k) d (omega arith)) in
+    grind (arith, nat_tests)
+
+-- Where all have ended, what stands behind the last decides.
+pub undecided-last : (ts : List SubtitleValue) (bits : List Bool) (other : Bool)
+    (start frame : ℕ)
+    → start ≤ frame
+    → All IsSubtitle ts
+    → All (λ (t : SubtitleValue). t.tco ≤ frame) ts
+    → is_undecided_from start (with_bits ts bits) other frame ≡ other
+undecided-last [] bits other start frame le each past = grind (arith, nat_tests)
+undecided-last (t ∷ ts) [] other start frame le each past =
+    let own : t.tco ≤ frame = past 0 t (omega arith) in
+    let times = (each 0 t (omega arith)).times in
+    let rest = undecided-last ts [] other t.tco frame own (λ k d h. each (suc k) d (omega arith))
+    (λ k d h. past (suc k) d (omega arith)) in
+    grind (arith, nat_tests)
+undecided-last (t ∷ ts) (bit ∷ bits) other start frame le each past =
+    let own : t.tco ≤ frame = past 0 t (omega arith) in
+    let times = (each 0 t (omega arith)).times in
+    let rest = undecided-last ts bits other t.tco frame own
+    (λ k d h. each (suc k) d (omega arith)) (λ k d h. past (suc k) d (omega arith)) in
+    grind (arith, nat_tests)
+
+-- Else the first that ends after the frame decides, and its bit.
+pub undecided-next : (ts : List SubtitleValue) (bits : List Bool) (other : Bool)
+    (start frame at : ℕ) (d : SubtitleValue)
+    → start ≤ frame
+    → All IsSubtitle ts
+    → at < length ts
+    → ((k : ℕ) (d : SubtitleValue) → k < at → (get_or ts k d).tco ≤ frame)
+    → ((k : ℕ) (d : SubtitleValue) → at ≤ k → k < length ts → frame < (get_or ts k d).tco)
+    → is_undecided_from start (with_bits ts bits) other frame
+    ≡ (nat_lt frame (get_or ts at d).tci && get_or bits at false)
+undecided-next [] bits other start frame at d le each inside before after = absurd (omega arith)
+undecided-next (t ∷ ts) [] other start frame zero d le each inside before after =
+    let rest = none_before ts [] other t.tco frame (after 0 t (omega arith) (omega arith))
+    (λ k d h. after (suc k) d (omega arith) (omega arith)) in
+    grind (arith, nat_tests)
+undecided-next (t ∷ ts) (bit ∷ bits) other start frame zero d le each inside before after =
+    let rest = none_before ts bits other t.tco frame (after 0 t (omega arith) (omega arith))
+    (λ k d h. after (suc k) d (omega arith) (omega arith)) in
+    grind (arith, nat_tests)
+undecided-next (t ∷ ts) [] other start frame (suc at) d le each inside before after =
+    let own : t.tco ≤ frame = before 0 t (omega arith) in
+    let times = (each 0 t (omega arith)).times in
+    let rest = undecided-next ts [] other t.tco frame at d own
+    (λ k d h. each (suc k) d (omega arith)) (omega arith)
+    (λ k d h. before (suc k) d (omega arith)) (λ k d h b. after (suc k) d (omega arith) (omega arith)) in
+    grind (arith, nat_tests)
+undecided-next (t ∷ ts) (bit ∷ bits) other start frame (suc at) d le each inside before after =
+    let own : t.tco ≤ frame = before 0 t (omega arith) in
+    let times = (each 0 t (omega arith)).times in
+    let rest = undecided-next ts bits other t.tco frame at d own
+    (λ k d h. each (suc k) d (omega arith)) (omega arith)
+    (λ k d h. before (suc k) d (omega arith)) (λ k d h b. after (suc k) d (omega arith) (omega arith)) in
+    grind (arith, nat_tests)

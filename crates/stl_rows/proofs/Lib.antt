@@ -25,3 +25,4 @@ pub mod EveryFaultLemmas
 pub mod LoadingLaw
 pub mod PartLemmas
 pub mod JudgedLemmas
+pub mod KeepingLemmas

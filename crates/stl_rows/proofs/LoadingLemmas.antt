@@ -1,8 +1,8 @@
 -- What is left of a file after some of its subtitles, and what was told of these; main lemmas:
 -- goes_on-next, tells-unread.
 use Rattle.std.proofs.Common.{rules, ◌≡◌, ◌<◌, ◌≤◌, ◌+◌, ℕ, Bool, true, false, List, ◌∷◌, ◌++◌, []}
-use Rattle.std.proofs.Common.{take, length, map, Option, Some, None, Ok, refl, sym}
-use Rattle.std.proofs.Common.{◌∙◌, ap, inl, arith, length-take, append_assoc, append-nil}
+use Rattle.std.proofs.Common.{take, length, map, Option, Some, None, refl, sym}
+use Rattle.std.proofs.Common.{◌∙◌, ◌-◌, ap, inl, inr, arith, length-take, append_assoc, append-nil}
 use Rattle.std.proofs.Common.{length-append}
 use Rattle.std.proofs.Math.Seq.{take-append-add, take-length}
 use Rattle.std.proofs.lemmas.Bool.Decides.{nat_tests}
@@ -11,7 +11,7 @@ use Rattle.std.proofs.lemmas.List.Elements.{All-weaker}
 use Rattle.std.proofs.lemmas.List.Elements.{filter-append}
 use Rattle.std.proofs.lemmas.List.Sums.{list_all-from_AllPass}
 use Rattle.std.proofs.lemmas.List.Folds.{list_all-append}
-use Rattle.std.specs.Prelude.{All, ◌≢◌, is_none, option_map, IfSome}
+use Rattle.std.specs.Prelude.{All, ◌≢◌, ◌&&◌, not, is_none}
 use Rattle.std.proofs.lemmas.List.{map-append}
 use Rattle.std.specs.List.{filter, list_all}
 use lib.Seq.{take-append-le}
@@ -21,7 +21,7 @@ use Rattle.stl_file.specs.declared.fault.StlFault.{StlFault}
 use Rattle.stl_file.specs.declared.fault.StlFault.TheVariants.{Ended}
 use Rattle.stl_file.specs.Fault.{is_of_first, is_read}
 use Rattle.stl_file.specs.Reading.{Findings, breaks, finds, no_more, refuses}
-use Rattle.stl_file.specs.Subtitle.{IsSubtitle, SubtitleValue}
+use Rattle.stl_file.specs.Subtitle.{SubtitleValue}
 use Rattle.stl_file.specs.Reader.{FindsFrom, findings_for}
 use Rattle.stl_rows.specs.declared.layout.Drawing.{Drawing}
 use Rattle.stl_rows.specs.declared.fault.LoadFault.{LoadFault}
@@ -30,12 +30,24 @@ use Rattle.stl_rows.specs.declared.fault.LoadFaultKind.TheVariants.{File, OutOfO
 use Rattle.stl_rows.specs.declared.times.Times.{Times}
 use Rattle.stl_rows.specs.DrawnPage.{drawn}
 use Rattle.stl_rows.specs.EveryFault.{StopsWithin, TellsFaults, TellsOfFile, faults, faults_behind}
-use Rattle.stl_rows.specs.EveryFault.{ends_in_subtitle, is_told_before, is_of_file, kept_after}
-use Rattle.stl_rows.specs.EveryFault.{load_fault}
-use Rattle.stl_rows.specs.Loading.{EndsBehind, EndsRecord, loaded, records_of}
-use Rattle.stl_rows.specs.Programme.{IsProgramme, follow_faults, order_faults, row_faults}
-use Rattle.stl_rows.specs.Programme.{times_before, times_of}
-use Rattle.stl_rows.proofs.ProgrammeLemmas.{IsProgramme-push, last_of-push}
+use Rattle.stl_rows.specs.EveryFault.{ends_in_subtitle, is_told_before, is_of_file}
+use Rattle.stl_rows.specs.EveryFault.{EndsAfter, WantsMemory, load_fault}
+use Rattle.stl_rows.specs.Judged.{AllJudged, JudgedSubtitle, JudgesBy, are_in_order, are_some}
+use Rattle.stl_rows.specs.Judged.{judged_of, judges}
+use Rattle.stl_rows.specs.Keeping.{KeptValue, all_kept, are_none, is_enough, is_whole, judged_with}
+use Rattle.stl_rows.specs.Keeping.{kept_after, nothing_kept, passed}
+use Rattle.stl_rows.specs.Loading.{loaded, records_of}
+use Rattle.stl_rows.proofs.JudgedLemmas.{all_decided}
+use Rattle.stl_rows.proofs.KeepingLemmas.{AreKept, judged-end, judged-next, judged-refused}
+use Rattle.stl_rows.proofs.KeepingLemmas.{judged-start, judged_on, none-first, whole_none}
+use Rattle.stl_rows.proofs.KeepingLemmas.{with_bits-subtitles}
+use Rattle.stl_file.specs.TakenOut.{is_read_whole}
+use Rattle.stl_file.specs.Reading.{Begun, findings_from}
+use Rattle.stl_file.specs.Tti.{most_blocks}
+use Rattle.stl_file.specs.declared.scope.Scope.{Scope}
+use Rattle.stl_file.proofs.FindingsLemmas.{finds_from}
+use Rattle.std.proofs.lemmas.Bool.{cases_Bool}
+use Rattle.stl_rows.specs.Programme.{follow_faults, order_faults, row_faults, times_of}
 use Rattle.stl_rows.specs.TextCode.{first_of}
 
 -- ---- what was told of subtitles
@@ -124,131 +136,66 @@ stops-last drawing before t block old mid new order row is_order is_row some p q
 -- ---- what is left
 
 -- What was told of the subtitles so far, and what is wrong with the rest, is all that is wrong with
--- the file. While all of them are kept, they and the rest are all that the file gives.
+-- the file; and so it is with what is kept and what can be relied on.
 pub record GoesOn (drawing : Drawing) (file : List ℕ) (left : Findings) (before : Option Times)
-    (kept : Option (List SubtitleValue)) (early : List LoadFault) : Type 0 where
+    (kept : KeptValue) (early : List LoadFault) : Type 0 where
   pub same : faults drawing file ≡ early ++ faults_behind drawing before left
-  pub loads : (records : List SubtitleValue)
-      → kept ≡ Some records
-      → records_of (findings_for drawing.scope file) ≡ records ++ records_of left
-  pub ends_record : (records : List SubtitleValue) (at : ℕ)
-      → kept ≡ Some records
-      → EndsBehind drawing before at left
-      → EndsRecord drawing file at
+  pub judged : judged_of drawing file ≡ judged_on drawing before kept left
+  pub whole : is_read_whole (findings_for drawing.scope file) ≡ is_read_whole left
+  pub ends_after : (rest : List LoadFault) (at : ℕ)
+      → EndsAfter drawing before rest at left
+      → EndsAfter drawing None (early ++ rest) at (findings_for drawing.scope file)
 
--- All subtitles so far are kept: they are a programme, and nothing was told of any.
-pub record AreKept (drawing : Drawing) (before : Option Times) (early : List LoadFault)
-    (records : List SubtitleValue) : Type 0 where
-  pub before_is : before ≡ times_before records
-  pub none : early ≡ []
-  pub programme : IsProgramme drawing records
-
--- No faults are the first where there is none.
-none-first : {A : Type 0} (xs : List A) → is_none (first_of xs) ≡ true → xs ≡ []
-none-first xs h = grind (arith, nat_tests)
-
--- What was kept before, where something is kept.
-kept_before : (clean : Bool) (t : SubtitleValue) (kept : Option (List SubtitleValue))
-    (records : List SubtitleValue)
-    → kept_after clean t kept ≡ Some records
-    → (clean ≡ true) × (ts : List SubtitleValue) × (kept ≡ Some ts) × (records ≡ ts ++ t ∷ [])
-kept_before clean t kept records h = grind (arith, nat_tests)
-
--- Something stays kept with a subtitle with which nothing is wrong.
-still_kept : (clean : Bool) (t : SubtitleValue) (kept : Option (List SubtitleValue))
-    → clean ≡ true
-    → is_none kept ≡ false
-    → (records : List SubtitleValue) × (kept_after clean t kept ≡ Some records)
-still_kept false t kept clean some = absurd cc
-still_kept true t None clean some = absurd cc
-still_kept true t (Some ts) clean some = (ts ++ t ∷ [], refl)
-
--- Where nothing is, faults were told.
-some_more : (kinds : List LoadFaultKind) (kept : Option (List SubtitleValue))
-    (early : List LoadFault) (t : SubtitleValue) (block : ℕ) (clean : Bool)
-    → clean ≡ is_none (first_of kinds)
-    → (kept ≡ None → 0 < length early)
-    → kept_after clean t kept ≡ None
-    → 0 < length (early ++ map (load_fault block) kinds)
-some_more kinds kept early t block clean is_clean some h =
-    grind (arith, nat_tests, length-append, append-nil)
-
--- One subtitle more.
-module _ {drawing : Drawing} {before : Option Times} {kept : Option (List SubtitleValue)}
-    {early : List LoadFault} (t : SubtitleValue) (block : ℕ) {clean : Bool}
-    (is_clean : clean ≡ is_none (first_of (follow_faults drawing before t)))
-    (are_kept : (records : List SubtitleValue) → kept ≡ Some records
-    → AreKept drawing before early records) where
-  -- All that was told of the subtitles then.
-  abbrev told_then : List LoadFault
-  told_then = early ++ map (load_fault block) (follow_faults drawing before t)
-
-  -- Where something is kept nothing is wrong with it.
-  was_kept : (records : List SubtitleValue)
-      → kept_after clean t kept ≡ Some records
-      → (ts : List SubtitleValue) × (kept ≡ Some ts) × (records ≡ ts ++ t ∷ [])
-      × (follow_faults drawing before t ≡ [])
-  was_kept records h = grind (arith, nat_tests, kept_before, none-first)
-
-  -- Nothing was told while something is kept.
-  none_told : (records : List SubtitleValue) → kept_after clean t kept ≡ Some records
-      → told_then ≡ []
-  none_told records h =
-      let was = was_kept records h in
-      let ok = are_kept was.0 was.1 in
-      rw (ok.none, was.3) refl
-
-  -- What is left goes on.
-  pub goes_on-next : {file : List ℕ} {rest : Findings}
-      → GoesOn drawing file (finds t block rest) before kept early
-      → GoesOn drawing file rest (Some (times_of t)) (kept_after clean t kept) told_then
-  unfolding faults_behind
-  goes_on-next on = grind (arith, nat_tests, append_assoc, was_kept)
-
-  -- What is kept then is a programme.
-  pub are_kept-next : IsSubtitle t
-      → (records : List SubtitleValue)
-      → kept_after clean t kept ≡ Some records
-      → AreKept drawing (Some (times_of t)) told_then records
-  are_kept-next subtitle records h =
-      let was = was_kept records h in
-      let ok = are_kept was.0 was.1 in
-      let none : follow_faults drawing (times_before was.0) t ≡ [] = rw ok.before_is at was.3 in
-      grind (arith, nat_tests, last_of-push, none_told, IsProgramme-push)
-
-  -- Where nothing is, faults were told.
-  pub some-next : (kept ≡ None → 0 < length early)
-      → kept_after clean t kept ≡ None
-      → 0 < length told_then
-  some-next some h = grind (arith, nat_tests, some_more)
-
-  -- A subtitle that can't be kept ends a record.
-  pub ends-here : {file : List ℕ} {rest : Findings}
-      → clean ≡ true
-      → is_none kept ≡ false
-      → GoesOn drawing file (finds t block rest) before kept early
-      → EndsRecord drawing file block
-  ends-here is_true some on =
-      let kept_then = still_kept clean t kept is_true some in
-      let was = was_kept kept_then.0 kept_then.1 in
-      on.ends_record was.0 block was.1 (was.3, inl refl)
-
-  -- Nothing was told before it.
-  pub told-none : clean ≡ true → is_none kept ≡ false → told_then ≡ []
-  told-none is_true some = grind (arith, nat_tests, still_kept, none_told)
-
--- A subtitle that is refused more: nothing is kept.
-pub goes_on-refused : {drawing : Drawing} {file : List ℕ} {rest : Findings}
-    {before : Option Times} {kept : Option (List SubtitleValue)} {early : List LoadFault}
-    (fault : StlFault) (block : ℕ)
-    → GoesOn drawing file (refuses fault block rest) before kept early
-    → GoesOn drawing file rest before None (early ++ load_fault block (File fault) ∷ [])
-unfolding faults_behind
-goes_on-refused {early = early} fault block on = record {
-  same = on.same ∙ sym (append_assoc early (load_fault block (File fault) ∷ []) _);
-  loads = λ records none. absurd cc;
-  ends_record = λ records at none. absurd cc;
+-- Nothing was read yet.
+pub goes_on-start : (drawing : Drawing) (file : List ℕ)
+    → GoesOn drawing file (findings_for drawing.scope file) None nothing_kept []
+unfolding faults judged_of
+goes_on-start drawing file = record {
+  same = refl;
+  judged = judged-start drawing (findings_for drawing.scope file);
+  whole = refl;
+  ends_after = λ rest at e. e;
 }
+
+module _ {drawing : Drawing} {file : List ℕ} {rest : Findings} {before : Option Times}
+    {kept : KeptValue} {early : List LoadFault} where
+  -- One subtitle more.
+  pub goes_on-next : (t : SubtitleValue) (block : ℕ) (in_order clean : Bool)
+      → AreKept drawing before early kept
+      → in_order ≡ is_none (first_of (order_faults before (times_of t)))
+      → clean ≡ is_none (first_of (follow_faults drawing before t))
+      → GoesOn drawing file (finds t block rest) before kept early
+      → GoesOn drawing file rest (Some (times_of t)) (kept_after in_order clean t kept)
+      (early ++ map (load_fault block) (follow_faults drawing before t))
+  unfolding faults_behind
+  goes_on-next t block in_order clean are_kept is_order is_clean on =
+      let own : List LoadFault = map (load_fault block) (follow_faults drawing before t) in
+      record {
+        same = on.same ∙ sym (append_assoc early own _);
+        judged =
+            on.judged
+            ∙ judged-next drawing before kept t block rest in_order clean are_kept.fits is_order
+            is_clean;
+        whole = on.whole;
+        ends_after = λ more at e.
+            rw (append_assoc early own more) (on.ends_after (own ++ more) at (inr (more, refl, e)));
+      }
+
+  -- One more that is refused.
+  pub goes_on-refused : (fault : StlFault) (block : ℕ)
+      → GoesOn drawing file (refuses fault block rest) before kept early
+      → GoesOn drawing file rest before (passed kept) (early ++ load_fault block (File fault) ∷ [])
+  unfolding faults_behind
+  goes_on-refused fault block on =
+      let own : List LoadFault = load_fault block (File fault) ∷ [] in
+      record {
+        same = on.same ∙ sym (append_assoc early own _);
+        judged = on.judged ∙ judged-refused drawing before kept fault block rest;
+        whole = on.whole;
+        ends_after = λ more at e.
+            rw (append_assoc early own more)
+            (on.ends_after (load_fault block (File fault) ∷ more) at (more, refl, e));
+      }
 
 -- ---- what was told in all
 
@@ -320,30 +267,8 @@ module _ {D : Type 0} {IsTold : D → LoadFault → D → Type 0} {old mid new :
 
 -- ---- each way out
 
--- Nothing was read yet.
-pub goes_on-start : (drawing : Drawing) (file : List ℕ)
-    → GoesOn drawing file (findings_for drawing.scope file) None (Some []) []
-unfolding faults
-goes_on-start drawing file = grind (arith, nat_tests)
-
--- None was told, and nothing is wrong with the rest: what was kept is the programme.
-pub loads-all : {drawing : Drawing} {file : List ℕ} {left : Findings} {before : Option Times}
-    {kept : Option (List SubtitleValue)} {early : List LoadFault}
-    → GoesOn drawing file left before kept early
-    → left ≡ no_more
-    → (records : List SubtitleValue)
-    → kept ≡ Some records
-    → early ≡ []
-    → loaded drawing file ≡ Ok (record { drawing = drawing; records = records })
-unfolding loaded faults_behind
-loads-all {drawing} {file} on is records h none =
-    let same : faults drawing file ≡ [] = rw (is, none) at on.same in
-    let all : records_of (findings_for drawing.scope file) ≡ records =
-    rw is at (on.loads records h) ∙ append-nil records in
-    rw (same, all) refl
-
 module _ {D : Type 0} {IsTold : D → LoadFault → D → Type 0} {old mid : D} {drawing : Drawing}
-    {file : List ℕ} {left : Findings} {before : Option Times} {kept : Option (List SubtitleValue)}
+    {file : List ℕ} {left : Findings} {before : Option Times} {kept : KeptValue}
     {early : List LoadFault} (on : GoesOn drawing file left before kept early)
     (told : Tells IsTold old mid early) where
   -- Faults were told, and nothing is wrong with the rest of the file.
@@ -399,17 +324,82 @@ module _ {D : Type 0} {IsTold : D → LoadFault → D → Type 0} {old mid : D} 
       tells-some (load_fault block (File fault) ∷ []) (faults_behind drawing before rest)
       has_stopped (rw is refl) is_stopped (stops-whole (omega arith) q)
 
--- What is kept, where something is.
-pub if_kept : {V : Type 0} (items : V → List SubtitleValue) (P : List SubtitleValue → Type 0)
-    (kept : Option V)
-    → ((records : List SubtitleValue) → option_map items kept ≡ Some records → P records)
-    → IfSome kept (λ v. P (items v))
-if_kept items P kept h = grind (arith, nat_tests)
+-- Something was told.
+pub some-first : {A : Type 0} (xs : List A) → is_none (first_of xs) ≡ false → 0 < length xs
+some-first xs h = grind (arith, nat_tests)
 
-pub some_items : {V : Type 0} (items : V → List SubtitleValue) (kept : Option V)
-    → is_none kept ≡ false
-    → is_none (option_map items kept) ≡ false
-some_items items kept h = grind (arith, nat_tests)
+-- ---- what is judged by
+
+-- Where all is kept no bit is set.
+whole_bits : (bits : List Bool) (other : Bool)
+    → (are_none bits && not other) ≡ true
+    → (bits ≡ []) × (other ≡ false)
+whole_bits [] false h = (refl, refl)
+whole_bits [] true h = absurd cc
+whole_bits (bit ∷ bits) other h = absurd cc
+
+module _ {drawing : Drawing} {file : List ℕ} {left : Findings} {before : Option Times}
+    {kept : KeptValue} {early : List LoadFault}
+    (on : GoesOn drawing file left before kept early) where
+  -- All was read.
+  module _ (is : left ≡ no_more) where
+    all_is : judged_of drawing file
+        ≡ record { judged = all_kept kept; is_before_other = kept.is_before_other }
+    all_is = rw is at on.judged ∙ judged-end drawing before kept
+
+    read_whole : is_read_whole (findings_for drawing.scope file) ≡ true
+    read_whole = rw is at on.whole
+
+    pub told-all : faults drawing file ≡ early
+    unfolding faults_behind
+    told-all = rw is at on.same ∙ append-nil early
+
+    judges_is : judges drawing file ≡ (are_some (all_kept kept) && are_in_order (all_kept kept))
+    judges_is = rw (all_is, read_whole) refl
+
+    -- What is kept is judged by.
+    pub judges-enough : AreKept drawing before early kept
+        → is_enough kept ≡ true
+        → JudgesBy drawing file (judged_with drawing kept)
+    unfolding loaded
+    judges-enough are_kept enough = record {
+      all = sym all_is;
+      enough = elim (cases_Bool (is_whole kept)) [
+        | inl whole ↦ inr (told-all ∙ whole_none are_kept whole)
+        | inr part ↦ inl (judges_is ∙ rw part at enough)
+      ];
+      whole = λ none.
+          let nothing = sym told-all ∙ none in
+          let bits =
+          whole_bits kept.behind_other kept.is_before_other (are_kept.whole ∙ rw nothing refl) in
+          let records : records_of (findings_for drawing.scope file) ≡ kept.records =
+          sym (all_decided drawing file none).0
+          ∙ ap (λ (all : AllJudged). map (λ (j : JudgedSubtitle). j.subtitle) all.judged) all_is
+          ∙ with_bits-subtitles kept.records kept.behind_other in
+          (rw (none, records) refl, rw (bits.0, bits.1) refl);
+    }
+
+    -- It is not.
+    pub judges-not : is_enough kept ≡ false → judges drawing file ≡ false
+    judges-not few = judges_is ∙ grind (arith, nat_tests)
+
+  -- Reading ended before the end.
+  pub judges-broken : {fault : StlFault} {block : ℕ}
+      → left ≡ breaks fault block
+      → judges drawing file ≡ false
+  judges-broken is =
+      let broken : is_read_whole (findings_for drawing.scope file) ≡ false = rw is at on.whole in
+      rw broken refl
+
+-- Then something was told.
+pub some-few : {drawing : Drawing} {before : Option Times} {kept : KeptValue}
+    {early : List LoadFault}
+    → AreKept drawing before early kept
+    → is_enough kept ≡ false
+    → 0 < length early
+some-few {kept = kept} {early} are_kept few =
+    let part : is_whole kept ≡ false = grind (arith, nat_tests) in
+    some-first early (sym are_kept.whole ∙ part)
 
 -- ---- where the source failed
 
@@ -456,22 +446,69 @@ late drawing before block (finds t at left) names =
     ∙ rw (late_kinds block at (follow_faults drawing before t) names.0)
     (rw (late drawing (Some (times_of t)) block left names.1) refl)
 
+-- The faults that are found before this block.
+unread : {drawing : Drawing} {file : List ℕ} {left : Findings} {before : Option Times}
+    {kept : KeptValue} {early : List LoadFault} (from block : ℕ)
+    → from < block
+    → All (IsToldBy from) early
+    → FindsFrom block left
+    → GoesOn drawing file left before kept early
+    → filter (is_told_before block) (faults drawing file) ≡ early
+unread {drawing} {left = left} {before} {early = early} from block lt early_told names on =
+    rw (
+      on.same,
+      filter-append (is_told_before block) early (faults_behind drawing before left),
+      filter-early from block early lt early_told,
+      late drawing before block left names,
+    ) (append-nil early)
+
 -- The faults before the block at which the source failed were told.
 pub tells-unread : {D : Type 0} {IsTold : D → LoadFault → D → Type 0} {old new : D}
     {drawing : Drawing} {file : List ℕ} {left : Findings} {before : Option Times}
-    {kept : Option (List SubtitleValue)} {early : List LoadFault} (from block : ℕ)
+    {kept : KeptValue} {early : List LoadFault} (from block : ℕ)
     → from < block
     → All (IsToldBy from) early
     → FindsFrom block left
     → GoesOn drawing file left before kept early
     → Tells IsTold old new early
     → Tells IsTold old new (filter (is_told_before block) (faults drawing file))
-tells-unread {drawing = drawing} {left = left} {before} {early = early} from block lt early_told
-    names on told =
-    rw (
-      on.same,
-      filter-append (is_told_before block) early (faults_behind drawing before left),
-      filter-early from block early lt early_told,
-      late drawing before block left names,
-      append-nil,
-    ) told
+tells-unread from block lt early_told names on told =
+    rw (unread from block lt early_told names on) told
+
+-- ---- where memory was refused
+
+-- What names no block before the next one names none before this one.
+finds_before : (block : ℕ) (left : Findings) → FindsFrom (block + 1) left → FindsFrom block left
+finds_before block no_more h = tt
+finds_before block (breaks f at) h = grind arith
+finds_before block (finds t at left) h = (grind arith, finds_before block left h.1)
+finds_before block (refuses f at left) h = (grind arith, finds_before block left h.1)
+
+-- What is found after so many blocks.
+pub found-from : (scope : Scope) (block : ℕ) (refused : Option Begun) (b : List ℕ)
+    → block ≤ most_blocks
+    → FindsFrom block (findings_from scope block refused b)
+found-from scope block refused b le =
+    finds_before block (findings_from scope block refused b)
+    (finds_from scope (most_blocks - block) block refused b (omega arith))
+
+-- For a subtitle with which nothing is wrong.
+pub wants-memory : {D : Type 0} {IsTold : D → LoadFault → D → Type 0} {old new : D}
+    {drawing : Drawing} {file : List ℕ} {before : Option Times} {kept : KeptValue}
+    {early : List LoadFault} (from block : ℕ) (t : SubtitleValue) (rest : Findings)
+    → from < block
+    → All (IsToldBy from) early
+    → FindsFrom block rest
+    → is_none (first_of (follow_faults drawing before t)) ≡ true
+    → GoesOn drawing file (finds t block rest) before kept early
+    → Tells IsTold old new (early ++ map (load_fault block) (follow_faults drawing before t))
+    → WantsMemory drawing file IsTold old new block
+wants-memory {drawing = drawing} {before = before} {early = early} from block t rest lt early_told
+    names clean on told =
+    let none = none-first (follow_faults drawing before t) clean in
+    let all = unread from block lt early_told (omega arith, names) on in
+    record {
+      told = rw all (rw (none, append-nil early) at told);
+      ends = rw all
+          (rw (append-nil early) at (on.ends_after [] block (inl (refl, refl, none))));
+    }

@@ -17,7 +17,7 @@ use Rattle.stl_rows.specs.Programme.{row_faults, times_before, times_of}
 use Rattle.stl_rows.proofs.FaultlessLemmas.{empty_parts}
 
 -- A subtitle with no fault of its rows draws a page.
-draws : (r : Result Rows RowFault) → row_faults r ≡ [] → IsOk r
+pub draws : (r : Result Rows RowFault) → row_faults r ≡ [] → IsOk r
 draws r h = grind arith
 
 -- A subtitle with no fault of its times starts at the TCO of the one before, or later.

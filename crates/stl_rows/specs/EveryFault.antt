@@ -1,6 +1,6 @@
 -- Every fault of a subtitle file, one after another, and what a device is told of them.
 use Rattle.std.specs.Prelude.{◌≡◌, ℕ, ◌<◌, ◌≤◌, ◌&&◌, nat_lt, not, Bool, true, false, List, []}
-use Rattle.std.specs.Prelude.{◌∷◌, ◌++◌, length, map, take, Option, Some, None, option_map}
+use Rattle.std.specs.Prelude.{◌∷◌, ◌++◌, length, map, take, Option, Some, None, ◌⊎◌}
 use Rattle.std.specs.List.{filter, list_all}
 use Rattle.std.specs.Io.KnownBytes.{Consumes}
 use Rattle.sub_io.specs.Reading.{IfTold}
@@ -8,7 +8,6 @@ use Rattle.sub_io.specs.Telling.{Tells}
 use Rattle.stl_file.specs.declared.fault.StlFault.TheVariants.{Ended, Read, Unfinished}
 use Rattle.stl_file.specs.Reader.{block_of_byte, findings_for}
 use Rattle.stl_file.specs.Reading.{Findings, breaks, finds, no_more, refuses}
-use Rattle.stl_file.specs.Subtitle.{SubtitleValue}
 use Rattle.stl_rows.specs.declared.fault.LoadFault.{LoadFault}
 use Rattle.stl_rows.specs.declared.fault.LoadFaultKind.{LoadFaultKind}
 use Rattle.stl_rows.specs.declared.fault.LoadFaultKind.TheVariants.{File, Memory}
@@ -45,12 +44,6 @@ is_of_file (File Ended) = false
 is_of_file Memory = false
 is_of_file _ = true
 
--- What is kept of the subtitles when one more is read: all, while nothing is wrong with any.
-abbrev pub kept_after : Bool → SubtitleValue → Option (List SubtitleValue)
-    → Option (List SubtitleValue)
-kept_after false t kept = None
-kept_after true t kept = option_map (λ ts. ts ++ t ∷ []) kept
-
 -- A device was told faults of the file.
 pub record TellsOfFile {D : Type 0} (IsTold : D → LoadFault → D → Type 0) (old new : D) : Type 0
   where
@@ -58,6 +51,14 @@ pub record TellsOfFile {D : Type 0} (IsTold : D → LoadFault → D → Type 0) 
     pub some : 0 < length faults
     pub of_file : list_all (λ (f : LoadFault). is_of_file f.kind) faults ≡ true
     pub told : Tells IsTold old new faults
+
+-- A device was told faults of the file, or nothing.
+pub record TellsAnyOfFile
+    {D : Type 0} (IsTold : D → LoadFault → D → Type 0) (old new : D)
+    : Type 0 where
+  pub faults : List LoadFault
+  pub of_file : list_all (λ (f : LoadFault). is_of_file f.kind) faults ≡ true
+  pub told : Tells IsTold old new faults
 
 -- The device said stop at one of these: it was told those up to there.
 abbrev pub StopsWithin : {D : Type 0}
@@ -96,3 +97,29 @@ pub record FailsTelling
       IfTold old
       (λ all. Tells IsTold told_old told_new
       (filter (is_told_before block) (faults drawing all)))
+
+-- A subtitle that follows one of these times ends at this block, nothing is told of it, and this is
+-- all that is told before it.
+abbrev pub EndsAfter : Drawing → Option Times → List LoadFault → ℕ → Findings → Type 0
+EndsAfter drawing before told at no_more = ⊥
+EndsAfter drawing before told at (breaks fault block) = ⊥
+EndsAfter drawing before told at (refuses fault block more) =
+    (rest : List LoadFault)
+    × (told ≡ load_fault block (File fault) ∷ rest)
+    × EndsAfter drawing before rest at more
+EndsAfter drawing before told at (finds t block more) =
+    ((at ≡ block) × (told ≡ []) × (follow_faults drawing before t ≡ []))
+    ⊎ ((rest : List LoadFault)
+    × (told ≡ map (load_fault block) (follow_faults drawing before t) ++ rest)
+    × EndsAfter drawing (Some (times_of t)) rest at more)
+
+-- The memory for the subtitle that ends at this block was refused: nothing is told of it, and the
+-- device was told the faults before it.
+pub record WantsMemory
+    {D : Type 0} (drawing : Drawing) (file : List ℕ) (IsTold : D → LoadFault → D → Type 0)
+    (old new : D) (block : ℕ)
+    : Type 0 where
+  pub told : Tells IsTold old new (filter (is_told_before block) (faults drawing file))
+  pub ends :
+      EndsAfter drawing None (filter (is_told_before block) (faults drawing file)) block
+      (findings_for drawing.scope file)

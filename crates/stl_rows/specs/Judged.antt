@@ -4,7 +4,7 @@
 -- No time of what is refused is asked: from the last subtitle before it that can be relied on to
 -- the next one, every page may be due.
 use Rattle.std.specs.Prelude.{◌≡◌, ℕ, Bool, false, true, ◌&&◌, ◌||◌, nat_le, nat_lt, List, [], ◌∷◌}
-use Rattle.std.specs.Prelude.{if◌then◌else◌, is_none, map, Option, Some, None, All, IsOk}
+use Rattle.std.specs.Prelude.{if◌then◌else◌, is_none, map, Option, Some, None, All, IsOk, Ok, ◌⊎◌}
 use Rattle.stl_file.specs.Reader.{findings_for}
 use Rattle.stl_file.specs.Reading.{Findings, breaks, finds, no_more, refuses}
 use Rattle.stl_file.specs.Subtitle.{SubtitleValue}
@@ -13,8 +13,8 @@ use Rattle.stl_rows.specs.declared.layout.Drawing.{Drawing}
 use Rattle.stl_rows.specs.declared.times.Times.{Times}
 use Rattle.stl_rows.specs.DrawnPage.{drawn}
 use Rattle.stl_rows.specs.EveryFault.{faults}
-use Rattle.stl_rows.specs.Loading.{records_of}
-use Rattle.stl_rows.specs.Programme.{follow_faults, order_faults, times_of}
+use Rattle.stl_rows.specs.Loading.{loaded, records_of}
+use Rattle.stl_rows.specs.Programme.{ProgrammeValue, follow_faults, order_faults, times_of}
 use Rattle.stl_rows.specs.TextCode.{first_of}
 
 -- A subtitle that can be relied on, and whether another one of the file, refused or not, stands
@@ -98,7 +98,54 @@ is_undecided_from start (j ∷ js) other frame =
 abbrev pub is_undecided : AllJudged → ℕ → Bool
 is_undecided all frame = is_undecided_from 0 all.judged all.is_before_other frame
 
+-- ---- what callers see
+
+-- A programme that holds what can be relied on, as callers see it: behind which of its subtitles
+-- another one stands, in their order, and whether one stands behind the last. Where bits are
+-- missing none does.
+pub record JudgedValue : Type 0 where
+  pub programme : ProgrammeValue
+  pub behind_other : List Bool
+  pub is_before_other : Bool
+
+-- Subtitles, each with its bit.
+abbrev pub with_bits : List SubtitleValue → List Bool → List JudgedSubtitle
+with_bits [] bits = []
+with_bits (t ∷ ts) [] = record { subtitle = t; is_behind_other = false } ∷ with_bits ts []
+with_bits (t ∷ ts) (bit ∷ bits) =
+    record { subtitle = t; is_behind_other = bit } ∷ with_bits ts bits
+
+-- All that it holds.
+abbrev pub all_of : JudgedValue → AllJudged
+all_of j = record {
+  judged = with_bits j.programme.records j.behind_other;
+  is_before_other = j.is_before_other;
+}
+
+-- At this frame it is not known what is due.
+unfoldable pub is_undecided_in : JudgedValue → ℕ → Bool
+is_undecided_in j frame = is_undecided (all_of j) frame
+
+-- A programme of a file in which nothing is refused.
+abbrev pub known : ProgrammeValue → JudgedValue
+known programme =
+    record { programme = programme; behind_other = []; is_before_other = false }
+
+-- It is what a file gives to judge by: all of the file where nothing is told of it; else what can
+-- be relied on, where a transmission is judged by that.
+pub record JudgesBy (drawing : Drawing) (file : List ℕ) (j : JudgedValue) : Type 0 where
+  pub all : all_of j ≡ judged_of drawing file
+  pub enough : (judges drawing file ≡ true) ⊎ (faults drawing file ≡ [])
+  pub whole :
+      faults drawing file ≡ []
+      → (loaded drawing file ≡ Ok j.programme) × (j ≡ known j.programme)
+
 -- ---- laws
+
+-- In a programme of a file in which nothing is refused it is known at each frame what is due.
+abbrev pub LawOfKnown : Type 0
+LawOfKnown =
+    (programme : ProgrammeValue) (frame : ℕ) → is_undecided_in (known programme) frame ≡ false
 
 -- Each that can be relied on draws a page.
 abbrev pub LawOfJudged : Type 0

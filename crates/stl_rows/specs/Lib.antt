@@ -15,3 +15,4 @@ pub mod Loading
 pub mod EveryFault
 pub mod Fault
 pub mod Judged
+pub mod Keeping

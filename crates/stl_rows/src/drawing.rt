@@ -106,11 +106,7 @@ pub(crate) fn drawn_page(subtitle: &Subtitle, drawing: &Drawing) -> Page
 pub fn draw(subtitle: &Subtitle, national: National, layout: Layout) -> Result<Page, RowFault>
     ensures { result ≡ drawn (drawing_by national layout) subtitle.now }
 {
-    let drawing = Drawing {
-        national,
-        layout,
-        scope: Scope::whole(),
-    };
+    let drawing = Drawing::new(national, layout, Scope::whole());
     match first_fault(subtitle, &drawing) {
         Some(fault) => Err(fault),
         None => Ok(drawn_page(subtitle, &drawing)),

@@ -1,18 +1,18 @@
-//! Loading a subtitle file as a programme, or telling every fault of it.
+//! Loading what can be relied on of a subtitle file, and telling every fault of it.
 
-ghost use Rattle.std.specs.Prelude.{◌≡◌, ◌⊎◌, ◌≤◌, [], ◌∷◌, ◌++◌, map, true, false, IfErr, IfOk};
-ghost use Rattle.std.specs.Prelude.{IfSome, None, Ok, OnErr, OnOk, is_err, is_none, option_map};
-ghost use Rattle.std.specs.Prelude.{vec_capacity, vec_len};
+ghost use Rattle.std.specs.Prelude.{◌≡◌, ◌⊎◌, [], ◌∷◌, map, true, false, IfErr, IfOk};
+ghost use Rattle.std.specs.Prelude.{IfSome, None, Ok, OnErr, OnOk, is_err, is_none};
 ghost use Rattle.sub_io.specs.Device.{CanFail, CountsIf, failed};
 ghost use Rattle.sub_io.specs.Reading.{IfTold};
 ghost use Rattle.sub_io.specs.Telling.{Tells, TellsSome, first_alone};
 ghost use Rattle.stl_file.specs.declared.fault.StlFault.TheVariants.{Read};
 ghost use Rattle.stl_file.specs.Fault as stl;
 ghost use Rattle.stl_file.specs.Subtitle.{IsSubtitle};
-ghost use Rattle.stl_rows.specs.EveryFault.{FailsTelling, StopsWithin, TellsFaults, TellsOfFile};
-ghost use Rattle.stl_rows.specs.EveryFault.{faults, kept_after, load_fault};
+ghost use Rattle.stl_rows.specs.EveryFault.{FailsTelling, StopsWithin, TellsAnyOfFile, TellsFaults};
+ghost use Rattle.stl_rows.specs.EveryFault.{TellsOfFile, WantsMemory, faults, load_fault};
 ghost use Rattle.stl_rows.specs.Fault.{is_read};
-ghost use Rattle.stl_rows.specs.Loading.{EndsRecord, loaded};
+ghost use Rattle.stl_rows.specs.Judged.{JudgesBy, judges};
+ghost use Rattle.stl_rows.specs.Keeping.{judged_with};
 ghost use Rattle.stl_rows.specs.Programme.{IsProgramme, follow_faults, row_faults};
 ghost use Rattle.stl_rows.specs.DrawnPage.{drawn};
 ghost use Rattle.stl_rows.specs.Layout.{drawing_within};
@@ -20,29 +20,36 @@ ghost use Rattle.stl_rows.specs.TextCode.{first_of};
 ghost use Rattle.stl_rows.specs.declared.fault.LoadFaultKind.TheVariants.{File, Memory};
 
 use crate::fault::{LoadFault, LoadFaultKind};
+use crate::judged::JudgedProgramme;
+use crate::keeping::Kept;
 use crate::layout::{Drawing, Layout};
 use crate::national::National;
-use crate::programme::Programme;
 use crate::text_faults::first_fault;
 use crate::times::Times;
 use std::alloc::{Allocator, Global};
 use stl_file::{Found, ResumingReader, Scope, StlFault, Subtitle};
 use sub_io::{Audience, Source, Stopped};
 
-/// Loads the subtitles of an STL file as `load` does, and tells a device every fault of the file.
+/// Loads what can be relied on of the subtitles of an STL file, and tells a device every fault of
+/// the file.
 ///
-/// `None` where faults were told: all of them by block, or those up to the one at which the device
-/// said stop. At a subtitle's first block that is what it is refused for, `File`: it is no record,
-/// is not drawn, and times are compared as if it were not there. At the last block of each other
-/// subtitle they are `OutOfOrder` or `Overlap`, by the times of the one before it, whatever was
-/// told of that one, and then the first fault of `draw`, as `Row`. Last comes the fault that ends
-/// reading, `File`. Once one was told nothing is kept, and no memory is taken.
+/// The faults are told by block, all of them or those up to the one at which the device said stop.
+/// At a subtitle's first block that is what it is refused for, `File`: it is no record, is not
+/// drawn, and times are compared as if it were not there. At the last block of each other subtitle
+/// they are `OutOfOrder` or `Overlap`, by the times of the one before it, whatever was told of that
+/// one, and then the first fault of `draw`, as `Row`. Last comes the fault that ends reading,
+/// `File`.
+///
+/// Where none is told the answer is what `load` gives, and nothing is undecided. Where some are, it
+/// is the subtitles of which nothing is told and after which the next one's times are in order.
+/// `None` where these are not enough to judge a transmission by: the file was not read to its end,
+/// there are none, or one starts before one before it has ended; and where the device said stop.
 ///
 /// # Errors
 ///
 /// `File` with `Read` where the source failed, at the block of the byte that was asked for: the
-/// faults before it were told. `Memory` where the memory for a subtitle was refused, at its last
-/// block, before any fault was told.
+/// faults before it were told. `Memory` where the memory for a subtitle was refused that is kept,
+/// at its last block: the faults before it were told.
 pub fn load_all<S: Source, D: Audience<LoadFault>>(
     alloc: Global,
     source: &mut S,
@@ -50,30 +57,34 @@ pub fn load_all<S: Source, D: Audience<LoadFault>>(
     layout: Layout,
     scope: Scope,
     audience: &mut D,
-) -> Result<Option<Programme>, LoadFault>
+) -> Result<Option<JudgedProgramme>, LoadFault>
     requires count { CanFail (S.failure_count source.old) }
     requires listens { D.has_stopped audience.old ≡ false }
-    // Where the source tells its bytes, they decide the programme and what was told.
+    // Where the source tells its bytes, they decide what is judged by and what was told.
     ensures exact { IfTold (S.remaining source.old) (λ bytes. IfOk result (λ found.
-        IfSome found (λ programme.
-        loaded (drawing_within national layout scope) bytes ≡ Ok programme))) }
+        IfSome found (JudgesBy (drawing_within national layout scope) bytes))) }
+    ensures told_all { IfTold (S.remaining source.old) (λ bytes. IfOk result (λ found.
+        IfSome found (λ _. Tells D.is_told audience.old audience.new
+        (faults (drawing_within national layout scope) bytes)))) }
     ensures told { IfTold (S.remaining source.old) (λ bytes. result ≡ Ok None →
         TellsFaults D.is_told audience.old audience.new (D.has_stopped audience.new)
         (faults (drawing_within national layout scope) bytes)) }
+    ensures not_judged { IfTold (S.remaining source.old) (λ bytes. result ≡ Ok None →
+        (D.has_stopped audience.new ≡ true)
+        ⊎ (judges (drawing_within national layout scope) bytes ≡ false)) }
     ensures memory { IfTold (S.remaining source.old) (λ bytes. IfErr result (λ f.
-        f.kind ≡ Memory → EndsRecord (drawing_within national layout scope) bytes f.block)) }
+        f.kind ≡ Memory → WantsMemory (drawing_within national layout scope) bytes
+        D.is_told audience.old audience.new f.block)) }
 
-    ensures programme { IfOk result (λ found. IfSome found (λ programme.
-        IsProgramme programme.drawing programme.records)) }
-    ensures drawing { IfOk result (λ found.
-        IfSome found (λ programme. programme.drawing ≡ drawing_within national layout scope)) }
-    // `None` comes where faults were told, and a programme and `Memory` where none was.
+    ensures programme { IfOk result (λ found. IfSome found (λ judged.
+        IsProgramme judged.programme.drawing judged.programme.records)) }
+    ensures drawing { IfOk result (λ found. IfSome found (λ judged.
+        judged.programme.drawing ≡ drawing_within national layout scope)) }
+    // `None` comes where faults were told.
     ensures some { result ≡ Ok None →
         TellsOfFile D.is_told audience.old audience.new }
-    ensures none { IfOk result (λ found. IfSome found (λ _.
-        Tells D.is_told audience.old audience.new [])) }
-    ensures none_before { IfErr result (λ f. f.kind ≡ Memory →
-        Tells D.is_told audience.old audience.new []) }
+    ensures any { IfOk result (λ found. IfSome found (λ _.
+        TellsAnyOfFile D.is_told audience.old audience.new)) }
     ensures stopped { D.has_stopped audience.new ≡ true → result ≡ Ok None }
     // Whatever the source tells, the device was told some faults where it failed.
     ensures some_before { IfErr result (λ _. TellsSome D.is_told audience.old audience.new) }
@@ -85,47 +96,46 @@ pub fn load_all<S: Source, D: Audience<LoadFault>>(
     ensures kinds { IfErr result (λ f. (f.kind ≡ Memory) ⊎ (f.kind ≡ File Read)) }
     ensures count { CountsIf S.failure_count source.old (failed is_read result) source.new }
 {
-    let drawing = Drawing {
-        national,
-        layout,
-        scope,
-    };
+    let drawing = Drawing::new(national, layout, scope);
     match load_all_in(alloc, source, drawing, audience) {
-        Ok(Some(subtitles)) => Ok(Some(Programme::of(drawing, subtitles))),
+        Ok(Some(kept)) => Ok(Some(JudgedProgramme::of(drawing, kept))),
         Ok(None) => Ok(None),
         Err(fault) => Err(fault),
     }
 }
 
-/// Loads the subtitles of an STL file into any memory, or tells every fault: `load_all` is this in
-/// the program's own.
+/// Loads what can be relied on of the subtitles of an STL file into any memory, and tells every
+/// fault: `load_all` is this in the program's own.
 ///
 /// # Errors
 ///
 /// Those of `load_all`.
-pub fn load_all_in<A: Allocator + Drop, S: Source, D: Audience<LoadFault>>(
+pub fn load_all_in<A: Allocator + Copy, S: Source, D: Audience<LoadFault>>(
     alloc: A,
     source: &mut S,
     drawing: Drawing,
     audience: &mut D,
-) -> Result<Option<Vec<Subtitle, A>>, LoadFault>
+) -> Result<Option<Kept<A>>, LoadFault>
     requires count { CanFail (S.failure_count source.old) }
     requires listens { D.has_stopped audience.old ≡ false }
     ensures exact { IfTold (S.remaining source.old) (λ bytes. IfOk result (λ found.
-        IfSome found (λ v.
-        loaded drawing bytes ≡ Ok (record { drawing = drawing; records = v.items })))) }
+        IfSome found (λ kept. JudgesBy drawing bytes (judged_with drawing kept)))) }
+    ensures told_all { IfTold (S.remaining source.old) (λ bytes. IfOk result (λ found.
+        IfSome found (λ _. Tells D.is_told audience.old audience.new (faults drawing bytes)))) }
     ensures told { IfTold (S.remaining source.old) (λ bytes. result ≡ Ok None →
         TellsFaults D.is_told audience.old audience.new (D.has_stopped audience.new)
         (faults drawing bytes)) }
+    ensures not_judged { IfTold (S.remaining source.old) (λ bytes. result ≡ Ok None →
+        (D.has_stopped audience.new ≡ true) ⊎ (judges drawing bytes ≡ false)) }
     ensures memory { IfTold (S.remaining source.old) (λ bytes. IfErr result (λ f.
-        f.kind ≡ Memory → EndsRecord drawing bytes f.block)) }
-    ensures programme { IfOk result (λ found. IfSome found (λ v. IsProgramme drawing v.items)) }
+        f.kind ≡ Memory
+        → WantsMemory drawing bytes D.is_told audience.old audience.new f.block)) }
+    ensures programme { IfOk result (λ found.
+        IfSome found (λ kept. IsProgramme drawing kept.records)) }
     ensures some { result ≡ Ok None →
         TellsOfFile D.is_told audience.old audience.new }
-    ensures none { IfOk result (λ found. IfSome found (λ _.
-        Tells D.is_told audience.old audience.new [])) }
-    ensures none_before { IfErr result (λ f. f.kind ≡ Memory →
-        Tells D.is_told audience.old audience.new []) }
+    ensures any { IfOk result (λ found. IfSome found (λ _.
+        TellsAnyOfFile D.is_told audience.old audience.new)) }
     ensures stopped { D.has_stopped audience.new ≡ true → result ≡ Ok None }
     ensures some_before { IfErr result (λ _. TellsSome D.is_told audience.old audience.new) }
     ensures read { IfErr result (λ f. is_read f ≡ true → FailsTelling drawing
@@ -141,7 +151,7 @@ pub fn load_all_in<A: Allocator + Drop, S: Source, D: Audience<LoadFault>>(
             Err(failed) => return Err(failed),
         },
     };
-    let mut kept = Some(Vec::new(alloc));
+    let mut kept = Kept::new(alloc);
     let mut before = None;
     'subtitles: loop {
         let mut subtitle = Subtitle::empty();
@@ -150,51 +160,32 @@ pub fn load_all_in<A: Allocator + Drop, S: Source, D: Audience<LoadFault>>(
                 Ok(()) => return Ok(None),
                 Err(failed) => return Err(failed),
             },
-            Ok(Found::End) => return Ok(kept),
+            Ok(Found::End) => {
+                if kept.is_enough() {
+                    return Ok(Some(kept));
+                }
+                return Ok(None);
+            }
             Ok(Found::Refused(fault)) => {
                 let kind = Some(LoadFaultKind::File(fault));
                 let Ok(_) = tell_fault(kind, reader.block(), audience) else {
                     return Ok(None);
                 };
-                kept = None;
+                kept.pass();
             }
             Ok(Found::Subtitle) => {
                 let block = reader.block();
                 let Ok(clean) = tell_faults(&drawing, before, &subtitle, block, audience) else {
                     return Ok(None);
                 };
-                before = Some(Times::of(&subtitle));
-                if let Err(kind) = keep(&mut kept, clean, subtitle) {
+                let times = Times::of(&subtitle);
+                let in_order = times.fault_after(before).is_none();
+                before = Some(times);
+                if let Err(kind) = kept.put(in_order, clean, subtitle) {
                     return Err(LoadFault { block, kind });
                 }
             }
         }
-    }
-}
-
-// Keeps a subtitle after these, while nothing is wrong with any; else nothing is kept.
-fn keep<A: Allocator + Drop>(
-    kept: &mut Option<Vec<Subtitle, A>>,
-    clean: bool,
-    subtitle: Subtitle,
-) -> Result<(), LoadFaultKind>
-    ensures all { OnOk result (option_map (λ v. v.items) kept.new
-        ≡ kept_after clean subtitle (option_map (λ v. v.items) kept.old)) }
-    // Memory is only wanted where there is no room left.
-    ensures full { OnErr result (IfSome kept.old (λ v. vec_capacity v ≤ vec_len v)) }
-    ensures some { IfErr result (λ kind.
-        (kind ≡ Memory) × (clean ≡ true) × (is_none kept.old ≡ false)) }
-{
-    if !clean {
-        *kept = None;
-        return Ok(());
-    }
-    match kept {
-        None => Ok(()),
-        Some(subtitles) => match subtitles.push(subtitle) {
-            Ok(()) => Ok(()),
-            Err(_) => Err(LoadFaultKind::Memory),
-        },
     }
 }
 

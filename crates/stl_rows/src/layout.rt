@@ -3,7 +3,7 @@
 ghost use Rattle.std.specs.Prelude.{◌≡◌};
 ghost use Rattle.stl_rows.specs.Layout.{attribute_code, attribute_of, default_items};
 ghost use Rattle.stl_rows.specs.Layout.{items_of_layout};
-ghost use Rattle.stl_rows.specs.Layout.{default_layout, strips};
+ghost use Rattle.stl_rows.specs.Layout.{default_layout, drawing_within, strips};
 
 use crate::national::National;
 use stl_file::Scope;
@@ -178,4 +178,17 @@ pub struct Drawing {
     pub layout: Layout,
     /// What of a file is taken. A page that is drawn does not depend on it.
     pub scope: Scope,
+}
+
+impl Drawing {
+    /// How the texts of what is taken of a file are drawn.
+    pub fn new(national: National, layout: Layout, scope: Scope) -> Drawing
+        ensures { result ≡ drawing_within national layout scope }
+    {
+        Drawing {
+            national,
+            layout,
+            scope,
+        }
+    }
 }

@@ -16,6 +16,8 @@
 mod drawing;
 mod every_fault;
 mod fault;
+mod judged;
+mod keeping;
 mod laid_out;
 mod layout;
 mod layout_text;
@@ -32,6 +34,8 @@ mod times;
 pub use drawing::{draw, law_of_default_layout, law_of_letters};
 pub use every_fault::{load_all, load_all_in};
 pub use fault::{LoadFault, LoadFaultKind, RowFault, RowFaultKind};
+pub use judged::{JudgedProgramme, Judging, law_of_known};
+pub use keeping::Kept;
 pub use layout::{Drawing, Layout};
 pub use loading::{law_of_judged, law_of_loading, law_of_parts, load, load_in};
 pub use national::{National, NationalBits};

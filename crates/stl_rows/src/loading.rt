@@ -61,11 +61,7 @@ pub fn load<S: Source>(
         (S.remaining source.old) (S.remaining source.new) f.block) }
     ensures count { CountsIf S.failure_count source.old (failed is_read result) source.new }
 {
-    let drawing = Drawing {
-        national,
-        layout,
-        scope,
-    };
+    let drawing = Drawing::new(national, layout, scope);
     match load_in(alloc, source, drawing) {
         Ok(subtitles) => Ok(Programme::of(drawing, subtitles)),
         Err(fault) => Err(fault),
@@ -77,7 +73,7 @@ pub fn load<S: Source>(
 /// # Errors
 ///
 /// Those of `load`.
-pub fn load_in<A: Allocator + Drop, S: Source>(
+pub fn load_in<A: Allocator + Copy, S: Source>(
     alloc: A,
     source: &mut S,
     drawing: Drawing,
@@ -95,7 +91,7 @@ pub fn load_in<A: Allocator + Drop, S: Source>(
 {
     let mut first = FirstTold::new();
     match load_all_in(alloc, source, drawing, &mut first) {
-        Ok(Some(subtitles)) => Ok(subtitles),
+        Ok(Some(kept)) => Ok(kept.into_subtitles()),
         Ok(None) => match first.into_first() {
             Some(fault) => Err(fault),
             None => unreachable!(),

@@ -1,11 +1,13 @@
 //! Programmes: subtitles in order, the page that is due at a frame, and the edges between pages.
 
-ghost use Rattle.std.specs.Prelude.{◌≡◌, ℕ, ◌-◌, ◌<◌, ◌≤◌, ◌↔◌, [], IsTrue, MatchOption, length};
+ghost use Rattle.std.specs.Prelude.{◌≡◌, ℕ, ◌-◌, ◌<◌, ◌≤◌, ◌↔◌, [], IsTrue, MatchOption, false};
+ghost use Rattle.std.specs.Prelude.{length};
 ghost use Rattle.std.specs.Prelude.{slice_get, slice_index_or};
 ghost use Rattle.stl_file.specs.Subtitle.{SubtitleValue};
 ghost use Rattle.stl_rows.specs.DuePage.{due, LawOfBlankPages, LawOfDuePages, LawOfDueSubtitles};
 ghost use Rattle.stl_rows.specs.DuePage.{LawOfLastRow};
 ghost use Rattle.stl_rows.specs.DuePage.{LawOfEdges, TellsLastEdge, TellsNextEdge, tci_of_ending};
+ghost use Rattle.stl_rows.specs.Judged.{is_undecided_from, is_undecided_in, with_bits};
 ghost use Rattle.stl_rows.specs.Programme.{IsProgramme, first_in, last_out};
 
 use crate::drawing::drawn_page;
@@ -132,6 +134,43 @@ fn tci_ending_at(drawing: &Drawing, subtitles: &[Subtitle], frame: u32) -> Optio
     Some(subtitle.tci().frame())
 }
 
+// The bit of a subtitle by its index; false where it is missing.
+fn bit_at(bits: &[bool], at: usize) -> bool
+    ensures { result ≡ slice_index_or bits.now at false }
+{
+    match bits.get(at) {
+        Some(bit) => *bit,
+        None => false,
+    }
+}
+
+// Whether it is not known what is due at a frame.
+fn is_undecided_at(
+    drawing: &Drawing,
+    subtitles: &[Subtitle],
+    behind_other: &[bool],
+    is_before_other: bool,
+    frame: u32,
+) -> bool
+    requires { IsProgramme drawing.now subtitles.now }
+    ensures { result
+        ≡ is_undecided_from 0 (with_bits subtitles.now behind_other.now) is_before_other frame }
+{
+    if behind_other.is_empty() && !is_before_other {
+        return false;
+    }
+    let at = first_after(drawing, subtitles, frame);
+    if at == subtitles.len() {
+        return is_before_other;
+    }
+    let subtitle = &subtitles[at];
+    let tci = subtitle.tci().frame();
+    if tci <= frame {
+        return false;
+    }
+    bit_at(behind_other, at)
+}
+
 impl Programme {
     // The programme of these subtitles.
     pub(crate) fn of(drawing: Drawing, subtitles: Vec<Subtitle>) -> Programme
@@ -236,6 +275,31 @@ impl Programme {
         ensures programme { IsProgramme self.now.drawing self.now.records }
     {
         tci_ending_at(&self.drawing, self.subtitles.as_slice(), frame)
+    }
+
+    // Whether it is not known what is due at a frame, where other subtitles stand before these and
+    // behind the last.
+    #[tactic(auto, unfolding(crate::specs::Judged::is_undecided_in))]
+    pub(crate) fn is_undecided(
+        &self,
+        behind_other: &[bool],
+        is_before_other: bool,
+        frame: u32,
+    ) -> bool
+        ensures { result ≡ is_undecided_in (record {
+          programme = self.now;
+          behind_other = behind_other.now;
+          is_before_other = is_before_other;
+        }) frame }
+    {
+        let subtitles = self.subtitles.as_slice();
+        is_undecided_at(
+            &self.drawing,
+            subtitles,
+            behind_other,
+            is_before_other,
+            frame,
+        )
     }
 }
 

@@ -1,6 +1,13 @@
--- The programme has the subtitles that were loaded.
+-- What was kept is what is judged by.
+use Rattle.std.proofs.Common.{sym}
 use Rattle.stl_rows.proofs.every_fault.load_all.Goals as goal
 
 pub returns-in-Ok-Some-clause-exact : goal.returns-in-Ok-Some-clause-exact
 returns-in-Ok-Some-clause-exact g c = λ bytes e.
-    rw c.of.ensures (rw c.in-Ok-Some.field-0-is at (c.in-Ok-Some.ensures.exact bytes e))
+    rw (c.of.ensures, sym c.new-drawing.ensures)
+    (rw c.in-Ok-Some.field-0-is at (c.in-Ok-Some.ensures.exact bytes e))
+
+pub returns-in-Ok-Some-clause-told_all : goal.returns-in-Ok-Some-clause-told_all
+returns-in-Ok-Some-clause-told_all g c = λ bytes e.
+    rw (sym c.new-drawing.ensures)
+    (rw c.in-Ok-Some.field-0-is at (c.in-Ok-Some.ensures.told_all bytes e))

@@ -1,15 +1,14 @@
 -- What was told of the subtitles so far, and what is wrong with the rest, is all that is wrong with
--- the file; what is kept is a programme.
-use Rattle.std.proofs.Common.{◌≡◌, ◌-◌, ◌<◌, ℕ, false, List, length, Some, None}
-use Rattle.std.specs.Prelude.{option_map}
+-- the file; and so it is with what is kept and what can be relied on.
+use Rattle.std.proofs.Common.{◌≡◌, ◌-◌, ℕ, false, List, Some}
 use Rattle.std.specs.List.{All}
 use Rattle.sub_io.specs.Telling.{Tells}
 use Rattle.stl_file.specs.declared.progress.Progress.TheVariants.{Reading}
 use Rattle.stl_file.specs.Reading.{findings_from}
-use Rattle.stl_file.specs.Subtitle.{SubtitleValue}
 use Rattle.stl_rows.specs.declared.fault.LoadFault.{LoadFault}
 use Rattle.stl_rows.proofs.FailedReadLemmas.{HasTaken}
-use Rattle.stl_rows.proofs.LoadingLemmas.{AreKept, GoesOn, IsToldBy}
+use Rattle.stl_rows.proofs.KeepingLemmas.{AreKept}
+use Rattle.stl_rows.proofs.LoadingLemmas.{GoesOn, IsToldBy}
 use Rattle.stl_rows.proofs.every_fault.load_all_in.Given as goal
 
 abbrev pub invariant-subtitles : goal.invariant-subtitles
@@ -17,10 +16,7 @@ invariant-subtitles g l = record {
   early : List LoadFault;
   told : Tells g.D.Audience.is_told l.fn.audience l.audience early;
   early_told : All (IsToldBy l.reader.block) early;
-  are_kept : (records : List SubtitleValue)
-      → option_map (λ v. v.items) l.kept ≡ Some records
-      → AreKept l.drawing l.before early records;
-  some : option_map (λ v. v.items) l.kept ≡ None → 0 < length early;
+  are_kept : AreKept l.drawing l.before early l.kept;
   listens : g.D.Audience.has_stopped l.audience ≡ false;
   reading : l.reader.progress ≡ Reading;
   scope : l.reader.scope ≡ l.drawing.scope;
@@ -30,7 +26,7 @@ invariant-subtitles g l = record {
   goes_on : (bytes : List ℕ) → g.S.Source.remaining l.fn.source ≡ Some bytes
       → (rest : List ℕ) × (g.S.Source.remaining l.source ≡ Some rest)
       × GoesOn l.drawing bytes (findings_from l.drawing.scope l.reader.block l.reader.refused rest)
-      l.before (option_map (λ v. v.items) l.kept) early;
+      l.before l.kept early;
 }
 
 abbrev pub decreases-subtitles : goal.decreases-subtitles

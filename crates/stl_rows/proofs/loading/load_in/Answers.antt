@@ -1,14 +1,31 @@
--- The first fault that is told is what comes of the file: tells-first; and where the source failed
--- there is none before: none-told.
+-- The first fault that is told is what comes of the file: tells-first; where none is told all is
+-- loaded: loads-all; and where the source failed or memory was refused there is none before:
+-- none-told, tells-failed.
 use Rattle.std.proofs.Common.{arith, ap, ◌∙◌, rules, sym}
 use Rattle.std.proofs.lemmas.Bool.Decides.{nat_tests}
 use Rattle.std.specs.Prelude.{Ok}
-use Rattle.stl_rows.proofs.EveryFaultLemmas.{first-not_read, first-of_file, none-told, tells-first}
+use Rattle.stl_rows.proofs.EveryFaultLemmas.{first-not_read, first-of_file, keeps-none}
+use Rattle.stl_rows.proofs.EveryFaultLemmas.{loads-all, none-told, tells-failed, tells-first}
 use Rattle.stl_rows.proofs.loading.load_in.Goals as goal
 
 pub returns-in-Ok-Some-clause-exact : goal.returns-in-Ok-Some-clause-exact
 returns-in-Ok-Some-clause-exact g c = λ bytes e.
-    rw c.in-Ok-Some.field-0-is at (c.in-Ok-Some.ensures.exact bytes e)
+    let ok = c.in-Ok-Some.ensures in
+    let goes_on =
+    keeps-none c.load_all_in.new.audience
+    (λ stopped. let is = ok.stopped stopped in let own = c.in-Ok-Some.field-0-is in cc) in
+    let told = rw c.in-Ok-Some.field-0-is at (ok.told_all bytes e) in
+    rw c.into_subtitles.ensures
+    (loads-all c.args.drawing bytes _ (rw c.in-Ok-Some.field-0-is at (ok.exact bytes e))
+    (rw (c.new-first.ensures, goes_on) at told))
+
+pub returns-in-Err-clause-fault : goal.returns-in-Err-clause-fault
+returns-in-Err-clause-fault g c = λ bytes e.
+    let failed = c.in-Err.ensures in
+    let goes_on =
+    keeps-none c.load_all_in.new.audience (λ stopped. let is = failed.stopped stopped in cc) in
+    tells-failed c.args.drawing bytes c.in-Err.fault.block c.in-Err.fault.kind failed.kinds
+    (λ is. rw (c.new-first.ensures, goes_on) at (failed.memory bytes e is))
 
 pub unreachable-requires : goal.unreachable-requires
 unreachable-requires g c = grind (arith, nat_tests, first-of_file)

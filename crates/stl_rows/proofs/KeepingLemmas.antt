@@ -1,0 +1,592 @@
+-- What is kept of a file while it is read, and the rest, are what can be relied on: judged-start,
+-- judged-refused, judged-next, judged-end. Subtitles that are in order: ordered.
+use Rattle.std.proofs.Common.{◌≡◌, ℕ, zero, suc, ◌+◌, ◌-◌, ◌<◌, ◌≤◌, Bool, false, true, List, [], ◌∷◌}
+use Rattle.std.proofs.Common.{◌++◌, length, take, drop, map, replicate, Option, Some, None, refl, sym}
+use Rattle.std.proofs.Common.{◌∙◌, ap, arith, inl, inr, append_assoc, append-nil, get_or}
+use Rattle.std.proofs.Common.{length-append, length-take}
+use Rattle.std.proofs.lemmas.List.{length-replicate}
+use Rattle.std.proofs.Math.Seq.{drop-cons, take-append_seam}
+use Rattle.std.proofs.lemmas.Bool.{cases_Bool}
+use Rattle.std.proofs.lemmas.Bool.Decides.{nat_tests}
+use Rattle.std.proofs.lemmas.List.Elements.{All-nil, All-push, All-take}
+use Rattle.std.specs.Prelude.{All, IsOk, ◌==◌, is_some, option_map, ◌&&◌, not, nat_lt, is_none, if◌then◌else◌}
+use Rattle.stl_file.specs.Reading.{Findings, finds, no_more, refuses}
+use Rattle.stl_file.specs.Subtitle.{IsSubtitle, SubtitleValue}
+use Rattle.stl_file.specs.declared.fault.StlFault.{StlFault}
+use Rattle.stl_rows.specs.declared.fault.LoadFault.{LoadFault}
+use Rattle.stl_rows.specs.declared.fault.LoadFaultKind.{LoadFaultKind}
+use Rattle.stl_rows.specs.declared.layout.Drawing.{Drawing}
+use Rattle.stl_rows.specs.declared.times.Times.{Times}
+use Rattle.stl_rows.specs.Judged.{AllJudged, JudgedSubtitle, are_in_order, are_some}
+use Rattle.stl_rows.specs.Judged.{is_followed_in_order}
+use Rattle.stl_rows.specs.Judged.{judged_before, judged_behind, start_from, with_bits}
+use Rattle.stl_rows.specs.Keeping.{KeptValue, all_kept, kept_after, nothing_kept, passed}
+use Rattle.stl_rows.specs.EveryFault.{load_fault}
+use Rattle.stl_rows.specs.Keeping.{are_none, bits_after, is_enough, is_whole}
+use Rattle.stl_rows.specs.Keeping.{passed_latest, with_one, without_last}
+use Rattle.stl_rows.specs.Programme.{AreInOrder, IsProgramme, follow_faults, order_faults}
+use Rattle.stl_rows.specs.Programme.{row_faults, times_before, times_of}
+use Rattle.stl_rows.proofs.FaultlessLemmas.{empty_parts}
+use Rattle.stl_rows.proofs.ProgrammeLemmas.{IsProgramme-none, IsProgramme-push, draws, last_of-push}
+use Rattle.stl_rows.specs.DrawnPage.{drawn}
+use Rattle.stl_rows.specs.TextCode.{first_of}
+
+-- ---- subtitles with their bits
+
+-- A subtitle with its bit.
+abbrev with_bit : SubtitleValue → Bool → JudgedSubtitle
+with_bit t bit = record { subtitle = t; is_behind_other = bit }
+
+take_none : (n : ℕ) → take {A = Bool} n [] ≡ []
+take_none zero = refl
+take_none (suc n) = refl
+
+-- One more whose bit is set.
+pub with_bits-set : (ts : List SubtitleValue) (bits : List Bool) (t : SubtitleValue)
+    → with_bits (ts ++ t ∷ [])
+    (take (length ts) bits ++ (replicate (length ts - length bits) false ++ true ∷ []))
+    ≡ with_bits ts bits ++ with_bit t true ∷ []
+with_bits-set [] bits t =
+    let none : 0 - length bits ≡ 0 = omega arith in
+    rw none refl
+with_bits-set (s ∷ ts) [] t =
+    let rest = with_bits-set ts [] t in
+    let left : suc (length ts) - 0 ≡ suc (length ts) = omega arith in
+    let same : length ts - 0 ≡ length ts = omega arith in
+    rw left (ap (λ (l : List JudgedSubtitle). with_bit s false ∷ l) (rw (same, take_none (length ts)) at rest))
+with_bits-set (s ∷ ts) (bit ∷ bits) t =
+    let left : suc (length ts) - suc (length bits) ≡ length ts - length bits = omega arith in
+    rw left (ap (λ (l : List JudgedSubtitle). with_bit s bit ∷ l) (with_bits-set ts bits t))
+
+-- One more whose bit is missing.
+pub with_bits-unset : (ts : List SubtitleValue) (bits : List Bool) (t : SubtitleValue)
+    → length bits ≤ length ts
+    → with_bits (ts ++ t ∷ []) bits ≡ with_bits ts bits ++ with_bit t false ∷ []
+with_bits-unset [] [] t fits = refl
+with_bits-unset [] (bit ∷ bits) t fits = absurd (omega arith)
+with_bits-unset (s ∷ ts) [] t fits =
+    ap (λ (l : List JudgedSubtitle). with_bit s false ∷ l) (with_bits-unset ts [] t (omega arith))
+with_bits-unset (s ∷ ts) (bit ∷ bits) t fits =
+    ap (λ (l : List JudgedSubtitle). with_bit s bit ∷ l)
+    (with_bits-unset ts bits t (omega arith))
+
+-- The first of them.
+pub with_bits-take : (n : ℕ) (ts : List SubtitleValue) (bits : List Bool)
+    → with_bits (take n ts) (take n bits) ≡ take n (with_bits ts bits)
+with_bits-take zero ts bits = refl
+with_bits-take (suc n) [] bits = refl
+with_bits-take (suc n) (s ∷ ts) [] =
+    ap (λ (l : List JudgedSubtitle). with_bit s false ∷ l)
+    (rw (take_none n) at (with_bits-take n ts []))
+with_bits-take (suc n) (s ∷ ts) (bit ∷ bits) =
+    ap (λ (l : List JudgedSubtitle). with_bit s bit ∷ l) (with_bits-take n ts bits)
+
+-- Without their bits.
+pub with_bits-subtitles : (ts : List SubtitleValue) (bits : List Bool)
+    → map (λ (j : JudgedSubtitle). j.subtitle) (with_bits ts bits) ≡ ts
+with_bits-subtitles [] bits = refl
+with_bits-subtitles (s ∷ ts) [] =
+    ap (λ (l : List SubtitleValue). s ∷ l) (with_bits-subtitles ts [])
+with_bits-subtitles (s ∷ ts) (bit ∷ bits) =
+    ap (λ (l : List SubtitleValue). s ∷ l) (with_bits-subtitles ts bits)
+
+-- ---- subtitles in order
+
+-- The bits say nothing of it.
+start_from-bits : (frame : ℕ) (ts : List SubtitleValue) (bits : List Bool)
+    → start_from frame (with_bits ts bits) ≡ start_from frame (with_bits ts [])
+start_from-bits frame [] bits = refl
+start_from-bits frame (t ∷ ts) [] = refl
+start_from-bits frame (t ∷ ts) (bit ∷ bits) = rw (start_from-bits frame ts bits) refl
+
+pub in_order-bits : (ts : List SubtitleValue) (bits : List Bool)
+    → are_in_order (with_bits ts bits) ≡ are_in_order (with_bits ts [])
+in_order-bits [] bits = refl
+in_order-bits (t ∷ ts) [] = refl
+in_order-bits (t ∷ ts) (bit ∷ bits) =
+    rw (start_from-bits t.tco ts bits, in_order-bits ts bits) refl
+
+-- All start at 0 or later.
+pub start_from-0 : (js : List JudgedSubtitle) → start_from 0 js ≡ true
+start_from-0 [] = refl
+start_from-0 (j ∷ js) = grind (arith, nat_tests, start_from-0 js)
+
+-- What starts from a frame starts from an earlier one.
+start_from-earlier : (early late : ℕ) (js : List JudgedSubtitle)
+    → early ≤ late
+    → start_from late js ≡ true
+    → start_from early js ≡ true
+start_from-earlier early late [] le h = refl
+start_from-earlier early late (j ∷ js) le h =
+    let rest = start_from-earlier early late js le in
+    grind (arith, nat_tests)
+
+-- What is asked of the first of these, and then of the rest.
+abbrev pub InOrderFrom : ℕ → List SubtitleValue → Bool
+InOrderFrom last ts = start_from last (with_bits ts []) && are_in_order (with_bits ts [])
+
+pub in_order-first : (last : ℕ) (t : SubtitleValue) (ts : List SubtitleValue)
+    → t.tci < t.tco
+    → nat_lt t.tci last ≡ false
+    → InOrderFrom last (t ∷ ts) ≡ InOrderFrom t.tco ts
+in_order-first last t ts times from =
+    let rest = start_from-earlier last t.tco (with_bits ts []) in
+    grind (arith, nat_tests)
+
+pub in_order-early : (last : ℕ) (t : SubtitleValue) (ts : List SubtitleValue)
+    → nat_lt t.tci last ≡ true
+    → InOrderFrom last (t ∷ ts) ≡ false
+in_order-early last t ts early = grind (arith, nat_tests)
+
+-- What is asked of the rest is asked of the next one, and then of those behind it.
+pub in_order-next : (last i : ℕ) (ts : List SubtitleValue) (t : SubtitleValue)
+    → i < length ts
+    → get_or ts i t ≡ t
+    → t.tci < t.tco
+    → nat_lt t.tci last ≡ false
+    → InOrderFrom last (drop i ts) ≡ InOrderFrom t.tco (drop (i + 1) ts)
+in_order-next last i ts t inside is times from =
+    let next : i + 1 ≡ suc i = omega arith in
+    rw (drop-cons ts i t inside, is, next) (in_order-first last t (drop (suc i) ts) times from)
+
+pub in_order-end : (last i : ℕ) (ts : List SubtitleValue) (t : SubtitleValue)
+    → i < length ts
+    → get_or ts i t ≡ t
+    → nat_lt t.tci last ≡ true
+    → InOrderFrom last (drop i ts) ≡ false
+in_order-end last i ts t inside is early =
+    rw (drop-cons ts i t inside, is) (in_order-early last t (drop (suc i) ts) early)
+
+-- Nothing is asked of the first.
+pub in_order-all : (ts : List SubtitleValue) → InOrderFrom 0 ts ≡ are_in_order (with_bits ts [])
+in_order-all ts = rw (start_from-0 (with_bits ts [])) refl
+
+-- Each of these starts at this frame or later.
+starts : (frame : ℕ) (ts : List SubtitleValue) (bits : List Bool) (i : ℕ) (d : SubtitleValue)
+    → start_from frame (with_bits ts bits) ≡ true
+    → i < length ts
+    → frame ≤ (get_or ts i d).tci
+starts frame [] bits i d h inside = absurd (omega arith)
+starts frame (t ∷ ts) [] zero d h inside = grind (arith, nat_tests)
+starts frame (t ∷ ts) (bit ∷ bits) zero d h inside = grind (arith, nat_tests)
+starts frame (t ∷ ts) [] (suc i) d h inside =
+    starts frame ts [] i d (grind (arith, nat_tests)) (omega arith)
+starts frame (t ∷ ts) (bit ∷ bits) (suc i) d h inside =
+    starts frame ts bits i d (grind (arith, nat_tests)) (omega arith)
+
+pub ordered : (ts : List SubtitleValue) (bits : List Bool)
+    → are_in_order (with_bits ts bits) ≡ true
+    → AreInOrder ts
+ordered [] bits h i j d below inside = absurd (omega arith)
+ordered (t ∷ ts) bits h i zero d below inside = absurd (omega arith)
+ordered (t ∷ ts) [] h zero (suc j) d below inside =
+    starts t.tco ts [] j d (grind (arith, nat_tests)) (omega arith)
+ordered (t ∷ ts) (bit ∷ bits) h zero (suc j) d below inside =
+    starts t.tco ts bits j d (grind (arith, nat_tests)) (omega arith)
+ordered (t ∷ ts) [] h (suc i) (suc j) d below inside =
+    ordered ts [] (grind (arith, nat_tests)) i j d (omega arith) (omega arith)
+ordered (t ∷ ts) (bit ∷ bits) h (suc i) (suc j) d below inside =
+    ordered ts bits (grind (arith, nat_tests)) i j d (omega arith) (omega arith)
+
+-- ---- what is kept, and the rest
+
+-- These, and then those.
+abbrev joined : List JudgedSubtitle → AllJudged → AllJudged
+joined js all = record { judged = js ++ all.judged; is_before_other = all.is_before_other }
+
+joined-more : (js : List JudgedSubtitle) (j : JudgedSubtitle) (all : AllJudged)
+    → joined js (judged_before j all) ≡ joined (js ++ j ∷ []) all
+joined-more js j all =
+    ap (λ (l : List JudgedSubtitle).
+    record { judged = l; is_before_other = all.is_before_other })
+    (sym (append_assoc js (j ∷ []) all.judged))
+
+-- The record that is compared next with these times is in order with them.
+abbrev is_followed : Option Times → Findings → Bool
+is_followed None left = true
+is_followed (Some times) left = is_followed_in_order times left
+
+-- What can be relied on of a file: what is kept, but not its last where that is early or overlaps,
+-- and what can be in the rest.
+abbrev pub judged_on : Drawing → Option Times → KeptValue → Findings → AllJudged
+judged_on drawing before k left =
+    if k.is_latest && not (is_followed before left)
+    then joined (take (length k.records - 1) (all_kept k)) (judged_behind drawing before true left)
+    else joined (all_kept k) (judged_behind drawing before k.is_before_other left)
+
+-- Nothing was read yet.
+pub judged-start : (drawing : Drawing) (left : Findings)
+    → judged_behind drawing None false left ≡ judged_on drawing None nothing_kept left
+judged-start drawing left = refl
+
+-- Nothing is left.
+end_none : (latest other : Bool) (js : List JudgedSubtitle) (given : AllJudged)
+    → (if latest && false then given
+    else record { judged = js ++ []; is_before_other = other })
+    ≡ record { judged = js; is_before_other = other }
+end_none false other js given =
+    ap (λ (l : List JudgedSubtitle). record { judged = l; is_before_other = other })
+    (append-nil js)
+end_none true other js given =
+    ap (λ (l : List JudgedSubtitle). record { judged = l; is_before_other = other })
+    (append-nil js)
+
+pub judged-end : (drawing : Drawing) (before : Option Times) (k : KeptValue)
+    → judged_on drawing before k no_more
+    ≡ record { judged = all_kept k; is_before_other = k.is_before_other }
+unfolding judged_behind
+judged-end drawing None k = end_none k.is_latest k.is_before_other (all_kept k) _
+judged-end drawing (Some times) k = end_none k.is_latest k.is_before_other (all_kept k) _
+
+-- One is refused.
+pub judged-refused : (drawing : Drawing) (before : Option Times) (k : KeptValue)
+    (fault : StlFault) (block : ℕ) (left : Findings)
+    → judged_on drawing before k (refuses fault block left)
+    ≡ judged_on drawing before (passed k) left
+unfolding judged_behind
+judged-refused drawing None k fault block left = refl
+judged-refused drawing (Some times) k fault block left = refl
+
+-- A record with which nothing is wrong.
+finds_clean : (drawing : Drawing) (before : Option Times) (other : Bool) (t : SubtitleValue)
+    (block : ℕ) (left : Findings)
+    → is_none (first_of (follow_faults drawing before t)) ≡ true
+    → judged_behind drawing before other (finds t block left)
+    ≡ (if is_followed_in_order (times_of t) left
+    then judged_before (with_bit t other) (judged_behind drawing (Some (times_of t)) false left)
+    else judged_behind drawing (Some (times_of t)) true left)
+unfolding judged_behind
+finds_clean drawing before other t block left none = rw none refl
+
+-- One of which something is told.
+finds_told : (drawing : Drawing) (before : Option Times) (other : Bool) (t : SubtitleValue)
+    (block : ℕ) (left : Findings)
+    → is_none (first_of (follow_faults drawing before t)) ≡ false
+    → judged_behind drawing before other (finds t block left)
+    ≡ judged_behind drawing (Some (times_of t)) true left
+unfolding judged_behind
+finds_told drawing before other t block left some = rw some refl
+
+-- Whether one is in order with those times is whether nothing is told of its own.
+followed_is : (before : Option Times) (t : SubtitleValue) (block : ℕ) (left : Findings)
+    → is_followed before (finds t block left) ≡ is_none (first_of (order_faults before (times_of t)))
+followed_is None t block left = refl
+followed_is (Some times) t block left = refl
+
+-- With which nothing is wrong is in order.
+clean_order : (order row : List LoadFaultKind)
+    → is_none (first_of (order ++ row)) ≡ true
+    → is_none (first_of order) ≡ true
+clean_order [] row none = refl
+clean_order (k ∷ ks) row none = absurd cc
+
+-- One more that is kept.
+bits_kept : (k : KeptValue) (t : SubtitleValue)
+    → length k.behind_other ≤ length k.records
+    → all_kept (with_one t k) ≡ all_kept k ++ with_bit t k.is_before_other ∷ []
+bits_kept k t fits = elim (cases_Bool k.is_before_other) [
+  | inl set ↦ rw set (with_bits-set k.records k.behind_other t)
+  | inr unset ↦ rw unset (with_bits-unset k.records k.behind_other t fits)
+]
+
+drop_last : (js : List JudgedSubtitle) (j : JudgedSubtitle) (n : ℕ)
+    → n ≡ length js
+    → take n (js ++ j ∷ []) ≡ js
+drop_last js j n is = rw is (take-append_seam js (j ∷ []))
+
+-- So many are kept.
+kept_length : (ts : List SubtitleValue) (bits : List Bool)
+    → length (with_bits ts bits) ≡ length ts
+kept_length [] bits = refl
+kept_length (t ∷ ts) [] = ap suc (kept_length ts [])
+kept_length (t ∷ ts) (bit ∷ bits) = ap suc (kept_length ts bits)
+
+-- Whether the last was relied on or not.
+clean_step : (latest followed : Bool) (given behind other_behind : AllJudged)
+    (js then_kept : List JudgedSubtitle) (j : JudgedSubtitle) (n : ℕ)
+    → then_kept ≡ js ++ j ∷ []
+    → n ≡ length js
+    → (if latest && not true then given
+    else joined js (if followed then judged_before j behind else other_behind))
+    ≡ (if not followed then joined (take n then_kept) other_behind else joined then_kept behind)
+clean_step false true given behind other_behind js then_kept j n is size =
+    rw is (joined-more js j behind)
+clean_step true true given behind other_behind js then_kept j n is size =
+    rw is (joined-more js j behind)
+clean_step false false given behind other_behind js then_kept j n is size =
+    rw (is, drop_last js j n size) refl
+clean_step true false given behind other_behind js then_kept j n is size =
+    rw (is, drop_last js j n size) refl
+
+judged_clean : (drawing : Drawing) (before : Option Times) (k : KeptValue) (t : SubtitleValue)
+    (block : ℕ) (left : Findings)
+    → length k.behind_other ≤ length k.records
+    → is_none (first_of (follow_faults drawing before t)) ≡ true
+    → judged_on drawing before k (finds t block left)
+    ≡ judged_on drawing (Some (times_of t)) (with_one t k) left
+judged_clean drawing before k t block left fits none =
+    let order =
+    followed_is before t block left
+    ∙ clean_order (order_faults before (times_of t)) (row_faults (drawn drawing t)) none in
+    let size : length (k.records ++ t ∷ []) - 1 ≡ length (all_kept k) =
+    omega (arith, length-append k.records (t ∷ []), kept_length k.records k.behind_other) in
+    rw (order, finds_clean drawing before k.is_before_other t block left none)
+    (clean_step k.is_latest (is_followed_in_order (times_of t) left) _
+    (judged_behind drawing (Some (times_of t)) false left)
+    (judged_behind drawing (Some (times_of t)) true left) (all_kept k) (all_kept (with_one t k))
+    (with_bit t k.is_before_other) (length (k.records ++ t ∷ []) - 1) (bits_kept k t fits) size)
+
+judged_told : (drawing : Drawing) (before : Option Times) (k : KeptValue) (t : SubtitleValue)
+    (block : ℕ) (left : Findings) (in_order : Bool)
+    → is_none (first_of (follow_faults drawing before t)) ≡ false
+    → in_order ≡ is_none (first_of (order_faults before (times_of t)))
+    → judged_on drawing before k (finds t block left)
+    ≡ judged_on drawing (Some (times_of t))
+    (if k.is_latest && not in_order then passed_latest (without_last k) else passed_latest k) left
+judged_told drawing before k t block left in_order some is =
+    rw (
+      followed_is before t block left ∙ sym is,
+      finds_told drawing before k.is_before_other t block left some,
+      finds_told drawing before true t block left some,
+    ) (elim (cases_Bool (k.is_latest && not in_order)) [
+      | inl early ↦ rw (early, with_bits-take (length k.records - 1) k.records k.behind_other) refl
+      | inr followed ↦ rw followed refl
+    ])
+
+-- One more of the file.
+pub judged-next : (drawing : Drawing) (before : Option Times) (k : KeptValue)
+    (t : SubtitleValue) (block : ℕ) (left : Findings) (in_order clean : Bool)
+    → length k.behind_other ≤ length k.records
+    → in_order ≡ is_none (first_of (order_faults before (times_of t)))
+    → clean ≡ is_none (first_of (follow_faults drawing before t))
+    → judged_on drawing before k (finds t block left)
+    ≡ judged_on drawing (Some (times_of t)) (kept_after in_order clean t k) left
+judged-next drawing before k t block left in_order true fits is_order is_clean =
+    judged_clean drawing before k t block left fits (sym is_clean)
+judged-next drawing before k t block left in_order false fits is_order is_clean =
+    judged_told drawing before k t block left in_order (sym is_clean) is_order
+
+-- ---- what is kept is a programme
+
+-- What is kept of the subtitles so far: it is all of them while nothing was told, and then it is a
+-- programme.
+pub record AreKept (drawing : Drawing) (before : Option Times) (early : List LoadFault)
+    (k : KeptValue) : Type 0 where
+  pub each : All IsSubtitle k.records
+  pub drawable : All (λ t. IsOk (drawn drawing t)) k.records
+  pub fits : length k.behind_other ≤ length k.records
+  pub whole : is_whole k ≡ is_none (first_of early)
+  pub programme : early ≡ [] → (before ≡ times_before k.records) × IsProgramme drawing k.records
+
+-- Nothing was read yet.
+pub kept-none : (drawing : Drawing) → AreKept drawing None [] nothing_kept
+kept-none drawing = record {
+  each = All-nil IsSubtitle;
+  drawable = All-nil (λ t. IsOk (drawn drawing t));
+  fits = omega arith;
+  whole = refl;
+  programme = λ none. (refl, IsProgramme-none drawing);
+}
+
+-- Where something stands behind the last not all is kept.
+not_whole : (none : Bool) → (none && not true) ≡ false
+not_whole none = grind (arith, nat_tests)
+
+-- Something was told.
+told_some : {A : Type 0} (xs ys : List A) (y : A)
+    → is_none (first_of (xs ++ y ∷ ys)) ≡ false
+told_some [] ys y = refl
+told_some (x ∷ xs) ys y = refl
+
+not_empty : {A : Type 0} (xs ys : List A) (y : A) → xs ++ y ∷ ys ≡ [] → ⊥
+not_empty [] ys y e = absurd cc
+not_empty (x ∷ xs) ys y e = absurd cc
+
+-- One more is refused.
+pub kept-refused : {drawing : Drawing} {before : Option Times} {early : List LoadFault}
+    {k : KeptValue} (fault : LoadFault)
+    → AreKept drawing before early k
+    → AreKept drawing before (early ++ fault ∷ []) (passed k)
+kept-refused {early = early} {k} fault kept = record {
+  each = kept.each;
+  drawable = kept.drawable;
+  fits = kept.fits;
+  whole = not_whole (are_none k.behind_other) ∙ sym (told_some early [] fault);
+  programme = λ none. absurd (not_empty early [] fault none);
+}
+
+-- Bits are there where one was set.
+some_bits : (bits more : List Bool) → are_none (bits ++ (more ++ true ∷ [])) ≡ false
+some_bits [] [] = refl
+some_bits [] (bit ∷ more) = refl
+some_bits (bit ∷ bits) more = refl
+
+-- No faults are the first where there is none.
+pub none-first : {A : Type 0} (xs : List A) → is_none (first_of xs) ≡ true → xs ≡ []
+none-first xs h = grind (arith, nat_tests)
+
+-- Those of one more were told.
+told_more : (early : List LoadFault) (block : ℕ) (kinds : List LoadFaultKind)
+    → is_none (first_of kinds) ≡ false
+    → is_none (first_of (early ++ map (load_fault block) kinds)) ≡ false
+told_more early block [] some = absurd cc
+told_more early block (kind ∷ kinds) some =
+    told_some early (map (load_fault block) kinds) (load_fault block kind)
+
+-- So nothing was told where nothing is wrong with what was told.
+none_some : {A : Type 0} (xs : List A) → is_none (first_of xs) ≡ false → xs ≡ [] → ⊥
+none_some xs some none = grind (arith, nat_tests)
+
+module _ {drawing : Drawing} {before : Option Times} {early : List LoadFault} {k : KeptValue}
+    (t : SubtitleValue) (block : ℕ) (kept : AreKept drawing before early k) where
+  fits_then : (other : Bool)
+      → length (bits_after (length k.records) other k.behind_other) ≤ length (k.records ++ t ∷ [])
+  fits_then false = let fits = kept.fits in omega (arith, fits, length-append k.records (t ∷ []))
+  fits_then true =
+      let fits = kept.fits in
+      let bits = take (length k.records) k.behind_other in
+      let more : ℕ = length k.records - length k.behind_other in
+      omega (
+        arith,
+        fits,
+        length-append k.records (t ∷ []),
+        length-append bits (replicate more false ++ true ∷ []),
+        length-append (replicate more false) (true ∷ []),
+        length-replicate more false,
+        length-take (length k.records) k.behind_other,
+      )
+
+  whole_then : is_whole (with_one t k) ≡ is_none (first_of early)
+  whole_then = elim (cases_Bool k.is_before_other) [
+    | inl set ↦
+        let some = rw (set, not_whole (are_none k.behind_other)) at kept.whole in
+        rw (
+          set,
+          some_bits (take (length k.records) k.behind_other)
+              (replicate (length k.records - length k.behind_other) false),
+        ) some
+    | inr unset ↦ rw unset (rw unset at kept.whole)
+  ]
+
+  -- It is kept.
+  kept_clean : IsSubtitle t
+      → follow_faults drawing before t ≡ []
+      → AreKept drawing (Some (times_of t))
+      (early ++ map (load_fault block) (follow_faults drawing before t)) (with_one t k)
+  kept_clean subtitle none =
+      let rows =
+      empty_parts (order_faults before (times_of t)) (row_faults (drawn drawing t)) none in
+      rw (none, append-nil early) (record {
+        each = All-push IsSubtitle k.records t kept.each subtitle;
+        drawable =
+            All-push (λ x. IsOk (drawn drawing x)) k.records t kept.drawable
+            (draws (drawn drawing t) rows.1);
+        fits = fits_then k.is_before_other;
+        whole = whole_then;
+        programme = λ nothing.
+            let all = kept.programme nothing in (
+              sym (ap (option_map times_of) (last_of-push k.records t)),
+              IsProgramme-push drawing k.records t all.1 subtitle (rw all.0 at none),
+            );
+      })
+
+  -- It is not, and the one before it is or not.
+  kept_told : (early_then : List LoadFault) (drops : Bool)
+      → is_none (first_of early_then) ≡ false
+      → AreKept drawing (Some (times_of t)) early_then
+      (if drops then passed_latest (without_last k) else passed_latest k)
+  kept_told early_then false some = record {
+    each = kept.each;
+    drawable = kept.drawable;
+    fits = kept.fits;
+    whole = not_whole (are_none k.behind_other) ∙ sym some;
+    programme = λ none. absurd (none_some early_then some none);
+  }
+  kept_told early_then true some =
+      let n : ℕ = length k.records - 1 in
+      let fits = kept.fits in
+      record {
+        each = All-take IsSubtitle n k.records kept.each;
+        drawable = All-take (λ x. IsOk (drawn drawing x)) n k.records kept.drawable;
+        fits = omega (arith, fits, length-take n k.records, length-take n k.behind_other);
+        whole = not_whole (are_none (take n k.behind_other)) ∙ sym some;
+        programme = λ none. absurd (none_some early_then some none);
+      }
+
+  -- One more of the file.
+  pub kept-next : (in_order clean : Bool)
+      → clean ≡ is_none (first_of (follow_faults drawing before t))
+      → IsSubtitle t
+      → AreKept drawing (Some (times_of t))
+      (early ++ map (load_fault block) (follow_faults drawing before t))
+      (kept_after in_order clean t k)
+  kept-next in_order true is_clean subtitle =
+      kept_clean subtitle (none-first (follow_faults drawing before t) (sym is_clean))
+  kept-next in_order false is_clean subtitle =
+      kept_told (early ++ map (load_fault block) (follow_faults drawing before t))
+      (k.is_latest && not in_order)
+      (told_more early block (follow_faults drawing before t) (sym is_clean))
+
+-- ---- what is judged by
+
+-- Where all is kept nothing was told.
+pub whole_none : {drawing : Drawing} {before : Option Times} {early : List LoadFault} {k : KeptValue}
+    → AreKept drawing before early k
+    → is_whole k ≡ true
+    → early ≡ []
+whole_none {early = early} kept whole = none-first early (sym kept.whole ∙ whole)
+
+-- What is enough to judge by is a programme.
+pub programme-kept : {drawing : Drawing} {before : Option Times} {early : List LoadFault}
+    {k : KeptValue}
+    → AreKept drawing before early k
+    → is_enough k ≡ true
+    → IsProgramme drawing k.records
+programme-kept {k = k} kept enough = elim (cases_Bool (is_whole k)) [
+  | inl whole ↦ (kept.programme (whole_none kept whole)).1
+  | inr part ↦ record {
+    each = kept.each;
+    in_order = ordered k.records k.behind_other
+        (let h = rw part at enough in grind (arith, nat_tests));
+    drawable = kept.drawable;
+  }
+]
+
+-- ---- how it is asked
+
+-- Nothing is there where there are none.
+pub none_is : (bits : List Bool) → are_none bits ≡ (length bits == 0)
+none_is [] = refl
+none_is (bit ∷ bits) = grind (arith, nat_tests)
+
+-- Of some of a file it is asked whether there are any.
+pub enough-none : (k : KeptValue) → is_whole k ≡ false → length k.records ≡ 0 → is_enough k ≡ false
+enough-none k part none =
+    let size = kept_length k.records k.behind_other in
+    rw (part, no_some (all_kept k) (size ∙ none)) refl
+  where
+    no_some : (js : List JudgedSubtitle) → length js ≡ 0 → are_some js ≡ false
+    no_some [] none = refl
+    no_some (j ∷ js) none = absurd (omega arith)
+
+-- And whether they are in order.
+pub enough-some : (k : KeptValue)
+    → is_whole k ≡ false
+    → 0 < length k.records
+    → is_enough k ≡ are_in_order (with_bits k.records [])
+enough-some k part some =
+    let size = kept_length k.records k.behind_other in
+    rw (part, any_some (all_kept k) (omega arith)) (in_order-bits k.records k.behind_other)
+  where
+    any_some : (js : List JudgedSubtitle) → 0 < length js → are_some js ≡ true
+    any_some [] some = absurd (omega arith)
+    any_some (j ∷ js) some = refl
+
+-- Whether there is none, as it is asked.
+pub none-asked : {A : Type 0} (x : Option A) (none : Bool)
+    → is_some x ≡ not none
+    → none ≡ is_none x
+none-asked None false h = absurd cc
+none-asked None true h = refl
+none-asked (Some x) false h = refl
+none-asked (Some x) true h = absurd cc

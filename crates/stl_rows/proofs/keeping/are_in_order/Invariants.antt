@@ -1,0 +1,13 @@
+-- What was asked of the subtitles so far leaves what is asked of the rest.
+use Rattle.std.proofs.Common.{◌≡◌, ◌-◌, ◌≤◌, drop, length}
+use Rattle.stl_rows.proofs.KeepingLemmas.{InOrderFrom}
+use Rattle.stl_rows.proofs.keeping.are_in_order.Given as goal
+
+abbrev pub invariant-loop-i : goal.invariant-loop-i
+invariant-loop-i l = record {
+  inside : l.i ≤ length l.subtitles;
+  same : InOrderFrom 0 l.subtitles ≡ InOrderFrom l.last (drop l.i l.subtitles);
+}
+
+abbrev pub decreases-loop-i : goal.decreases-loop-i
+decreases-loop-i l = length l.subtitles - l.i

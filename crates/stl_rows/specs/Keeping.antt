@@ -1,0 +1,87 @@
+-- What is kept of the subtitles of a file while it is read: those that can be relied on, by all
+-- that was read up to there.
+use Rattle.std.specs.Prelude.{ℕ, ◌-◌, Bool, true, false, not, ◌&&◌, ◌||◌, if◌then◌else◌, List, []}
+use Rattle.std.specs.Prelude.{◌∷◌, ◌++◌, length, take, replicate}
+use Rattle.stl_file.specs.Subtitle.{SubtitleValue}
+use Rattle.stl_rows.specs.declared.layout.Drawing.{Drawing}
+use Rattle.stl_rows.specs.Judged.{JudgedSubtitle, JudgedValue, are_in_order, are_some, with_bits}
+
+-- The subtitles that are kept; behind which of them another one of the file stands, false where
+-- bits are missing; whether another one stands behind the last; and whether the last is the one
+-- with whose times the next ones are compared.
+pub record KeptValue : Type 0 where
+  pub records : List SubtitleValue
+  pub behind_other : List Bool
+  pub is_before_other : Bool
+  pub is_latest : Bool
+
+-- Nothing was read yet.
+abbrev pub nothing_kept : KeptValue
+nothing_kept =
+    record { records = []; behind_other = []; is_before_other = false; is_latest = false }
+
+-- Each with its bit.
+abbrev pub all_kept : KeptValue → List JudgedSubtitle
+all_kept k = with_bits k.records k.behind_other
+
+-- What it gives to judge by.
+abbrev pub judged_with : Drawing → KeptValue → JudgedValue
+judged_with drawing k = record {
+  programme = record { drawing = drawing; records = k.records };
+  behind_other = k.behind_other;
+  is_before_other = k.is_before_other;
+}
+
+-- ---- one more
+
+-- The bits of so many with that of one more.
+abbrev pub bits_after : ℕ → Bool → List Bool → List Bool
+bits_after n other bits =
+    if other then take n bits ++ (replicate (n - length bits) false ++ true ∷ []) else bits
+
+-- With one more that is kept.
+abbrev pub with_one : SubtitleValue → KeptValue → KeptValue
+with_one t k = record {
+  records = k.records ++ t ∷ [];
+  behind_other = bits_after (length k.records) k.is_before_other k.behind_other;
+  is_before_other = false;
+  is_latest = true;
+}
+
+-- With one more that is refused: times are not compared with it.
+abbrev pub passed : KeptValue → KeptValue
+passed k = record k { is_before_other = true }
+
+-- With one more of which something is told.
+abbrev pub passed_latest : KeptValue → KeptValue
+passed_latest k = record k { is_before_other = true; is_latest = false }
+
+-- The last one is not relied on.
+abbrev pub without_last : KeptValue → KeptValue
+without_last k = record k {
+  records = take (length k.records - 1) k.records;
+  behind_other = take (length k.records - 1) k.behind_other;
+}
+
+-- With one more, of which nothing is told, or something; where its times are not in order with
+-- those of the one before it, that one is not relied on either.
+abbrev pub kept_after : Bool → Bool → SubtitleValue → KeptValue → KeptValue
+kept_after in_order clean t k =
+    if clean then with_one t k
+    else if k.is_latest && not in_order then passed_latest (without_last k)
+    else passed_latest k
+
+-- ---- at the end
+
+-- No bit is there.
+abbrev pub are_none : List Bool → Bool
+are_none [] = true
+are_none (bit ∷ bits) = false
+
+-- No other one stands anywhere: nothing was told.
+abbrev pub is_whole : KeptValue → Bool
+is_whole k = are_none k.behind_other && not k.is_before_other
+
+-- A transmission is judged by it.
+abbrev pub is_enough : KeptValue → Bool
+is_enough k = is_whole k || (are_some (all_kept k) && are_in_order (all_kept k))
