@@ -5,6 +5,7 @@
 -- the next one, every page may be due.
 use Rattle.std.specs.Prelude.{◌≡◌, ℕ, Bool, false, true, ◌&&◌, ◌||◌, nat_le, nat_lt, List, [], ◌∷◌}
 use Rattle.std.specs.Prelude.{if◌then◌else◌, is_none, map, Option, Some, None, All, IsOk, Ok, ◌⊎◌}
+use Rattle.std.specs.List.{list_any}
 use Rattle.stl_file.specs.Reader.{findings_for}
 use Rattle.stl_file.specs.Reading.{Findings, breaks, finds, no_more, refuses}
 use Rattle.stl_file.specs.Subtitle.{SubtitleValue}
@@ -125,6 +126,10 @@ all_of j = record {
 -- At this frame it is not known what is due.
 unfoldable pub is_undecided_in : JudgedValue → ℕ → Bool
 is_undecided_in j frame = is_undecided (all_of j) frame
+
+-- Another one stands somewhere: something of the file is refused.
+abbrev pub is_beside : JudgedValue → Bool
+is_beside j = j.is_before_other || list_any (λ bit. bit) j.behind_other
 
 -- A programme of a file in which nothing is refused.
 abbrev pub known : ProgrammeValue → JudgedValue

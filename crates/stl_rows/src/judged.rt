@@ -1,7 +1,8 @@
 //! Programmes of what can be relied on in a subtitle file beside what is refused.
 
 ghost use Rattle.std.specs.Prelude.{◌≡◌};
-ghost use Rattle.stl_rows.specs.Judged.{LawOfKnown, is_undecided_in, known};
+ghost use Rattle.std.specs.List.{list_any};
+ghost use Rattle.stl_rows.specs.Judged.{LawOfKnown, is_beside, is_undecided_in, known};
 ghost use Rattle.stl_rows.specs.Keeping.{judged_with};
 ghost use Rattle.stl_rows.specs.Programme.{IsProgramme};
 
@@ -115,6 +116,13 @@ impl<'a> Judging<'a> {
         self.programme
     }
 
+    /// Whether another subtitle stands somewhere: something of the file is refused.
+    pub fn is_beside(&self) -> bool
+        ensures { result ≡ is_beside self.now }
+    {
+        self.is_before_other || is_one_set(self.behind_other)
+    }
+
     /// Whether it is not known what is due at a frame: another subtitle stands between those that
     /// can be relied on before it and after it.
     ///
@@ -125,6 +133,13 @@ impl<'a> Judging<'a> {
         self.programme
             .is_undecided(self.behind_other, self.is_before_other, frame)
     }
+}
+
+// Whether one of these is set.
+fn is_one_set(bits: &[bool]) -> bool
+    ensures { result ≡ list_any (λ bit. bit) bits.now }
+{
+    bits.iter().any(|bit| *bit)
 }
 
 /// In a programme of a file in which nothing is refused it is known at each frame what is due.

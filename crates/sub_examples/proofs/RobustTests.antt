@@ -30,6 +30,7 @@ use Rattle.sub_examples.specs.Examples.{IsNeeded, IsUntoldBut, each, no_subtitle
 use Rattle.sub_rules.proofs.TestLemmas.{all_below, at_most, each_below, each_of, fails, holds}
 use Rattle.sub_rules.proofs.TestLemmas.{implied, same_bit}
 use Rattle.sub_laws.proofs.FirstFoundLemmas.{each_rule}
+use Rattle.sub_laws.proofs.StandingLemmas.{all_known}
 use Rattle.sub_laws.proofs.StretchLemmas.{robust_of_recovers}
 
 -- It has heard nothing, and holds a page of question marks.
@@ -286,15 +287,22 @@ needed number frames every g j f got e =
 
 -- ---- a clean stretch
 
+-- Where it is known at each frame what is due nothing of that stands at an end.
+none_undecided : (g : Task) (frames : Transmission) → ((f : ℕ) → g.undecided f ≡ false)
+    → (n f : ℕ) → IsFalse (standing_at g frames n f).undecided
+unfolding standing_at
+none_undecided g frames known n f = all_known g.undecided known (frame_at frames 0) f g.within
+
 -- Nothing at all is told of it, and the frames are some of the transmission.
 pub untold_by_test :
     (g : Task) (frames : Transmission) (a b : ℕ)
+    → ((f : ℕ) → g.undecided f ≡ false)
     → told_alone 0 g frames a b
     && (nat_lt 0 (length frames)
     && (nat_le (first_frame frames) a && (nat_le a b && nat_le b (last_frame frames))))
     ≡ true
     → IsUntold g frames a b
-untold_by_test g frames a b e =
+untold_by_test g frames a b known e =
     let parts = and_parts (told_alone 0 g frames a b) _ e in
     let untold = untold_but 0 g frames a b parts.0 in
     record {
@@ -308,6 +316,7 @@ untold_by_test g frames a b e =
       packets = λ r needed. untold.packets r needed (numbered r);
       content = untold.content (λ is. cc);
       gap = untold.gap (λ is. cc);
+      undecided = λ n f end low high. none_undecided g frames known n f;
     }
   where
     numbered : (r : PacketRule) → 0 ≢ number_of r

@@ -1,6 +1,6 @@
 -- A refused transmission with a clean stretch, by the tests of what is told.
 use Rattle.std.proofs.lemmas.Bool.Decides.{nat_tests}
-use Rattle.std.proofs.Common.{ℕ, inl, inr, List, [], ◌∷◌, None, refl, arith}
+use Rattle.std.proofs.Common.{ℕ, inl, inr, List, [], ◌∷◌, None, false, refl, arith}
 use Rattle.std.specs.Int.RustNames.{count_ones}
 use lib.Count.{ones_in}
 use Rattle.ttx_packet.specs.Hamming84.{decoded}
@@ -49,7 +49,7 @@ unfolding are_code_words is_word_below first_even_byte breaks columns_differing 
     blank_row drawn drawn_by page_of_placed placed_fault_kinds prepared_by framed headed start_by
     row_from default_items attribute_code is_boxed is_double
     is_common cell_of cell_of_pair sub_set
-clean = untold_by_test _ _ _ _ refl
+clean = untold_by_test _ _ _ _ (λ frame. refl) refl
 
 pub example_of_clean_stretch : ExampleOfCleanStretch
 unfolding kind address header coded_header decoded is_near is_odd count_ones ones_in due blank
@@ -62,7 +62,8 @@ example_of_clean_stretch = record {
   held = λ got old new near hears.
       let sent : List (List ℕ) = english_header ∷ row_22 ∷ closing ∷ [] in
       let enough =
-      law_of_untold_stretch later_subtitle damaged_first (each 1) None 900001 900002 refl clean in
+      law_of_untold_stretch later_subtitle damaged_first (each 1) None false (λ frame. false) 900001
+      900002 refl clean in
       let trusted = law_of_stretch later_subtitle damaged_first (each 1) 900001 900002 enough.0 in
       let served =
       trusted.recovers Storing 900001 0 900001 (all_kept sent) got old new

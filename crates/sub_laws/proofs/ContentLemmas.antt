@@ -18,7 +18,7 @@ use Rattle.ttx_page.proofs.NoiseLaws.{AreNear-themselves, law_of_noise}
 use Rattle.ttx_page.proofs.QuietLaws.{law_of_quiet}
 use Rattle.stl_rows.specs.Programme.{ProgrammeValue}
 use Rattle.sub_plan.specs.Options.{OptionsValue}
-use Rattle.sub_rules.specs.Events.{broken_cell, is_late}
+use Rattle.sub_rules.specs.Events.{broken_cell, is_late, undecided_within}
 use Rattle.sub_rules.specs.FrameRules.{ShowsDue, Task, Unread, frame_at, packets_before}
 use Rattle.sub_rules.specs.FrameRules.{packets_of_frame, task_of}
 use Rattle.sub_rules.specs.GoodWithin.{IsDueWithin}
@@ -34,7 +34,7 @@ use Rattle.sub_laws.proofs.PlaceLemmas.{clean_spans}
 use Rattle.sub_laws.proofs.PrefixLemmas.{EachAfter, RiseTo, before, each_after, first-same}
 use Rattle.sub_laws.proofs.PrefixLemmas.{frame_at-take, on_air_is, packet_at, take_last, take_rises}
 use Rattle.sub_laws.proofs.PrefixLemmas.{take_rising}
-use Rattle.sub_laws.proofs.StandingLemmas.{first_wrong}
+use Rattle.sub_laws.proofs.StandingLemmas.{always_known, first_wrong, undue_is}
 use Rattle.sub_rules.specs.Good.{IsCleanSpan}
 use Rattle.ttx_page.proofs.LateStart.{codes_of_same}
 use Rattle.ttx_page.proofs.SpanLists.{holds-append_left}
@@ -129,6 +129,9 @@ module _ (programme : ProgrammeValue) (options : OptionsValue) (unread : Option 
   broken_is : (n f : ℕ) (x : ℕ × ℕ) → broken_cell g frames n f ≡ Some x → IsBroken n f x
   broken_is n f x e = go (is_late g frames n f) refl
     where
+      known : undecided_within g frames f ≡ false
+      known = always_known (frame_at frames 0) f options.within
+
       go : (b : Bool) → is_late g frames n f ≡ b → IsBroken n f x
       go true late =
           let w = first_wrong g frames n f x (rw late at e) in
@@ -140,7 +143,7 @@ module _ (programme : ProgrammeValue) (options : OptionsValue) (unread : Option 
       go false late =
           let found =
           undue_found options.page (packets_before frames n) g.due (frame_at frames 0) f
-          options.within x (rw late at e) in
+          options.within x (sym (undue_is g frames n f known) ∙ rw late at e) in
           record {
             is_cell = found.0;
             wrong = λ same. found.1 (inr (f, inr refl, le_refl f, omega arith, same));

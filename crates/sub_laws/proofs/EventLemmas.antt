@@ -150,6 +150,7 @@ module _ (g : Task) (frames : Transmission) (Named : CheckFault → Type 0)
   end_named n f read end.Content x e = wrong n f x read e
   end_named n f read end.Gap x e = plain _ refl
   end_named n f read end.Incomplete x e = plain _ refl
+  end_named n f read end.Undecided x e = plain _ refl
   end_named n f read end.Silent x e = plain _ refl
 
   -- Where nothing stood broken at the end before.
@@ -462,7 +463,8 @@ Any f = Unit {0}
 
 -- Part by part, where anything that is told begins with a refusal.
 pub broken_places : (g : Task) (frames : Transmission) → g.within ≡ 0
-    → (EachPacket IsPacket frames
+    → (IsFalse g.beside
+    → EachPacket IsPacket frames
     → first_told (all_of_pieces g (map Sent frames)) ≡ None
     → all_of_pieces g (map Sent frames) ≡ [])
     → TellsBroken g frames

@@ -15,10 +15,10 @@ use Rattle.sub_plan.specs.Options.{OptionsValue}
 use Rattle.sub_rules.specs.Events.{is_incomplete, is_late, is_overdue}
 use Rattle.sub_rules.specs.Events.{is_unfinished, unfinished_since}
 use Rattle.sub_rules.specs.Events.{wrong_cell}
-use Rattle.sub_rules.specs.FrameRules.{Task, Unread, end_frame, frame_at, task_of}
+use Rattle.sub_rules.specs.FrameRules.{Task, Unread, end_frame, frame_at}
 use Rattle.sub_rules.specs.GoodWithin.{IsFinished}
 use Rattle.sub_rules.specs.Transmission.{Transmission}
-use Rattle.sub_laws.specs.CleanStretch.{IsEnd}
+use Rattle.sub_laws.specs.CleanStretch.{IsEnd, task_unsure}
 use Rattle.sub_laws.proofs.PlaceLemmas.{not_not}
 use Rattle.sub_laws.proofs.PrefixLemmas.{RiseTo, end_at, end_high, end_is_on_air}
 use Rattle.sub_laws.proofs.StandingLemmas.{incomplete_decided, no_wrong, none_wrong}
@@ -34,9 +34,10 @@ none_is o e = grind (arith, nat_tests)
 -- ---- the end of a frame
 
 module _ (programme : ProgrammeValue) (options : OptionsValue) (unread : Option Unread)
-    (t : Transmission) (rises : RiseTo t (length t)) where
+    (beside : Bool) (undecided : ℕ → Bool) (t : Transmission)
+    (rises : RiseTo t (length t)) where
   abbrev g : Task
-  g = task_of programme options unread
+  g = task_unsure programme options unread beside undecided
 
   -- The first frame.
   abbrev first : ℕ
@@ -46,17 +47,18 @@ module _ (programme : ProgrammeValue) (options : OptionsValue) (unread : Option 
   abbrev un : ℕ → Bool
   un = unfinished_at g t rises
 
-  -- A frame is finished exactly where its end is not unfinished.
-  pub finished_of : (n f : ℕ) → IsEnd t n f → is_unfinished g t n f ≡ false
+  -- A frame is finished exactly where its end is not unfinished, and it is known what is due there.
+  pub finished_of : (n f : ℕ) → IsEnd t n f → undecided f ≡ false
+      → is_unfinished g t n f ≡ false
       → IsFinished programme t options f
-  finished_of n f end e =
+  finished_of n f end known e =
       let on = end_is_on_air t rises n f end in
       let parts = or_parts (is_some (wrong_cell g t n f)) (is_incomplete g t n) e in
       let shut = (incomplete_decided g t n f).0 (ap not parts.1) in
       record {
         shows = λ row column named.
             ap (λ ps. shown options.page ps row column) on
-            ∙ none_wrong g t n f (none_is _ parts.0) row column named;
+            ∙ none_wrong g t n f (none_is _ parts.0) known row column named;
         ended = λ asks.
             subst (λ ps. IsFalse (is_open_after (kind options.page) ps)) (sym on) (shut asks);
       }
@@ -81,11 +83,12 @@ module _ (programme : ProgrammeValue) (options : OptionsValue) (unread : Option 
   frame_end f some low high =
       let (n, end, on, from) = end_at t rises f some low high in (n, end)
 
-  pub finished_at : (f : ℕ) → 0 < length t → first ≤ f → f ≤ end_frame t → un f ≡ false
+  pub finished_at : (f : ℕ) → 0 < length t → first ≤ f → f ≤ end_frame t → undecided f ≡ false
+      → un f ≡ false
       → IsFinished programme t options f
-  finished_at f some low high e =
+  finished_at f some low high known e =
       let (n, end) = frame_end f some low high in
-      finished_of n f end (unfinished_is g t rises n f end ∙ e)
+      finished_of n f end known (unfinished_is g t rises n f end ∙ e)
 
   pub at_finished : (f : ℕ) → 0 < length t → first ≤ f → f ≤ end_frame t
       → IsFinished programme t options f

@@ -4,7 +4,7 @@
 use Rattle.std.proofs.lemmas.Bool.Decides.{nat_tests}
 use Rattle.std.proofs.Common.{◌≡◌, ℕ, zero, suc, ◌+◌, ◌==◌, Bool, true, false, List, [], ◌∷◌, ◌++◌}
 use Rattle.std.proofs.Common.{length, map, Option, None, Some, refl, ◌∙◌, arith, if◌then◌else◌}
-use Rattle.std.proofs.Common.{slice_index_or, subst, take, ◌||◌}
+use Rattle.std.proofs.Common.{slice_index_or, subst, take, unwrap_or, ◌||◌}
 use Rattle.std.proofs.lemmas.Bool.{or_parts}
 use Rattle.std.proofs.lemmas.Option.{same_Some}
 use Rattle.std.proofs.lemmas.List.Folds.{list_any-append}
@@ -15,23 +15,25 @@ use Rattle.sub_rules.specs.Events.{first_header_events, first_told, gap_length, 
 use Rattle.sub_rules.specs.Events.{order_events, packet_fault, packets_told}
 use Rattle.sub_rules.specs.Fault.{fault_at_pes}
 use Rattle.sub_rules.specs.Events.{rules_told, standing_at, standing_before, unfinished_since}
-use Rattle.sub_rules.specs.Events.{unread_fault}
+use Rattle.sub_rules.specs.Events.{since_before, unread_fault}
 use Rattle.sub_rules.specs.FrameRules.{Task, end_frame, frame_at, packets_before, packets_of_frame}
 use Rattle.sub_rules.specs.PacketTests.{broken_rules}
-use Rattle.sub_rules.specs.PieceEvents.{marks_at_end, marks_of_arrival, marks_of_each}
+use Rattle.sub_rules.specs.PieceEvents.{goes_back, marks_at_end, marks_before, marks_of_arrival}
+use Rattle.sub_rules.specs.PieceEvents.{marks_of_each}
 use Rattle.sub_rules.specs.PieceEvents.{marks_of_ending, marks_of_gap, marks_of_more}
 use Rattle.sub_rules.specs.PieceEvents.{marks_of_next, marks_of_packets, marks_of_sent}
 use Rattle.sub_rules.specs.PieceEvents.{marks_of_waiting, sent_by_pieces}
 use Rattle.sub_rules.specs.Pieces.{Piece, goes_on_with, sent_after}
 use Rattle.sub_rules.specs.Pieces.Piece.{Passed, Sent}
 use Rattle.sub_rules.specs.Transmission.{SentFrame, Transmission}
-use Rattle.sub_rules.specs.Trusted.Mark.{AtEnd, AtPes, Begins, Closes, Ends, Says}
+use Rattle.sub_rules.specs.Trusted.Mark.{AtEnd, AtPes, Begins, Closes, Ends, GoesBack, Says}
 use Rattle.sub_rules.specs.declared.event.Event.{Event}
 use Rattle.sub_rules.specs.declared.event.Event.TheVariants.{Told}
 use Rattle.sub_rules.specs.declared.fault.CheckFault.{CheckFault}
 use Rattle.sub_rules.specs.declared.packet_rule.PacketRule.{PacketRule}
 use Rattle.sub_rules.specs.declared.packet_rule.Watched.{Watched}
-use Rattle.sub_rules.specs.Trusted.{Mark, at_pes, closing_at, doubted_by, is_said, pes_told, run_of}
+use Rattle.sub_rules.specs.Trusted.{Mark, at_pes, back_of, closing_at, doubted_by, is_said}
+use Rattle.sub_rules.specs.Trusted.{pes_told, run_of}
 use Rattle.sub_rules.specs.Trusted.{told_after, told_at, trusted, trusted_up_to, whole_of}
 use Rattle.sub_rules.specs.declared.standing.Standing.{Standing}
 
@@ -76,6 +78,7 @@ module _ (test : Mark → Bool) where
     pub at_pes : (n : ℕ) → test (AtPes n) ≡ false
     pub begins : (f : ℕ) → test (Begins f) ≡ false
     pub at_end : (f : ℕ) (since : Option ℕ) (late : Bool) → test (AtEnd f since late) ≡ false
+    pub at_back : (since : Option ℕ) → test (GoesBack since) ≡ false
     pub ends : (f : ℕ) (has_header none : Bool) → test (Ends f has_header none) ≡ false
     pub of_end :
         (old : Standing) (before : ℕ) (new : Standing) (f : ℕ)
@@ -87,9 +90,16 @@ module _ (test : Mark → Bool) where
         → list_any on (first_header_events g frames i) ≡ false
 
   module _ (g : Task) (fine : FramesPass g) where
+    back_passes : (since : Option ℕ) → Passes (marks_before g since)
+    back_passes since = go (goes_back g)
+      where
+        go : (b : Bool) → Passes (if b then GoesBack since ∷ [] else [])
+        go true = one_passes _ (fine.at_back since)
+        go false = none_passes
+
     at_end_passes : (frames : Transmission) (i n f : ℕ) → Passes (marks_at_end g frames i n f)
     at_end_passes frames i n f =
-        both_pass (go (g.within == 0))
+        both_pass (both_pass (back_passes (since_before g frames i f)) (go (g.within == 0)))
         (says_pass (events_at_end g frames i n f)
         (fine.of_end (standing_before g frames i f) (end_before frames i f)
         (standing_at g frames n f) f))
@@ -112,7 +122,8 @@ module _ (test : Mark → Bool) where
         both_pass
         (both_pass (says_pass (order_events g frames i) (fine.of_order frames i))
         (gap_passes frames i (gap_length frames i)))
-        (one_passes (Begins (frame_at frames i)) (fine.begins (frame_at frames i)))
+        (both_pass (one_passes (Begins (frame_at frames i)) (fine.begins (frame_at frames i)))
+        (back_passes (since_before g frames i (frame_at frames i))))
 
     told_pass : (w : Watched) (frame from : ℕ) (before packets : List (List ℕ)) (n : ℕ)
         → list_any on (packets_told w frame from before packets n) ≡ false
@@ -223,7 +234,7 @@ module _ (bad : CheckFault → Bool)
 
   before_fine : (t : List Mark) (d : Option ℕ) → list_any tells_bad (trusted_up_to t d) ≡ false
   before_fine t None = refl
-  before_fine t (Some f) = trusted_fine (run_of t) (whole_of t) f
+  before_fine t (Some f) = trusted_fine (run_of t) (whole_of t) (unwrap_or (back_of t) f)
 
   event_fine : (pes : ℕ) (e : Event) → tells_bad e ≡ false → tells_bad (at_pes pes e) ≡ false
   unfolding at_pes
@@ -240,7 +251,8 @@ module _ (bad : CheckFault → Bool)
   with_fine (Closes are_left more) t fine = go (list_any is_said t || more)
     where
       go : (b : Bool)
-          → list_any tells_bad (if b then trusted_up_to t (Some (closing_at t are_left)) else [])
+          → list_any tells_bad
+          (if b then trusted (run_of t) (whole_of t) (closing_at t are_left) else [])
           ≡ false
       go true = trusted_fine (run_of t) (whole_of t) (closing_at t are_left)
       go false = refl

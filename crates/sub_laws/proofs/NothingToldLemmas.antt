@@ -26,9 +26,9 @@ law_of_broken_places g frames at_once =
     let same : sent_by_pieces g pieces ≡ frames =
     joined-within g.within (frames_of pieces) at_once ∙ sent_frames frames in
     broken_places g frames at_once
-    (λ whole none.
+    (λ alone whole none.
     let parts = (pieces_unrefused g pieces).0 none in
-    (pieces_untold g pieces).1 (
+    (pieces_untold g pieces alone).1 (
       parts.0,
       none_refused g (sent_by_pieces g pieces) (subst (EachPacket IsPacket) (sym same) whole)
           parts.1,
@@ -37,7 +37,7 @@ law_of_broken_places g frames at_once =
 pub law_of_nothing_told : LawOfNothingTold
 law_of_nothing_told programme options unread pieces at_once some whole =
     let g : Task = task_of programme options unread in
-    let told = pieces_untold g pieces in
+    let told = pieces_untold g pieces refl in
     let same : sent_by_pieces g pieces ≡ frames_of pieces =
     joined-within g.within (frames_of pieces) at_once in
     let law = none_told programme options unread (frames_of pieces) at_once some whole in (
@@ -56,7 +56,7 @@ law_of_nothing_told programme options unread pieces at_once some whole =
 pub law_of_nothing_told_within : LawOfNothingToldWithin
 law_of_nothing_told_within programme options unread pieces is every whole =
     let g : Task = task_of programme options unread in
-    let told = pieces_untold g pieces in
+    let told = pieces_untold g pieces refl in
     let sent = sent_by_pieces g pieces in
     let law = none_told_within programme options unread sent is every whole in (
       λ none.

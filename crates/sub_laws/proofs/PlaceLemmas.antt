@@ -49,7 +49,7 @@ use Rattle.sub_laws.proofs.PrefixLemmas.{EachAfter, RiseTo, before_more, each_af
 use Rattle.sub_laws.proofs.PrefixLemmas.{first-same, rises_strictly, last-same, on_air_at, IsInGap}
 use Rattle.sub_laws.proofs.PrefixLemmas.{end_at, end_before_rest, end_high, end_is_on_air, end_low}
 use Rattle.sub_laws.proofs.PrefixLemmas.{on_air_is}
-use Rattle.sub_laws.proofs.StandingLemmas.{all_kept, always_late, broken_is, ended_is}
+use Rattle.sub_laws.proofs.StandingLemmas.{all_kept, always_known, always_late, broken_is, ended_is}
 use Rattle.sub_laws.proofs.StandingLemmas.{gap_decided, incomplete_decided, no_wrong, quiet_parts}
 use Rattle.sub_laws.proofs.StandingLemmas.{silent_decided}
 use Rattle.sub_rules.proofs.FrameLists.{joined_more}
@@ -269,7 +269,8 @@ module _ (programme : ProgrammeValue) (options : OptionsValue) (unread : Option 
         → shown options.page (on_air_until t f) row column ≡ cell (due_in programme f) row column
     shows_at f row column low high is =
         let (n, end, on, from) = end_of f low high in
-        ap (λ xs. shown options.page xs row column) on ∙ kept_at n f end Content row column is
+        ap (λ xs. shown options.page xs row column) on
+        ∙ kept_at n f end Content refl row column is
 
     -- The transmission is good.
     pub Good-from_holds : EachPacket (λ packet. length packet ≡ 42) t → Good programme t options
@@ -393,8 +394,13 @@ module _ (programme : ProgrammeValue) (options : OptionsValue) (t : Transmission
         (silent_decided (task_of programme options None) t n f).1
         (paced_at n f (omega (arith, first-same t, end_high t rises n f end))
         (end_low t rises n f end) (end_before_rest t rises n f end)) in
-        (quiet_parts (task_of programme options None) t n f).1
-        ((still n f end).0, not_not _ covered, (still n f end).1, not_not _ paced)
+        (quiet_parts (task_of programme options None) t n f).1 (
+          (still n f end).0,
+          not_not _ covered,
+          (still n f end).1,
+          not_not _ paced,
+          always_known (frame_at t 0) f options.within,
+        )
 
     -- All that is asked of each frame holds.
     frame_of : (i : ℕ) → i < length t → FrameOk (task_of programme options None) t i

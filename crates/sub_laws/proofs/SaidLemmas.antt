@@ -3,14 +3,15 @@
 -- they send. Main lemma: `pieces_said`.
 use Rattle.std.proofs.Common.{◌≡◌, ℕ, zero, suc, ◌+◌, ◌<◌, ◌≤◌, ◌==◌, Bool, true, false, List}
 use Rattle.std.proofs.Common.{[], ◌∷◌, ◌++◌, length, map, refl, sym, ap, ap₂, ◌∙◌, subst, arith}
-use Rattle.std.proofs.Common.{append_assoc, if◌then◌else◌, inl, inr, length-append}
+use Rattle.std.proofs.Common.{append_assoc, if◌then◌else◌, inl, inr, length-append, Option}
 use Rattle.std.proofs.lemmas.List.{append-nil}
 use Rattle.sub_rules.specs.Events.{closing_events, events_at_end}
 use Rattle.sub_rules.specs.Events.{first_header_events, gap_length}
 use Rattle.sub_rules.specs.Events.{is_late, latest, order_events, packet_events, packets_told}
-use Rattle.sub_rules.specs.Events.{unfinished_since}
+use Rattle.sub_rules.specs.Events.{since_before, unfinished_since}
 use Rattle.sub_rules.specs.FrameRules.{Task, frame_at, packets_before}
-use Rattle.sub_rules.specs.PieceEvents.{closing_of_pieces, marks_at_end, marks_of_arrival}
+use Rattle.sub_rules.specs.PieceEvents.{closing_of_pieces, goes_back, marks_at_end, marks_before}
+use Rattle.sub_rules.specs.PieceEvents.{marks_of_arrival}
 use Rattle.sub_rules.specs.PieceEvents.{marks_of_closing, marks_of_each, marks_of_ending}
 use Rattle.sub_rules.specs.PieceEvents.{marks_of_gap, marks_of_pieces, marks_of_waiting}
 use Rattle.sub_rules.specs.PieceEvents.{sent_by_pieces}
@@ -18,7 +19,7 @@ use Rattle.sub_rules.specs.Pieces.{Piece, frames_of, goes_on_with, joined_after,
 use Rattle.sub_rules.specs.Pieces.{with_packets}
 use Rattle.sub_rules.specs.Pieces.Piece.{Passed, Sent}
 use Rattle.sub_rules.specs.Transmission.{SentFrame, Transmission}
-use Rattle.sub_rules.specs.Trusted.Mark.{AtEnd, Begins, Says}
+use Rattle.sub_rules.specs.Trusted.Mark.{AtEnd, Begins, GoesBack, Says}
 use Rattle.sub_rules.specs.declared.event.Event.{Event}
 use Rattle.sub_rules.proofs.JoinedLemmas.{packets_told-append, with_packets-length}
 use Rattle.sub_laws.proofs.GrowingFrameLemmas.{goes_on_some}
@@ -48,16 +49,19 @@ module _ (g : Task) where
 
   said_end : (frames : Transmission) (i n f : ℕ)
       → said (marks_at_end g frames i n f) ≡ events_at_end g frames i n f
-  said_end frames i n f = go (g.within == 0)
+  said_end frames i n f = go (goes_back g) (g.within == 0)
     where
-      go : (b : Bool)
-          → said ((if b
+      go : (back b : Bool)
+          → said ((if back then GoesBack (since_before g frames i f) ∷ [] else [])
+          ++ (if b
           then []
           else AtEnd f (unfinished_since g frames n f) (is_late g frames n f) ∷ [])
           ++ map Says (events_at_end g frames i n f))
           ≡ events_at_end g frames i n f
-      go true = said-says (events_at_end g frames i n f)
-      go false = said-says (events_at_end g frames i n f)
+      go true true = said-says (events_at_end g frames i n f)
+      go true false = said-says (events_at_end g frames i n f)
+      go false true = said-says (events_at_end g frames i n f)
+      go false false = said-says (events_at_end g frames i n f)
 
   said_gap : (frames : Transmission) (i n : ℕ)
       → said (marks_of_gap g frames i n) ≡ gap_events g frames i n
@@ -73,10 +77,17 @@ module _ (g : Task) where
   said_arrival frames i =
       let order = map Says (order_events g frames i) in
       let gap = marks_of_gap g frames i (gap_length frames i) in
-      said-append (order ++ gap) (Begins (frame_at frames i) ∷ [])
+      let since = since_before g frames i (frame_at frames i) in
+      said-append (order ++ gap) (Begins (frame_at frames i) ∷ marks_before g since)
+      ∙ ap (λ (es : List Event). said (order ++ gap) ++ es) (silent since (goes_back g))
       ∙ append-nil (said (order ++ gap))
       ∙ said-append order gap
       ∙ rw (said-says (order_events g frames i), said_gap frames i (gap_length frames i)) refl
+    where
+      silent : (since : Option ℕ) (b : Bool)
+          → said (if b then GoesBack since ∷ [] else []) ≡ []
+      silent since true = refl
+      silent since false = refl
 
   -- And at its end.
   abbrev ending : Transmission → ℕ → List Event

@@ -1,13 +1,15 @@
 -- For what is told and what may stay.
 -- What stands broken at an end: its first wrong cell, `first_wrong`, `none_wrong`; whether the
 -- repeat bound has passed, `gap_decided`; whether the page is open, `incomplete_decided`; whether
--- anything stands broken, `quiet_parts`; and rule by rule, `stands_broken`.
+-- it is known what was due, `known_back`, `always_known`, `undue_is`; whether anything stands
+-- broken, `quiet_parts`; and rule by rule, `stands_broken`.
 use Rattle.std.proofs.Common.{◌≡◌, ◌↔◌, ℕ, zero, suc, ◌+◌, ◌-◌, ◌<◌, ◌≤◌, Bool, true, false, []}
 use Rattle.std.proofs.Common.{length, take, Option, Some, None, refl, sym, subst, arith, not, ◌||◌}
-use Rattle.std.proofs.Common.{◌&&◌, ◌==◌, ◌∙◌, ap, get_or, is_some, option_map, inl, inr}
+use Rattle.std.proofs.Common.{◌&&◌, ◌==◌, ◌∙◌, ap, get_or, is_some, option_map, inl, inr, ◌⊎◌}
+use Rattle.std.proofs.Common.{nat_le, le_refl, if◌then◌else◌}
 use Rattle.std.specs.Prelude.{option_and_then}
 use Rattle.std.specs.List.{list_any}
-use Rattle.std.proofs.lemmas.Bool.{cases_lt, true≢false}
+use Rattle.std.proofs.lemmas.Bool.{cases_lt, or_parts, true≢false}
 use Rattle.std.proofs.lemmas.Bool.Decides.{nat_tests, Decides-and, Decides-at, Decides-like}
 use Rattle.std.proofs.lemmas.Bool.Decides.{Decides-ltb, Decides-or}
 use Rattle.std.proofs.lemmas.List.{get_or-map}
@@ -20,7 +22,8 @@ use Rattle.ttx_page.specs.Page.{IsCell, cell}
 use Rattle.ttx_page.specs.Shown.{shown}
 use Rattle.sub_rules.specs.Events.{broken_at, broken_cell, covers, first_cell, is_gap, is_silent}
 use Rattle.sub_rules.specs.Events.{is_incomplete, is_late, standing_at, wrong_after, wrong_cell}
-use Rattle.sub_rules.specs.Events.{silent_for, latest}
+use Rattle.sub_rules.specs.Events.{silent_for, latest, undecided_within, undue_after, undue_cell}
+use Rattle.sub_rules.specs.Events.{was_undecided}
 use Rattle.sub_rules.specs.FrameRules.{HasHeader, IsCovered, IsEnded, ShowsDue, Task, frame_at}
 use Rattle.sub_rules.specs.FrameRules.{packets_before, IsPaced}
 use Rattle.sub_rules.specs.Transmission.{SentFrame, Transmission}
@@ -131,23 +134,57 @@ module _ (test : ℕ → ℕ → Bool) where
 
 -- ---- what stands broken at an end
 
+-- Where it is known at each frame what is due, it is so at the last ones before one.
+pub all_known : (undecided : ℕ → Bool) → ((frame : ℕ) → undecided frame ≡ false)
+    → (first f m : ℕ) → was_undecided undecided first f m ≡ false
+unfolding was_undecided
+all_known undecided each first f zero = each f
+all_known undecided each first f (suc m) =
+    let rest = all_known undecided each first f m in
+    let here = each (f - suc m) in
+    grind (arith, nat_tests)
+
+-- So it is where nothing is refused of the subtitle file.
+pub always_known : (first f m : ℕ) → was_undecided (λ frame. false) first f m ≡ false
+always_known = all_known (λ frame. false) (λ frame. refl)
+
 module _ (g : Task) (frames : Transmission) (n f : ℕ) where
   -- A cell shows another code than is due.
   abbrev is_wrong : ℕ → ℕ → Bool
   is_wrong row column =
       not (shown g.watched.page (packets_before frames n) row column == cell (g.due f) row column)
 
+  -- The first that shows one, whether it is known what is due or not.
+  abbrev other_cell : Option (ℕ × ℕ)
+  other_cell = wrong_after g.watched.page (packets_before frames n) (g.due f)
+
+  -- Where it is known what is due it is the first wrong one.
+  wrong_is : g.undecided f ≡ false → wrong_cell g frames n f ≡ other_cell
+  wrong_is known = rw known refl
+
+  -- Where one is wrong it is known.
+  wrong_known : (x : ℕ × ℕ) → wrong_cell g frames n f ≡ Some x → g.undecided f ≡ false
+  wrong_known x e = go (g.undecided f) e
+    where
+      go : (b : Bool) → (if b then None else other_cell) ≡ Some x → b ≡ false
+      go false e = refl
+      go true e = absurd (none-some x e)
+
   -- No cell is wrong.
-  pub none_wrong : wrong_cell g frames n f ≡ None → (row column : ℕ) → IsCell row column
+  pub none_wrong : wrong_cell g frames n f ≡ None → g.undecided f ≡ false
+      → (row column : ℕ) → IsCell row column
       → ShowsDue g frames n f row column
   unfolding wrong_after
-  none_wrong e row column is =
-      let right = cell_none is_wrong e row column is in grind (arith, nat_tests)
+  none_wrong e known row column is =
+      let right = cell_none is_wrong (sym (wrong_is known) ∙ e) row column is in
+      grind (arith, nat_tests)
 
   -- The first that is.
   pub first_wrong : (x : ℕ × ℕ) → wrong_cell g frames n f ≡ Some x → WrongFirst g frames n f x.0 x.1
   unfolding wrong_after
-  first_wrong x e = grind (arith, nat_tests, cell_found)
+  first_wrong x e =
+      let found = cell_found is_wrong x (sym (wrong_is (wrong_known x e)) ∙ e) in
+      grind (arith, nat_tests)
 
   -- Where all show what is due, none is wrong.
   pub no_wrong : ((row column : ℕ) → IsCell row column → ShowsDue g frames n f row column)
@@ -225,9 +262,10 @@ module _ (g : Task) (frames : Transmission) (n f : ℕ) where
           → Decides (not (is_silent g frames m f)) (IsPaced g frames m f)
       by zero None is =
           (λ e k asks. absurd (none-some k (sym is ∙ asks)), λ h. ap (λ o. not (is_some o)) is)
-      by zero (Some pace) is =
-          (λ e. grind (arith, nat_tests),
-          λ h. absurd (let near = h pace is in omega (arith, near.1)))
+      by zero (Some pace) is = (
+        λ e. grind (arith, nat_tests),
+        λ h. absurd (let near = h pace is in omega (arith, near.1)),
+      )
       by (suc m) None is = (
         λ e k asks. absurd (none-some k (sym is ∙ asks)),
         λ h. ap (λ o. not (silent_for o (latest frames (suc m)) f)) is,
@@ -241,6 +279,43 @@ module _ (g : Task) (frames : Transmission) (n f : ℕ) where
             λ h. let near = near_latest pace (suc m) (h pace is) in grind (arith, nat_tests),
           )
 
+  -- Where it is known what was due at frame f and the last ones before it, it is at each of them.
+  pub known_back : (first m : ℕ) → was_undecided g.undecided first f m ≡ false
+      → (k : ℕ) → k ≤ f → f ≤ k + m → (first ≤ k) ⊎ (k ≡ f)
+      → g.undecided k ≡ false
+  unfolding was_undecided
+  known_back first zero e k high low from =
+      let here : f ≡ k = omega arith in subst (λ x. g.undecided x ≡ false) here e
+  known_back first (suc m) e k high low from = elim (cases_lt (k + m) f) [
+    | inr near ↦
+        known_back first m
+        (or_parts (was_undecided g.undecided first f m) _ e).0 k high near from
+    | inl far ↦ elim from [
+      | inl after ↦
+          let at : f - suc m ≡ k = omega arith in
+          let old : first + suc m ≤ f = omega arith in
+          subst (λ x. g.undecided x ≡ false) at
+          (oldest (g.undecided (f - suc m)) old
+          (or_parts (was_undecided g.undecided first f m) _ e).1)
+      | inr own ↦ absurd (omega arith)
+    ]
+  ]
+    where
+      oldest : (b : Bool) → first + suc m ≤ f → (nat_le (first + suc m) f && b) ≡ false
+          → b ≡ false
+      oldest b l e = grind (arith, nat_tests)
+
+  -- Frame f is the last of them.
+  pub known_at : undecided_within g frames f ≡ false → g.undecided f ≡ false
+  known_at e =
+      known_back (frame_at frames 0) g.within e f (le_refl f) (omega arith) (inr refl)
+
+  -- Then a cell has to show what was due.
+  pub undue_is : undecided_within g frames f ≡ false
+      → undue_cell g frames n f
+      ≡ undue_after g.watched.page (packets_before frames n) g.due (frame_at frames 0) f g.within
+  undue_is known = rw known refl
+
   pub incomplete_decided : Decides (not (is_incomplete g frames n)) (IsEnded g frames n)
   unfolding is_incomplete
   incomplete_decided = grind (arith, nat_tests)
@@ -250,7 +325,8 @@ module _ (g : Task) (frames : Transmission) (n f : ℕ) where
       ↔ ((broken_cell g frames n f ≡ None)
       × (is_gap g frames n f ≡ false)
       × ((is_late g frames n f && is_incomplete g frames n) ≡ false)
-      × (is_silent g frames n f ≡ false))
+      × (is_silent g frames n f ≡ false)
+      × (undecided_within g frames f ≡ false))
   unfolding standing_at
   quiet_parts = (
     λ quiet. (
@@ -258,8 +334,9 @@ module _ (g : Task) (frames : Transmission) (n f : ℕ) where
       ap (λ s. s.gap) quiet,
       ap (λ s. s.incomplete) quiet,
       ap (λ s. s.silent) quiet,
+      ap (λ s. s.undecided) quiet,
     ),
-    λ parts. rw (parts.0, parts.1, parts.2, parts.3) refl,
+    λ parts. rw (parts.0, parts.1, parts.2, parts.3, parts.4) refl,
   )
 
   -- ---- within 0 frames
@@ -278,14 +355,28 @@ module _ (g : Task) (frames : Transmission) (n f : ℕ) where
     pub ended_is : (is_late g frames n f && is_incomplete g frames n) ≡ is_incomplete g frames n
     ended_is = rw always_late refl
 
+    -- And it has to be known what is due.
+    unknown_is : undecided_within g frames f ≡ g.undecided f
+    unfolding was_undecided
+    unknown_is = rw at_once refl
+
+    -- Nothing is wrong where all cells show what is due, if that is known.
+    right_cells : IsKept end.Content g frames n f → (b : Bool) → g.undecided f ≡ b
+        → wrong_cell g frames n f ≡ None
+    right_cells kept true is = rw is refl
+    right_cells kept false is = no_wrong (kept is)
+
     -- A rule stands broken exactly where it is not kept.
     kept_is : n ≤ length frames → (rule : EndRule)
         → (broken_at rule (standing_at g frames n f) ≡ None) ↔ IsKept rule g frames n f
     unfolding standing_at
-    kept_is l end.Content =
-        (λ e. none_wrong (sym broken_is ∙ e), λ shows. broken_is ∙ no_wrong shows)
+    kept_is l end.Content = (
+      λ e. none_wrong (sym broken_is ∙ e),
+      λ kept. broken_is ∙ right_cells kept (g.undecided f) refl,
+    )
     kept_is l end.Gap = grind (arith, nat_tests, gap_decided l)
     kept_is l end.Incomplete = let ended = ended_is in grind (arith, nat_tests, incomplete_decided)
+    kept_is l end.Undecided = let is = unknown_is in grind (arith, nat_tests)
     kept_is l end.Silent = grind (arith, nat_tests, silent_decided)
 
     -- So all are kept where nothing stands broken.

@@ -5,7 +5,7 @@
 use Rattle.std.proofs.lemmas.Bool.Decides.{nat_tests}
 use Rattle.std.proofs.Common.{◌≡◌, ℕ, ◌+◌, ◌-◌, ◌<◌, ◌≤◌, ◌⊎◌, inl, inr, Bool, true, false, ◌&&◌}
 use Rattle.std.proofs.Common.{◌||◌, ◌==◌, nat_le, nat_lt, None, Option, Some, get_or, length, refl}
-use Rattle.std.proofs.Common.{sym, ap, ◌∙◌, subst, arith, le_refl, IsFalse, Contains}
+use Rattle.std.proofs.Common.{sym, ap, ◌∙◌, subst, arith, le_refl, Contains}
 use Rattle.std.proofs.lemmas.Bool.{cases_eq, or_parts, true≢false}
 use Rattle.std.proofs.lemmas.List.Elements.{Contains-get_or}
 use Rattle.ttx_page.specs.Shown.{shown}
@@ -14,11 +14,12 @@ use Rattle.stl_rows.specs.Programme.{IsProgramme, ProgrammeValue}
 use Rattle.sub_plan.specs.Options.{OptionsValue}
 use Rattle.sub_rules.specs.Events.{broken_cell, is_incomplete, is_late, is_missed, is_overdue}
 use Rattle.sub_rules.specs.Events.{is_unfinished, standing_at, undue_after, unfinished_since}
-use Rattle.sub_rules.specs.Events.{wrong_cell}
-use Rattle.sub_rules.specs.FrameRules.{Task, Unread, end_frame, frame_at, packets_before, task_of}
-use Rattle.sub_rules.specs.GoodWithin.{FinishesAgain, IsDueWithin, ShowsDueCodes, SomeFinished}
+use Rattle.sub_rules.specs.Events.{undecided_within, wrong_cell}
+use Rattle.sub_rules.specs.FrameRules.{Task, Unread, end_frame, frame_at, packets_before}
+use Rattle.sub_rules.specs.GoodWithin.{FinishesAgain, IsDueWithin, IsFinished, ShowsDueCodes}
+use Rattle.sub_rules.specs.GoodWithin.{SomeFinished}
 use Rattle.sub_rules.specs.Transmission.{Transmission, on_air_until}
-use Rattle.sub_laws.specs.CleanStretch.{AtEnds, IsEnd, IsUntold}
+use Rattle.sub_laws.specs.CleanStretch.{IsEnd, IsUntold, NoneOpen, task_unsure}
 use Rattle.sub_laws.specs.Delay.{FinishesInTime}
 use Rattle.sub_laws.specs.DelayLaws.{IsSufficientWithDelay}
 use Rattle.sub_laws.proofs.DueCodeLemmas.{MayShow, ending_is, undue_none}
@@ -26,10 +27,11 @@ use Rattle.sub_laws.proofs.FinishedLemmas.{finished_at, finished_of, frame_end, 
 use Rattle.sub_laws.proofs.FinishedLemmas.{since_is}
 use Rattle.sub_laws.proofs.PrefixLemmas.{RiseTo, end_is_on_air, first-same, last-same}
 use Rattle.sub_laws.proofs.SoundUntoldLemmas.{rising, sound_untold}
+use Rattle.sub_laws.proofs.StandingLemmas.{known_at, undue_is}
 use Rattle.sub_laws.proofs.UnfinishedLemmas.{finished_from, since_some, unfinished_at}
 
 -- In a transmission in which frames rise what is asked of content and of the page's end holds at
--- each end of a frame from one to another.
+-- each end of a frame from one to another, and it is known there what was due.
 pub record HoldsAtEnds (g : Task) (t : Transmission) (a b : ℕ) : Type 0 where
   pub up : RiseTo t (length t)
   pub some : 0 < length t
@@ -40,19 +42,26 @@ pub record HoldsAtEnds (g : Task) (t : Transmission) (a b : ℕ) : Type 0 where
       → IsEnd t n f
       → a ≤ f
       → f ≤ b
-      → (broken_cell g t n f ≡ None) × ((is_late g t n f && is_incomplete g t n) ≡ false)
+      → (broken_cell g t n f ≡ None)
+      × ((is_late g t n f && is_incomplete g t n) ≡ false)
+      × (undecided_within g t f ≡ false)
 
 module _ (programme : ProgrammeValue) (options : OptionsValue) (unread : Option Unread)
-    (t : Transmission) (a b : ℕ) (holds : HoldsAtEnds (task_of programme options unread) t a b)
+    (beside : Bool) (undecided : ℕ → Bool) (t : Transmission) (a b : ℕ)
+    (holds : HoldsAtEnds (task_unsure programme options unread beside undecided) t a b)
   where
     abbrev task : Task
-    task = task_of programme options unread
+    task = task_unsure programme options unread beside undecided
 
     abbrev start : ℕ
     start = frame_at t 0
 
     abbrev up : RiseTo t (length t)
     up = holds.up
+
+    -- It is known what is due.
+    known : (n f : ℕ) → IsEnd t n f → a ≤ f → f ≤ b → undecided f ≡ false
+    known n f end low high = known_at task t n f (holds.parts n f end low high).2
 
     -- A late end is finished.
     pub calm : (n f : ℕ) → IsEnd t n f → a ≤ f → f ≤ b → is_late task t n f ≡ true
@@ -81,7 +90,8 @@ module _ (programme : ProgrammeValue) (options : OptionsValue) (unread : Option 
         go false e = refl
         go true e =
             let none =
-            no_since programme options unread t up n f end (calm n f end low high (late_of e)) in
+            no_since programme options unread beside undecided t up n f end
+            (calm n f end low high (late_of e)) in
             absurd (true≢false (sym (rw none at e)))
 
     -- Since a frame the ends up to this one are unfinished: not too long, and no subtitle is
@@ -97,6 +107,18 @@ module _ (programme : ProgrammeValue) (options : OptionsValue) (unread : Option 
         before : nat_le (r + options.within) f ≡ false → f < r + options.within
         before e = grind (arith, nat_tests)
 
+    -- A frame is finished whose end is.
+    ended : (e : ℕ) → a ≤ e → e ≤ b → unfinished_at task t up e ≡ false
+        → IsFinished programme t options e
+    ended e low high finished =
+        let first = holds.from in
+        let last = holds.to in
+        let (n, end) =
+        frame_end programme options unread beside undecided t up e holds.some (omega arith)
+        (omega arith) in
+        finished_at programme options unread beside undecided t up e holds.some (omega arith)
+        (omega arith) (known n e end low high) finished
+
     -- One of the frames from one to f is finished, where the ends up to f are not unfinished since
     -- that one.
     some_finished : (from f : ℕ) → a ≤ from → from ≤ f → f ≤ b
@@ -111,10 +133,11 @@ module _ (programme : ProgrammeValue) (options : OptionsValue) (unread : Option 
         let first = holds.from in
         let last = holds.to in
         let (n, end) =
-        frame_end programme options unread t up f holds.some (omega arith) (omega arith) in
+        frame_end programme options unread beside undecided t up f holds.some (omega arith)
+        (omega arith) in
         let k : ℕ = f - start in
         let at : start + k ≡ f = omega arith in
-        let since = since_is programme options unread t up n f end in
+        let since = since_is programme options unread beside undecided t up n f end in
         let (e, after, before, finished) =
         finished_from (unfinished_at task t up) start from k (omega arith) (omega arith)
         (λ r is l.
@@ -122,8 +145,7 @@ module _ (programme : ProgrammeValue) (options : OptionsValue) (unread : Option 
           e,
           after,
           omega arith,
-          finished_at programme options unread t up e holds.some (omega arith) (omega arith)
-              finished,
+          ended e (omega arith) (omega arith) finished,
         )
 
     pub again : FinishesAgain programme t options a b
@@ -139,7 +161,8 @@ module _ (programme : ProgrammeValue) (options : OptionsValue) (unread : Option 
         let first = holds.from in
         let last = holds.to in
         let (n, end) =
-        frame_end programme options unread t up f holds.some (omega arith) (omega arith) in
+        frame_end programme options unread beside undecided t up f holds.some (omega arith)
+        (omega arith) in
         by_within n end (cases_eq options.within 0)
       where
         due_of : (n : ℕ)
@@ -156,10 +179,13 @@ module _ (programme : ProgrammeValue) (options : OptionsValue) (unread : Option 
             → IsDueWithin programme t options f row column
             (shown options.page (on_air_until t f) row column)
         by_within n end (inl none) =
-            let late = late_is programme options unread t up n f (not_overdue n f end low high) in
+            let late =
+            late_is programme options unread beside undecided t up n f
+            (not_overdue n f end low high) in
             let is_zero : (options.within == 0) ≡ true = grind (arith, nat_tests) in
             let whole =
-            finished_of programme options unread t up n f end
+            finished_of programme options unread beside undecided t up n f end
+            (known n f end low high)
             (calm n f end low high (late ∙ is_zero)) in
             inr (
               f,
@@ -169,12 +195,15 @@ module _ (programme : ProgrammeValue) (options : OptionsValue) (unread : Option 
               whole.shows row column named,
             )
         by_within n end (inr some) =
-            let late = late_is programme options unread t up n f (not_overdue n f end low high) in
+            let late =
+            late_is programme options unread beside undecided t up n f
+            (not_overdue n f end low high) in
             let is_zero : (options.within == 0) ≡ false = grind (arith, nat_tests) in
             let not_late : is_late task t n f ≡ false = late ∙ is_zero in
             let none :
             undue_after options.page (packets_before t n) task.due start f options.within ≡ None =
-            rw not_late at (holds.parts n f end low high).0 in
+            sym (undue_is task t n f (holds.parts n f end low high).2)
+            ∙ rw not_late at (holds.parts n f end low high).0 in
             let on = end_is_on_air t up n f end in
             subst
             (λ ps. IsDueWithin programme t options f row column (shown options.page ps row column))
@@ -249,25 +278,29 @@ module _ (programme : ProgrammeValue) (options : OptionsValue) (unread : Option 
 -- ---- a stretch of which nothing is told
 
 module _ (programme : ProgrammeValue) (options : OptionsValue) (unread : Option Unread)
-    (t : Transmission) (a b : ℕ) (untold : IsUntold (task_of programme options unread) t a b)
-    (closed : AtEnds
-    (λ n f. IsFalse (standing_at (task_of programme options unread) t n f).incomplete) t a b)
+    (beside : Bool) (undecided : ℕ → Bool) (t : Transmission) (a b : ℕ)
+    (untold : IsUntold (task_unsure programme options unread beside undecided) t a b)
+    (closed : NoneOpen (task_unsure programme options unread beside undecided) t a b)
   where
-    holds_untold : HoldsAtEnds (task_of programme options unread) t a b
+    holds_untold : HoldsAtEnds (task_unsure programme options unread beside undecided) t a b
     unfolding standing_at
     holds_untold = record {
-      up = rising programme t options unread a b untold;
+      up = rising programme t options unread beside undecided a b untold;
       some = untold.stretch.not_empty;
       from = let first = first-same t in omega (arith, untold.stretch.from);
       to = let last = last-same t in omega (arith, untold.stretch.to);
-      parts = λ n f end low high. (untold.content n f end low high, closed n f end low high);
+      parts = λ n f end low high. (
+        untold.content n f end low high,
+        closed n f end low high,
+        untold.undecided n f end low high,
+      );
     }
 
     -- It has what suffices.
     pub enough_with_delay : IsProgramme programme.drawing programme.records
         → IsSufficientWithDelay programme t options a b
     enough_with_delay is = record {
-      stretch = sound_untold programme t options unread a b untold;
-      codes = codes programme options unread t a b holds_untold;
-      finishes = finishes programme options unread t a b holds_untold is;
+      stretch = sound_untold programme t options unread beside undecided a b untold;
+      codes = codes programme options unread beside undecided t a b holds_untold;
+      finishes = finishes programme options unread beside undecided t a b holds_untold is;
     }

@@ -13,7 +13,7 @@ use Rattle.stl_rows.specs.Programme.{IsProgramme, ProgrammeValue}
 use Rattle.sub_plan.specs.Options.{OptionsValue}
 use Rattle.sub_rules.specs.Events.{broken_cell, is_incomplete, is_late, is_missed, is_overdue}
 use Rattle.sub_rules.specs.Events.{is_pending, is_unfinished, undue_after, unfinished_since}
-use Rattle.sub_rules.specs.Events.{wrong_cell}
+use Rattle.sub_rules.specs.Events.{undecided_within, wrong_cell}
 use Rattle.sub_rules.specs.FrameRules.{Task, Unread, end_frame, frame_at, packets_before, task_of}
 use Rattle.sub_rules.specs.Good.{KeepsRules}
 use Rattle.sub_rules.specs.GoodWithin.{GoodWithin, IsDueWithin, IsFinished, SomeFinished}
@@ -27,13 +27,17 @@ use Rattle.sub_laws.proofs.GoodWithinLemmas.{begins_in, ends_in}
 use Rattle.sub_laws.proofs.PlaceLemmas.{Rules-from_holds, holds-from_rules, quiet_at, rising}
 use Rattle.sub_laws.proofs.PrefixLemmas.{RiseTo, end_high, end_is_on_air, end_low, first-same}
 use Rattle.sub_laws.proofs.PrefixLemmas.{last-same}
-use Rattle.sub_laws.proofs.StandingLemmas.{quiet_parts}
+use Rattle.sub_laws.proofs.StandingLemmas.{always_known, quiet_parts, undue_is}
 use Rattle.sub_laws.proofs.SufficientDelayLemmas.{HoldsAtEnds, again, calm, codes, subtitle}
 use Rattle.sub_laws.proofs.UnfinishedLemmas.{since_after, since_some, unfinished_at}
 use Rattle.sub_laws.proofs.FinishedLemmas.{at_finished, finished_of, late_is, no_since, none_is}
 use Rattle.sub_laws.proofs.FinishedLemmas.{of_finished, since_is, since_no}
 use Rattle.std.proofs.Common.{◌↔◌, []}
 use Rattle.sub_rules.proofs.FrameEvents.{events}
+
+-- At each frame it is known what is due.
+abbrev never : ℕ → Bool
+never frame = false
 
 -- ---- the law, one way
 
@@ -57,7 +61,7 @@ module _ (programme : ProgrammeValue) (options : OptionsValue) (unread : Option 
     parts = λ n f end low high.
         let three =
         (quiet_parts task t n f).0 (quiet_at programme options unread t every h n f end) in
-        (three.0, three.2);
+        (three.0, three.2, three.4);
   }
 
   held_subtitle : KeepsRules programme t options
@@ -72,8 +76,8 @@ module _ (programme : ProgrammeValue) (options : OptionsValue) (unread : Option 
       let ends : s.tco ≤ last_frame t =
       subst (λ (x : SubtitleValue). x.tco ≤ last_frame t) (sym same)
       (ends_in programme t options is keeps k d l) in
-      subtitle programme options unread t (first_frame t) (last_frame t) held is k d l s same begins
-      (omega arith)
+      subtitle programme options unread false never t (first_frame t) (last_frame t) held is k d l s
+      same begins (omega arith)
 
   -- The last frame is finished.
   ends : IsFinished programme t options (last_frame t)
@@ -81,7 +85,8 @@ module _ (programme : ProgrammeValue) (options : OptionsValue) (unread : Option 
   ends =
       let end : IsEnd t (length t) (end_frame t) = (h.some, le_refl (length t), inl refl) in
       subst (IsFinished programme t options) (sym (last-same t))
-      (finished_of programme options unread t up (length t) (end_frame t) end (last end))
+      (finished_of programme options unread false never t up (length t) (end_frame t) end refl
+      (last end))
     where
       last : IsEnd t (length t) (end_frame t)
           → is_unfinished task t (length t) (end_frame t) ≡ false
@@ -97,10 +102,10 @@ module _ (programme : ProgrammeValue) (options : OptionsValue) (unread : Option 
               let first = first-same t in
               let last = last-same t in
               let low = end_high t up (length t) (end_frame t) end in
-              calm programme options unread t (first_frame t) (last_frame t) held (length t)
-              (end_frame t) end (omega arith) (omega arith) is
+              calm programme options unread false never t (first_frame t) (last_frame t) held
+              (length t) (end_frame t) end (omega arith) (omega arith) is
           go false is =
-              since_no programme options unread t up (length t) (end_frame t) end
+              since_no programme options unread false never t up (length t) (end_frame t) end
               (none_is _ (pending_parts is))
 
   -- The transmission is good within these frames.
@@ -110,8 +115,8 @@ module _ (programme : ProgrammeValue) (options : OptionsValue) (unread : Option 
       record {
         rules = keeps;
         shows = record {
-          codes = codes programme options unread t (first_frame t) (last_frame t) held;
-          again = again programme options unread t (first_frame t) (last_frame t) held;
+          codes = codes programme options unread false never t (first_frame t) (last_frame t) held;
+          again = again programme options unread false never t (first_frame t) (last_frame t) held;
           subtitles = λ k d l. held_subtitle keeps k d l (get_or programme.records k d) refl;
           ends = ends;
         };
@@ -141,15 +146,16 @@ module _ (programme : ProgrammeValue) (options : OptionsValue) (t : Transmission
       let bottom = end_high t order n f end in
       let top = end_low t order n f end in
       since_after (unfinished_at asked t order) from (f - from) r e
-      (sym (since_is programme options None t order n f end) ∙ since)
-      (at_finished programme options None t order e good.rules.not_empty low (omega arith) finished)
+      (sym (since_is programme options None false never t order n f end) ∙ since)
+      (at_finished programme options None false never t order e good.rules.not_empty low
+      (omega arith) finished)
       (omega arith)
 
   -- They are not before the first frame.
   since_from : (n f r : ℕ) → IsEnd t n f → unfinished_since asked t n f ≡ Some r → from ≤ r
   since_from n f r end since =
       (since_some (unfinished_at asked t order) from (f - from) r
-      (sym (since_is programme options None t order n f end) ∙ since)).low
+      (sym (since_is programme options None false never t order n f end) ∙ since)).low
 
   -- So it is not too long.
   soon : (n f r : ℕ) → IsEnd t n f → unfinished_since asked t n f ≡ Some r
@@ -215,7 +221,7 @@ module _ (programme : ProgrammeValue) (options : OptionsValue) (t : Transmission
       let high = end_low t order n f end in
       let (e, from, to, finished) = good.shows.again f (omega arith) (omega arith) in
       let same : e ≡ f = omega arith in
-      of_finished programme options None t order n f end
+      of_finished programme options None false never t order n f end
       (subst (IsFinished programme t options) same finished)
 
   -- What is asked of content and of the page's end.
@@ -224,8 +230,11 @@ module _ (programme : ProgrammeValue) (options : OptionsValue) (t : Transmission
       × IsFalse (is_late asked t n f && is_incomplete asked t n)
   still n f end = by_within (cases_eq options.within 0)
     where
+      known : undecided_within asked t f ≡ false
+      known = always_known from f options.within
+
       late : is_late asked t n f ≡ (options.within == 0)
-      late = late_is programme options None t order n f (in_time n f end)
+      late = late_is programme options None false never t order n f (in_time n f end)
 
       may_of : (row column : ℕ)
           → IsDueWithin programme t options f row column
@@ -260,7 +269,7 @@ module _ (programme : ProgrammeValue) (options : OptionsValue) (t : Transmission
           (subst
           (λ ps. IsDueWithin programme t options f row column (shown options.page ps row column))
           on (good.shows.codes f row column (omega arith) (omega arith) named))) in
-          (rw (late, is_zero) undue, rw (late, is_zero) refl)
+          (rw (late, is_zero) (undue_is asked t n f known ∙ undue), rw (late, is_zero) refl)
 
   -- No end is waited for.
   none_waited : is_pending asked t ≡ false
@@ -269,9 +278,10 @@ module _ (programme : ProgrammeValue) (options : OptionsValue) (t : Transmission
       let end : IsEnd t (length t) (end_frame t) =
       (good.rules.not_empty, le_refl (length t), inl refl) in
       let finished =
-      of_finished programme options None t order (length t) (end_frame t) end
+      of_finished programme options None false never t order (length t) (end_frame t) end
       (subst (IsFinished programme t options) (last-same t) good.shows.ends) in
-      let none = no_since programme options None t order (length t) (end_frame t) end finished in
+      let none = no_since programme options None false never t order (length t) (end_frame t) end
+      finished in
       rw none refl
 
   -- All that is asked holds.

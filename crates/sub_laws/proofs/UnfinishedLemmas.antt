@@ -4,7 +4,7 @@
 use Rattle.std.proofs.lemmas.Bool.Decides.{nat_tests}
 use Rattle.std.proofs.Common.{◌≡◌, ℕ, zero, suc, ◌+◌, ◌-◌, ◌<◌, ◌≤◌, ◌⊎◌, inl, inr, Bool, true}
 use Rattle.std.proofs.Common.{false, ◌&&◌, ◌||◌, Option, Some, None, is_some, length, refl, sym, ap}
-use Rattle.std.proofs.Common.{◌∙◌, subst, arith}
+use Rattle.std.proofs.Common.{◌∙◌, subst, arith, if◌then◌else◌}
 use Rattle.std.proofs.lemmas.Bool.{cases_eq, cases_lt, true≢false}
 use Rattle.std.proofs.lemmas.Option.{none-some, same_Some}
 use Rattle.ttx_page.specs.PacketKind.{kind}
@@ -129,7 +129,10 @@ module _ (g : Task) (t : Transmission) (rises : RiseTo t (length t)) where
   -- The end of frame f is unfinished, by what is on air up to it.
   abbrev pub unfinished_at : ℕ → Bool
   unfinished_at f =
-      is_some (wrong_after g.watched.page (on_air_until t f) (g.due f))
+      is_some
+      (if g.undecided f
+      then None
+      else wrong_after g.watched.page (on_air_until t f) (g.due f))
       || (g.watched.complete && is_open_after (kind g.watched.page) (on_air_until t f))
 
   pub unfinished_is : (n f : ℕ) → IsEnd t n f → is_unfinished g t n f ≡ unfinished_at f

@@ -3,7 +3,7 @@
 -- `pieces_untold`; and so it is of refusals, `pieces_unrefused`. Of marks: `first_none`,
 -- `each_sent`.
 use Rattle.std.proofs.lemmas.Bool.Decides.{nat_tests}
-use Rattle.std.proofs.Common.{◌≡◌, ◌↔◌, ℕ, suc, Bool, true, false, not, List, [], ◌∷◌, ◌++◌}
+use Rattle.std.proofs.Common.{◌≡◌, ◌↔◌, ℕ, suc, Bool, true, false, not, ◌||◌, List, [], ◌∷◌, ◌++◌}
 use Rattle.std.proofs.Common.{length}
 use Rattle.std.proofs.Common.{map, Option, None, refl, sym, ap, ◌∙◌, arith}
 use Rattle.std.proofs.lemmas.Bool.{true≢false}
@@ -110,13 +110,16 @@ silent t (Says x ∷ ms) still none =
 silent t (Closes are_left more ∷ ms) still none = cc
 silent t (m ∷ ms) still none = silent (m ∷ t) ms still none
 
--- Nor is anything told where nothing is said as it ends.
-closed_quiet : (t : List Mark) (pes : ℕ) (are_left : Bool) (es : List Event) → es ≡ []
+-- Nor is anything told where nothing is said as it ends, and nothing is refused of the subtitle
+-- file.
+closed_quiet : (t : List Mark) (pes : ℕ) (are_left beside : Bool) (es : List Event)
+    → beside ≡ false
+    → es ≡ []
     → list_any is_said t ≡ false
-    → told_after t (AtPes pes ∷ Closes are_left (not (tells_none es)) ∷ map Says es) ≡ []
+    → told_after t (AtPes pes ∷ Closes are_left (beside || not (tells_none es)) ∷ map Says es) ≡ []
 unfolding told_after told_at run_of
-closed_quiet t pes are_left [] none told = rw told refl
-closed_quiet t pes are_left (e ∷ es) none told = cc
+closed_quiet t pes are_left beside [] alone none told = rw (alone, told) refl
+closed_quiet t pes are_left beside (e ∷ es) alone none told = cc
 
 -- ---- all that is told
 
@@ -130,6 +133,7 @@ module _ (g : Task) where
         at_pes = λ n. refl;
         begins = λ f. refl;
         at_end = λ f since late. refl;
+        at_back = λ since. refl;
         ends = λ f has_header none. refl;
         of_end = λ old before new f. none_closes (end_events old before new f);
         of_rule = λ r frame k. refl;
@@ -158,10 +162,10 @@ module _ (g : Task) where
       said-append before (marks_of_closing g frames (length pieces) (length frames))
       ∙ ap (λ (es : List Event). said before ++ es) (said-says _)
 
-  told_none : (pieces : List Piece)
+  told_none : (pieces : List Piece) → g.beside ≡ false
       → (told_of_pieces g pieces ≡ []) ↔ (said (marks_of_pieces g pieces) ≡ [])
   unfolding told_of_pieces
-  told_none pieces = (said_none [] (marks_of_pieces g pieces), quiet)
+  told_none pieces alone = (said_none [] (marks_of_pieces g pieces), quiet)
     where
       quiet : said (marks_of_pieces g pieces) ≡ []
           → told_after [] (marks_of_pieces g pieces) ≡ []
@@ -176,7 +180,8 @@ module _ (g : Task) where
           told_after-append [] before
           (marks_of_closing g frames (length pieces) (length frames))
           ∙ rw so_far.0
-          (closed_quiet (past_after [] before) (length pieces) _ closing parts.1 so_far.1)
+          (closed_quiet (past_after [] before) (length pieces) _ g.beside closing alone parts.1
+          so_far.1)
 
 -- Up to which piece a run goes is told only where something else is.
 announced_one : (e : Event) → announced no_run e ≡ e ∷ []
@@ -226,19 +231,21 @@ module _ (g : Task) where
       (ap first_told (sym (said-append each waiting)) ∙ parts.0) in
       each_sent [] 0 pieces first.0
 
-  -- Nothing is told of pieces exactly where each is sent and nothing is told of what they send.
-  pub pieces_untold : (pieces : List Piece)
+  -- Nothing is told of pieces exactly where each is sent and nothing is told of what they send,
+  -- where nothing is refused of the subtitle file.
+  pub pieces_untold : (pieces : List Piece) → g.beside ≡ false
       → (all_of_pieces g pieces ≡ [])
       ↔ ((length (frames_of pieces) ≡ length pieces) × (events g (sent_by_pieces g pieces) ≡ []))
   unfolding all_of_pieces
-  pieces_untold pieces = (
+  pieces_untold pieces alone = (
     λ none.
-        let quiet = (told_none g pieces).0 ((announced_empty (told_of_pieces g pieces)).0 none) in
+        let quiet =
+        (told_none g pieces alone).0 ((announced_empty (told_of_pieces g pieces)).0 none) in
         let sent = said_sent pieces (ap first_told quiet) in
         (sent, sym (pieces_said g pieces sent) ∙ quiet),
     λ parts.
         (announced_empty (told_of_pieces g pieces)).1
-        ((told_none g pieces).1 (pieces_said g pieces parts.0 ∙ parts.1)),
+        ((told_none g pieces alone).1 (pieces_said g pieces parts.0 ∙ parts.1)),
   )
 
   -- No refusal is told of them exactly where each is sent and none is told of what they send.

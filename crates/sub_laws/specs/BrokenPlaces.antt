@@ -32,12 +32,17 @@ pub record WrongFirst (g : Task) (frames : Transmission) (n f row column : ℕ) 
   pub above : (r k : ℕ) → IsCell r k → r < row → ShowsDue g frames n f r k
   pub before : (k : ℕ) → k < column → ShowsDue g frames n f row k
 
--- What each rule of a frame's end asks at the end of frame f, after n frames of the list.
+-- What each rule of a frame's end asks at the end of frame f, after n frames of the list. Where it
+-- is not known what is due, cells may show what they like.
 abbrev pub IsKept : EndRule → Task → Transmission → ℕ → ℕ → Type 0
 IsKept end.Content g frames n f =
-    (row column : ℕ) → IsCell row column → ShowsDue g frames n f row column
+    IsFalse (g.undecided f)
+    → (row column : ℕ)
+    → IsCell row column
+    → ShowsDue g frames n f row column
 IsKept end.Gap g frames n f = IsCovered g frames n f
 IsKept end.Incomplete g frames n f = IsEnded g frames n
+IsKept end.Undecided g frames n f = IsFalse (g.undecided f)
 IsKept end.Silent g frames n f = IsPaced g frames n f
 
 -- What stands broken there: a rule exactly where it is not kept; content at the first cell that is
@@ -82,9 +87,11 @@ pub record TellsBroken (g : Task) (frames : Transmission) : Type 0 where
   pub late :
       (late_events g frames ≡ [])
       ↔ ((last : ℕ) → g.last_out ≡ Some last → last ≤ end_frame frames)
-  -- Where anything is told of whole packets, a refusal is.
+  -- Where anything is told of whole packets, a refusal is. Beside what is refused of the subtitle
+  -- file what is trusted is told whatever else is.
   pub first :
-      EachPacket IsPacket frames
+      IsFalse g.beside
+      → EachPacket IsPacket frames
       → first_told (all_of_pieces g (map Sent frames)) ≡ None
       → all_of_pieces g (map Sent frames) ≡ []
 

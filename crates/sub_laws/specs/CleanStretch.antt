@@ -61,7 +61,8 @@ is_needed r = (fault_row (packet_fault r 0 0)).doubts
 
 -- Of a stretch nothing is told that a receiver depends on: where frames rise, as is asked of the
 -- whole transmission, no packet at a frame of it breaks one of these rules, and at no end of it
--- wrong content or a gap stands, whether it is told there or was before.
+-- wrong content or a gap stands, whether it is told there or was before; and at each end it is
+-- known what is due, and within some frames what was so few frames ago.
 pub record IsUntold (g : Task) (frames : Transmission) (a b : ℕ) : Type 0 where
   pub stretch : IsStretch frames a b
   pub rising : IsRising frames
@@ -71,6 +72,20 @@ pub record IsUntold (g : Task) (frames : Transmission) (a b : ℕ) : Type 0 wher
       → AtPackets (λ before p. IsFalse (breaks r g.watched before p)) frames a b
   pub content : AtEnds (λ n f. (standing_at g frames n f).content ≡ None) frames a b
   pub gap : AtEnds (λ n f. IsFalse (standing_at g frames n f).gap) frames a b
+  pub undecided : AtEnds (λ n f. IsFalse (standing_at g frames n f).undecided) frames a b
+
+-- At no end of the frames from a to b the page stands open.
+abbrev pub NoneOpen : Task → Transmission → ℕ → ℕ → Type 0
+NoneOpen g frames a b =
+    AtEnds (λ n f. IsFalse (standing_at g frames n f).incomplete) frames a b
+
+-- The task of a programme and options, where subtitles of the file may be refused beside those of
+-- the programme, and it is not known for that at these frames what is due. Where none is, it is
+-- the task of the programme and options.
+abbrev pub task_unsure :
+    ProgrammeValue → OptionsValue → Option Unread → Bool → (ℕ → Bool) → Task
+task_unsure programme options unread beside undecided =
+    record (task_of programme options unread) { beside = beside; undecided = undecided }
 
 -- Such a stretch has the parts of the rules that suffice, so it may be trusted (`LawOfStretch`);
 -- and where complete pages are asked for, and the page stands open at no end of it, its pages are
@@ -80,12 +95,10 @@ pub record IsUntold (g : Task) (frames : Transmission) (a b : ℕ) : Type 0 wher
 abbrev pub LawOfUntoldStretch : Type 0
 LawOfUntoldStretch =
     (programme : ProgrammeValue) (transmission : Transmission) (options : OptionsValue)
-    → (unread : Option Unread) (a b : ℕ)
+    → (unread : Option Unread) (beside : Bool) (undecided : ℕ → Bool) (a b : ℕ)
     → options.within ≡ 0
-    → IsUntold (task_of programme options unread) transmission a b
+    → IsUntold (task_unsure programme options unread beside undecided) transmission a b
     → IsSufficient programme transmission options a b
     × (IsTrue options.asks_complete
-    → AtEnds
-    (λ n f. IsFalse (standing_at (task_of programme options unread) transmission n f).incomplete)
-    transmission a b
+    → NoneOpen (task_unsure programme options unread beside undecided) transmission a b
     → CompleteWithin transmission options a b)

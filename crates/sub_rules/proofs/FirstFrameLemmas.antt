@@ -5,8 +5,8 @@ use Rattle.std.proofs.Common.{◌≡◌, ℕ, zero, suc, ◌+◌, ◌-◌, ◌�
 use Rattle.std.proofs.Common.{Option, refl, sym, ap, ◌∙◌, arith, take-take}
 use Rattle.sub_rules.specs.Events.{end_before, events_at_end, gap_length, is_gap, is_silent}
 use Rattle.sub_rules.specs.Events.{is_incomplete, is_late, is_unfinished, latest, order_events}
-use Rattle.sub_rules.specs.Events.{since_frames, since_in_gap, standing_at, standing_before}
-use Rattle.sub_rules.specs.Events.{unfinished_since}
+use Rattle.sub_rules.specs.Events.{since_before, since_frames, since_in_gap, standing_at}
+use Rattle.sub_rules.specs.Events.{standing_before, unfinished_since}
 use Rattle.sub_rules.specs.FrameRules.{Task, frame_at}
 use Rattle.sub_rules.specs.PieceEvents.{marks_at_end, marks_of_arrival, marks_of_gap}
 use Rattle.sub_rules.specs.Transmission.{SentFrame, Transmission}
@@ -80,6 +80,11 @@ module _ (g : Task) (xs ys : Transmission) (n : ℕ)
           latest-same k,
         ) refl
 
+    pub since_before-same : (k f : ℕ) → k ≤ n → since_before g xs k f ≡ since_before g ys k f
+    unfolding since_before
+    since_before-same zero f l = refl
+    since_before-same (suc k) f l = unfinished_since-same (suc k) (f - 1) l
+
     pub is_late-same : (k f : ℕ) → k ≤ n → is_late g xs k f ≡ is_late g ys k f
     unfolding is_late
     is_late-same k f l = rw (unfinished_since-same k f l, frame_at-same 0) refl
@@ -113,6 +118,7 @@ module _ (g : Task) (xs ys : Transmission) (n : ℕ)
         → marks_at_end g xs i k f ≡ marks_at_end g ys i k f
     marks_at_end-same i k f l m =
         rw (
+          since_before-same i f l,
           unfinished_since-same k f m,
           is_late-same k f m,
           events_at_end-same i k f l m,
@@ -136,4 +142,5 @@ module _ (g : Task) (xs ys : Transmission) (n : ℕ)
           gap_length-same i,
           marks_of_gap-same i (gap_length ys i) l,
           frame_at-same i,
+          since_before-same i (frame_at ys i) l,
         ) refl

@@ -4,28 +4,30 @@
 use Rattle.std.proofs.lemmas.Bool.Decides.{nat_tests}
 use Rattle.std.proofs.Common.{◌≡◌, ℕ, zero, suc, ◌+◌, ◌||◌, ◌==◌, Bool, true, false, List, [], ◌∷◌}
 use Rattle.std.proofs.Common.{◌++◌, length, map, Option, None, Some, refl, sym, ap, ◌∙◌, subst}
-use Rattle.std.proofs.Common.{arith, append_assoc, if◌then◌else◌}
+use Rattle.std.proofs.Common.{arith, append_assoc, if◌then◌else◌, unwrap_or}
 use Rattle.std.proofs.lemmas.Bool.{true≢false}
 use Rattle.std.proofs.lemmas.List.{map-append}
 use Rattle.std.specs.List.{list_any}
 use Rattle.std.specs.Option.{option_or}
 use Rattle.sub_rules.specs.Events.{events_at_end, first_header_events, first_told}
 use Rattle.sub_rules.specs.Events.{gap_length, is_late, latest, order_events}
-use Rattle.sub_rules.specs.Events.{packet_events, standing_at, unfinished_since}
+use Rattle.sub_rules.specs.Events.{packet_events, since_before, standing_at, unfinished_since}
 use Rattle.sub_rules.specs.FrameRules.{Task, frame_at, packets_before, packets_of_frame}
-use Rattle.sub_rules.specs.PieceEvents.{marks_at_end, marks_of_arrival, marks_of_ending}
+use Rattle.sub_rules.specs.PieceEvents.{goes_back, marks_at_end, marks_before, marks_of_arrival}
+use Rattle.sub_rules.specs.PieceEvents.{marks_of_ending}
 use Rattle.sub_rules.specs.PieceEvents.{marks_of_gap, marks_of_more, marks_of_next}
 use Rattle.sub_rules.specs.PieceEvents.{marks_of_packets, marks_of_sent, marks_of_waiting}
 use Rattle.sub_rules.specs.Pieces.{goes_on_with}
 use Rattle.sub_rules.specs.Transmission.{SentFrame, Transmission}
-use Rattle.sub_rules.specs.Trusted.Mark.{AtEnd, AtPes, Begins, Closes, Ends, Says}
+use Rattle.sub_rules.specs.Trusted.Mark.{AtEnd, AtPes, Begins, Closes, Ends, GoesBack, Says}
 use Rattle.sub_rules.specs.declared.event.Event.{Event}
 use Rattle.sub_rules.specs.declared.event.Event.TheVariants.{Told}
 use Rattle.ttx_page.specs.PacketKind.{kind}
 use Rattle.ttx_page.specs.Span.{holds_header}
 use Rattle.sub_rules.proofs.AnyToldLemmas.{own_frame, own_names}
 use Rattle.sub_rules.proofs.JoinedLemmas.{goes_on-none}
-use Rattle.sub_rules.specs.Trusted.{Mark, at_pes, closing_at, doubted_by, is_said, pes_told, run_of}
+use Rattle.sub_rules.specs.Trusted.{Mark, at_pes, back_of, closing_at, doubted_by, is_said}
+use Rattle.sub_rules.specs.Trusted.{pes_told, run_of}
 use Rattle.sub_rules.specs.Trusted.{stands_none, told_after, told_at, trusted, trusted_up_to}
 use Rattle.sub_rules.specs.Trusted.{whole_of}
 use Rattle.sub_rules.proofs.FrameEvents.{frame_events, gap_events}
@@ -55,7 +57,7 @@ closed_first b run whole f = grind (arith, nat_tests)
 
 trusted_first : (t : List Mark) (d : Option ℕ) → first_told (trusted_up_to t d) ≡ None
 trusted_first t None = refl
-trusted_first t (Some f) = closed_first true (run_of t) (whole_of t) f
+trusted_first t (Some f) = closed_first true (run_of t) (whole_of t) (unwrap_or (back_of t) f)
 
 first_after : (trusts rest said : List Event) (e : Event) → first_told trusts ≡ None
     → first_told rest ≡ first_told said
@@ -103,13 +105,13 @@ module _ (pes : ℕ) where
   saying_says [] more = refl
   saying_says (e ∷ es) more = ap (λ (l : List Event). at_pes pes e ∷ l) (saying_says es more)
 
-  saying_mark : (ms : List Mark) (m : Mark) (es : List Event)
-      → ((more : List Mark) → said_by pes (m ∷ more) ≡ said_by pes more)
+  saying_tail : (ms tail : List Mark) (es : List Event)
+      → ((more : List Mark) → said_by pes (tail ++ more) ≡ said_by pes more)
       → Saying ms es
-      → Saying (ms ++ m ∷ []) es
-  saying_mark ms m es silent one more =
-      ap (said_by pes) (append_assoc ms (m ∷ []) more)
-      ∙ one (m ∷ more)
+      → Saying (ms ++ tail) es
+  saying_tail ms tail es silent one more =
+      ap (said_by pes) (append_assoc ms tail more)
+      ∙ one (tail ++ more)
       ∙ ap (λ (l : List Event). map (at_pes pes) es ++ l) (silent more)
 
   saying_two : (xs ys : List Mark) (es fs : List Event) → Saying xs es → Saying ys fs
@@ -124,15 +126,18 @@ module _ (pes : ℕ) where
   module _ (g : Task) (frames : Transmission) where
     saying_end : (i n f : ℕ)
         → Saying (marks_at_end g frames i n f) (events_at_end g frames i n f)
-    saying_end i n f = go (g.within == 0)
+    saying_end i n f = go (goes_back g) (g.within == 0)
       where
-        go : (b : Bool)
-            → Saying ((if b
+        go : (back b : Bool)
+            → Saying ((if back then GoesBack (since_before g frames i f) ∷ [] else [])
+            ++ (if b
             then []
             else AtEnd f (unfinished_since g frames n f) (is_late g frames n f) ∷ [])
             ++ map Says (events_at_end g frames i n f)) (events_at_end g frames i n f)
-        go true = saying_says (events_at_end g frames i n f)
-        go false = saying_says (events_at_end g frames i n f)
+        go true true = saying_says (events_at_end g frames i n f)
+        go true false = saying_says (events_at_end g frames i n f)
+        go false true = saying_says (events_at_end g frames i n f)
+        go false false = saying_says (events_at_end g frames i n f)
 
     saying_gap : (i n : ℕ) → Saying (marks_of_gap g frames i n) (gap_events g frames i n)
     unfolding marks_of_gap gap_events
@@ -148,10 +153,18 @@ module _ (pes : ℕ) where
     saying_arrival i =
         let order = order_events g frames i in
         let gap = gap_events g frames i (gap_length frames i) in
-        saying_mark (map Says order ++ marks_of_gap g frames i (gap_length frames i))
-        (Begins (frame_at frames i)) (order ++ gap) (λ more. refl)
+        saying_tail (map Says order ++ marks_of_gap g frames i (gap_length frames i))
+        (Begins (frame_at frames i) ∷ marks_before g (since_before g frames i (frame_at frames i)))
+        (order ++ gap) (go (goes_back g))
         (saying_two (map Says order) (marks_of_gap g frames i (gap_length frames i)) order gap
         (saying_says order) (saying_gap i (gap_length frames i)))
+      where
+        go : (back : Bool) (more : List Mark)
+            → said_by pes ((Begins (frame_at frames i)
+            ∷ (if back then GoesBack (since_before g frames i (frame_at frames i)) ∷ [] else []))
+            ++ more) ≡ said_by pes more
+        go true more = refl
+        go false more = refl
 
     saying_ending : (i : ℕ)
         → Saying (marks_of_ending g frames i)
@@ -160,9 +173,9 @@ module _ (pes : ℕ) where
         let header = first_header_events g frames i in
         let end = events_at_end g frames i (suc i) (frame_at frames i) in
         let marks = marks_at_end g frames i (suc i) (frame_at frames i) in
-        saying_mark (map Says header ++ marks)
+        saying_tail (map Says header ++ marks)
         (Ends (frame_at frames i) (holds_header (kind g.watched.page) (packets_of_frame frames i))
-        (stands_none (standing_at g frames (suc i) (frame_at frames i)))) (header ++ end)
+        (stands_none (standing_at g frames (suc i) (frame_at frames i))) ∷ []) (header ++ end)
         (λ more. refl)
         (saying_two (map Says header) marks header end (saying_says header)
         (saying_end i (suc i) (frame_at frames i)))

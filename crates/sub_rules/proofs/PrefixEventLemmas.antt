@@ -9,7 +9,7 @@ use lib.Seq.{take-append-le}
 use Rattle.sub_rules.specs.Events.{end_before, events_at_end, is_silent}
 use Rattle.sub_rules.specs.Events.{first_header_events, gap_length}
 use Rattle.sub_rules.specs.Events.{is_gap, is_incomplete, is_late, is_unfinished, latest}
-use Rattle.sub_rules.specs.Events.{order_events, since_frames, since_in_gap}
+use Rattle.sub_rules.specs.Events.{order_events, since_before, since_frames, since_in_gap}
 use Rattle.sub_rules.specs.Events.{standing_at, standing_before, unfinished_since}
 use Rattle.sub_rules.specs.FrameRules.{Task, Unread, frame_at, packets_before, packets_of_frame}
 use Rattle.sub_rules.specs.PieceEvents.{marks_at_end, marks_of_arrival, marks_of_ending}
@@ -86,6 +86,12 @@ module _ (g : Task) (u : Option Unread) (done more : Transmission) where
         since_same n l,
         latest-prefix n l,
       ) refl
+
+  pub since_before-prefix : (n f : ℕ) → n ≤ length done
+      → since_before g all n f ≡ since_before h done n f
+  unfolding since_before
+  since_before-prefix zero f l = refl
+  since_before-prefix (suc n) f l = unfinished_since-prefix (suc n) (f - 1) l
 
   pub is_late-prefix : (n f : ℕ) → 0 < length done → n ≤ length done
       → is_late g all n f ≡ is_late h done n f
@@ -165,6 +171,7 @@ module _ (g : Task) (u : Option Unread) (done more : Transmission) where
       → marks_at_end g all i n f ≡ marks_at_end h done i n f
   marks_at_end-prefix i n f some l m =
       rw (
+        since_before-prefix i f l,
         unfinished_since-prefix n f m,
         is_late-prefix n f some m,
         events_at_end-prefix i n f some l m,
@@ -189,6 +196,7 @@ module _ (g : Task) (u : Option Unread) (done more : Transmission) where
         gap_length-prefix i l,
         marks_of_gap-prefix i (gap_length done i) (omega arith) (omega arith),
         frame_at-prefix i l,
+        since_before-prefix i (frame_at done i) (omega arith),
       ) refl
 
   pub marks_of_ending-prefix : (i : ℕ) → i < length done

@@ -37,7 +37,7 @@ use Rattle.sub_rules.specs.declared.standing.Standing.{Standing}
 
 -- The rules of a frame's end, in the order in which they are told.
 unfoldable pub end_rules : List EndRule
-end_rules = end.Content ∷ end.Gap ∷ end.Incomplete ∷ end.Silent ∷ []
+end_rules = end.Content ∷ end.Gap ∷ end.Incomplete ∷ end.Undecided ∷ end.Silent ∷ []
 
 -- A rule of the whole frame is broken: at no cell, (0, 0).
 abbrev pub whole_frame : Bool → Option (ℕ × ℕ)
@@ -49,11 +49,18 @@ abbrev pub broken_at : EndRule → Standing → Option (ℕ × ℕ)
 broken_at end.Content s = s.content
 broken_at end.Gap s = whole_frame s.gap
 broken_at end.Incomplete s = whole_frame s.incomplete
+broken_at end.Undecided s = whole_frame s.undecided
 broken_at end.Silent s = whole_frame s.silent
 
 -- Nothing stands broken.
 abbrev pub nothing_stands : Standing
-nothing_stands = record { content = None; gap = false; incomplete = false; silent = false }
+nothing_stands = record {
+  content = None;
+  gap = false;
+  incomplete = false;
+  undecided = false;
+  silent = false;
+}
 
 -- The first cell that passes a test: by its row, 1 to 24, then by its column, 0 to 39.
 unfoldable pub first_cell : (ℕ → ℕ → Bool) → Option (ℕ × ℕ)
@@ -67,9 +74,13 @@ unfoldable pub wrong_after : PageIdValue → List (List ℕ) → Rows → Option
 wrong_after page packets due =
     first_cell (λ row column. not (shown page packets row column == cell due row column))
 
--- The first cell that shows another code after n frames of the list than is due at frame f.
+-- The first cell that shows another code after n frames of the list than is due at frame f. Where
+-- it is not known what is due, any code may be in any cell.
 abbrev pub wrong_cell : Task → Transmission → ℕ → ℕ → Option (ℕ × ℕ)
-wrong_cell g frames n f = wrong_after g.watched.page (packets_before frames n) (g.due f)
+wrong_cell g frames n f =
+    if g.undecided f
+    then None
+    else wrong_after g.watched.page (packets_before frames n) (g.due f)
 
 -- A header of the page in this frame is one of the last `every` frames up to f, or of a later one.
 abbrev pub covers : Task → ℕ → SentFrame → Bool
@@ -139,6 +150,11 @@ unfoldable pub unfinished_since : Task → Transmission → ℕ → ℕ → Opti
 unfinished_since g frames n f =
     since_in_gap g frames n (since_frames g frames n) (f - latest frames n)
 
+-- That up to the end before the one of frame f, up to which n frames of the list counted.
+unfoldable pub since_before : Task → Transmission → ℕ → ℕ → Option ℕ
+since_before g frames zero f = None
+since_before g frames (suc i) f = unfinished_since g frames (suc i) (f - 1)
+
 -- The next frame is the TCO of a subtitle none of whose frames with an end was finished: it began
 -- with the first of these unfinished ends or after it, or had begun before the first frame of the
 -- list, where that is the first of them.
@@ -176,13 +192,30 @@ undue_after page packets due first f n =
     not (shown page packets row column == space)
     && not (was_due due first f n row column (shown page packets row column)))
 
+-- It is not known what was due at frame f, or at one of the n frames before it, from the first
+-- frame of the list on.
+unfoldable pub was_undecided : (ℕ → Bool) → ℕ → ℕ → ℕ → Bool
+was_undecided undecided first f zero = undecided f
+was_undecided undecided first f (suc n) =
+    was_undecided undecided first f n || (nat_le (first + suc n) f && undecided (f - suc n))
+
+-- So at the end of frame f, for the frames within which the page has to be whole.
+abbrev pub undecided_within : Task → Transmission → ℕ → Bool
+undecided_within g frames f = was_undecided g.undecided (frame_at frames 0) f g.within
+
+-- The first cell that shows, after n frames of the list, what was not due within these frames. Where
+-- it is not known of one of them what was due, it may have been any code.
+abbrev pub undue_cell : Task → Transmission → ℕ → ℕ → Option (ℕ × ℕ)
+undue_cell g frames n f =
+    if undecided_within g frames f
+    then None
+    else undue_after g.watched.page (packets_before frames n) g.due (frame_at frames 0) f g.within
+
 -- What of the page's content stands broken at the end of frame f, after n frames of the list: where
 -- it is late each cell has to show what is due, and else what was due within these frames.
 abbrev pub broken_cell : Task → Transmission → ℕ → ℕ → Option (ℕ × ℕ)
 broken_cell g frames n f =
-    if is_late g frames n f
-    then wrong_cell g frames n f
-    else undue_after g.watched.page (packets_before frames n) g.due (frame_at frames 0) f g.within
+    if is_late g frames n f then wrong_cell g frames n f else undue_cell g frames n f
 
 -- What stands broken at the end of frame f, after n frames of the list.
 unfoldable pub standing_at : Task → Transmission → ℕ → ℕ → Standing
@@ -190,6 +223,7 @@ standing_at g frames n f = record {
   content = broken_cell g frames n f;
   gap = is_gap g frames n f;
   incomplete = is_late g frames n f && is_incomplete g frames n;
+  undecided = undecided_within g frames f;
   silent = is_silent g frames n f;
 }
 
@@ -200,6 +234,7 @@ abbrev pub end_fault : EndRule → ℕ → ℕ × ℕ → CheckFault
 end_fault end.Content f cell = fault.Content f cell.0 cell.1
 end_fault end.Gap f cell = fault.Gap f
 end_fault end.Incomplete f cell = fault.Incomplete f
+end_fault end.Undecided f cell = fault.Undecided f
 end_fault end.Silent f cell = fault.Silent f
 
 -- What is told of a rule, where it stood broken there at the end before, of frame `before`, and

@@ -25,6 +25,7 @@ abbrev pub rule_code : EndRule → FaultCodeValue
 rule_code end.Content = fault_code 72 (codes "Content")
 rule_code end.Gap = fault_code 73 (codes "Gap")
 rule_code end.Incomplete = fault_code 77 (codes "Incomplete")
+rule_code end.Undecided = fault_code 78 (codes "Undecided")
 rule_code end.Silent = fault_code 79 (codes "Silent")
 
 -- Where a fault of loading is: at a TTI block, and one of a text at its place in it too.
@@ -66,6 +67,7 @@ fault_row (fault.NoFirstHeader f) = rule_row 71 (codes "NoFirstHeader") (place.F
 fault_row (fault.Content f r c) = coded_row (rule_code end.Content) (place.Cell f r c) true
 fault_row (fault.Gap f) = coded_row (rule_code end.Gap) (place.Frame f) true
 fault_row (fault.Incomplete f) = coded_row (rule_code end.Incomplete) (place.Frame f) true
+fault_row (fault.Undecided f) = coded_row (rule_code end.Undecided) (place.Frame f) true
 fault_row (fault.Silent f) = coded_row (rule_code end.Silent) (place.Frame f) true
 fault_row (fault.Late f) = rule_row 74 (codes "Late") (place.Frame f) false
 

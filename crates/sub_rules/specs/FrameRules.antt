@@ -1,7 +1,7 @@
 -- What is asked at the end of each frame, in terms of the first frames of a transmission and of a
 -- task: what the transmission is checked against.
-use Rattle.std.specs.Prelude.{◌≡◌, ℕ, ◌+◌, ◌-◌, ◌<◌, ◌⊎◌, true, List, [], Option, Some, map, take}
-use Rattle.std.specs.Prelude.{length, IsTrue, IsFalse}
+use Rattle.std.specs.Prelude.{◌≡◌, ℕ, ◌+◌, ◌-◌, ◌<◌, ◌⊎◌, ◌&&◌, Bool, false, true, List, []}
+use Rattle.std.specs.Prelude.{Option, Some, map, take, length, IsTrue, IsFalse}
 use Rattle.std.specs.Prelude.{slice_index, slice_index_or, flat_map}
 use Rattle.ttx_page.specs.Page.{Rows, cell}
 use Rattle.ttx_page.specs.PacketKind.{kind}
@@ -9,6 +9,7 @@ use Rattle.ttx_page.specs.Shown.{shown}
 use Rattle.ttx_page.specs.Span.{holds_header, is_open_after}
 use Rattle.ttx_pes.specs.declared.fault.PesFault.{PesFault}
 use Rattle.stl_rows.specs.DuePage.{tci_of_ending}
+use Rattle.stl_rows.specs.Judged.{JudgedValue, is_beside, is_undecided_in}
 use Rattle.stl_rows.specs.Programme.{ProgrammeValue, first_in, last_out}
 use Rattle.sub_plan.specs.Options.{OptionsValue}
 use Rattle.sub_plan.specs.Schedule.{due_in}
@@ -24,8 +25,9 @@ pub data Unread : Type 0 where
 -- What a transmission is checked against: the page and its national option, the repeat bound,
 -- within how many frames the page that is due has to be whole, how many frames apart PES packets
 -- are at most, where that is asked, the page that is due at each frame, the TCI of the subtitle
--- whose TCO a frame is, the first TCI and the last TCO; and what keeps the PES file from being read
--- to its end, if anything does.
+-- whose TCO a frame is, the first TCI and the last TCO; whether subtitles of the file are refused,
+-- and at which frames it is not known for that what is due; and what keeps the PES file from being
+-- read to its end, if anything does.
 pub record Task : Type 0 where
   pub watched : Watched
   pub every : ℕ
@@ -35,6 +37,8 @@ pub record Task : Type 0 where
   pub ending : ℕ → Option ℕ
   pub first_in : Option ℕ
   pub last_out : Option ℕ
+  pub beside : Bool
+  pub undecided : ℕ → Bool
   pub unread : Option Unread
 
 -- The page and the national option that a programme is watched with, and whether complete pages
@@ -46,8 +50,8 @@ watched_of programme options = record {
   complete = options.asks_complete;
 }
 
--- The task of a programme, where this is watched with this repeat bound, within these frames, with
--- this pace.
+-- The task of a programme of a file in which nothing is refused, where this is watched with this
+-- repeat bound, within these frames, with this pace.
 abbrev pub task_with : ProgrammeValue → Watched → ℕ → ℕ → Option ℕ → Option Unread → Task
 task_with programme watched every within pace unread = record {
   watched = watched;
@@ -58,6 +62,8 @@ task_with programme watched every within pace unread = record {
   ending = tci_of_ending programme.records;
   first_in = first_in programme.records;
   last_out = last_out programme.records;
+  beside = false;
+  undecided = λ frame. false;
   unread = unread;
 }
 
@@ -66,6 +72,19 @@ abbrev pub task_of : ProgrammeValue → OptionsValue → Option Unread → Task
 task_of programme options unread =
     task_with programme (watched_of programme options) options.every options.within options.pace
     unread
+
+-- It is not known what is due at this frame.
+abbrev pub is_undecided_beside : JudgedValue → ℕ → Bool
+is_undecided_beside j frame = is_beside j && is_undecided_in j frame
+
+-- The task of what can be judged of a subtitle file. Where nothing of it is refused it is that of
+-- the programme.
+abbrev pub task_beside : JudgedValue → OptionsValue → Option Unread → Task
+task_beside j options unread =
+    record (task_of j.programme options unread) {
+      beside = is_beside j;
+      undecided = is_undecided_beside j;
+    }
 
 -- The number of frame i of the list, from 0.
 abbrev pub frame_at : Transmission → ℕ → ℕ

@@ -6,14 +6,15 @@
 -- A checker can't look ahead: what comes of a PES packet goes by the frames sent up to it.
 -- Within frames the PES packets of one frame are one sending, so its end comes where one of another
 -- frame does, or none.
-use Rattle.std.specs.Prelude.{ℕ, zero, suc, ◌+◌, ◌-◌, ◌&&◌, ◌==◌, ◌≡◌, Bool, false, not, List, []}
+use Rattle.std.specs.Prelude.{ℕ, zero, suc, ◌+◌, ◌-◌, ◌&&◌, ◌||◌, ◌==◌, ◌≡◌, Bool, false, not}
+use Rattle.std.specs.Prelude.{List, []}
 use Rattle.std.specs.Prelude.{◌∷◌, ◌++◌, length, map, Option, Some, None, is_some, if◌then◌else◌}
 use Rattle.ttx_page.specs.PacketKind.{kind}
 use Rattle.ttx_page.specs.Span.{holds_header}
 use Rattle.sub_rules.specs.Events.{closing_events, events_at_end, first_header_events}
 use Rattle.sub_rules.specs.Events.{first_told, gap_length, is_late, latest, order_events}
-use Rattle.sub_rules.specs.Events.{packet_events, packets_told, standing_at, unfinished_since}
-use Rattle.sub_rules.specs.Events.{unread_fault}
+use Rattle.sub_rules.specs.Events.{packet_events, packets_told, since_before, standing_at}
+use Rattle.sub_rules.specs.Events.{unfinished_since, unread_fault}
 use Rattle.sub_rules.specs.Fault.{check_code, fault_row, place_of}
 use Rattle.sub_rules.specs.FrameRules.{Task, Unread, end_frame, frame_at, packets_before}
 use Rattle.sub_rules.specs.FrameRules.{packets_of_frame}
@@ -22,7 +23,7 @@ use Rattle.sub_rules.specs.Pieces.{sent_after}
 use Rattle.sub_rules.specs.Pieces.Piece.{Passed, Sent}
 use Rattle.sub_rules.specs.Transmission.{SentFrame, Transmission}
 use Rattle.sub_rules.specs.Trusted.{Mark, stands_none, tells_none, told_after}
-use Rattle.sub_rules.specs.Trusted.Mark.{AtEnd, AtPes, Begins, Closes, Ends, Says}
+use Rattle.sub_rules.specs.Trusted.Mark.{AtEnd, AtPes, Begins, Closes, Ends, GoesBack, Says}
 use Rattle.sub_rules.specs.declared.event.Event.{Event}
 use Rattle.sub_rules.specs.declared.event.Event.TheVariants.{PassedUntil, Told}
 use Rattle.sub_rules.specs.declared.fault.CheckFault.{CheckFault}
@@ -31,12 +32,22 @@ use Rattle.sub_rules.specs.declared.fault_place.FaultPlace.TheVariants as place
 
 -- ---- ends
 
+-- Beside what is refused of the subtitle file, and within frames, it is told of the frames before
+-- one that is trusted no more whether the page was whole at the last of their ends.
+abbrev pub goes_back : Task → Bool
+goes_back g = g.beside && not (g.within == 0)
+
+-- Since which frame it was not, where that is asked.
+abbrev pub marks_before : Task → Option ℕ → List Mark
+marks_before g since = if goes_back g then GoesBack since ∷ [] else []
+
 -- What comes at the end of frame f, up to which i frames of the list counted at the end before, and
 -- now n: within frames, since which the page is not whole, and whether that is late; and what is
 -- told.
 abbrev pub marks_at_end : Task → Transmission → ℕ → ℕ → ℕ → List Mark
 marks_at_end g frames i n f =
-    (if g.within == 0
+    marks_before g (since_before g frames i f)
+    ++ (if g.within == 0
     then []
     else AtEnd f (unfinished_since g frames n f) (is_late g frames n f) ∷ [])
     ++ map Says (events_at_end g frames i n f)
@@ -56,7 +67,8 @@ abbrev pub marks_of_arrival : Task → Transmission → ℕ → List Mark
 marks_of_arrival g frames i =
     map Says (order_events g frames i)
     ++ marks_of_gap g frames i (gap_length frames i)
-    ++ Begins (frame_at frames i) ∷ []
+    ++ Begins (frame_at frames i)
+    ∷ marks_before g (since_before g frames i (frame_at frames i))
 
 -- What comes of its packets.
 abbrev pub marks_of_packets : Task → Transmission → ℕ → List Mark
@@ -129,7 +141,8 @@ closing_of_pieces g frames pes n = closing_events g frames n
 -- What comes then.
 abbrev pub marks_of_closing : Task → Transmission → ℕ → ℕ → List Mark
 marks_of_closing g frames pes n =
-    AtPes pes ∷ Closes (is_some g.unread) (not (tells_none (closing_of_pieces g frames pes n)))
+    AtPes pes
+    ∷ Closes (is_some g.unread) (g.beside || not (tells_none (closing_of_pieces g frames pes n)))
     ∷ map Says (closing_of_pieces g frames pes n)
 
 -- The frames that are sent by pieces, within frames those of PES packets of one frame as one.

@@ -12,6 +12,8 @@
 --
 -- Where the page need not be whole at each end, what is trusted is so only where it was at one of
 -- them; and where a run is over at a late end, those are not since which the page is not whole.
+-- Beside what is refused of the subtitle file it is so wherever a run is over: what is due next is
+-- not known there.
 use Rattle.std.specs.Prelude.{ℕ, suc, ◌-◌, ◌&&◌, ◌||◌, Bool, true, false, not, List, [], ◌∷◌}
 use Rattle.std.specs.Prelude.{◌++◌, Option, Some, None, is_none, is_some, nat_lt, unwrap_or}
 use Rattle.std.specs.Prelude.{if◌then◌else◌}
@@ -28,7 +30,9 @@ use Rattle.sub_rules.specs.declared.standing.Standing.{Standing}
 -- follow; what follows is told at the end of a frame, up to which the ends are unfinished since
 -- this one, and which is late or is not; a frame of PES packets ends, with this number, by whether
 -- it has a header of the page and whether nothing stands broken; the file ends, by whether bytes
--- are left that may have been sent in the last frame, and whether anything is told after this.
+-- are left that may have been sent in the last frame, and whether what is trusted is told whatever
+-- came before; up to the end before the frame that comes, or whose end comes, the ends are
+-- unfinished since this one.
 pub data Mark : Type 0 where
   AtPes : ℕ → Mark
   Says : Event → Mark
@@ -36,6 +40,7 @@ pub data Mark : Type 0 where
   AtEnd : ℕ → Option ℕ → Bool → Mark
   Ends : ℕ → Bool → Bool → Mark
   Closes : Bool → Bool → Mark
+  GoesBack : Option ℕ → Mark
 
 -- ---- where the file has come to
 
@@ -62,6 +67,13 @@ unfoldable pub late_of : List Mark → Option ℕ
 late_of [] = None
 late_of (AtEnd f since late ∷ past) = if late then since else None
 late_of (m ∷ past) = late_of past
+
+-- The first of the frames up to the end before the last frame, or before the last end, at whose ends
+-- the page is not whole, where that is asked.
+unfoldable pub back_of : List Mark → Option ℕ
+back_of [] = None
+back_of (GoesBack since ∷ past) = since
+back_of (m ∷ past) = back_of past
 
 -- Something was told.
 abbrev pub is_said : Mark → Bool
@@ -130,16 +142,18 @@ abbrev pub trusted : Option ℕ → Option ℕ → ℕ → List Event
 trusted (Some from) (Some whole) f = if nat_lt whole f then Trusted from (f - 1) ∷ [] else []
 trusted run whole f = []
 
--- What is told where a frame is trusted no more, if one is.
+-- What is told where a frame is trusted no more, if one is: those before it, without the last ones
+-- at whose ends the page was not whole, where that is asked.
 abbrev pub trusted_up_to : List Mark → Option ℕ → List Event
 trusted_up_to past None = []
-trusted_up_to past (Some f) = trusted (run_of past) (whole_of past) f
+trusted_up_to past (Some f) = trusted (run_of past) (whole_of past) (unwrap_or (back_of past) f)
 
 -- The first frame that is not trusted at the end of the file: that since which the page is not
 -- whole at the last end; else the last frame, where bytes are left that may have been sent in it.
 abbrev pub closing_at : List Mark → Bool → ℕ
 closing_at past left =
-    unwrap_or (since_of past) (if left then last_begun past else suc (last_begun past))
+    unwrap_or (since_of past)
+    (if left then unwrap_or (back_of past) (last_begun past) else suc (last_begun past))
 
 -- What is told of a frame, told of PES packet `pes`, which sends it: pieces that are passed over
 -- are counted too.
@@ -154,11 +168,13 @@ tells_none (e ∷ es) = false
 
 -- What is told with a mark: an event, and before it the frames that are trusted up to the first one
 -- that it tells of. At the end of the file what is trusted of the last run is told only where
--- anything else is.
+-- anything else is, of either file.
 unfoldable pub told_at : List Mark → Mark → List Event
 told_at past (Says e) = trusted_up_to past (doubted_by past e) ++ at_pes (pes_told past) e ∷ []
 told_at past (Closes left more) =
-    if list_any is_said past || more then trusted_up_to past (Some (closing_at past left)) else []
+    if list_any is_said past || more
+    then trusted (run_of past) (whole_of past) (closing_at past left)
+    else []
 told_at past m = []
 
 -- What is told with marks, one after another, where these came before.

@@ -12,6 +12,8 @@ pub enum EndRule {
     Gap,
     /// Where complete pages are asked for, the page is not open.
     Incomplete,
+    /// It is known what is due: no subtitle is refused that may be due there.
+    Undecided,
     /// Where a pace is asked for, a PES packet is not too long ago.
     Silent,
 }
@@ -27,6 +29,7 @@ impl EndRule {
             EndRule::Content => FaultCode::new(72, "Content"),
             EndRule::Gap => FaultCode::new(73, "Gap"),
             EndRule::Incomplete => FaultCode::new(77, "Incomplete"),
+            EndRule::Undecided => FaultCode::new(78, "Undecided"),
             EndRule::Silent => FaultCode::new(79, "Silent"),
         }
     }

@@ -120,6 +120,13 @@ pub enum CheckFault {
         /// The frame.
         frame: u32,
     },
+    /// It is not known what is due, since a subtitle is refused beside which the transmission is
+    /// judged. Where frames are allowed within which the page has to be whole, also of what was due
+    /// within these frames.
+    Undecided {
+        /// The frame.
+        frame: u32,
+    },
     /// As many frames as the pace end here without a PES packet.
     Silent {
         /// The last of these frames.
@@ -170,6 +177,9 @@ impl CheckFault {
             CheckFault::Gap { frame } => end_row(EndRule::Gap, FaultPlace::Frame { frame }),
             CheckFault::Incomplete { frame } => {
                 end_row(EndRule::Incomplete, FaultPlace::Frame { frame })
+            }
+            CheckFault::Undecided { frame } => {
+                end_row(EndRule::Undecided, FaultPlace::Frame { frame })
             }
             CheckFault::Silent { frame } => end_row(EndRule::Silent, FaultPlace::Frame { frame }),
             CheckFault::Late { frame } => frame_row(74, "Late", frame),

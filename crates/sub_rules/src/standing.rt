@@ -14,6 +14,8 @@ pub struct Standing {
     pub gap: bool,
     /// Complete pages are asked for, and the page is open.
     pub incomplete: bool,
+    /// It is not known what is due, since a subtitle is refused.
+    pub undecided: bool,
     /// A PES packet is too long ago.
     pub silent: bool,
 }
@@ -27,6 +29,7 @@ impl Standing {
             content: None,
             gap: false,
             incomplete: false,
+            undecided: false,
             silent: false,
         }
     }
@@ -39,7 +42,7 @@ impl Standing {
         ensures none { result ≡ stands_none self.now }
     {
         // One test for all, since it is asked at each end.
-        self.content.is_none() & !self.gap & !self.incomplete & !self.silent
+        self.content.is_none() & !self.gap & !self.incomplete & !self.undecided & !self.silent
     }
 
     /// Where a rule stands broken, if it does: at its first wrong cell, or, where it is one of the
@@ -51,6 +54,7 @@ impl Standing {
             EndRule::Content => self.content,
             EndRule::Gap => whole_frame(self.gap),
             EndRule::Incomplete => whole_frame(self.incomplete),
+            EndRule::Undecided => whole_frame(self.undecided),
             EndRule::Silent => whole_frame(self.silent),
         }
     }

@@ -24,8 +24,8 @@ use Rattle.sub_trusted.proofs.TrustedEndingLemmas.{ending}
 use Rattle.sub_trusted.proofs.TrustedKeptLemmas.{Closed, Opens, opens_said, run_found, run_low}
 use Rattle.sub_trusted.proofs.TrustedKeptLemmas.{stood}
 use Rattle.sub_trusted.proofs.TrustedKeptLemmas.{up_of, whole_found}
-use Rattle.sub_trusted.proofs.TrustedStepLemmas.{Looks, with_end}
-use Rattle.sub_trusted.proofs.AllTrustedStretchLemmas.{Fits, own_in}
+use Rattle.sub_trusted.proofs.TrustedLookLemmas.{Backs, Looks, with_end}
+use Rattle.sub_trusted.proofs.AllTrustedStretchLemmas.{Fits, end_back, own_in}
 use Rattle.sub_trusted.proofs.LateDoubtLemmas.{end_doubt, header_none}
 use Rattle.sub_trusted.proofs.AllTrustedLeadLemmas.{IsTold, Leads, Leads-append, Leads-both}
 use Rattle.sub_trusted.proofs.AllTrustedLeadLemmas.{Leads-cons}
@@ -34,14 +34,18 @@ use Rattle.sub_trusted.proofs.SayMarkLemmas.{IsSaid, doubt_of, is_order, kept_so
 use Rattle.sub_trusted.proofs.AllTrustedMarkLemmas.{Follows, doubt_told, end_follows, end_orders}
 use Rattle.sub_trusted.proofs.AllTrustedMarkLemmas.{end_past, follows_said, top, whole_kept}
 use Rattle.sub_trusted.proofs.AllTrustedMarkLemmas.{whole_now}
-use Rattle.sub_trusted.proofs.AllTrustedStepLemmas.{Open, Past, Sending, clean_still, later_in}
+use Rattle.sub_trusted.proofs.AllTrustedStepLemmas.{Open, Past, Sending, clean_still, in_part}
+use Rattle.sub_trusted.proofs.AllTrustedStepLemmas.{later_in}
 use Rattle.sub_trusted.proofs.AllTrustedStepLemmas.{sending_says}
 use Rattle.sub_trusted.proofs.TrustedFrameLemmas.{count_most, risen, risen_low}
 use Rattle.sub_rules.proofs.TrustedLemmas.{past_after}
-use Rattle.sub_rules.specs.Trusted.{Mark, closing_at, is_said, stays_quiet, last_begun, late_of}
+use Rattle.sub_rules.specs.Trusted.{Mark, back_of, closing_at, is_said, stays_quiet, last_begun}
+use Rattle.sub_rules.specs.Trusted.{late_of}
+use Rattle.sub_laws.specs.CleanStretch.{IsEnd}
+use Rattle.sub_trusted.specs.TrustedFrames.{rising_part}
 use Rattle.sub_rules.specs.Trusted.{run_of}
 use Rattle.sub_rules.specs.Trusted.{since_of, stands_none, tells_fall, tells_none, told_after}
-use Rattle.sub_rules.specs.Trusted.{told_at, trusted, whole_at, whole_of}
+use Rattle.sub_rules.specs.Trusted.{told_at, trusted, whole_of}
 use Rattle.std.specs.Option.{option_or}
 
 -- ---- tests
@@ -60,12 +64,13 @@ unfolding first_header_events is_order tells_fall
 header_orders g frames n = grind (arith, nat_tests)
 
 -- What is not trusted at the end of a file is after the stretch.
-closing_past : (since : Option ℕ) (left : Bool) (last b : ℕ)
+closing_past : (since back : Option ℕ) (left : Bool) (last b : ℕ)
     → ((r : ℕ) → since ≡ Some r → b < r)
+    → (b < last → (r : ℕ) → back ≡ Some r → b < r)
     → b ≤ last
     → (left ≡ true → b < last)
-    → b < unwrap_or since (if left then last else suc last)
-closing_past since left last b h low unread = grind (arith, nat_tests)
+    → b < unwrap_or since (if left then unwrap_or back last else suc last)
+closing_past since back left last b h k low unread = grind (arith, nat_tests)
 
 -- The page was whole in a run that is there.
 in_run : (run whole : Option ℕ) (w : ℕ) → (if is_none run then None else whole) ≡ Some w
@@ -122,22 +127,35 @@ module _ (g : Task) (frames : Transmission) (a b i : ℕ)
       stood g frames 0 n (frame_at frames n) from t there opens.keeps is h (omega arith)
       (omega arith)
 
+  -- The end before it.
+  end_before_own : (n : ℕ) (t : List Mark) → n < length frames → OpenHere n t → i < n
+      → IsEnd (rising_part frames) n (frame_at frames n - 1)
+  end_before_own n t there (opens, sending) l =
+      let (from, low, run) = sending.follows.run l in
+      let h = up_of g frames 0 n (frame_at frames n) from t opens.keeps opens.rises run in
+      let up = h.up in
+      end_back frames n (frame_at frames n) h.some (in_part g frames a b i fits n there h)
+      (omega arith) (omega arith)
+
   -- What is kept after what is told there, where it doubts no frame; before the header's frame
   -- whatever it does.
   finishing : (n : ℕ) (t u v : List Mark) → n < length frames → OpenHere n t
       → Looks g frames (suc n) (frame_at frames n) t u
+      → Backs g frames n (frame_at frames n) u
       → IsSaid u v (events_at_end g frames n (suc n) (frame_at frames n))
       → (i ≤ n → doubt_of u (events_at_end g frames n (suc n) (frame_at frames n)) ≡ None)
       → Finishing n v
-  finishing n t u v there (opens, sending) looks so none =
+  finishing n t u v there (opens, sending) looks backs so none =
       let f : ℕ = frame_at frames n in
       let es : List Event = events_at_end g frames n (suc n) f in
       record {
         follows =
             follows_said g frames a b i fits n (f + 1) u v es
-            (end_follows g frames a b i fits n (suc n) f (f + 1) t u looks refl sending.follows
+            (end_follows g frames a b i fits n (suc n) f (f + 1) t u looks backs refl
+            sending.follows
             (λ l. own_in frames n (later_in g frames a b i fits n
-            (packets_of_frame frames n) t there (opens, sending) l).0)) so
+            (packets_of_frame frames n) t there (opens, sending) l).0)
+            (end_before_own n t there (opens, sending))) so
             (λ l. end_orders (standing_before g frames n f) (end_before frames n f)
             (standing_at g frames (suc n) f) f)
             (λ l. none (omega arith));
@@ -177,8 +195,9 @@ module _ (g : Task) (frames : Transmission) (a b i : ℕ)
       → Lead (Finishing n) t (marks_at_end g frames n (suc n) (frame_at frames n))
   end_leads_to n t there (opens, sending) =
       with_end g frames (Lead (Finishing n)) n (suc n) (frame_at frames n) t opens.keeps.at_once
-      (λ mark ms silent. Leads-cons (top g frames a b i fits) b (Finishing n) t mark ms)
-      (λ u looks. go u looks (doubt_of u es) refl)
+      opens.keeps.plain
+      (λ v mark ms silent. Leads-cons (top g frames a b i fits) b (Finishing n) v mark ms)
+      (λ u looks backs. go u looks backs (doubt_of u es) refl)
     where
       es : List Event
       es = events_at_end g frames n (suc n) (frame_at frames n)
@@ -188,24 +207,28 @@ module _ (g : Task) (frames : Transmission) (a b i : ℕ)
           later_in g frames a b i fits n (packets_of_frame frames n) t there (opens, sending) l
 
       go : (u : List Mark) → Looks g frames (suc n) (frame_at frames n) t u
+          → Backs g frames n (frame_at frames n) u
           → (o : Option ℕ) → doubt_of u es ≡ o
           → Lead (Finishing n) u (map Says es)
-      go u looks None is =
+      go u looks backs None is =
           inr
-          (finishing n t u (past_after u (map Says es)) there (opens, sending) looks (said u es)
-          (λ l. is))
-      go u looks (Some x) is = elim (cases_lt i n) [
+          (finishing n t u (past_after u (map Says es)) there (opens, sending) looks backs
+          (said u es) (λ l. is))
+      go u looks backs (Some x) is = elim (cases_lt i n) [
         | inl l ↦
             let both = in_part_low l in
             doubt_told g frames a b i fits n (frame_at frames n + 1) u es x
             (end_follows g frames a b i fits n (suc n) (frame_at frames n)
-            (frame_at frames n + 1) t u looks refl sending.follows
-            (λ below. own_in frames n (in_part_low below).0)) l is
-            (end_past g frames a b i fits n (suc n) (frame_at frames n) x t u looks
-            (own_in frames n both.0) both.1 is) (Finishing n)
+            (frame_at frames n + 1) t u looks backs refl sending.follows
+            (λ below. own_in frames n (in_part_low below).0)
+            (end_before_own n t there (opens, sending))) l is
+            (end_past g frames a b i fits n (suc n) (frame_at frames n) x t u looks backs
+            (omega arith) (own_in frames n both.0) (end_before_own n t there (opens, sending) l)
+            both.1 is) (Finishing n)
         | inr not_below ↦
             inr
-            (finishing n t u (past_after u (map Says es)) there (opens, sending) looks (said u es)
+            (finishing n t u (past_after u (map Says es)) there (opens, sending) looks backs
+            (said u es)
             (λ l.
             let at = here n (omega arith) in
             let low = fits.low in
@@ -223,7 +246,7 @@ module _ (g : Task) (frames : Transmission) (a b i : ℕ)
   ended_now : (n : ℕ) (t : List Mark) → Finishing n t
       → Follow (suc n) (frame_at frames (suc n - 1) + 1)
       (Ends (frame_at frames n) (has n) (quiet_at n) ∷ t)
-  unfolding run_of whole_of last_begun since_of late_of stays_quiet tells_fall
+  unfolding run_of whole_of last_begun since_of late_of back_of stays_quiet tells_fall
   ended_now n t fin =
       let f : ℕ = frame_at frames n in
       let back : f ≡ frame_at frames (suc n - 1) = ap (frame_at frames) (omega arith) in
@@ -277,6 +300,10 @@ module _ (g : Task) (frames : Transmission) (a b i : ℕ)
           | inr not_below ↦
               absurd (none-some r (sym (fin.own (omega arith) (omega arith)) ∙ is))
         ];
+        back = λ l past r is. elim (cases_lt i n) [
+          | inl below ↦ fin.follows.back below (omega arith) r is
+          | inr not_below ↦ let at = here n (omega arith) in absurd (omega arith)
+        ];
       }
 
   pub ending_leads : (n : ℕ) (t : List Mark) → n < length frames → OpenHere n t
@@ -314,11 +341,12 @@ module _ (g : Task) (frames : Transmission) (a b i : ℕ)
   pub closing_told : (pes : ℕ) (t : List Mark)
       → Past g frames a b i fits (length frames) t
       → (list_any is_said t
-      || not (tells_none (closing_of_pieces g frames pes (length frames))))
+      || (g.beside || not (tells_none (closing_of_pieces g frames pes (length frames)))))
       ≡ true
       → IsTold (top g frames a b i fits) b
       (told_after t (marks_of_closing g frames pes (length frames)))
-  unfolding told_after told_at run_of whole_of last_begun since_of late_of stays_quiet tells_fall
+  unfolding told_after told_at run_of whole_of last_begun since_of late_of back_of stays_quiet
+      tells_fall
   closing_told pes t (closed, follows) told =
       let n : ℕ = length frames in
       let fit = risen_low frames in
@@ -333,13 +361,14 @@ module _ (g : Task) (frames : Transmission) (a b i : ℕ)
       let high : b ≤ frame_at frames (n - 1) = let l = fits.last in omega arith in
       let (w, under, whole) = follows.whole (omega arith) (omega arith) in
       let es : List Event = closing_of_pieces g frames pes n in
-      let more : Bool = not (tells_none es) in
+      let more : Bool = g.beside || not (tells_none es) in
       let t0 : List Mark = AtPes pes ∷ t in
       let t1 : List Mark = Closes (is_some g.unread) more ∷ t0 in
       let x : ℕ = closing_at t (is_some g.unread) in
       let past : b < x =
-      closing_past (since_of t) (is_some g.unread) (last_begun t) b
-      (λ r since. follows.since (omega arith) (omega arith) r since) (omega arith)
+      closing_past (since_of t) (back_of t) (is_some g.unread) (last_begun t) b
+      (λ r since. follows.since (omega arith) (omega arith) r since)
+      (λ below r is. follows.back (omega arith) (omega arith) r is) (omega arith)
       (λ left.
       let (u, unread) = unread_is g.unread left in
       let l = fits.unread u unread in

@@ -12,8 +12,9 @@ use Rattle.sub_rules.specs.Trusted.Mark.{Says}
 use Rattle.sub_rules.specs.declared.event.Event.{Event}
 use Rattle.sub_rules.specs.declared.event.Event.TheVariants.{Trusted}
 use Rattle.sub_rules.proofs.TrustedLemmas.{past_after, past_after-append, told_after-append}
-use Rattle.sub_trusted.proofs.SayMarkLemmas.{doubt_after, doubt_of, kept}
-use Rattle.sub_rules.specs.Trusted.{Mark, at_pes, doubted_by, pes_told, run_of, told_after, told_at}
+use Rattle.sub_trusted.proofs.SayMarkLemmas.{back_to, doubt_after, doubt_of, kept}
+use Rattle.sub_rules.specs.Trusted.{Mark, at_pes, back_of, doubted_by, pes_told, run_of}
+use Rattle.sub_rules.specs.Trusted.{told_after, told_at}
 use Rattle.sub_rules.specs.Trusted.{trusted, trusted_up_to, whole_of}
 
 -- ---- a run that is told
@@ -26,10 +27,10 @@ put_told run whole x from w run_is whole_is l =
 
 put_up_to : (t : List Mark) (d : Option ℕ) (x from w : ℕ) → d ≡ Some x → run_of t ≡ Some from
     → whole_of t ≡ Some w
-    → w < x
-    → Contains (trusted_up_to t d) (Trusted from (x - 1))
+    → w < back_to t x
+    → Contains (trusted_up_to t d) (Trusted from (back_to t x - 1))
 put_up_to t d x from w is run whole l =
-    rw is (put_told (run_of t) (whole_of t) x from w run whole l)
+    rw is (put_told (run_of t) (whole_of t) (back_to t x) from w run whole l)
 
 or_none : (d rest : Option ℕ) (x : ℕ) → d ≡ None → option_or d rest ≡ Some x → rest ≡ Some x
 or_none d rest x none e = grind (arith, nat_tests)
@@ -44,9 +45,9 @@ kept_on run d from none is = grind (arith, nat_tests)
 pub said_told : (t : List Mark) (es : List Event) (x from w : ℕ) → doubt_of t es ≡ Some x
     → run_of t ≡ Some from
     → whole_of t ≡ Some w
-    → w < x
-    → Contains (told_after t (map Says es)) (Trusted from (x - 1))
-unfolding told_after told_at run_of whole_of
+    → w < back_to t x
+    → Contains (told_after t (map Says es)) (Trusted from (back_to t x - 1))
+unfolding told_after told_at run_of whole_of back_of
 said_told t [] x from w is run whole l = absurd (none-some x is)
 said_told t (e ∷ es) x from w is run whole l =
     go
@@ -58,16 +59,17 @@ said_told t (e ∷ es) x from w is run whole l =
     rest : List Event
     rest = told_after (Says e ∷ t) (map Says es)
 
-    go : (doubted_by t e ≡ None → Contains rest (Trusted from (x - 1)))
+    go : (doubted_by t e ≡ None → Contains rest (Trusted from (back_to t x - 1)))
         → (d : Option ℕ)
         → doubted_by t e ≡ d
-        → Contains (told_at t (Says e) ++ rest) (Trusted from (x - 1))
+        → Contains (told_at t (Says e) ++ rest) (Trusted from (back_to t x - 1))
     go later None none =
-        Contains-append_right (told_at t (Says e)) rest (Trusted from (x - 1)) (later none)
+        Contains-append_right (told_at t (Says e)) rest (Trusted from (back_to t x - 1))
+        (later none)
     go later (Some y) some =
-        Contains-append_left (told_at t (Says e)) rest (Trusted from (x - 1))
+        Contains-append_left (told_at t (Says e)) rest (Trusted from (back_to t x - 1))
         (Contains-append_left (trusted_up_to t (doubted_by t e)) (at_pes (pes_told t) e ∷ [])
-        (Trusted from (x - 1))
+        (Trusted from (back_to t x - 1))
         (put_up_to t (doubted_by t e) x from w
         (or_some (doubted_by t e) (doubt_of t es) x y some is) run whole l))
 

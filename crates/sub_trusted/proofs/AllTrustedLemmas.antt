@@ -31,7 +31,8 @@ use Rattle.sub_laws.proofs.PieceWalkLemmas.{EachPassed}
 use Rattle.sub_trusted.proofs.TrustedFrameLemmas.{part_length, risen}
 use Rattle.sub_laws.proofs.UntoldLemmas.{before_open, silent}
 use Rattle.std.specs.List.{list_any}
-use Rattle.sub_rules.specs.Trusted.{Mark, is_said, last_begun, run_of, since_of, tells_none}
+use Rattle.sub_rules.specs.Trusted.{Mark, back_of, is_said, last_begun, run_of, since_of}
+use Rattle.sub_rules.specs.Trusted.{tells_none}
 use Rattle.sub_rules.specs.Trusted.{told_after, told_at, whole_of}
 
 -- ---- anything is told
@@ -43,9 +44,10 @@ nothing_of told none = grind (arith, nat_tests)
 
 -- Of the closing nothing is told where nothing was told and nothing follows.
 closing_silent : (g : Task) (frames : Transmission) (pes n : ℕ) (t : List Mark)
-    → (list_any is_said t || not (tells_none (closing_of_pieces g frames pes n))) ≡ false
+    → (list_any is_said t
+    || (g.beside || not (tells_none (closing_of_pieces g frames pes n)))) ≡ false
     → told_after t (marks_of_closing g frames pes n) ≡ []
-unfolding told_after told_at run_of whole_of last_begun since_of
+unfolding told_after told_at run_of whole_of last_begun since_of back_of
 closing_silent g frames pes n t e = grind (arith, nat_tests)
 
 module _ (g : Task) (pieces : List Piece) (a b i : ℕ)
@@ -102,7 +104,8 @@ module _ (g : Task) (pieces : List Piece) (a b i : ℕ)
   abbrev tells : List Mark → Bool
   tells t =
       list_any is_said t
-      || not (tells_none (closing_of_pieces g frames (length pieces) (length frames)))
+      || (g.beside
+      || not (tells_none (closing_of_pieces g frames (length pieces) (length frames))))
 
   any_told : (t : List Mark) → past_after [] marks ≡ t → told_after [] (marks ++ close) ≢ []
       → tells t ≡ true

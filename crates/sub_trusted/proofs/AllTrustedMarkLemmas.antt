@@ -12,21 +12,23 @@ use Rattle.std.specs.List.{list_any}
 use Rattle.sub_rules.specs.Events.{end_before, end_events, events_at_end, is_late}
 use Rattle.sub_rules.specs.Events.{standing_at, standing_before}
 use Rattle.sub_rules.specs.FrameRules.{Task, frame_at}
-use Rattle.sub_rules.specs.PieceEvents.{marks_at_end}
+use Rattle.sub_rules.specs.PieceEvents.{goes_back, marks_at_end}
 use Rattle.sub_rules.specs.Transmission.{Transmission}
 use Rattle.sub_rules.specs.Trusted.Mark.{Says}
 use Rattle.sub_rules.specs.declared.event.Event.{Event}
 use Rattle.sub_laws.specs.CleanStretch.{IsEnd}
 use Rattle.sub_trusted.specs.TrustedFrames.{rising_part}
 use Rattle.sub_trusted.proofs.TrustedKeptLemmas.{SeesNone, whole_found}
-use Rattle.sub_trusted.proofs.TrustedStepLemmas.{Looks, with_end}
+use Rattle.sub_trusted.proofs.TrustedLookLemmas.{Backs, Looks, with_end}
 use Rattle.sub_trusted.proofs.AllTrustedStretchLemmas.{Fits}
-use Rattle.sub_trusted.proofs.LateDoubtLemmas.{end_doubt, seen_since}
+use Rattle.sub_trusted.proofs.LateDoubtLemmas.{before_is, end_doubt, seen_since}
 use Rattle.sub_trusted.proofs.AllTrustedLeadLemmas.{Leads, Leads-cons, said_told}
-use Rattle.sub_trusted.proofs.SayMarkLemmas.{IsSaid, doubt_of, is_order, rose, said}
+use Rattle.sub_trusted.proofs.SayMarkLemmas.{IsSaid, back_past, back_to, doubt_of, is_order}
+use Rattle.sub_trusted.proofs.SayMarkLemmas.{rose, said}
 use Rattle.sub_rules.proofs.EndRuleLemmas.{end_any}
 use Rattle.sub_rules.proofs.TrustedLemmas.{past_after}
-use Rattle.sub_rules.specs.Trusted.{Mark, late_of, run_of, since_of, tells_fall, whole_at, whole_of}
+use Rattle.sub_rules.specs.Trusted.{Mark, back_of, late_of, run_of, since_of, tells_fall, whole_at}
+use Rattle.sub_rules.specs.Trusted.{whole_of}
 use Rattle.sub_rules.specs.declared.standing.Standing.{Standing}
 use Rattle.std.specs.Option.{option_or}
 
@@ -70,6 +72,7 @@ module _ (g : Task) (frames : Transmission) (a b i : ℕ)
     pub low : (from w : ℕ) → run_of t ≡ Some from → whole_of t ≡ Some w → w < p
     pub whole : i < n → b < p → (w : ℕ) × (w ≤ b) × (whole_of t ≡ Some w)
     pub since : i < n → b < p → (r : ℕ) → since_of t ≡ Some r → b < r
+    pub back : i < n → b + 1 < p → (r : ℕ) → back_of t ≡ Some r → b < r
 
   pub follows_to : (n p q : ℕ) (t : List Mark) → Follows n p t
       → ((from : ℕ) → run_of t ≡ Some from → p ≡ q)
@@ -86,17 +89,23 @@ module _ (g : Task) (frames : Transmission) (a b i : ℕ)
   -- Where a frame after the stretch is doubted it is told.
   pub doubt_told : (n p : ℕ) (t : List Mark) (es : List Event) (x : ℕ) → Follows n p t → i < n
       → doubt_of t es ≡ Some x
-      → (b < x) × (b < p)
+      → (b < back_to t x) × (b < p)
       → (S : List Mark → Type 0) → Leads top b S t (map Says es)
   doubt_told n p t es x follows l is past S =
       let (from, low, run) = follows.run l in
       let (w, high, whole) = follows.whole l past.1 in
       let after = past.0 in
-      inl (from, x - 1, low, omega arith, said_told t es x from w is run whole (omega arith))
+      inl (
+        from,
+        back_to t x - 1,
+        low,
+        omega arith,
+        said_told t es x from w is run whole (omega arith),
+      )
 
   pub follows_says : (n p : ℕ) (t : List Mark) (es : List Event) → Follows n p t
       → (n ≤ i → list_any is_order es ≡ false)
-      → (i < n → (x : ℕ) → doubt_of t es ≡ Some x → (b < x) × (b < p))
+      → (i < n → (x : ℕ) → doubt_of t es ≡ Some x → (b < back_to t x) × (b < p))
       → Leads top b (Follows n p) t (map Says es)
   follows_says n p t es follows orders past = go (doubt_of t es) refl
     where
@@ -115,12 +124,25 @@ module _ (g : Task) (frames : Transmission) (a b i : ℕ)
 
   -- ---- an end
 
+  -- Those before the end of a frame after the stretch at whose ends the page was not whole are
+  -- after it.
+  pub back_after : (n f r : ℕ) (u : List Mark) → Backs g frames n f u → 0 < n
+      → IsEnd (rising_part frames) n (f - 1)
+      → b < f
+      → back_of u ≡ Some r
+      → b < r
+  back_after n f r u backs some end past is =
+      fits.back n (f - 1) r end (omega arith) (sym (before_is g frames n f some) ∙ backs r is)
+
   -- Once the end of frame f was looked at, up to which m frames count.
-  pub end_follows : (n m f q : ℕ) (t u : List Mark) → Looks g frames m f t u → f + 1 ≡ q
+  pub end_follows : (n m f q : ℕ) (t u : List Mark) → Looks g frames m f t u
+      → Backs g frames n f u
+      → f + 1 ≡ q
       → Follows n f t
       → (i < n → IsEnd (rising_part frames) m f)
+      → (i < n → IsEnd (rising_part frames) n (f - 1))
       → Follows n q u
-  end_follows n m f q t u looks next follows end = record {
+  end_follows n m f q t u looks backs next follows end before = record {
     rises = λ l. looks.rises_is ∙ follows.rises l;
     run = λ l. let (from, low, is) = follows.run l in (from, low, looks.run_is ∙ is);
     low = low;
@@ -139,6 +161,7 @@ module _ (g : Task) (frames : Transmission) (a b i : ℕ)
               (w, omega arith, now ∙ is)
         ];
     since = λ l past r is. fits.since m f r (end l) (omega arith) (sym looks.since_is ∙ is);
+    back = λ l past r is. back_after n f r u backs (omega arith) (before l) (omega arith) is;
   }
     where
       low : (from w : ℕ) → run_of u ≡ Some from → whole_of u ≡ Some w → w < q
@@ -152,11 +175,14 @@ module _ (g : Task) (frames : Transmission) (a b i : ℕ)
 
   -- What is told there doubts a frame after the stretch, if one.
   pub end_past : (n m f x : ℕ) (t u : List Mark) → Looks g frames m f t u
+      → Backs g frames n f u
+      → 0 < n
       → IsEnd (rising_part frames) m f
+      → IsEnd (rising_part frames) n (f - 1)
       → a ≤ f
       → doubt_of u (events_at_end g frames n m f) ≡ Some x
-      → (b < x) × (b < f + 1)
-  end_past n m f x t u looks end low doubt =
+      → (b < back_to u x) × (b < f + 1)
+  end_past n m f x t u looks backs some end before low doubt =
       let finds =
       end_doubt u (end_before frames n f) f (standing_before g frames n f)
       (standing_at g frames m f) in
@@ -166,28 +192,34 @@ module _ (g : Task) (frames : Transmission) (a b i : ℕ)
             let after : b < unwrap_or (late_of u) f =
             rw looks.late_is
             (late_past (not (g.within == 0) && is_late g frames m f) (seen_since g frames m f) f b
-            past (λ r is. fits.since m f r end (omega arith) is)) in
-            (omega arith, omega arith)
+            past (λ r is. fits.since m f r end (omega arith) is)) in (
+              back_past u x b (omega arith)
+                  (λ r is. back_after n f r u backs some before past is),
+              omega arith,
+            )
         | inr not_past ↦
             let none = finds.calm (fits.ends m f end low (omega arith)) in
             absurd (none-some x (sym none ∙ doubt))
       ]
 
   pub end_leads : (n m f q : ℕ) (t : List Mark) → ((g.within == 0) ≡ true → SeesNone t)
+      → (goes_back g ≡ false → back_of t ≡ None)
       → f + 1 ≡ q
       → Follows n f t
       → (i < n → IsEnd (rising_part frames) m f)
+      → (i < n → IsEnd (rising_part frames) n (f - 1))
       → (i < n → a ≤ f)
       → Leads top b (Follows n q) t (marks_at_end g frames n m f)
-  end_leads n m f q t none next follows end low =
-      with_end g frames (Leads top b (Follows n q)) n m f t none
-      (λ mark ms silent. Leads-cons top b (Follows n q) t mark ms)
-      (λ u looks.
+  end_leads n m f q t none plain next follows end before low =
+      with_end g frames (Leads top b (Follows n q)) n m f t none plain
+      (λ v mark ms silent. Leads-cons top b (Follows n q) v mark ms)
+      (λ u looks backs.
       follows_says n q u (events_at_end g frames n m f)
-      (end_follows n m f q t u looks next follows end)
+      (end_follows n m f q t u looks backs next follows end before)
       (λ l. end_orders (standing_before g frames n f) (end_before frames n f)
       (standing_at g frames m f) f)
       (λ l x doubt.
-      let past = end_past n m f x t u looks (end l) (low l) doubt in
+      let past =
+      end_past n m f x t u looks backs (omega arith) (end l) (before l) (low l) doubt in
       let high = past.1 in
       (past.0, omega arith)))

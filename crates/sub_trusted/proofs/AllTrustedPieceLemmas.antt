@@ -19,7 +19,8 @@ use Rattle.sub_trusted.proofs.AllTrustedStepLemmas.{Open, Past, arrival_leads, m
 use Rattle.sub_trusted.proofs.AllTrustedStepLemmas.{passed_leads}
 use Rattle.sub_trusted.proofs.AllTrustedStepLemmas.{passed_past}
 use Rattle.sub_trusted.proofs.TrustedFrameLemmas.{risen}
-use Rattle.sub_rules.specs.Trusted.{Mark, stays_quiet, last_begun, late_of, run_of, since_of}
+use Rattle.sub_rules.specs.Trusted.{Mark, back_of, stays_quiet, last_begun, late_of, run_of}
+use Rattle.sub_rules.specs.Trusted.{since_of}
 use Rattle.sub_rules.specs.Trusted.{tells_fall, whole_of}
 use Rattle.std.proofs.lemmas.Bool.Decides.{nat_tests}
 
@@ -44,7 +45,7 @@ module _ (g : Task) (frames : Transmission) (a b i : ℕ)
   -- Of which PES packet is told changes nothing.
   follows_at : (n p pes : ℕ) (t : List Mark) → Follows g frames a b i fits n p t
       → Follows g frames a b i fits n p (AtPes pes ∷ t)
-  unfolding run_of whole_of since_of tells_fall
+  unfolding run_of whole_of since_of back_of tells_fall
   follows_at n p pes t follows = grind (arith, nat_tests)
 
   past_at : (n pes : ℕ) (t : List Mark) → PastAt n t → PastAt n (AtPes pes ∷ t)
@@ -54,12 +55,13 @@ module _ (g : Task) (frames : Transmission) (a b i : ℕ)
 
   open_at : (n pes : ℕ) (packets : List (List ℕ)) (t : List Mark) → OpenAt n packets t
       → OpenAt n packets (AtPes pes ∷ t)
-  unfolding stays_quiet
+  unfolding stays_quiet back_of
   open_at n pes packets t (opens, sending) = (
     opens_at g frames 0 n pes packets t opens,
     record {
       follows = follows_at n (frame_at frames n) pes t sending.follows;
       clean = sending.clean;
+      back = sending.back;
     },
   )
 
@@ -87,7 +89,7 @@ module _ (g : Task) (frames : Transmission) (a b i : ℕ)
 
   -- Before the first piece.
   starts : PastAt 0 []
-  unfolding run_of whole_of last_begun since_of late_of stays_quiet
+  unfolding run_of whole_of last_begun since_of late_of back_of stays_quiet
   starts = grind (arith, nat_tests)
 
   -- What comes of pieces.

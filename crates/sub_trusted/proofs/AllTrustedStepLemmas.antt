@@ -6,7 +6,7 @@ use Rattle.std.proofs.lemmas.Bool.Decides.{nat_tests}
 use Rattle.std.proofs.Common.{◌≡◌, ℕ, zero, suc, ◌+◌, ◌-◌, ◌<◌, ◌≤◌, ◌⊎◌, inl, inr, Bool, true}
 use Rattle.std.proofs.Common.{false, List, [], ◌∷◌, ◌++◌, length, map, take, get_or, Option, Some}
 use Rattle.std.proofs.Common.{None, refl, sym, ap, ◌∙◌, subst, arith, le_refl, append_assoc}
-use Rattle.std.proofs.Common.{length-append, ◌&&◌, is_none}
+use Rattle.std.proofs.Common.{length-append, ◌&&◌, is_none, if◌then◌else◌}
 use Rattle.std.proofs.Math.Seq.{take-append-add}
 use Rattle.std.proofs.lemmas.Bool.{cases_lt}
 use Rattle.std.proofs.lemmas.List.{get_or-append-add, get_or_append_left, take-append-le}
@@ -14,31 +14,35 @@ use Rattle.std.proofs.lemmas.List.Folds.{list_any-append}
 use Rattle.std.proofs.lemmas.Option.{none-some, same_Some}
 use Rattle.std.specs.List.{list_any}
 use Rattle.sub_rules.specs.Events.{gap_length, latest, order_events, packet_fault, packets_told}
-use Rattle.sub_rules.specs.Events.{rules_told, unread_fault}
+use Rattle.sub_rules.specs.Events.{rules_told, since_before, unread_fault}
 use Rattle.sub_rules.specs.FrameRules.{Task, Unread, frame_at, packets_before, packets_of_frame}
-use Rattle.sub_rules.specs.PieceEvents.{marks_at_end, marks_of_arrival, marks_of_gap}
+use Rattle.sub_rules.specs.PieceEvents.{goes_back, marks_at_end, marks_before, marks_of_arrival}
+use Rattle.sub_rules.specs.PieceEvents.{marks_of_gap}
 use Rattle.sub_rules.specs.Transmission.{Transmission}
-use Rattle.sub_rules.specs.Trusted.Mark.{Begins, Says}
+use Rattle.sub_rules.specs.Trusted.Mark.{Begins, GoesBack, Says}
 use Rattle.sub_rules.specs.declared.event.Event.{Event}
 use Rattle.sub_rules.specs.declared.event.Event.TheVariants.{Told}
 use Rattle.sub_rules.specs.declared.packet_rule.PacketRule.{PacketRule}
 use Rattle.sub_rules.specs.declared.packet_rule.Watched.{Watched}
 use Rattle.sub_trusted.proofs.TrustedKeptLemmas.{Arrives, Closed, Keeps, Opens, Up, run_rises}
 use Rattle.sub_trusted.proofs.TrustedKeptLemmas.{up_of}
-use Rattle.sub_trusted.proofs.TrustedStepLemmas.{begins, gap_step, more_sent, order_step, passed}
+use Rattle.sub_trusted.proofs.TrustedStepLemmas.{begins, begins_back, gap_step, more_sent}
+use Rattle.sub_trusted.proofs.TrustedStepLemmas.{order_step, passed}
 use Rattle.sub_trusted.proofs.TrustedStepLemmas.{passed_ended}
-use Rattle.sub_trusted.proofs.AllTrustedStretchLemmas.{Fits, gap_in}
-use Rattle.sub_trusted.proofs.LateDoubtLemmas.{KeepsAll, order_at, packets_doubt, passed_at}
+use Rattle.sub_trusted.proofs.AllTrustedStretchLemmas.{Fits, end_back, gap_in}
+use Rattle.sub_trusted.proofs.LateDoubtLemmas.{KeepsAll, before_is, order_at, packets_doubt}
+use Rattle.sub_trusted.proofs.LateDoubtLemmas.{passed_at}
 use Rattle.sub_trusted.proofs.AllTrustedLeadLemmas.{Leads, Leads-append, Leads-both, Leads-cons}
 use Rattle.sub_trusted.proofs.AllTrustedLeadLemmas.{Leads-nil}
 use Rattle.sub_laws.proofs.PrefixLemmas.{RiseTo, rises_to}
 use Rattle.sub_laws.proofs.RisingEndLemmas.{latest_at}
-use Rattle.sub_trusted.proofs.SayMarkLemmas.{doubt_of, is_order, rose, said}
+use Rattle.sub_trusted.proofs.SayMarkLemmas.{back_past, back_to, doubt_of, is_order, rose, said}
 use Rattle.sub_trusted.proofs.AllTrustedMarkLemmas.{Follows, doubt_told, end_leads, follows_said}
 use Rattle.sub_trusted.proofs.AllTrustedMarkLemmas.{follows_says, follows_to, top}
 use Rattle.sub_trusted.proofs.TrustedFrameLemmas.{count_most, part_rises, risen}
 use Rattle.sub_rules.proofs.TrustedLemmas.{past_after}
-use Rattle.sub_rules.specs.Trusted.{Mark, stays_quiet, last_begun, late_of, run_of, since_of}
+use Rattle.sub_rules.specs.Trusted.{Mark, back_of, stays_quiet, last_begun, late_of, run_of}
+use Rattle.sub_rules.specs.Trusted.{since_of}
 use Rattle.sub_rules.specs.Trusted.{tells_fall, whole_of}
 
 -- ---- events that do not tell of the order
@@ -145,13 +149,19 @@ module _ (g : Task) (frames : Transmission) (a b i : ℕ)
       let q : ℕ = latest frames n + suc (suc k) in
       Leads-both (top g frames a b i fits) b (Arrives g frames 0 n (suc k)) (Follow n q) t
       (marks_at_end g frames n n f) (gap_step g frames 0 n k t there l arrives).after
-      (end_leads g frames a b i fits n n f q t arrives.keeps.at_once (omega arith) follows
+      (end_leads g frames a b i fits n n f q t arrives.keeps.at_once arrives.keeps.plain
+      (omega arith) follows
       (λ below.
       let h = up below in
       let first = h.some in
       let last = h.last in
       let long = h.long in
       gap_in frames n f first (in_part n there h) (omega arith) (omega arith))
+      (λ below.
+      let h = up below in
+      let last = h.last in
+      let long = h.long in
+      end_back frames n f h.some (in_part n there h) (omega arith) (omega arith))
       (λ below.
       let h = up below in
       let low = after_top n h below in
@@ -204,7 +214,7 @@ module _ (g : Task) (frames : Transmission) (a b i : ℕ)
       (λ l x doubt. past l x doubt))
     where
       past : i < n → (x : ℕ) → doubt_of t (order_events g frames n) ≡ Some x
-          → (b < x) × (b < latest frames n + suc 0)
+          → (b < back_to t x) × (b < latest frames n + suc 0)
       past l x doubt =
           let (from, low, is) = follows.run l in
           let run = closed.keeps.run from is in
@@ -223,70 +233,128 @@ module _ (g : Task) (frames : Transmission) (a b i : ℕ)
                 let same : risen frames ≡ n = omega arith in
                 let fall : b < frame_at frames (risen frames - 1) = fits.fall (omega arith) in
                 let back : frame_at frames (risen frames - 1) ≡ frame_at frames (n - 1) =
-                ap (λ (k : ℕ). frame_at frames (k - 1)) same in
-                (omega arith, omega arith)
+                ap (λ (k : ℕ). frame_at frames (k - 1)) same in (
+                  back_past t x b (omega arith) (λ r is. follows.back l (omega arith) r is),
+                  omega arith,
+                )
           ]
 
   -- Frame n is sent.
   pub record Sending (n : ℕ) (t : List Mark) : Type 0 where
     pub follows : Follow n (frame_at frames n) t
     pub clean : i ≤ n → stays_quiet t ≡ true
+    pub back : i < n → b < frame_at frames n → (r : ℕ) → back_of t ≡ Some r → b < r
 
   -- So are these packets in it so far.
   abbrev pub Open : ℕ → List (List ℕ) → List Mark → Type 0
   Open n packets u = Opens g frames 0 n packets u × Sending n u
 
+  -- Since which frame the page was not whole before frame n.
+  abbrev before_it : ℕ → Option ℕ
+  before_it n = since_before g frames n (frame_at frames n)
+
   begins_open : (n : ℕ) (t : List Mark) → n < length frames → Arriving n (gap_length frames n) t
-      → Open n [] (Begins (frame_at frames n) ∷ t)
-  unfolding run_of whole_of last_begun since_of late_of stays_quiet tells_fall
-  begins_open n t there (arrives, follows) =
-      let now : Follow n (frame_at frames n) t =
-      follows_to g frames a b i fits n (latest frames n + suc (gap_length frames n))
-      (frame_at frames n) t follows (λ from is.
-      (up_of g frames 0 n (latest frames n + suc (gap_length frames n)) from t arrives.keeps
-      arrives.rises is).long) in (
-        begins g frames 0 n t there arrives,
-        record {
-          follows = record {
-            rises = now.rises;
-            run = now.run;
-            low = now.low;
-            whole = now.whole;
-            since = now.since;
-          };
-          clean = λ l. elim (cases_lt i n) [
-            | inl below ↦
-                let (from, low, is) = follows.run below in
-                run_rises (rose t) (run_of t) from arrives.keeps.falls is
-            | inr not_yet ↦ follows.rises (omega arith)
-          ];
-        },
-      )
+      → Lead (Open n []) (Begins (frame_at frames n) ∷ t) (marks_before g (before_it n))
+  unfolding run_of whole_of last_begun since_of late_of back_of stays_quiet tells_fall
+  begins_open n t there (arrives, follows) = go (goes_back g) refl
+    where
+      now : Follow n (frame_at frames n) t
+      now =
+          follows_to g frames a b i fits n (latest frames n + suc (gap_length frames n))
+          (frame_at frames n) t follows (λ from is.
+          (up_of g frames 0 n (latest frames n + suc (gap_length frames n)) from t arrives.keeps
+          arrives.rises is).long)
+
+      sent : List Mark
+      sent = Begins (frame_at frames n) ∷ t
+
+      opens : Opens g frames 0 n [] sent
+      opens = begins g frames 0 n t there arrives
+
+      clean : i ≤ n → rose t ≡ true
+      clean l = elim (cases_lt i n) [
+        | inl below ↦
+            let (from, low, is) = follows.run below in
+            run_rises (rose t) (run_of t) from arrives.keeps.falls is
+        | inr not_yet ↦ follows.rises (omega arith)
+      ]
+
+      after : i < n → b < frame_at frames n → (r : ℕ) → before_it n ≡ Some r → b < r
+      after l past r is =
+          let h =
+          up_here n (latest frames n + suc (gap_length frames n))
+          (latest frames n + suc (gap_length frames n)) t arrives.keeps arrives.rises follows l in
+          let up = h.up in
+          fits.back n (frame_at frames n - 1) r
+          (end_back frames n (frame_at frames n) h.some (in_part n there h) (omega arith)
+          (omega arith))
+          (omega arith) (sym (before_is g frames n (frame_at frames n) h.some) ∙ is)
+
+      go : (c : Bool) → goes_back g ≡ c
+          → Lead (Open n []) sent (if c then GoesBack (before_it n) ∷ [] else [])
+      go false is =
+          let none = arrives.keeps.plain is in
+          Leads-nil (top g frames a b i fits) b (Open n []) sent (
+            opens,
+            record {
+              follows = record {
+                rises = now.rises;
+                run = now.run;
+                low = now.low;
+                whole = now.whole;
+                since = now.since;
+                back = now.back;
+              };
+              clean = clean;
+              back = λ l past r some. absurd (none-some r (sym none ∙ some));
+            },
+          )
+      go true is =
+          Leads-cons (top g frames a b i fits) b (Open n []) sent (GoesBack (before_it n)) []
+          (Leads-nil (top g frames a b i fits) b (Open n []) (GoesBack (before_it n) ∷ sent) (
+            begins_back g frames 0 n sent opens is,
+            record {
+              follows = record {
+                rises = now.rises;
+                run = now.run;
+                low = now.low;
+                whole = now.whole;
+                since = now.since;
+                back = λ l past r some. after l (omega arith) r some;
+              };
+              clean = clean;
+              back = after;
+            },
+          ))
 
   pub arrival_leads : (n : ℕ) (t : List Mark) → n < length frames → Past n t
       → Lead (Open n []) t (marks_of_arrival g frames n)
   arrival_leads n t there past =
       Leads-append (top g frames a b i fits) b (Arriving n (gap_length frames n)) (Open n []) t
       (map Says (order_events g frames n) ++ marks_of_gap g frames n (gap_length frames n))
-      (Begins (frame_at frames n) ∷ [])
+      (Begins (frame_at frames n) ∷ marks_before g (before_it n))
       (Leads-append (top g frames a b i fits) b (Arriving n 0)
       (Arriving n (gap_length frames n)) t (map Says (order_events g frames n))
       (marks_of_gap g frames n (gap_length frames n)) (order_leads n t there past)
       (λ u so. gaps_lead n (gap_length frames n) u there (le_refl (gap_length frames n)) so))
       (λ v here.
-      Leads-cons (top g frames a b i fits) b (Open n []) v (Begins (frame_at frames n)) []
-      (Leads-nil (top g frames a b i fits) b (Open n [])
-      (Begins (frame_at frames n) ∷ v) (begins_open n v there here)))
+      Leads-cons (top g frames a b i fits) b (Open n []) v (Begins (frame_at frames n))
+      (marks_before g (before_it n)) (begins_open n v there here))
 
   -- ---- while it is sent
 
   pub sending_says : (n : ℕ) (t : List Mark) (es : List Event) → Sending n t
       → list_any is_order es ≡ false
       → (i ≡ n → doubt_of t es ≡ None)
-      → (i < n → (x : ℕ) → doubt_of t es ≡ Some x → (b < x) × (b < frame_at frames n))
+      → (i < n → (x : ℕ) → doubt_of t es ≡ Some x → (b < back_to t x) × (b < frame_at frames n))
       → Lead (Sending n) t (map Says es)
   sending_says n t es sending orders calm past = go (doubt_of t es) refl
     where
+      back : i < n → b < frame_at frames n
+          → (r : ℕ) → back_of (past_after t (map Says es)) ≡ Some r
+          → b < r
+      back l past r is = sending.back l past r (sym (said t es).back_is ∙ is)
+
       follow : (i < n → doubt_of t es ≡ None)
           → Follow n (frame_at frames n) (past_after t (map Says es))
       follow none =
@@ -301,6 +369,7 @@ module _ (g : Task) (frames : Transmission) (a b i : ℕ)
             clean = λ l.
                 (said t es).clean_is
                 ∙ clean_still (stays_quiet t) (doubt_of t es) (sending.clean l) is;
+            back = back;
           })
       go (Some x) is = elim (cases_lt i n) [
         | inl l ↦
@@ -312,6 +381,7 @@ module _ (g : Task) (frames : Transmission) (a b i : ℕ)
               follows = follow (λ l. absurd (omega arith));
               clean = λ l.
                   let none = calm (omega arith) in absurd (none-some x (sym none ∙ is));
+              back = back;
             })
       ]
 
@@ -356,7 +426,7 @@ module _ (g : Task) (frames : Transmission) (a b i : ℕ)
       let (in_it, low) = later_in n packets t there (opens, sending) l in
       let at : x ≡ frame_at frames n = finds.at x doubt in
       elim (cases_lt b (frame_at frames n)) [
-        | inl past ↦ (omega arith, past)
+        | inl past ↦ (back_past t x b (omega arith) (sending.back l past), past)
         | inr not_past ↦
             let none = finds.calm (keeps in_it low (omega arith)) in
             absurd (none-some x (sym none ∙ doubt))
@@ -391,7 +461,10 @@ module _ (g : Task) (frames : Transmission) (a b i : ℕ)
       let last = closed.last (omega arith) in
       elim (outside (omega arith) most) [
         | inl before ↦ absurd (omega arith)
-        | inr after ↦ (omega arith, omega arith)
+        | inr after ↦ (
+          back_past t x b (omega arith) (λ r is. follows.back l (omega arith) r is),
+          omega arith,
+        )
       ]))
 
   -- Or while one is sent.
@@ -421,5 +494,5 @@ module _ (g : Task) (frames : Transmission) (a b i : ℕ)
       let last = opens.last in
       elim (outside in_it) [
         | inl before ↦ absurd (omega arith)
-        | inr after ↦ (omega arith, after)
+        | inr after ↦ (back_past t x b (omega arith) (sending.back l after), after)
       ]))

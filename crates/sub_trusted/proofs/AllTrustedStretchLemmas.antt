@@ -3,7 +3,7 @@
 -- `fits`.
 use Rattle.std.proofs.lemmas.Bool.Decides.{nat_tests}
 use Rattle.std.proofs.Common.{◌≡◌, ℕ, suc, ◌+◌, ◌-◌, ◌<◌, ◌≤◌, true, false, List, [], ◌++◌, drop}
-use Rattle.std.proofs.Common.{length, take, get_or, Some, None, refl, sym, ap, ◌∙◌, subst, arith}
+use Rattle.std.proofs.Common.{length, take, get_or, Some, None, sym, ap, ◌∙◌, subst, arith}
 use Rattle.std.proofs.Common.{inl, inr, Bool, Option, ◌==◌, if◌then◌else◌}
 use Rattle.std.proofs.lemmas.Bool.{cases_lt}
 use Rattle.std.proofs.lemmas.List.{take-append-drop}
@@ -64,6 +64,19 @@ module _ (frames : Transmission) where
         ),
       )
 
+  -- The end before one of the day after the first n of them, up to the next one's own.
+  pub end_back : (n f : ℕ) → 0 < n → n < risen frames → frame_at frames (n - 1) < f
+      → f ≤ frame_at frames n
+      → IsEnd (rising_part frames) n (f - 1)
+  end_back n f some l low high = elim (cases_lt (frame_at frames (n - 1)) (f - 1)) [
+    | inl after ↦ gap_in n (f - 1) some l after (omega arith)
+    | inr own ↦
+        let at : frame_at frames (n - 1) ≡ f - 1 = omega arith in
+        let size : suc (n - 1) ≡ n = omega arith in
+        subst (λ k. IsEnd (rising_part frames) k (f - 1)) size
+        (subst (IsEnd (rising_part frames) (suc (n - 1))) at (own_in (n - 1) (omega arith)))
+  ]
+
 -- ---- what is so of the stretch
 
 -- Frame i of the list is one of a stretch that can stay.
@@ -94,6 +107,12 @@ pub record Fits (g : Task) (frames : Transmission) (a b i : ℕ) : Type 0 where
       → IsEnd (rising_part frames) n f
       → b ≤ f
       → seen_since g frames n f ≡ Some r
+      → b < r
+  pub back :
+      (n f r : ℕ)
+      → IsEnd (rising_part frames) n f
+      → b ≤ f
+      → unfinished_since g frames n f ≡ Some r
       → b < r
   pub last : b ≤ frame_at frames (risen frames - 1)
   pub fall : risen frames < length frames → b < frame_at frames (risen frames - 1)
@@ -225,6 +244,7 @@ module _ (g : Task) (pieces : List Piece) (a b : ℕ) (can : CanStay g pieces a 
         ends = ends;
         finished = λ n f end here. unseen (g.within == 0) (finished n f end here);
         since = λ n f r end past is. since n f r end past (seen_is g frames n f r is);
+        back = since;
         last = let to = can.untold.stretch.to in omega arith;
         fall = λ more. let past = can.before_fall (omega arith) in omega arith;
         unread = λ u is. let past = can.before_unread u is in omega arith;

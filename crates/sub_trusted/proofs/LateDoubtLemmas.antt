@@ -17,7 +17,7 @@ use Rattle.sub_rules.specs.Events.{broken_at, end_events, end_fault}
 use Rattle.sub_rules.specs.Events.{first_header_events, gap_length, is_unfinished, latest}
 use Rattle.sub_rules.specs.Events.{order_events, packet_fault, packets_told, rule_events}
 use Rattle.sub_rules.specs.Events.{rules_told, since_frames, since_in_gap, unfinished_from}
-use Rattle.sub_rules.specs.Events.{unfinished_since, unread_fault}
+use Rattle.sub_rules.specs.Events.{since_before, unfinished_since, unread_fault}
 use Rattle.sub_rules.specs.FrameRules.{Task, Unread, frame_at}
 use Rattle.sub_rules.specs.PacketTests.{breaks}
 use Rattle.sub_rules.specs.Transmission.{Transmission}
@@ -235,6 +235,23 @@ module _ (g : Task) (frames : Transmission) where
   since_low n f r e l =
       let low = in_gap n (since_frames g frames n) (f - latest frames n) r e (in_frames n) in
       omega arith
+
+  -- The first of those up to the end before one is before it.
+  pub before_low : (n f r : ℕ) → since_before g frames n f ≡ Some r
+      → (0 < n → latest frames n < f)
+      → (0 < n) × (r ≤ f)
+  unfolding since_before
+  before_low zero f r e past = absurd (none-some r e)
+  before_low (suc n) f r e past =
+      let after = past (omega arith) in
+      let low = since_low (suc n) (f - 1) r e (omega arith) in
+      (omega arith, omega arith)
+
+  pub before_is : (n f : ℕ) → 0 < n
+      → since_before g frames n f ≡ unfinished_since g frames n (f - 1)
+  unfolding since_before
+  before_is zero f some = absurd (omega arith)
+  before_is (suc n) f some = refl
 
   -- It, where ends are looked at: within some frames.
   abbrev pub seen_since : ℕ → ℕ → Option ℕ

@@ -13,6 +13,7 @@ pub mod TrustedEndingLemmas
 pub mod TrustedFinishedLemmas
 pub mod TrustedFrameLemmas
 pub mod TrustedKeptLemmas
+pub mod TrustedLookLemmas
 pub mod TrustedOnAirLemmas
 pub mod TrustedPassedLemmas
 pub mod TrustedPieceLemmas

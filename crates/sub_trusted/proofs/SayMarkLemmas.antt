@@ -4,7 +4,7 @@
 use Rattle.std.proofs.lemmas.Bool.Decides.{nat_tests}
 use Rattle.std.proofs.Common.{◌≡◌, ℕ, ◌-◌, ◌<◌, ◌&&◌, Bool, true, false, not, List, [], ◌∷◌, ◌++◌}
 use Rattle.std.proofs.Common.{nat_lt, if◌then◌else◌, map, Option, Some, None, is_none, refl, sym}
-use Rattle.std.proofs.Common.{subst, arith}
+use Rattle.std.proofs.Common.{subst, arith, ◌≤◌, unwrap_or}
 use Rattle.std.proofs.lemmas.Bool.{ltb-true}
 use Rattle.std.proofs.lemmas.List.Elements.{All-append, All-cons, All-head, All-nil, All-tail}
 use Rattle.std.specs.List.{list_any}
@@ -14,7 +14,8 @@ use Rattle.sub_rules.specs.declared.event.Event.TheVariants.{Told, Trusted}
 use Rattle.sub_rules.proofs.TrustedLemmas.{past_after, past_after-append, told_after-append}
 use Rattle.sub_trusted.proofs.DoubtLemmas.{EachTrusted, OnTrusted}
 use Rattle.sub_laws.proofs.FirstFoundLemmas.{first_found}
-use Rattle.sub_rules.specs.Trusted.{Mark, at_pes, doubted_by, stays_quiet, last_begun, late_of}
+use Rattle.sub_rules.specs.Trusted.{Mark, at_pes, back_of, doubted_by, stays_quiet, last_begun}
+use Rattle.sub_rules.specs.Trusted.{late_of}
 use Rattle.sub_rules.specs.Trusted.{pes_told}
 use Rattle.sub_rules.specs.Trusted.{run_of, since_of, tells_fall, told_after, told_at, trusted}
 use Rattle.sub_rules.specs.Trusted.{trusted_up_to, whole_of}
@@ -26,6 +27,22 @@ rose t = not (list_any tells_fall t)
 -- The frame that is trusted no more by the first of these events that says so.
 abbrev pub doubt_of : List Mark → List Event → Option ℕ
 doubt_of t es = first_found (doubted_by t) es
+
+-- The first frame that is not told as trusted where this one is trusted no more.
+abbrev pub back_to : List Mark → ℕ → ℕ
+back_to t x = unwrap_or (back_of t) x
+
+-- It is not after a frame where that one and those at whose ends the page was not whole are not.
+pub back_low : (t : List Mark) (x b : ℕ) → x ≤ b
+    → ((r : ℕ) → back_of t ≡ Some r → r ≤ b)
+    → back_to t x ≤ b
+back_low t x b low h = grind (arith, nat_tests)
+
+-- It is after one where they are.
+pub back_past : (t : List Mark) (x b : ℕ) → b < x
+    → ((r : ℕ) → back_of t ≡ Some r → b < r)
+    → b < back_to t x
+back_past t x b past h = grind (arith, nat_tests)
 
 -- What is left of a run where a frame is doubted.
 abbrev pub kept : Option ℕ → Option ℕ → Option ℕ
@@ -42,6 +59,7 @@ pub record IsSaid (t u : List Mark) (es : List Event) : Type 0 where
   pub last_is : last_begun u ≡ last_begun t
   pub since_is : since_of u ≡ since_of t
   pub late_is : late_of u ≡ late_of t
+  pub back_is : back_of u ≡ back_of t
   pub rises_is : rose u ≡ (rose t && not (list_any is_order es))
   pub clean_is : stays_quiet u ≡ (stays_quiet t && is_none (doubt_of t es))
 
@@ -57,7 +75,7 @@ doubt_after t e [] = refl
 doubt_after t e (x ∷ es) = rw (doubted_same t e x, doubt_after t e es) refl
 
 pub said : (t : List Mark) (es : List Event) → IsSaid t (past_after t (map Says es)) es
-unfolding past_after run_of whole_of last_begun since_of late_of stays_quiet is_order
+unfolding past_after run_of whole_of last_begun since_of late_of back_of stays_quiet is_order
 said t [] = grind (arith, nat_tests)
 said t (e ∷ es) =
     let rest = said (Says e ∷ t) es in
@@ -116,10 +134,10 @@ module _ (P : ℕ → ℕ → Type 0) where
       → doubt_of t es ≡ Some x
       → run_of t ≡ Some from
       → whole_of t ≡ Some w
-      → w < x
-      → P from (x - 1))
+      → w < back_to t x
+      → P from (back_to t x - 1))
       → EachTrusted P (told_after t (map Says es))
-  unfolding told_after told_at run_of whole_of
+  unfolding told_after told_at run_of whole_of back_of
   each_said t [] each h = All-nil (OnTrusted P)
   each_said t (e ∷ es) each h =
       let d : Option ℕ = doubted_by t e in
@@ -139,7 +157,7 @@ module _ (P : ℕ → ℕ → Type 0) where
           → EachTrusted P (trusted_up_to t d)
       before None is = All-nil (OnTrusted P)
       before (Some x) is =
-          each_put (run_of t) (whole_of t) x
+          each_put (run_of t) (whole_of t) (back_to t x)
           (λ from w run whole l. let all = h x from w in grind arith)
 
   -- What is told as trusted with marks is so, and what is kept after them.
@@ -185,8 +203,8 @@ module _ (P : ℕ → ℕ → Type 0) where
       → doubt_of t es ≡ Some x
       → run_of t ≡ Some from
       → whole_of t ≡ Some w
-      → w < x
-      → P from (x - 1))
+      → w < back_to t x
+      → P from (back_to t x - 1))
       → ((u : List Mark) → IsSaid t u es → S u)
       → Goes S t (map Says es)
   Goes-says S t es each h after = record {

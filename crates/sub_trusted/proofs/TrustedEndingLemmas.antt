@@ -18,15 +18,18 @@ use Rattle.sub_rules.specs.declared.event.Event.{Event}
 use Rattle.sub_trusted.proofs.TrustedKeptLemmas.{Closed, IsAbove, IsWhole, Opens, Quiet, may_before}
 use Rattle.sub_trusted.proofs.TrustedKeptLemmas.{opens_said, run_more, run_new, run_low, run_found}
 use Rattle.sub_trusted.proofs.TrustedKeptLemmas.{run_rises, up_of, whole_some}
-use Rattle.sub_trusted.proofs.LateDoubtLemmas.{header_none, header_own, seen_low, seen_since}
+use Rattle.sub_trusted.proofs.LateDoubtLemmas.{before_low, header_none, header_own, seen_low}
+use Rattle.sub_trusted.proofs.LateDoubtLemmas.{seen_since}
 use Rattle.sub_laws.proofs.PrefixLemmas.{before, rises_to}
 use Rattle.sub_laws.proofs.RisingEndLemmas.{latest_at}
 use Rattle.sub_trusted.proofs.SayMarkLemmas.{Goes-append, Goes-cons, Goes-nil, Goes-says}
 use Rattle.sub_trusted.proofs.TrustedRunLemmas.{Run}
-use Rattle.sub_trusted.proofs.TrustedStepLemmas.{HasEnd, Passes, Tells, end_tells}
+use Rattle.sub_trusted.proofs.TrustedLookLemmas.{HasEnd}
+use Rattle.sub_trusted.proofs.TrustedStepLemmas.{Passes, Tells, end_tells}
 use Rattle.sub_trusted.proofs.TrustedStepLemmas.{keeps_end}
 use Rattle.sub_trusted.proofs.SayMarkLemmas.{rose}
-use Rattle.sub_rules.specs.Trusted.{Mark, stays_quiet, last_begun, late_of, run_of, since_of}
+use Rattle.sub_rules.specs.Trusted.{Mark, back_of, stays_quiet, last_begun, late_of, run_of}
+use Rattle.sub_rules.specs.Trusted.{since_of}
 use Rattle.sub_rules.specs.Trusted.{stands_none, tells_fall, told_at, whole_at, whole_of}
 
 -- Where the page was whole in the run that is left at the end of a frame.
@@ -55,7 +58,7 @@ module _ (g : Task) (frames : Transmission) (base : ℕ) where
 
   ended : (n : ℕ) (t : List Mark) → n < length frames → Ending n t
       → Closed g frames base (suc n) (mark n ∷ t)
-  unfolding run_of whole_of last_begun since_of late_of stays_quiet tells_fall
+  unfolding run_of whole_of last_begun since_of late_of back_of stays_quiet tells_fall
   ended n t there ending = record {
     keeps = record {
       run = run_then;
@@ -72,6 +75,7 @@ module _ (g : Task) (frames : Transmission) (base : ℕ) where
                 whole_some (if is_none (run_of t) then None else whole_of t) (since_of t)
                 (frame_at frames n) none.since;
           };
+      plain = ending.opens.keeps.plain;
     };
     floor = ending.opens.floor;
     last = λ some. ending.opens.last ∙ ap (frame_at frames) (omega arith);
@@ -82,6 +86,11 @@ module _ (g : Task) (frames : Transmission) (base : ℕ) where
         let back : frame_at frames n ≡ frame_at frames (suc n - 1) =
         ap (frame_at frames) (omega arith) in
         omega arith;
+    back = λ e r is.
+        let low = ending.opens.back e r is in
+        let back : frame_at frames n ≡ frame_at frames (suc n - 1) =
+        ap (frame_at frames) (omega arith) in
+        (omega arith, omega arith);
   }
     where
       kept : (from : ℕ) → run_of (mark n ∷ t) ≡ Some from
@@ -187,6 +196,16 @@ module _ (g : Task) (frames : Transmission) (base : ℕ) where
           ap (frame_at frames) (omega arith) in
           omega arith
 
+      below : (u : List Mark) → Opens g frames base n (packets_of_frame frames n) u
+          → rose u ≡ true
+          → 0 < n
+          → latest frames n < frame_at frames n
+      below u so rises some =
+          let rise = so.rises rises in
+          let up = rise n some (omega arith) in
+          let last = latest_at frames n (λ i a b. rise i a (omega arith)) some in
+          omega arith
+
       at_its_end : (u : List Mark) → Opens g frames base n (packets_of_frame frames n) u
           → Tells g frames base (Ending n) u (marks_at_end g frames n (suc n) (frame_at frames n))
       at_its_end u so =
@@ -204,7 +223,8 @@ module _ (g : Task) (frames : Transmission) (base : ℕ) where
           (λ from is. top u so (run_rises (rose u) (run_of u) from so.keeps.falls is)) so.keeps low
           (λ from is. may_before g frames base n (packets_of_frame frames n) u there so from is
           (end_frame frames))
-          (λ now v looks said.
+          (λ from is some. below u so (run_rises (rose u) (run_of u) from so.keeps.falls is) some)
+          (λ now v looks backs said.
           let so_now : Opens g frames base n (packets_of_frame frames n) now =
           record {
             keeps = keeps_end g frames base n f (suc n) f u now looks so.keeps low;
@@ -215,6 +235,9 @@ module _ (g : Task) (frames : Transmission) (base : ℕ) where
                 let both = so.clean (sym looks.clean_is ∙ e) in
                 (looks.rises_is ∙ both.0, both.1);
             fresh = λ e. so.fresh (sym looks.clean_is ∙ e);
+            back = λ e r is.
+                (before_low g frames n f r (backs r is)
+                (below u so (sym looks.rises_is ∙ e))).1;
           } in
           record {
             opens =

@@ -2,30 +2,31 @@
 -- One of the frames at least that are told as trusted within some frames is finished:
 -- `finished_there`.
 use Rattle.std.proofs.Common.{◌≡◌, ℕ, ◌-◌, ◌<◌, ◌≤◌, ◌==◌, inl, inr, false, None, length, drop}
-use Rattle.std.proofs.Common.{Option, sym, ap, ◌∙◌, arith}
+use Rattle.std.proofs.Common.{Bool, Option, sym, ap, ◌∙◌, arith}
 use Rattle.std.proofs.lemmas.Bool.{cases_lt}
 use Rattle.std.proofs.lemmas.List.{take-append-drop}
 use Rattle.stl_rows.specs.Programme.{ProgrammeValue}
 use Rattle.sub_plan.specs.Options.{OptionsValue}
-use Rattle.sub_rules.specs.Events.{unfinished_since}
-use Rattle.sub_rules.specs.FrameRules.{Task, Unread, task_of}
+use Rattle.sub_rules.specs.Events.{standing_at, undecided_within, unfinished_since}
+use Rattle.sub_rules.specs.FrameRules.{Task, Unread}
 use Rattle.sub_rules.specs.GoodWithin.{SomeFinished}
 use Rattle.sub_rules.specs.Transmission.{Transmission}
 use Rattle.sub_rules.proofs.PrefixEventLemmas.{unfinished_since-prefix}
-use Rattle.sub_laws.specs.CleanStretch.{IsEnd}
+use Rattle.sub_laws.specs.CleanStretch.{IsEnd, task_unsure}
 use Rattle.sub_trusted.specs.TrustedFrames.{rising_part}
 use Rattle.sub_trusted.proofs.TrustedKeptLemmas.{MayStand}
 use Rattle.sub_laws.proofs.FinishedLemmas.{finished_of, since_no}
 use Rattle.sub_laws.proofs.PrefixLemmas.{RiseTo, frame_at-take, take_rises}
+use Rattle.sub_laws.proofs.StandingLemmas.{known_at}
 use Rattle.sub_trusted.proofs.TrustedFrameLemmas.{count_most, part_last}
 use Rattle.sub_trusted.proofs.TrustedFrameLemmas.{part_length, part_rises, risen, risen_low, untold}
 
 module _ (programme : ProgrammeValue) (options : OptionsValue) (unread : Option Unread)
-    (frames : Transmission) (from to : ℕ)
-    (may : MayStand (task_of programme options unread) frames from to)
+    (beside : Bool) (undecided : ℕ → Bool) (frames : Transmission) (from to : ℕ)
+    (may : MayStand (task_unsure programme options unread beside undecided) frames from to)
   where
     abbrev g : Task
-    g = task_of programme options unread
+    g = task_unsure programme options unread beside undecided
 
     abbrev part : Transmission
     part = rising_part frames
@@ -85,12 +86,20 @@ module _ (programme : ProgrammeValue) (options : OptionsValue) (unread : Option 
         (take-append-drop (risen frames) frames)
         ∙ rw some at seen
 
+    -- It is known what is due there.
+    known : undecided_within g part may.w ≡ false
+    unfolding standing_at
+    known =
+        (untold g frames from to may.stays).undecided may.whole.n may.w end_in_part may.whole.low
+        may.high
+
     pub finished_there : (g.within == 0) ≡ false → SomeFinished programme part options from to
     finished_there some = (
       may.w,
       may.whole.low,
       may.high,
-      finished_of programme options unread part up may.whole.n may.w end_in_part
-          (since_no programme options unread part up may.whole.n may.w end_in_part
+      finished_of programme options unread beside undecided part up may.whole.n may.w end_in_part
+          (known_at g part may.whole.n may.w known)
+          (since_no programme options unread beside undecided part up may.whole.n may.w end_in_part
           (since_none some)),
     )

@@ -5,7 +5,7 @@
 use Rattle.std.proofs.lemmas.Bool.Decides.{nat_tests}
 use Rattle.std.specs.Bool.{Decides}
 use Rattle.std.proofs.Common.{◌≡◌, ℕ, zero, suc, ◌+◌, ◌-◌, ◌<◌, ◌≤◌, inl, inr, true, false, length}
-use Rattle.std.proofs.Common.{take, drop, None, ap, sym, ◌∙◌, arith, IsFalse}
+use Rattle.std.proofs.Common.{take, drop, ap, sym, ◌∙◌, arith, IsFalse}
 use Rattle.std.proofs.lemmas.Bool.{cases_lt, cases_eq}
 use Rattle.std.proofs.lemmas.List.{length-take-le, take-append-drop, take-take}
 use Rattle.ttx_page.specs.PacketKind.{kind}
@@ -187,6 +187,8 @@ module _ (g : Task) (frames : Transmission) (from to : ℕ) (stays : StaysTo g f
         ap (λ (s : Standing). s.content) (stands_nothing _ (stands_quiet n f at low high));
     gap = λ n f at low high.
         ap (λ (s : Standing). s.gap) (stands_nothing _ (stands_quiet n f at low high));
+    undecided = λ n f at low high.
+        ap (λ (s : Standing). s.undecided) (stands_nothing _ (stands_quiet n f at low high));
   }
 
   -- And the page stands open at no end of it.

@@ -25,7 +25,9 @@ use Rattle.sub_laws.proofs.PrefixLemmas.{RiseTo, before, packet_at, rises_to}
 use Rattle.sub_laws.proofs.RisingEndLemmas.{latest_at}
 use Rattle.sub_trusted.proofs.SayMarkLemmas.{IsSaid, doubt_of, kept_some, orders_doubted, rose}
 use Rattle.sub_trusted.proofs.TrustedRunLemmas.{EndsQuiet, Run, Stays, StaysTo}
-use Rattle.sub_rules.specs.Trusted.{Mark, stays_quiet, last_begun, late_of, run_of, since_of}
+use Rattle.sub_rules.specs.PieceEvents.{goes_back}
+use Rattle.sub_rules.specs.Trusted.{Mark, back_of, stays_quiet, last_begun, late_of, run_of}
+use Rattle.sub_rules.specs.Trusted.{since_of}
 use Rattle.sub_rules.specs.Trusted.{stands_none, tells_fall, whole_at, whole_of}
 
 -- ---- tests
@@ -250,6 +252,7 @@ module _ (g : Task) (frames : Transmission) (base : ℕ) where
     pub above : (from : ℕ) → run_of t ≡ Some from → IsAbove g frames base from
     pub falls : rose t ≡ false → run_of t ≡ None
     pub at_once : (g.within == 0) ≡ true → SeesNone t
+    pub plain : goes_back g ≡ false → back_of t ≡ None
 
   -- Up to another frame, where the ends before that find nothing broken.
   pub keeps_to : (n x y : ℕ) (t : List Mark) → Keeps n x t
@@ -262,6 +265,7 @@ module _ (g : Task) (frames : Transmission) (base : ℕ) where
     above = keeps.above;
     falls = keeps.falls;
     at_once = keeps.at_once;
+    plain = keeps.plain;
   }
 
   pub passes_before : (late n x y : ℕ) (t : List Mark) → Keeps n x t → MayEnd g frames late n x y
@@ -315,6 +319,7 @@ module _ (g : Task) (frames : Transmission) (base : ℕ) where
           late = said.late_is ∙ none.late;
           whole = λ there. still_some (none.whole (was_some there));
         };
+    plain = λ e. said.back_is ∙ keeps.plain e;
   }
     where
       was_some : is_some (run_of u) ≡ true → is_some (run_of t) ≡ true
@@ -341,6 +346,11 @@ module _ (g : Task) (frames : Transmission) (base : ℕ) where
     pub keeps : Keeps n (latest frames n + suc k) t
     pub floor : base ≤ n
     pub rises : rose t ≡ true → RiseTo frames (suc n)
+    pub back :
+        rose t ≡ true
+        → (r : ℕ)
+        → back_of t ≡ Some r
+        → (0 < n) × (r ≤ latest frames n + k)
 
   pub up_of : (n x from : ℕ) (t : List Mark) → Keeps n x t → (rose t ≡ true → RiseTo frames (suc n))
       → run_of t ≡ Some from
@@ -394,6 +404,11 @@ module _ (g : Task) (frames : Transmission) (base : ℕ) where
     pub rises : rose t ≡ true → RiseTo frames n
     pub since :
         (r from : ℕ) → run_of t ≡ Some from → since_of t ≡ Some r → r ≤ frame_at frames (n - 1)
+    pub back :
+        rose t ≡ true
+        → (r : ℕ)
+        → back_of t ≡ Some r
+        → (0 < n) × (r ≤ frame_at frames (n - 1))
 
   -- After these frame n is sent, and these packets in it so far.
   pub record Opens (n : ℕ) (packets : List (List ℕ)) (t : List Mark) : Type 0 where
@@ -405,11 +420,17 @@ module _ (g : Task) (frames : Transmission) (base : ℕ) where
         (stays_quiet t) ≡ true
         → (rose t ≡ true) × KeepsAll g.watched (packets_before frames n) packets
     pub fresh : stays_quiet t ≡ true → base ≤ n
+    pub back : rose t ≡ true → (r : ℕ) → back_of t ≡ Some r → r ≤ frame_at frames n
 
   -- Of which PES packet is told changes nothing.
   pub closed_at : (n pes : ℕ) (t : List Mark) → Closed n t → Closed n (AtPes pes ∷ t)
-  unfolding run_of whole_of last_begun since_of late_of stays_quiet tells_fall
+  unfolding run_of whole_of last_begun since_of late_of back_of stays_quiet tells_fall
   closed_at n pes t closed = grind (arith, nat_tests)
+
+  -- Frames rose before these events where they rose up to here.
+  pub rose_before : (t u : List Mark) (es : List Event) → IsSaid t u es → rose u ≡ true
+      → rose t ≡ true
+  rose_before t u es said e = let rises_is = said.rises_is in grind (arith, nat_tests)
 
   -- Nor do events before the first frame.
   pub closed_said : (n : ℕ) (t u : List Mark) (es : List Event) → Closed n t → IsSaid t u es
@@ -425,11 +446,12 @@ module _ (g : Task) (frames : Transmission) (base : ℕ) where
         closed.since r from
         (kept_some (run_of t) (doubt_of t es) from (sym said.run_is ∙ is)).0
         (sym said.since_is ∙ e);
+    back = λ e r is. closed.back (rose_before t u es said e) r (sym said.back_is ∙ is);
   }
 
   pub opens_at : (n pes : ℕ) (packets : List (List ℕ)) (t : List Mark) → Opens n packets t
       → Opens n packets (AtPes pes ∷ t)
-  unfolding run_of whole_of last_begun since_of late_of stays_quiet tells_fall
+  unfolding run_of whole_of last_begun since_of late_of back_of stays_quiet tells_fall
   opens_at n pes packets t opens = grind (arith, nat_tests)
 
   -- ---- while a frame is sent
@@ -471,4 +493,5 @@ module _ (g : Task) (frames : Transmission) (base : ℕ) where
         let clean_is = said.clean_is in
         let was : stays_quiet t ≡ true = grind (arith, nat_tests) in
         opens.fresh was;
+    back = λ e r is. opens.back (rose_before t u es said e) r (sym said.back_is ∙ is);
   }

@@ -2,7 +2,8 @@
 -- No piece that is passed over may have been sent in frames that are told as trusted: the frame
 -- before it is none of them, where frames rise up to it. `passed_outside`.
 use Rattle.std.proofs.lemmas.Bool.Decides.{nat_tests}
-use Rattle.std.proofs.Common.{◌≡◌, ℕ, suc, ◌+◌, ◌-◌, ◌<◌, ◌⊎◌, inl, inr, Bool, true, false, ◌==◌}
+use Rattle.std.proofs.Common.{◌≡◌, ℕ, suc, ◌+◌, ◌-◌, ◌<◌, ◌≤◌, ◌⊎◌, inl, inr, Bool, true, false}
+use Rattle.std.proofs.Common.{◌==◌}
 use Rattle.std.proofs.Common.{List, [], ◌∷◌, ◌++◌, Contains, length, map, None, Some, is_some, refl}
 use Rattle.std.proofs.Common.{sym, ap, ◌∙◌, subst, arith, le_refl, append_assoc}
 use Rattle.std.proofs.lemmas.Bool.{true≢false}
@@ -10,7 +11,7 @@ use Rattle.std.proofs.lemmas.List.Elements.{All-append, All-cons, All-contains, 
 use Rattle.std.proofs.lemmas.Option.{none-some, same_Some}
 use Rattle.sub_rules.specs.Events.{unread_fault}
 use Rattle.sub_rules.specs.FrameRules.{Task, Unread, end_frame, frame_at}
-use Rattle.sub_rules.specs.PieceEvents.{all_announced, all_of_pieces, marks_of_closing}
+use Rattle.sub_rules.specs.PieceEvents.{all_announced, all_of_pieces, goes_back, marks_of_closing}
 use Rattle.sub_rules.specs.PieceEvents.{marks_of_each, marks_of_pieces, marks_of_waiting, no_run}
 use Rattle.sub_rules.specs.PieceEvents.{passed_after_all, sent_by_pieces, told_of_pieces}
 use Rattle.sub_rules.specs.Pieces.{Piece, frames_of, joined, joined_after}
@@ -24,16 +25,18 @@ use Rattle.sub_rules.proofs.JoinedLemmas.{marks_of_each-append}
 use Rattle.sub_rules.proofs.TrustedLemmas.{past_after, told_after-append}
 use Rattle.sub_trusted.specs.TrustedFrames.{IsPassedOutside}
 use Rattle.sub_trusted.proofs.TrustedPieceLemmas.{Last, SendsOn, all_pass, each_passes, start}
-use Rattle.sub_trusted.proofs.TrustedKeptLemmas.{Keeps, SeesNone}
+use Rattle.sub_trusted.proofs.TrustedKeptLemmas.{Keeps, SeesNone, run_rises}
 use Rattle.sub_trusted.proofs.TrustedStepLemmas.{Passes}
 use Rattle.sub_trusted.proofs.DoubtLemmas.{EachTrusted, OnTrusted, each-announced, each-ended}
 use Rattle.sub_trusted.proofs.DoubtLemmas.{each-weaker}
 use Rattle.sub_laws.proofs.GrowingFrameLemmas.{Grows, frame_is, grows}
 use Rattle.sub_trusted.proofs.LateDoubtLemmas.{passed_at}
 use Rattle.sub_laws.proofs.PrefixLemmas.{RiseTo, last-same}
-use Rattle.sub_trusted.proofs.SayMarkLemmas.{Goes, Goes-says, doubt_of, said}
+use Rattle.sub_trusted.proofs.SayMarkLemmas.{Goes, Goes-says, back_low, back_to, doubt_of, rose}
+use Rattle.sub_trusted.proofs.SayMarkLemmas.{said}
 use Rattle.sub_trusted.proofs.TrustedFrameLemmas.{part_length, part_rises}
-use Rattle.sub_rules.specs.Trusted.{Mark, stays_quiet, last_begun, late_of, run_of, since_of}
+use Rattle.sub_rules.specs.Trusted.{Mark, back_of, stays_quiet, last_begun, late_of, run_of}
+use Rattle.sub_rules.specs.Trusted.{since_of}
 use Rattle.sub_rules.specs.Trusted.{tells_fall, told_after, told_at, whole_of}
 
 -- With the frames that are read after it those before it are all.
@@ -96,6 +99,27 @@ module _ (g : Task) (earlier : List Piece) (u : Unread) (later : List Piece)
       | inr (later, k, size, opens) ↦ opens.keeps.at_once e
     ]
 
+    plain : goes_back g ≡ false → back_of t ≡ None
+    plain e = elim before.after [
+      | inl (ended, closed) ↦ closed.keeps.plain e
+      | inr (later, k, size, opens) ↦ opens.keeps.plain e
+    ]
+
+    back_high : rose t ≡ true → (r : ℕ) → back_of t ≡ Some r → r ≤ end_frame sent
+    back_high rises r is = elim before.after [
+      | inl (ended, closed) ↦ (closed.back rises r is).1
+      | inr (later, k, size, opens) ↦
+          let low = opens.back rises r is in
+          let at : frame_at sent k ≡ end_frame sent = ap (frame_at sent) (omega arith) in
+          omega arith
+    ]
+
+    run_up : (from : ℕ) → run_of t ≡ Some from → rose t ≡ true
+    run_up from is = elim before.after [
+      | inl (ended, closed) ↦ run_rises (rose t) (run_of t) from closed.keeps.falls is
+      | inr (later, k, size, opens) ↦ run_rises (rose t) (run_of t) from opens.keeps.falls is
+    ]
+
     -- ---- it
 
     abbrev pes : ℕ
@@ -131,6 +155,14 @@ module _ (g : Task) (earlier : List Piece) (u : Unread) (later : List Piece)
         let ends_it = doubt in
         grind (arith, nat_tests)
 
+    now_rose : rose v ≡ true → rose t ≡ true
+    unfolding tells_fall
+    now_rose e = let so = said now es in let is = so.rises_is in grind (arith, nat_tests)
+
+    now_back : back_of v ≡ back_of t
+    unfolding back_of
+    now_back = (said now es).back_is
+
     keeps : (k x : ℕ) → Keeps g frames n k x v
     unfolding run_of whole_of last_begun since_of late_of stays_quiet tells_fall
     keeps k x = record {
@@ -147,6 +179,7 @@ module _ (g : Task) (earlier : List Piece) (u : Unread) (later : List Piece)
             late = so.late_is ∙ before.late;
             whole = λ there. absurd (true≢false (sym there ∙ ap is_some run_none));
           };
+      plain = λ e. now_back ∙ plain e;
     }
 
     sends : SendsOn g frames n sent v
@@ -164,6 +197,12 @@ module _ (g : Task) (earlier : List Piece) (u : Unread) (later : List Piece)
             let rise = rises i positive under in
             omega arith
 
+        back : rose v ≡ true → (r : ℕ) → back_of v ≡ Some r → r ≤ frame_at frames (n - 1)
+        back rises r is =
+            let high = back_high (now_rose rises) r (sym now_back ∙ is) in
+            let own = same (n - 1) (omega arith) in
+            omega arith
+
         go : (b : Bool) → (g.within == 0) ≡ b → SendsOn g frames n sent v
         go true e = inl (
           inl e,
@@ -173,6 +212,7 @@ module _ (g : Task) (earlier : List Piece) (u : Unread) (later : List Piece)
             last = λ below. last_now;
             rises = λ so. up;
             since = λ r from is so. absurd (gone from is);
+            back = λ rises r is. (some, back rises r is);
           },
         )
         go false e = inr (
@@ -186,11 +226,13 @@ module _ (g : Task) (earlier : List Piece) (u : Unread) (later : List Piece)
             rises = λ so i positive under. up i positive (omega arith);
             clean = λ clean. absurd (true≢false (sym clean ∙ unclean));
             fresh = λ clean. absurd (true≢false (sym clean ∙ unclean));
+            back = back;
           },
         )
 
     -- What it ends is before its frame.
     ended : EachTrusted Outside (told_after now (map Says es))
+    unfolding run_of back_of
     ended =
         (Goes-says Outside (λ z. List Mark) now es
         (All-cons (OnTrusted Outside) (Told (unread_fault pes (Some u))) []
@@ -198,6 +240,9 @@ module _ (g : Task) (earlier : List Piece) (u : Unread) (later : List Piece)
         (λ x from w doubted run whole under.
         let at : last_begun now ≡ x = same_Some (last_begun now) x (sym doubt ∙ doubted) in
         let last = now_last in
+        let low : back_to now x ≤ end_frame sent =
+        back_low now x (end_frame sent) (omega arith)
+        (λ r is. back_high (run_up from run) r is) in
         inr (omega arith)) (λ z so. z)).each
 
     -- ---- all

@@ -21,7 +21,7 @@ use Rattle.sub_rules.proofs.AnyToldLemmas.{own_closing}
 use Rattle.sub_rules.proofs.TrustedLemmas.{past_after, told_after-append}
 use Rattle.sub_trusted.proofs.TrustedKeptLemmas.{Closed, MayPass, MayStand, Opens}
 use Rattle.sub_trusted.proofs.TrustedKeptLemmas.{closed_at}
-use Rattle.sub_trusted.proofs.TrustedKeptLemmas.{opens_at, passes_before}
+use Rattle.sub_trusted.proofs.TrustedKeptLemmas.{opens_at, passes_before, run_rises}
 use Rattle.sub_trusted.proofs.TrustedEndingLemmas.{ending}
 use Rattle.sub_trusted.proofs.TrustedStepLemmas.{Passes, arrival, more_sent, passed, passed_ended}
 use Rattle.sub_trusted.proofs.DoubtLemmas.{EachTrusted, OnTrusted, each-announced, each-ended}
@@ -29,9 +29,10 @@ use Rattle.sub_trusted.proofs.DoubtLemmas.{each-own, each-weaker}
 use Rattle.sub_laws.proofs.GrowingFrameLemmas.{long, so_many}
 use Rattle.sub_laws.proofs.PieceWalkLemmas.{EachPassed, Sends, Steps, each_piece, waits}
 use Rattle.sub_trusted.proofs.SayMarkLemmas.{Goes, Goes-append, Goes-nil, Goes-pes, Goes-says}
-use Rattle.sub_trusted.proofs.SayMarkLemmas.{each_put, told_of}
+use Rattle.sub_trusted.proofs.SayMarkLemmas.{each_put, rose, told_of}
 use Rattle.std.specs.Prelude.{⊤}
-use Rattle.sub_rules.specs.Trusted.{Mark, closing_at, is_said, stays_quiet, last_begun, late_of}
+use Rattle.sub_rules.specs.Trusted.{Mark, back_of, closing_at, is_said, stays_quiet, last_begun}
+use Rattle.sub_rules.specs.Trusted.{late_of}
 use Rattle.sub_rules.specs.Trusted.{run_of}
 use Rattle.sub_rules.specs.Trusted.{since_of, tells_fall, tells_none, told_after, told_at}
 use Rattle.sub_rules.specs.Trusted.{trusted, whole_of}
@@ -94,18 +95,20 @@ module _ (g : Task) (frames : Transmission) (base : ℕ) where
       let own = each-own Last n (closing_events g frames n) (own_closing g frames n all) in
       grind (arith, nat_tests, All-nil, All-cons)
 
-  end_low : (since : Option ℕ) (left : Bool) (last : ℕ)
+  end_low : (since back : Option ℕ) (left : Bool) (last : ℕ)
       → ((r : ℕ) → since ≡ Some r → r ≤ last)
-      → unwrap_or since (if left then last else suc last) ≤ last + 1
-  end_low since left last h = grind (arith, nat_tests)
+      → ((r : ℕ) → back ≡ Some r → r ≤ last)
+      → unwrap_or since (if left then unwrap_or back last else suc last) ≤ last + 1
+  end_low since back left last h k = grind (arith, nat_tests)
 
   closing : (pes : ℕ) (t : List Mark) → Closed g frames base (length frames) t
       → EachTrusted Last (told_after t (marks_of_closing g frames pes (length frames)))
-  unfolding told_after told_at run_of whole_of last_begun since_of late_of stays_quiet tells_fall
+  unfolding told_after told_at run_of whole_of last_begun since_of late_of back_of stays_quiet
+      tells_fall
   closing pes t closed =
       let n : ℕ = length frames in
       let es : List Event = closing_of_pieces g frames pes n in
-      let more : Bool = not (tells_none es) in
+      let more : Bool = g.beside || not (tells_none es) in
       let t0 : List Mark = AtPes pes ∷ t in
       let t1 : List Mark = Closes (is_some g.unread) more ∷ t0 in
       All-append (OnTrusted Last) (told_at t0 (Closes (is_some g.unread) more))
@@ -119,8 +122,12 @@ module _ (g : Task) (frames : Transmission) (base : ℕ) where
           let below = (closed.keeps.run from run).below in
           let at = closed.last (omega arith) in
           let top =
-          end_low (since_of t) (is_some g.unread) (last_begun t)
-          (λ r is. let low = closed.since r from run is in omega arith) in
+          end_low (since_of t) (back_of t) (is_some g.unread) (last_begun t)
+          (λ r is. let low = closed.since r from run is in omega arith)
+          (λ r is.
+          let rises = run_rises (rose t) (run_of t) from closed.keeps.falls run in
+          let low = (closed.back rises r is).1 in
+          omega arith) in
           omega arith
 
       last : (b : Bool) → EachTrusted Last
@@ -173,7 +180,7 @@ module _ (g : Task) (frames : Transmission) (base : ℕ) where
 
 module _ (g : Task) (frames : Transmission) where
   pub start : Closed g frames 0 0 []
-  unfolding run_of whole_of last_begun since_of late_of stays_quiet
+  unfolding run_of whole_of last_begun since_of late_of back_of stays_quiet
   start = grind (arith, nat_tests)
 
   told_stays : (pieces : List Piece) → sent_by_pieces g pieces ≡ frames

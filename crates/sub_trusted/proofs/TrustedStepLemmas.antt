@@ -5,95 +5,44 @@
 use Rattle.std.proofs.lemmas.Bool.Decides.{nat_tests}
 use Rattle.std.proofs.Common.{◌≡◌, ℕ, zero, suc, ◌+◌, ◌-◌, ◌<◌, ◌≤◌, inl, inr, true, false, not}
 use Rattle.std.proofs.Common.{◌==◌, ◌&&◌, Bool, None, if◌then◌else◌, List, [], ◌∷◌, ◌++◌}
-use Rattle.std.proofs.Common.{length, map, Option, Some, refl, sym, ◌∙◌, subst, arith, le_refl}
+use Rattle.std.proofs.Common.{length, map, Some, refl, sym, ◌∙◌, subst, arith, le_refl}
 use Rattle.std.proofs.Common.{unwrap_or, is_some, ap}
-use Rattle.std.proofs.lemmas.Bool.{cases_lt}
+use Rattle.std.proofs.lemmas.Bool.{cases_lt, true≢false}
 use Rattle.std.proofs.lemmas.List.Elements.{All-cons, All-nil}
 use Rattle.std.proofs.lemmas.Option.{same_Some}
 use Rattle.std.specs.List.{list_any}
-use Rattle.std.specs.Option.{option_or}
 use Rattle.sub_rules.specs.Events.{end_before, events_at_end, gap_length, is_late, latest}
 use Rattle.sub_rules.specs.Events.{order_events, packets_told, standing_at, standing_before}
-use Rattle.sub_rules.specs.Events.{unfinished_since, unread_fault}
+use Rattle.sub_rules.specs.Events.{since_before, unread_fault}
 use Rattle.sub_rules.specs.FrameRules.{Task, Unread, end_frame, frame_at, packets_before}
-use Rattle.sub_rules.specs.PieceEvents.{marks_at_end, marks_of_arrival, marks_of_gap}
+use Rattle.sub_rules.specs.PieceEvents.{goes_back, marks_at_end, marks_before, marks_of_arrival}
+use Rattle.sub_rules.specs.PieceEvents.{marks_of_gap}
 use Rattle.sub_rules.specs.Transmission.{Transmission}
-use Rattle.sub_rules.specs.Trusted.Mark.{AtEnd, Begins, Says}
+use Rattle.sub_rules.specs.Trusted.Mark.{Begins, GoesBack, Says}
 use Rattle.sub_rules.specs.declared.event.Event.{Event}
 use Rattle.sub_rules.specs.declared.event.Event.TheVariants.{Told}
-use Rattle.sub_laws.specs.CleanStretch.{IsEnd}
 use Rattle.sub_trusted.proofs.TrustedKeptLemmas.{Arrives, Closed, IsWhole, Keeps, MayEnd, MayPass}
 use Rattle.sub_trusted.proofs.TrustedKeptLemmas.{Opens}
-use Rattle.sub_trusted.proofs.TrustedKeptLemmas.{SeesNone, closed_said, Up, calm, end_few}
+use Rattle.sub_trusted.proofs.TrustedKeptLemmas.{closed_said, Up, calm, end_few}
 use Rattle.sub_trusted.proofs.TrustedKeptLemmas.{may_before, opens_said, gap_end, keeps_said}
 use Rattle.sub_trusted.proofs.TrustedKeptLemmas.{keeps_to}
 use Rattle.sub_trusted.proofs.TrustedKeptLemmas.{passes_before, run_low, stood, up_of, whole_found}
-use Rattle.sub_trusted.proofs.TrustedKeptLemmas.{whole_some}
+use Rattle.sub_trusted.proofs.TrustedKeptLemmas.{rose_before, run_rises, whole_some}
 use Rattle.sub_trusted.proofs.DoubtLemmas.{OnTrusted}
 use Rattle.sub_trusted.proofs.LateDoubtLemmas.{end_doubt, end_own, keeps_joined, late_low, order_at}
 use Rattle.sub_trusted.proofs.LateDoubtLemmas.{order_own, order_rises, packets_doubt, packets_own}
-use Rattle.sub_trusted.proofs.LateDoubtLemmas.{passed_at, seen_low, seen_since}
+use Rattle.sub_trusted.proofs.LateDoubtLemmas.{before_low, passed_at, seen_low, seen_since}
 use Rattle.sub_laws.proofs.PrefixLemmas.{RiseTo, before}
 use Rattle.sub_laws.proofs.RisingEndLemmas.{latest_at}
 use Rattle.sub_trusted.proofs.SayMarkLemmas.{Goes, Goes-append, Goes-cons, Goes-nil, Goes-says}
-use Rattle.sub_trusted.proofs.SayMarkLemmas.{IsSaid, doubt_of, is_order, kept_some, rose}
+use Rattle.sub_trusted.proofs.SayMarkLemmas.{IsSaid, back_low, back_to, doubt_of, is_order}
+use Rattle.sub_trusted.proofs.SayMarkLemmas.{kept_some, rose}
+use Rattle.sub_trusted.proofs.TrustedLookLemmas.{Backs, HasEnd, Looks, with_end}
 use Rattle.sub_trusted.proofs.TrustedRunLemmas.{EndsQuiet}
-use Rattle.sub_rules.specs.Trusted.{Mark, stays_quiet, last_begun, late_of, run_of, since_of}
-use Rattle.sub_rules.specs.Trusted.{stands_none, tells_fall, told_at, whole_at, whole_of}
-
--- ---- the mark of an end
-
-module _ (g : Task) (frames : Transmission) where
-  -- The end of frame f was looked at, up to which n frames count.
-  pub record Looks (n f : ℕ) (t u : List Mark) : Type 0 where
-    pub run_is : run_of u ≡ run_of t
-    pub whole_is :
-        is_some (run_of t) ≡ true
-        → whole_of u ≡ option_or (whole_of t) (whole_at f (seen_since g frames n f))
-    pub last_is : last_begun u ≡ last_begun t
-    pub rises_is : rose u ≡ rose t
-    pub clean_is : stays_quiet u ≡ stays_quiet t
-    pub since_is : since_of u ≡ seen_since g frames n f
-    pub late_is :
-        late_of u
-        ≡ (if not (g.within == 0) && is_late g frames n f then seen_since g frames n f else None)
-
-  -- It has a mark within some frames; where each end is told at once one would change nothing. So
-  -- what comes there may be taken as what is told once it was looked at.
-  pub with_end : (T : List Mark → List Mark → Type 0) (i n f : ℕ) (t : List Mark)
-      → ((g.within == 0) ≡ true → SeesNone t)
-      → ((m : Mark) (ms : List Mark) → told_at t m ≡ [] → T (m ∷ t) ms → T t (m ∷ ms))
-      → ((u : List Mark) → Looks n f t u → T u (map Says (events_at_end g frames i n f)))
-      → T t (marks_at_end g frames i n f)
-  unfolding told_at run_of whole_of last_begun since_of late_of stays_quiet tells_fall
-  with_end T i n f t none cons so = go (g.within == 0) refl
-    where
-      es : List Event
-      es = events_at_end g frames i n f
-
-      since : Option ℕ
-      since = unfinished_since g frames n f
-
-      unseen : (g.within == 0) ≡ true → SeesNone t → Looks n f t t
-      unseen e sees =
-          let since = sees.since in
-          let late = sees.late in
-          let whole = sees.whole in
-          grind (arith, nat_tests)
-
-      seen : (g.within == 0) ≡ false → Looks n f t (AtEnd f since (is_late g frames n f) ∷ t)
-      seen e = grind (arith, nat_tests)
-
-      go : (c : Bool) → (g.within == 0) ≡ c
-          → T t ((if c then [] else AtEnd f since (is_late g frames n f) ∷ []) ++ map Says es)
-      go true e = so t (unseen e (none e))
-      go false e =
-          cons (AtEnd f since (is_late g frames n f)) (map Says es) refl
-          (so (AtEnd f since (is_late g frames n f) ∷ t) (seen e))
-
-  -- Frame f, which is not before this one, has an end, up to which m frames count, and these rise.
-  abbrev pub HasEnd : ℕ → ℕ → ℕ → Type 0
-  HasEnd m f from = (from ≤ f) × IsEnd frames m f × RiseTo frames m
+use Rattle.sub_rules.proofs.EndLemmas.{gap_length-is}
+use Rattle.sub_rules.specs.Trusted.{Mark, back_of, stays_quiet, last_begun, late_of, run_of}
+use Rattle.sub_rules.specs.Trusted.{since_of}
+use Rattle.sub_rules.specs.Trusted.{stands_none, tells_fall, told_at, whole_of}
 
 -- ---- what is told
 
@@ -148,6 +97,7 @@ module _ (g : Task) (frames : Transmission) (base : ℕ) where
               ap is_some (looks.whole_is (sym (ap is_some looks.run_is) ∙ there))
               ∙ whole_some (whole_of t) (seen_since g frames m f) f none;
         };
+    plain = λ e. looks.plain e ∙ keeps.plain e;
   }
     where
       was : (from : ℕ) → run_of u ≡ Some from → run_of t ≡ Some from
@@ -164,12 +114,16 @@ module _ (g : Task) (frames : Transmission) (base : ℕ) where
       → (y : ℕ)
       → y ≤ f
       → MayEnd g frames (end_frame frames) n f y)
-      → ((u v : List Mark) → Looks g frames m f t u → IsSaid u v (events_at_end g frames n m f)
+      → ((from : ℕ) → run_of t ≡ Some from → 0 < n → latest frames n < f)
+      → ((u v : List Mark)
+      → Looks g frames m f t u
+      → Backs g frames n f u
+      → IsSaid u v (events_at_end g frames n m f)
       → S v)
       → Tells S t (marks_at_end g frames n m f)
-  end_tells n m f t S high keeps low may after =
-      with_end g frames (Tells S) n m f t keeps.at_once (Goes-cons Passes S t)
-      (λ u looks.
+  end_tells n m f t S high keeps low may past after =
+      with_end g frames (Tells S) n m f t keeps.at_once keeps.plain (Goes-cons Passes S)
+      (λ u looks backs.
       Goes-says Passes S u (events_at_end g frames n m f)
       (end_own Passes (standing_before g frames n f) (end_before frames n f)
       (standing_at g frames m f) f)
@@ -182,9 +136,12 @@ module _ (g : Task) (frames : Transmission) (base : ℕ) where
       rw looks.late_is
       (late_low (not (g.within == 0) && is_late g frames m f) (seen_since g frames m f) f
       (λ r since. seen_low g frames m f r since (high from was))) in
-      passes n f x u (keeps_end n f m f t u looks keeps low) (may from was x (omega arith)) from w
-      run whole l)
-      (λ v said. after u v looks said))
+      let back : back_to u x ≤ f =
+      back_low u x f (omega arith)
+      (λ r is. (before_low g frames n f r (backs r is) (past from was)).1) in
+      passes n f (back_to u x) u (keeps_end n f m f t u looks keeps low)
+      (may from was (back_to u x) back) from w run whole l)
+      (λ v said. after u v looks backs said))
 
   -- ---- the ends of frames of the day before a frame
 
@@ -197,7 +154,8 @@ module _ (g : Task) (frames : Transmission) (base : ℕ) where
       let keeps = arrives.keeps in
       let es : List Event = events_at_end g frames n n f in
       end_tells n n f t (Arrives g frames base n (suc k)) (λ from is. omega arith) keeps low may
-      (λ u v looks said. record {
+      (λ from is some. omega arith)
+      (λ u v looks backs said. record {
         keeps =
             let kept =
             keeps_said g frames base n f u v es (keeps_end n f n f t u looks keeps low) said in
@@ -210,6 +168,8 @@ module _ (g : Task) (frames : Transmission) (base : ℕ) where
             let looked = looks.rises_is in
             grind (arith, nat_tests) in
             arrives.rises was;
+        back = λ e r is.
+            before_low g frames n f r (backs r (sym said.back_is ∙ is)) (λ some. omega arith);
       })
     where
       up : (from : ℕ) → run_of t ≡ Some from → Up g frames n
@@ -291,6 +251,26 @@ module _ (g : Task) (frames : Transmission) (base : ℕ) where
       → MayEnd g frames (end_frame frames) n (frame_at frames (n - 1) + 1) x
   may_ended n x within low = grind (arith, nat_tests)
 
+  -- Nor is a frame told after that one where it is trusted no more.
+  closed_back : (n x from : ℕ) (t : List Mark) → Closed g frames base n t
+      → run_of t ≡ Some from
+      → x ≤ frame_at frames (n - 1)
+      → back_to t x ≤ frame_at frames (n - 1)
+  closed_back n x from t closed run low =
+      back_low t x (frame_at frames (n - 1)) low
+      (λ r is.
+      (closed.back (run_rises (rose t) (run_of t) from closed.keeps.falls run) r is).1)
+
+  opens_back : (n x from : ℕ) (packets : List (List ℕ)) (t : List Mark)
+      → Opens g frames base n packets t
+      → run_of t ≡ Some from
+      → x ≤ frame_at frames n
+      → back_to t x ≤ frame_at frames n
+  opens_back n x from packets t opens run low =
+      back_low t x (frame_at frames n) low
+      (λ r is.
+      opens.back (run_rises (rose t) (run_of t) from opens.keeps.falls run) r is)
+
   pub order_step : (n : ℕ) (t : List Mark) → n < length frames → Closed g frames base n t
       → Tells (Arrives g frames base n 0) t (map Says (order_events g frames n))
   order_step n t there closed =
@@ -300,8 +280,9 @@ module _ (g : Task) (frames : Transmission) (base : ℕ) where
       let at : x ≡ last_begun t = order_at t g frames n x doubt in
       let below = (closed.keeps.run from run).below in
       let last = closed.last (omega arith) in
-      passes n (frame_at frames (n - 1) + 1) x t closed.keeps
-      (may_ended n x (omega arith) (omega arith)) from w run whole l)
+      passes n (frame_at frames (n - 1) + 1) (back_to t x) t closed.keeps
+      (may_ended n (back_to t x) (omega arith)
+      (closed_back n x from t closed run (omega arith))) from w run whole l)
       (λ u said.
       let kept =
       keeps_said g frames base n (frame_at frames (n - 1) + 1) t u (order_events g frames n)
@@ -316,8 +297,18 @@ module _ (g : Task) (frames : Transmission) (base : ℕ) where
             kept.ends from is m e end few after (omega arith));
         floor = closed.floor;
         rises = λ e. up u said e;
+        back = λ e r is. back u said e r is;
       })
     where
+      back : (u : List Mark) → IsSaid t u (order_events g frames n) → rose u ≡ true
+          → (r : ℕ) → back_of u ≡ Some r
+          → (0 < n) × (r ≤ latest frames n + 0)
+      back u said e r is =
+          let rose_then = rose_before g frames base t u (order_events g frames n) said e in
+          let (some, low) = closed.back rose_then r (sym said.back_is ∙ is) in
+          let last = latest_at frames n (closed.rises rose_then) some in
+          (some, omega arith)
+
       up : (u : List Mark) → IsSaid t u (order_events g frames n) → rose u ≡ true
           → RiseTo frames (suc n)
       up u said e i a b =
@@ -336,7 +327,7 @@ module _ (g : Task) (frames : Transmission) (base : ℕ) where
   pub begins : (n : ℕ) (t : List Mark) → n < length frames
       → Arrives g frames base n (gap_length frames n) t
       → Opens g frames base n [] (Begins (frame_at frames n) ∷ t)
-  unfolding run_of whole_of last_begun since_of late_of stays_quiet tells_fall
+  unfolding run_of whole_of last_begun since_of late_of back_of stays_quiet tells_fall
   begins n t there arrives =
       let keeps = arrives.keeps in
       record {
@@ -353,13 +344,65 @@ module _ (g : Task) (frames : Transmission) (base : ℕ) where
           at_once = λ e.
               let none = keeps.at_once e in
               record { since = none.since; late = none.late; whole = none.whole };
+          plain = keeps.plain;
         };
         floor = (let low = arrives.floor in omega arith);
         last = refl;
         rises = arrives.rises;
         clean = λ e. (e, λ k l. absurd (omega arith));
         fresh = λ e. arrives.floor;
+        back = λ e r is.
+            let (some, low) = arrives.back e r is in
+            let long = gap_length-is frames n some in
+            let rises = arrives.rises e in
+            let up = rises n some (omega arith) in
+            let last = latest_at frames n (λ i a b. rises i a (omega arith)) some in
+            omega arith;
       }
+
+  -- Since which frame the page was not whole before it.
+  pub begins_back : (n : ℕ) (t : List Mark) → Opens g frames base n [] t → goes_back g ≡ true
+      → Opens g frames base n [] (GoesBack (since_before g frames n (frame_at frames n)) ∷ t)
+  unfolding run_of whole_of last_begun since_of late_of back_of stays_quiet tells_fall
+  begins_back n t opens back =
+      let keeps = opens.keeps in
+      record {
+        keeps = record {
+          run = keeps.run;
+          ends = keeps.ends;
+          whole = keeps.whole;
+          above = keeps.above;
+          falls = keeps.falls;
+          at_once = λ e.
+              let none = keeps.at_once e in
+              record { since = none.since; late = none.late; whole = none.whole };
+          plain = λ e. absurd (true≢false (sym back ∙ e));
+        };
+        floor = opens.floor;
+        last = opens.last;
+        rises = opens.rises;
+        clean = opens.clean;
+        fresh = opens.fresh;
+        back = λ e r is.
+            (before_low g frames n (frame_at frames n) r is
+            (λ some.
+            let rises = opens.rises e in
+            let up = rises n some (omega arith) in
+            let last = latest_at frames n (λ i a b. rises i a (omega arith)) some in
+            omega arith)).1;
+      }
+
+  goes_back_tells : (n : ℕ) (t : List Mark) (b : Bool) → goes_back g ≡ b
+      → Opens g frames base n [] t
+      → Tells (Opens g frames base n []) t
+      (if b then GoesBack (since_before g frames n (frame_at frames n)) ∷ [] else [])
+  unfolding told_at
+  goes_back_tells n t false is opens =
+      Goes-nil Passes (Opens g frames base n []) t opens
+  goes_back_tells n t true is opens =
+      let mark : Mark = GoesBack (since_before g frames n (frame_at frames n)) in
+      Goes-cons Passes (Opens g frames base n []) t mark [] refl
+      (Goes-nil Passes (Opens g frames base n []) (mark ∷ t) (begins_back n t opens is))
 
   pub arrival : (n : ℕ) (t : List Mark) → n < length frames → Closed g frames base n t
       → Tells (Opens g frames base n []) t (marks_of_arrival g frames n)
@@ -368,15 +411,17 @@ module _ (g : Task) (frames : Transmission) (base : ℕ) where
       Goes-append Passes (Arrives g frames base n (gap_length frames n))
       (Opens g frames base n []) t
       (map Says (order_events g frames n) ++ marks_of_gap g frames n (gap_length frames n))
-      (Begins (frame_at frames n) ∷ [])
+      (Begins (frame_at frames n)
+      ∷ marks_before g (since_before g frames n (frame_at frames n)))
       (Goes-append Passes (Arrives g frames base n 0)
       (Arrives g frames base n (gap_length frames n)) t (map Says (order_events g frames n))
       (marks_of_gap g frames n (gap_length frames n)) (order_step n t there closed)
       (λ u so. gaps n (gap_length frames n) u there (le_refl (gap_length frames n)) so))
       (λ v here.
-      Goes-cons Passes (Opens g frames base n []) v (Begins (frame_at frames n)) [] refl
-      (Goes-nil Passes (Opens g frames base n [])
-      (Begins (frame_at frames n) ∷ v) (begins n v there here)))
+      Goes-cons Passes (Opens g frames base n []) v (Begins (frame_at frames n))
+      (marks_before g (since_before g frames n (frame_at frames n))) refl
+      (goes_back_tells n (Begins (frame_at frames n) ∷ v) (goes_back g) refl
+      (begins n v there here)))
 
   -- ---- while it is sent
 
@@ -398,9 +443,9 @@ module _ (g : Task) (frames : Transmission) (base : ℕ) where
       (length more))
       (λ x from w doubt run whole l.
       let at : x ≡ frame_at frames n = finds.at x doubt in
-      passes n (frame_at frames n) x t opens.keeps
-      (may_before g frames base n packets t there opens from run (end_frame frames) x
-      (omega arith)) from w run whole l)
+      passes n (frame_at frames n) (back_to t x) t opens.keeps
+      (may_before g frames base n packets t there opens from run (end_frame frames) (back_to t x)
+      (opens_back n x from packets t opens run (omega arith))) from w run whole l)
       (λ u said.
       opens_said g frames base n packets (packets ++ more) t u es opens said
       (λ none kept.
@@ -420,8 +465,9 @@ module _ (g : Task) (frames : Transmission) (base : ℕ) where
       let same : last_begun t ≡ x = same_Some (last_begun t) x is in
       let below = (closed.keeps.run from run).below in
       let last = closed.last (omega arith) in
-      passes n (frame_at frames (n - 1) + 1) x t closed.keeps
-      (may_ended n x within (omega arith)) from w run whole l)
+      passes n (frame_at frames (n - 1) + 1) (back_to t x) t closed.keeps
+      (may_ended n (back_to t x) within (closed_back n x from t closed run (omega arith))) from w
+      run whole l)
       (λ v said. closed_said g frames base n t v es closed said)
 
   -- Or while it is sent.
@@ -438,7 +484,7 @@ module _ (g : Task) (frames : Transmission) (base : ℕ) where
       let is : Some (last_begun t) ≡ Some x = sym (passed_at t pes u) ∙ doubt in
       let same : last_begun t ≡ x = same_Some (last_begun t) x is in
       let last = opens.last in
-      passes n (frame_at frames n) x t opens.keeps
-      (may_before g frames base n packets t there opens from run (end_frame frames) x
-      (omega arith)) from w run whole l)
+      passes n (frame_at frames n) (back_to t x) t opens.keeps
+      (may_before g frames base n packets t there opens from run (end_frame frames) (back_to t x)
+      (opens_back n x from packets t opens run (omega arith))) from w run whole l)
       (λ v said. opens_said g frames base n packets packets t v es opens said (λ none kept. kept))

@@ -1,12 +1,12 @@
 -- What is promised of the frames that are told as trusted, whatever is broken elsewhere; and that
 -- no others may be.
-use Rattle.std.specs.Prelude.{◌≡◌, ◌≢◌, ℕ, zero, suc, ◌<◌, ◌≤◌, ◌==◌, ◌&&◌, nat_lt, Bool, true}
+use Rattle.std.specs.Prelude.{◌≡◌, ◌≢◌, ℕ, zero, suc, ◌+◌, ◌<◌, ◌≤◌, ◌==◌, ◌&&◌, nat_lt, Bool}
 use Rattle.std.specs.Prelude.{List, [], ◌∷◌, ◌++◌, ◌⊎◌, Contains, length, take, Option, Some}
-use Rattle.std.specs.Prelude.{IsFalse, IsTrue, if◌then◌else◌}
+use Rattle.std.specs.Prelude.{IsFalse, IsTrue, if◌then◌else◌, true}
 use Rattle.stl_rows.specs.Programme.{ProgrammeValue}
 use Rattle.sub_plan.specs.Options.{OptionsValue}
 use Rattle.sub_rules.specs.Events.{is_unfinished, standing_at}
-use Rattle.sub_rules.specs.FrameRules.{HasHeader, Task, Unread, frame_at, task_of}
+use Rattle.sub_rules.specs.FrameRules.{HasHeader, Task, Unread, frame_at}
 use Rattle.sub_rules.specs.Good.{HoldsHeader}
 use Rattle.sub_rules.specs.PieceEvents.{all_of_pieces, sent_by_pieces}
 use Rattle.sub_rules.specs.Pieces.{Piece}
@@ -15,7 +15,7 @@ use Rattle.sub_rules.specs.Transmission.{IsRising, Transmission, first_frame, la
 use Rattle.sub_rules.specs.Transmission.{packets_of}
 use Rattle.sub_rules.specs.Trusted.{stands_none}
 use Rattle.sub_rules.specs.declared.event.Event.TheVariants.{Trusted}
-use Rattle.sub_laws.specs.CleanStretch.{AtEnds, IsUntold}
+use Rattle.sub_laws.specs.CleanStretch.{AtEnds, IsUntold, task_unsure}
 use Rattle.sub_laws.specs.OnScreen.{CompleteWithin}
 use Rattle.sub_laws.specs.Stretch.{MayBeTrusted}
 
@@ -87,15 +87,29 @@ pub record MayStay
 
 -- Frames that are told as trusted of a PES file may stay, as they are read of its part in which
 -- frames rise: whatever is broken and whatever is on air elsewhere. So who mends a transmission
--- need not touch them.
+-- need not touch them. Beside what is refused of the subtitle file they may stay by the programme
+-- of what can be relied on in it, whatever is due at the frames at which that is not known.
 abbrev pub LawOfTrusted : Type 0
 LawOfTrusted =
     (programme : ProgrammeValue) (options : OptionsValue) (unread : Option Unread)
-    → (pieces : List Piece) (from to : ℕ)
+    → (beside : Bool) (undecided : ℕ → Bool) (pieces : List Piece) (from to : ℕ)
     → options.within ≡ 0
-    → Contains (all_of_pieces (task_of programme options unread) pieces) (Trusted from to)
-    → StaysAsRead (task_of programme options unread) pieces from to
+    → Contains (all_of_pieces (task_unsure programme options unread beside undecided) pieces)
+    (Trusted from to)
+    → StaysAsRead (task_unsure programme options unread beside undecided) pieces from to
     (λ on_air. MayStay programme on_air options from to)
+
+-- At each of them it is known what is due; and within some frames at each of so many before one of
+-- them that is not before the first frame that was read.
+abbrev pub LawOfTrustedKnown : Type 0
+LawOfTrustedKnown =
+    (g : Task) (pieces : List Piece) (from to : ℕ)
+    → Contains (all_of_pieces g pieces) (Trusted from to)
+    → (f : ℕ)
+    → first_frame (rising_of g pieces) ≤ f
+    → f ≤ to
+    → from ≤ f + g.within
+    → IsFalse (g.undecided f)
 
 -- ---- nothing is left out
 

@@ -1,15 +1,16 @@
 -- What is promised of the frames that are told as trusted of a transmission that may be late,
 -- whatever is broken elsewhere.
-use Rattle.std.specs.Prelude.{ℕ, ◌<◌, Contains, List, Option}
+use Rattle.std.specs.Prelude.{ℕ, ◌<◌, Bool, Contains, List, Option}
 use Rattle.stl_rows.specs.Programme.{IsProgramme, ProgrammeValue}
 use Rattle.sub_plan.specs.Options.{OptionsValue}
-use Rattle.sub_rules.specs.FrameRules.{Unread, task_of}
+use Rattle.sub_rules.specs.FrameRules.{Unread}
 use Rattle.sub_rules.specs.Good.{HoldsHeader}
 use Rattle.sub_rules.specs.GoodWithin.{SomeFinished}
 use Rattle.sub_rules.specs.PieceEvents.{all_of_pieces}
 use Rattle.sub_rules.specs.Pieces.{Piece}
 use Rattle.sub_rules.specs.Transmission.{Transmission}
 use Rattle.sub_rules.specs.declared.event.Event.TheVariants.{Trusted}
+use Rattle.sub_laws.specs.CleanStretch.{task_unsure}
 use Rattle.sub_laws.specs.Delay.{MayBeTrustedWithDelay}
 use Rattle.sub_trusted.specs.TrustedFrames.{StaysAsRead}
 
@@ -28,13 +29,15 @@ pub record MayStayWithDelay
 -- Frames that are told as trusted of a PES file within some frames may stay, as they are read of
 -- its part in which frames rise: whatever is broken and whatever is on air elsewhere. PES packets
 -- of one frame that follow one another are one there. So who mends a transmission that may be late
--- need not touch them.
+-- need not touch them. Beside what is refused of the subtitle file they may by the programme of
+-- what can be relied on in it.
 abbrev pub LawOfTrustedWithDelay : Type 0
 LawOfTrustedWithDelay =
     (programme : ProgrammeValue) (options : OptionsValue) (unread : Option Unread)
-    → (pieces : List Piece) (from to : ℕ)
+    → (beside : Bool) (undecided : ℕ → Bool) (pieces : List Piece) (from to : ℕ)
     → IsProgramme programme.drawing programme.records
     → 0 < options.within
-    → Contains (all_of_pieces (task_of programme options unread) pieces) (Trusted from to)
-    → StaysAsRead (task_of programme options unread) pieces from to
+    → Contains (all_of_pieces (task_unsure programme options unread beside undecided) pieces)
+    (Trusted from to)
+    → StaysAsRead (task_unsure programme options unread beside undecided) pieces from to
     (λ on_air. MayStayWithDelay programme on_air options from to)

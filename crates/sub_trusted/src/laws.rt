@@ -2,11 +2,13 @@
 //!
 //! The functions do nothing: the contract of each is a law over the definitions of `specs/`.
 ghost use Rattle.sub_trusted.specs.TrustedFrames.{LawOfAllTrusted, LawOfTrusted};
+ghost use Rattle.sub_trusted.specs.TrustedFrames.{LawOfTrustedKnown};
 ghost use Rattle.sub_trusted.specs.TrustedWithDelay.{LawOfTrustedWithDelay};
 
 /// Frames that are told as trusted of a PES file may stay on air as they are, whatever is broken
 /// and whatever is on air elsewhere: the first one holds a header of the page, and from it on
-/// receivers recover there. No piece that is passed over may have been sent in them.
+/// receivers recover there. No piece that is passed over may have been sent in them. So it is by
+/// the programme of what can be relied on in a subtitle file, beside what is refused of it.
 pub fn law_of_trusted()
     ensures { LawOfTrusted }
 {}
@@ -15,6 +17,12 @@ pub fn law_of_trusted()
 /// recover there with a delay, and one of the frames at least is finished.
 pub fn law_of_trusted_with_delay()
     ensures { LawOfTrustedWithDelay }
+{}
+
+/// At each of these frames it is known what is due, beside what is refused of the subtitle file;
+/// and where the page may be late, at each of so many before one of them.
+pub fn law_of_trusted_known()
+    ensures { LawOfTrustedKnown }
 {}
 
 /// No frame that may stay is left out: where anything is told of a PES file, each stretch of which

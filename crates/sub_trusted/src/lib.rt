@@ -11,4 +11,6 @@
 
 mod laws;
 
-pub use laws::{law_of_all_trusted, law_of_trusted, law_of_trusted_with_delay};
+pub use laws::{
+    law_of_all_trusted, law_of_trusted, law_of_trusted_known, law_of_trusted_with_delay,
+};
