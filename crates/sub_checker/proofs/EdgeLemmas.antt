@@ -1,15 +1,16 @@
 -- The due page from one edge to the next.
 use Rattle.std.proofs.lemmas.Bool.Decides.{nat_tests}
-use Rattle.std.proofs.Common.{Option, Some, None, ◌≡◌, ℕ, zero, suc, ◌+◌, ◌-◌, ◌<◌, ◌≤◌, true, List}
-use Rattle.std.proofs.Common.{refl, ap, ◌∙◌, arith}
+use Rattle.std.proofs.Common.{Option, Some, None, ◌≡◌, ℕ, zero, suc, ◌+◌, ◌-◌, ◌<◌, ◌≤◌, Bool, true}
+use Rattle.std.proofs.Common.{List, refl, ap, ◌∙◌, arith}
 use Rattle.stl_file.specs.Subtitle.{SubtitleValue}
 use Rattle.stl_file.specs.TimeCode.{day}
 use Rattle.stl_rows.specs.declared.layout.Drawing.{Drawing}
 use Rattle.stl_rows.specs.DuePage.{due, TellsNextEdge}
+use Rattle.stl_rows.specs.Judged.{JudgedValue}
 use Rattle.stl_rows.specs.Programme.{ProgrammeValue}
 use Rattle.stl_rows.proofs.DuePageLemmas.{edges_alone}
 use Rattle.sub_plan.specs.Schedule.{due_in}
-use Rattle.sub_checker.specs.Checker.{CheckerValue, IsAtFrame, at_frame, is_before}
+use Rattle.sub_checker.specs.Checker.{CheckerValue, IsAtFrame, IsJudged, at_frame, is_before}
 use Rattle.sub_packets.specs.declared.listener.Listener.{Listener}
 
 -- Up to the next edge the due page stays.
@@ -58,6 +59,19 @@ pub IsAtFrame-later :
 IsAtFrame-later p every s first latest last frame edge f small is low before =
     let k : frame + (f - frame) ≡ f = omega arith in
     grind (arith, nat_tests, due_until, same_edge)
+
+-- And what is judged. For `move_to`.
+pub IsJudged-later :
+    (j : JudgedValue) (p : ProgrammeValue) (beside : Bool) (first within frame : ℕ)
+    (edge : Option ℕ) (known_from f : ℕ)
+    → IsJudged j p beside first within frame edge known_from
+    → frame ≤ f
+    → IsJudged j p beside first within f edge known_from
+IsJudged-later j p beside first within frame edge known_from f is low = record {
+  programme_is = is.programme_is;
+  beside_is = is.beside_is;
+  known_is = λ e later small before. is.known_is e (omega (arith, low, later)) small before;
+}
 
 -- What is kept as due is due at this frame. For `move_to`.
 pub at_frame-stays :

@@ -3,33 +3,30 @@
 -- where nothing stands, `quiet_marks`, `quiet_after`.
 use Rattle.std.proofs.lemmas.Bool.Decides.{nat_tests}
 use Rattle.std.proofs.Common.{◌≡◌, ℕ, zero, suc, ◌+◌, ◌-◌, ◌<◌, ◌≤◌, Bool, true, false, ◌&&◌, ◌||◌}
-use Rattle.std.proofs.Common.{nat_le, cond, not, List, [], ◌∷◌, ◌++◌, map, Option, Some, None}
-use Rattle.std.proofs.Common.{is_some, refl, sym, ap, ◌∙◌, arith, ◌==◌}
+use Rattle.std.proofs.Common.{cond, not, List, [], ◌∷◌, ◌++◌, map, Option, Some, None, refl, sym}
+use Rattle.std.proofs.Common.{ap, ap₂, ◌∙◌, arith, ◌==◌}
 use Rattle.std.proofs.lemmas.Bool.{true≢false}
-use Rattle.std.specs.Prelude.{option_and_then, option_map}
-use Rattle.ttx_packet.specs.OneBit.{first_below}
-use Rattle.ttx_packet.specs.PageId.{PageIdValue}
-use Rattle.ttx_packet.proofs.OneBitLemmas.{first_below_is}
-use Rattle.ttx_page.specs.Page.{Rows, cell, space}
+use Rattle.std.proofs.lemmas.List.{append-nil}
+use Rattle.ttx_page.specs.Page.{Rows}
 use Rattle.ttx_page.specs.PacketKind.{kind}
-use Rattle.ttx_page.specs.Shown.{shown}
 use Rattle.ttx_page.specs.Span.{is_open_after}
 use Rattle.sub_plan.specs.Schedule.{due_in}
-use Rattle.sub_checker.specs.Checker.{CheckerValue, after_end, end_marks}
-use Rattle.sub_checker.specs.Checker.{is_overdue_at, is_unfinished_now, late_now}
-use Rattle.sub_checker.specs.Checker.{quiet_end, since_now, stands}
-use Rattle.sub_checker.specs.Following.{HasBegun, Remembers, since_before}
+use Rattle.sub_checker.specs.Checker.{CheckerValue, after_end, back_marks, differs_now, end_marks}
+use Rattle.sub_checker.specs.Checker.{goes_back_now, is_overdue_at, is_undecided_by}
+use Rattle.sub_checker.specs.Checker.{is_unfinished_now, late_now, quiet_end, since_now, stands}
+use Rattle.sub_checker.specs.Checker.{undecided_now, undue_now}
+use Rattle.sub_checker.specs.Following.{HasBegun, Remembers}
 use Rattle.sub_rules.specs.Events.{end_before, end_events, end_rules, events_at_end, is_silent}
-use Rattle.sub_rules.specs.Events.{first_cell, gap_length, nothing_stands, silent_for}
-use Rattle.sub_rules.specs.Events.{is_incomplete, is_late, is_overdue, is_unfinished}
-use Rattle.sub_rules.specs.Events.{latest, since_frames, since_in_gap, standing_at}
-use Rattle.sub_rules.specs.Events.{standing_before, undue_after, unfinished_from}
-use Rattle.sub_rules.specs.Events.{unfinished_since, was_due, wrong_after, wrong_cell}
+use Rattle.sub_rules.specs.Events.{gap_length, nothing_stands, silent_for, is_incomplete, is_late}
+use Rattle.sub_rules.specs.Events.{is_overdue, is_unfinished, latest, since_before, since_frames}
+use Rattle.sub_rules.specs.Events.{since_in_gap, standing_at, standing_before, undecided_within}
+use Rattle.sub_rules.specs.Events.{undue_cell, unfinished_from, unfinished_since, wrong_after}
+use Rattle.sub_rules.specs.Events.{wrong_cell}
 use Rattle.sub_rules.specs.FrameRules.{Task, frame_at, packets_before}
-use Rattle.sub_rules.specs.PieceEvents.{marks_at_end}
+use Rattle.sub_rules.specs.PieceEvents.{goes_back, marks_at_end, marks_before}
 use Rattle.sub_rules.specs.Transmission.{Transmission}
 use Rattle.sub_rules.specs.Trusted.{Mark}
-use Rattle.sub_rules.specs.Trusted.Mark.{AtEnd, Says}
+use Rattle.sub_rules.specs.Trusted.Mark.{AtEnd, GoesBack, Says}
 use Rattle.sub_rules.specs.declared.event.Event.{Event}
 use Rattle.sub_rules.proofs.EndRuleLemmas.{end_from_none}
 use Rattle.sub_rules.specs.declared.standing.Standing.{Standing}
@@ -142,6 +139,35 @@ overdue_is g c first None f last frames n known = refl
 overdue_is g c first (Some s) f last frames n known =
     ap (λ (t : Task). is_overdue t first (Some s) f) known.task_is
 
+-- Since which frame the page is not whole, as it is told before a frame.
+pub back_are :
+    (g : Task) (frames : Transmission) (i n f : ℕ) (last : List (List ℕ)) (c : CheckerValue)
+    → Remembers g frames n last c
+    → (0 < g.within → c.since ≡ since_before g frames i f)
+    → back_marks c ≡ marks_before g (since_before g frames i f)
+back_are g frames i n f last c known since =
+    ap (λ (b : Bool). cond b (GoesBack c.since ∷ []) []) going ∙ by (goes_back g) refl
+  where
+    going : goes_back_now c ≡ goes_back g
+    going = ap (λ (t : Task). goes_back t) (sym known.task_is)
+
+    some : (b : Bool) (w : ℕ) → (b && not (w == 0)) ≡ true → 0 < w
+    some b w is = grind (arith, nat_tests)
+
+    by : (b : Bool) → goes_back g ≡ b
+        → cond b (GoesBack c.since ∷ []) []
+        ≡ cond b (GoesBack (since_before g frames i f) ∷ []) []
+    by true is = rw (since (some g.beside g.within is)) refl
+    by false is = refl
+
+-- Where the page has to be whole at each end, it is not told.
+pub back_none : (c : CheckerValue) → c.within ≡ 0 → back_marks c ≡ []
+back_none c each = rw each (by c.beside)
+  where
+    by : (b : Bool) → cond (b && not (0 == 0)) (GoesBack c.since ∷ []) [] ≡ []
+    by true = refl
+    by false = refl
+
 -- By whether a number is 0: what is so for 0, and what follows where it is not.
 late_by : (w : ℕ) (a b : Bool) → (0 < w → a ≡ b) → (w == 0 || a) ≡ (w == 0 || b)
 late_by w a b same = grind (arith, nat_tests)
@@ -163,10 +189,12 @@ module _ (g : Task) (frames : Transmission) (i n f : ℕ) (last : List (List ℕ
     within_is : g.within ≡ c.within
     within_is = ap (λ (t : Task). t.within) known.task_is
 
-    wrong_is : wrong_after c.listener.watched.page so_far c.listener.comparison.due
-        ≡ wrong_cell g frames n f
+    wrong_is : differs_now so_far c ≡ wrong_cell g frames n f
     wrong_is =
-        ap (wrong_after c.listener.watched.page so_far) (due ∙ ap (due_in c.programme) at)
+        ap (λ (d : Rows). cond (is_undecided_by c c.frame) None
+        (wrong_after c.listener.watched.page so_far d)) due
+        ∙ ap (λ (k : ℕ). cond (is_undecided_by c k) None
+        (wrong_after c.listener.watched.page so_far (due_in c.programme k))) at
         ∙ ap (λ (t : Task). wrong_cell t frames n f) (sym known.task_is)
 
     incomplete_is :
@@ -194,13 +222,15 @@ module _ (g : Task) (frames : Transmission) (i n f : ℕ) (last : List (List ℕ
         ∙ ap (λ (w : ℕ). w == 0
         || is_overdue g (frame_at frames 0) (unfinished_since g frames n f) f) (sym within_is)
 
-    undue_is :
-        undue_after c.listener.watched.page so_far (due_in c.programme) c.first c.frame c.within
-        ≡ undue_after g.watched.page so_far g.due (frame_at frames 0) f g.within
+    undecided_is : undecided_now c ≡ undecided_within g frames f
+    undecided_is =
+        rw (begun.first_is, at)
+        (ap (λ (t : Task). undecided_within t frames f) (sym known.task_is))
+
+    undue_is : undue_now so_far c ≡ undue_cell g frames n f
     undue_is =
         rw (begun.first_is, at)
-        (ap (λ (t : Task). undue_after t.watched.page so_far t.due (frame_at frames 0) f t.within)
-        (sym known.task_is))
+        (ap (λ (t : Task). undue_cell t frames n f) (sym known.task_is))
 
     silent_is : silent_for c.pace c.latest c.frame ≡ is_silent g frames n f
     silent_is =
@@ -212,14 +242,24 @@ module _ (g : Task) (frames : Transmission) (i n f : ℕ) (last : List (List ℕ
     pub stands_are : (stands so_far c) ≡ standing_at g frames n f
     unfolding standing_at
     stands_are =
-        rw (silent_is, late_is, wrong_is, undue_is, incomplete_is, begun.late_is f, at) refl
+        rw (
+          silent_is,
+          late_is,
+          wrong_is,
+          undue_is,
+          undecided_is,
+          incomplete_is,
+          begun.late_is f,
+          at,
+        ) refl
 
     -- What comes there.
     pub marks_are : end_marks so_far c ≡ marks_at_end g frames i n f
     marks_are =
-        ap (λ (ms : List Mark). ms ++ map Says (end_events c.standing c.last
-        ((stands so_far c)) c.frame)) firsts
-        ∙ ap (λ (es : List Event). (cond (g.within == 0) []
+        ap₂ (λ (back ms : List Mark). back ++ ms ++ map Says (end_events c.standing c.last
+        ((stands so_far c)) c.frame)) (back_are g frames i n f last c known since) firsts
+        ∙ ap (λ (es : List Event). marks_before g (since_before g frames i f)
+        ++ (cond (g.within == 0) []
         (AtEnd f (unfinished_since g frames n f) (is_late g frames n f) ∷ [])) ++ map Says es)
         (ap (end_events c.standing c.last ((stands so_far c))) at
         ∙ ends_are g frames i n f c.standing ((stands so_far c)) c.last
@@ -252,124 +292,6 @@ module _ (g : Task) (frames : Transmission) (i n f : ℕ) (last : List (List ℕ
             let not_each : (suc w == 0) ≡ false = grind (arith, nat_tests) in
             rw not_each (since_is l)
 
--- ---- where the page is whole
-
--- Where no number passes a test, none passes one that is harder.
-below_less : (n : ℕ) (p q : ℕ → Bool) → ((k : ℕ) → q k ≡ true → p k ≡ true)
-    → first_below n p ≡ None
-    → first_below n q ≡ None
-below_less zero p q less none = refl
-below_less (suc n) p q less none =
-    let rest = below_less n p q less in let one = less n in grind (arith, nat_tests)
-
-some_less : (n : ℕ) (p q : ℕ → Bool) → ((k : ℕ) → q k ≡ true → p k ≡ true)
-    → is_some (first_below n q) ≡ true
-    → is_some (first_below n p) ≡ true
-some_less n p q less some =
-    let rest = below_less n p q less in grind (arith, nat_tests)
-
--- And no cell does.
-module _ (p q : ℕ → ℕ → Bool) (less : (row column : ℕ) → q row column ≡ true → p row column ≡ true)
-  where
-    abbrev row_test : (ℕ → ℕ → Bool) → ℕ → Bool
-    row_test t above = is_some (first_below 40 (t (above + 1)))
-
-    abbrev in_row : ℕ → Option (ℕ × ℕ)
-    in_row above = option_map (λ column. (above + 1, column)) (first_below 40 (p (above + 1)))
-
-    some_in : (o : Option ℕ) (above : ℕ) → is_some o ≡ true
-        → (let pairs : Option (ℕ × ℕ) = option_map (λ column. (above + 1, column)) o in
-        pairs ≡ None) → ⊥
-    some_in None above t n = grind arith
-    some_in (Some k) above t n = grind arith
-
-    no_row : (o : Option ℕ) → first_below 24 (row_test p) ≡ o → option_and_then in_row o ≡ None
-        → first_below 24 (row_test p) ≡ None
-    no_row None is e = is
-    no_row (Some above) is e =
-        let first = first_below_is 24 (row_test p) above is in
-        absurd (some_in (first_below 40 (p (above + 1))) above first.1 e)
-
-    cell_less : first_cell p ≡ None → first_cell q ≡ None
-    unfolding first_cell
-    cell_less none =
-        let rows = below_less 24 (row_test p) (row_test q)
-        (λ above. some_less 40 (p (above + 1)) (q (above + 1)) (less (above + 1)))
-        (no_row (first_below 24 (row_test p)) refl none) in
-        rw rows refl
-
--- What is due now was due within any frames.
-due_now : (due : ℕ → Rows) (first f n row column code : ℕ)
-    → (cell (due f) row column == code) ≡ true
-    → was_due due first f n row column code ≡ true
-unfolding was_due
-due_now due first f zero row column code is = is
-due_now due first f (suc n) row column code is = rw (due_now due first f n row column code is) refl
-
--- So a page that shows what is due shows nothing that was not.
-pub no_undue : (page : PageIdValue) (heard : List (List ℕ)) (due : ℕ → Rows) (now : Rows)
-    (first f n : ℕ)
-    → now ≡ due f
-    → wrong_after page heard now ≡ None
-    → undue_after page heard due first f n ≡ None
-unfolding wrong_after undue_after
-no_undue page heard due now first f n is none =
-    cell_less
-    (λ row column. not (shown page heard row column == cell now row column))
-    (λ row column.
-    not (shown page heard row column == space)
-    && not (was_due due first f n row column (shown page heard row column)))
-    less none
-  where
-    less : (row column : ℕ)
-        → (not (shown page heard row column == space)
-        && not (was_due due first f n row column (shown page heard row column))) ≡ true
-        → not (shown page heard row column == cell now row column) ≡ true
-    less row column undue =
-        let known = due_now due first f n row column (shown page heard row column) in
-        rw is grind (arith, nat_tests)
-
--- Where no cell differs from what is due. For `first_undue`.
-pub none_undue : (heard : List (List ℕ)) (c : CheckerValue) (o : Option (ℕ × ℕ)) (b : Bool)
-    → c.listener.comparison.due ≡ due_in c.programme c.frame
-    → is_some o ≡ not b
-    → b ≡ true
-    → o ≡ wrong_after c.listener.watched.page heard c.listener.comparison.due
-    → None
-    ≡ undue_after c.listener.watched.page heard (due_in c.programme) c.first c.frame c.within
-none_undue heard c (Some x) b due is none same = absurd (true≢false (is ∙ ap not none))
-none_undue heard c None b due is none same =
-    sym (no_undue c.listener.watched.page heard (due_in c.programme) c.listener.comparison.due
-    c.first c.frame c.within due (sym same))
-
--- Nothing stands broken there, as few comparisons tell. For `is_quiet`.
-pub quiet_stands : (heard : List (List ℕ)) (c : CheckerValue)
-    → c.listener.comparison.due ≡ due_in c.programme c.frame
-    → wrong_after c.listener.watched.page heard c.listener.comparison.due ≡ None
-    → (c.listener.watched.complete && is_open_after (kind c.listener.watched.page) heard) ≡ false
-    → c.frame + 1 < c.late_at
-    → silent_for c.pace c.latest c.frame ≡ false
-    → (stands heard c ≡ nothing_stands) × (since_now heard c ≡ None)
-quiet_stands heard c due right shut early sounds =
-    let undue =
-    no_undue c.listener.watched.page heard (due_in c.programme) c.listener.comparison.due c.first
-    c.frame c.within due right in
-    let soon : nat_le c.late_at (c.frame + 1) ≡ false = grind (arith, nat_tests) in (
-      rw (right, undue, shut, soon, sounds) (by (c.within == 0 || false)),
-      rw (right, shut) refl,
-    )
-  where
-    by : (late : Bool)
-        → (let s : Standing = record {
-          content = cond late None None;
-          gap = false;
-          incomplete = late && false;
-          silent = false;
-        } in s)
-        ≡ nothing_stands
-    by true = refl
-    by false = refl
-
 -- ---- an end, by what is found there
 
 -- Where the page has to be whole at the end of each frame.
@@ -379,7 +301,11 @@ pub once_marks : (heard : List (List ℕ)) (d c : CheckerValue) (s : Standing)
     → s ≡ stands heard c
     → end_marks heard c
     ≡ map Says (end_events d.standing d.last s d.frame)
-once_marks heard d c s same each is = rw (same, is, each) refl
+once_marks heard d c s same each is =
+    ap (λ (back : List Mark). back ++ cond (c.within == 0) []
+    (AtEnd c.frame (since_now heard c) (late_now heard c) ∷ [])
+    ++ map Says (end_events c.standing c.last (stands heard c) c.frame)) (back_none c each)
+    ∙ rw (same, is, each) refl
 
 pub once_after : (heard : List (List ℕ)) (d c : CheckerValue) (s : Standing)
     → d ≡ c
@@ -397,11 +323,19 @@ pub within_marks : (heard : List (List ℕ)) (d c : CheckerValue) (s : Standing)
     → since ≡ since_now heard c
     → late ≡ late_now heard c
     → end_marks heard c
-    ≡ (AtEnd d.frame since late ∷ [])
+    ≡ (back_marks d ++ AtEnd d.frame since late ∷ [])
     ++ map Says (end_events d.standing d.last s d.frame)
 within_marks heard d c s since late same some is since_is late_is =
     let not_each : (c.within == 0) ≡ false = grind (arith, nat_tests) in
-    rw (same, is, since_is, late_is, not_each) refl
+    rw (same, is, since_is, late_is) (by (c.within == 0) not_each)
+  where
+    by : (z : Bool) → z ≡ false
+        → back_marks c ++ cond z [] (AtEnd c.frame (since_now heard c) (late_now heard c) ∷ [])
+        ++ map Says (end_events c.standing c.last (stands heard c) c.frame)
+        ≡ (back_marks c ++ AtEnd c.frame (since_now heard c) (late_now heard c) ∷ [])
+        ++ map Says (end_events c.standing c.last (stands heard c) c.frame)
+    by true e = absurd (true≢false e)
+    by false e = refl
 
 pub within_after : (heard : List (List ℕ)) (d c : CheckerValue) (s : Standing)
     (since : Option ℕ)
@@ -426,16 +360,19 @@ pub quiet_marks : (heard : List (List ℕ)) (c : CheckerValue)
     → c.standing ≡ nothing_stands
     → stands heard c ≡ nothing_stands
     → since_now heard c ≡ None
-    → end_marks heard c ≡ cond (c.within == 0) [] (AtEnd c.frame None false ∷ [])
+    → end_marks heard c
+    ≡ back_marks c ++ cond (c.within == 0) [] (AtEnd c.frame None false ∷ [])
 quiet_marks heard c stood stand since =
-    ap (λ (es : List Event). cond (c.within == 0) []
+    ap (λ (es : List Event). back_marks c ++ cond (c.within == 0) []
     (AtEnd c.frame (since_now heard c) (late_now heard c) ∷ []) ++ map Says es)
     (none_told c.standing (stands heard c) c.last c.frame stood stand)
-    ∙ by c.within
+    ∙ append-nil (back_marks c ++ cond (c.within == 0) []
+    (AtEnd c.frame (since_now heard c) (late_now heard c) ∷ []))
+    ∙ ap (λ (ms : List Mark). back_marks c ++ ms) (by c.within)
   where
     by : (w : ℕ)
         → cond (w == 0) [] (AtEnd c.frame (since_now heard c) (w == 0
-        || is_overdue_at c.programme c.within c.first (since_now heard c) c.frame) ∷ []) ++ []
+        || is_overdue_at c.programme c.within c.first (since_now heard c) c.frame) ∷ [])
         ≡ cond (w == 0) [] (AtEnd c.frame None false ∷ [])
     by zero = refl
     by (suc w) =

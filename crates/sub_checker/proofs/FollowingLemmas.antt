@@ -13,12 +13,12 @@ use Rattle.sub_checker.specs.Checker.{CheckerValue, after_end, at_first, at_fram
 use Rattle.sub_checker.specs.Checker.{at_next, end_marks, nothing_counted, stands}
 use Rattle.sub_checker.specs.declared.counts.Counts.{Counts}
 use Rattle.sub_checker.specs.Following.{Arrives, Follows, HasBegun, Keeps, Remembers, Waits}
-use Rattle.sub_checker.specs.Following.{reaching_marks, since_before}
+use Rattle.sub_checker.specs.Following.{reaching_marks, task_kept}
 use Rattle.sub_packets.specs.Listener.{Knows, KnowsLast}
 use Rattle.sub_rules.specs.Events.{end_before, gap_length, is_early, is_gap, latest}
-use Rattle.sub_rules.specs.Events.{nothing_stands, order_events, since_frames, standing_at}
-use Rattle.sub_rules.specs.Events.{standing_before, unfinished_since}
-use Rattle.sub_rules.specs.FrameRules.{Task, frame_at, packets_before, task_with}
+use Rattle.sub_rules.specs.Events.{nothing_stands, order_events, since_before, since_frames}
+use Rattle.sub_rules.specs.Events.{standing_at, standing_before, unfinished_since}
+use Rattle.sub_rules.specs.FrameRules.{Task, frame_at, packets_before}
 use Rattle.sub_rules.specs.PieceEvents.{marks_at_end, marks_of_gap}
 use Rattle.sub_rules.specs.Transmission.{Transmission}
 use Rattle.sub_rules.specs.Trusted.{Mark}
@@ -39,7 +39,7 @@ use Rattle.sub_checker.proofs.EndingLemmas.{stands_are}
 -- Nothing is kept. For `new`.
 pub Follows-none :
     (g : Task) (frames : Transmission) (last : List (List ℕ)) (c : CheckerValue)
-    → g ≡ task_with c.programme c.listener.watched c.every c.within c.pace g.unread
+    → g ≡ task_kept c g.unread
     → KnowsLast [] last c.listener
     → c.counts.headers ≡ 0
     → c.counts.frames ≡ 0
@@ -47,11 +47,24 @@ pub Follows-none :
     → c.standing ≡ nothing_stands
     → Follows g frames 0 last c
 unfolding since_frames
-Follows-none g frames last c task knows none sent since stood = grind (arith, nat_tests)
+Follows-none g frames last c task knows none sent since stood = record {
+  known = record {
+    task_is = task;
+    knows = knows;
+    count = none;
+  };
+  none = λ _. stood;
+  begun = λ l. absurd (omega arith);
+  latest_is = λ l. absurd (omega arith);
+  standing_is = λ l. absurd (omega arith);
+  last_is = λ l. absurd (omega arith);
+  since_is = λ l. since;
+  number = sent;
+}
 
 pub Keeps-none :
     (g : Task) (last : List (List ℕ)) (c : CheckerValue)
-    → g ≡ task_with c.programme c.listener.watched c.every c.within c.pace g.unread
+    → g ≡ task_kept c g.unread
     → KnowsLast [] last c.listener
     → c.counts ≡ nothing_counted
     → c.since ≡ None

@@ -11,3 +11,5 @@ pub mod StageLemmas
 pub mod TakingLemmas
 pub mod TellingLemmas
 pub mod TrustLemmas
+pub mod UndecidedLemmas
+pub mod WholeLemmas

@@ -1,6 +1,6 @@
 -- What comes of more packets of the last frame, `more_are`, and what is kept then: `opens_more`.
 use Rattle.std.proofs.lemmas.Bool.Decides.{nat_tests}
-use Rattle.std.proofs.Common.{◌≡◌, ℕ, zero, suc, ◌+◌, ◌-◌, ◌<◌, ◌≤◌, Bool, ◌&&◌, ◌||◌, nat_le}
+use Rattle.std.proofs.Common.{◌≡◌, ℕ, suc, ◌+◌, ◌-◌, ◌<◌, Bool, ◌&&◌, ◌||◌, nat_le}
 use Rattle.std.proofs.Common.{nat_lt, List, [], ◌++◌, length, map, take, refl, sym, ap, ◌∙◌, arith}
 use Rattle.std.proofs.Common.{length-append}
 use Rattle.std.proofs.lemmas.List.{get_or-map}
@@ -9,9 +9,9 @@ use Rattle.std.specs.List.{list_any}
 use Rattle.ttx_page.specs.PacketKind.{is_this_page, kind}
 use Rattle.ttx_page.specs.Span.{holds_header}
 use Rattle.sub_checker.specs.Checker.{CheckerValue, HasHeard, after_headers}
-use Rattle.sub_checker.specs.Following.{Heard, StaysOpen, Remembers, since_before}
+use Rattle.sub_checker.specs.Following.{Heard, StaysOpen, Remembers}
 use Rattle.sub_rules.specs.Events.{covers, end_before, is_gap, latest, packets_told}
-use Rattle.sub_rules.specs.Events.{standing_before}
+use Rattle.sub_rules.specs.Events.{since_before, standing_before}
 use Rattle.sub_rules.specs.FrameRules.{Task, frame_at, packets_before, packets_of_frame}
 use Rattle.sub_rules.specs.PacketRules.{header_count}
 use Rattle.sub_rules.specs.PieceEvents.{marks_of_more}
@@ -19,8 +19,7 @@ use Rattle.sub_rules.specs.Pieces.{with_packets}
 use Rattle.sub_rules.specs.Transmission.{SentFrame, Transmission}
 use Rattle.sub_rules.specs.declared.packet_rule.Watched.{Watched}
 use Rattle.sub_rules.specs.Trusted.Mark.{Says}
-use Rattle.sub_rules.proofs.FirstFrameLemmas.{latest-same, standing_before-same}
-use Rattle.sub_rules.proofs.FirstFrameLemmas.{unfinished_since-same}
+use Rattle.sub_rules.proofs.FirstFrameLemmas.{latest-same, since_before-same, standing_before-same}
 use Rattle.sub_rules.proofs.JoinedLemmas.{with_packets-all, with_packets-before}
 use Rattle.sub_rules.proofs.JoinedLemmas.{with_packets-frame_at, with_packets-frames}
 use Rattle.sub_rules.proofs.JoinedLemmas.{with_packets-last, with_packets-length}
@@ -70,12 +69,7 @@ module _ (g : Task) (sent : Transmission) (n : ℕ) (last ps : List (List ℕ)) 
     before_same f = rw (latest_is n, at (n - 1)) refl
 
     stood_since : (f : ℕ) → since_before g longer n f ≡ since_before g sent n f
-    unfolding since_before
-    stood_since f = go n (omega arith)
-      where
-        go : (k : ℕ) → k ≤ n → since_before g longer k f ≡ since_before g sent k f
-        go zero l = refl
-        go (suc k) l = unfinished_since-same g longer sent n numbers same (suc k) (f - 1) l
+    stood_since f = since_before-same g longer sent n numbers same n f (omega arith)
 
     long : length longer ≡ suc n
     long = with_packets-length ps sent ∙ all

@@ -12,7 +12,7 @@ use Rattle.sub_io.proofs.TellingLemmas.{TellsPrefix-second, TellsPrefix-whole}
 use Rattle.sub_io.proofs.TellingLemmas.{TellsUntilStopped-after}
 use Rattle.sub_rules.specs.PieceEvents.{all_announced, announced, passed_after, passed_after_all}
 use Rattle.sub_rules.specs.Trusted.{Mark, at_pes}
-use Rattle.sub_rules.specs.Trusted.Mark.{AtEnd, AtPes, Begins, Closes, Ends, Says}
+use Rattle.sub_rules.specs.Trusted.Mark.{AtEnd, AtPes, Begins, Closes, Ends, GoesBack, Says}
 use Rattle.sub_rules.specs.declared.event.Event.{Event}
 use Rattle.sub_rules.specs.PieceEvents.{PassedRun}
 use Rattle.sub_checker.specs.declared.trust.Trust.{Trust}
@@ -165,7 +165,7 @@ both_kept run mid xs e is =
 
 -- What is told with an event. For `pass`.
 pub says_with : (t u : Trust) (e named : Event) (first : Option Event)
-    → first_alone first ≡ trusted_before t.run t.whole (doubted t.last (late_since t) e)
+    → first_alone first ≡ trusted_before t.run t.whole t.back (doubted t.last (late_since t) e)
     → u ≡ after_mark (Says e) t
     → named ≡ at_pes u.pes e
     → first_alone first ++ named ∷ [] ≡ told_with (Says e) t
@@ -186,6 +186,10 @@ pub at_end_last : (f : ℕ) (since : Option ℕ) (late : Bool) (t : Trust)
     → (after_mark (AtEnd f since late) t).last ≡ t.last
 unfolding after_mark
 at_end_last f since late t = refl
+
+pub back_last : (since : Option ℕ) (t : Trust) → (after_mark (GoesBack since) t).last ≡ t.last
+unfolding after_mark
+back_last since t = refl
 
 pub pes_last : (pes : ℕ) (t : Trust) → (after_mark (AtPes pes) t).last ≡ t.last
 unfolding after_mark
@@ -405,6 +409,10 @@ pub silent_at_end : (f : ℕ) (since : Option ℕ) (late : Bool) (t : Trust)
     → told_with (AtEnd f since late) t ≡ []
 unfolding told_with
 silent_at_end f since late t = refl
+
+pub silent_back : (since : Option ℕ) (t : Trust) → told_with (GoesBack since) t ≡ []
+unfolding told_with
+silent_back since t = refl
 
 pub silent_ends : (f : ℕ) (has none : Bool) (t : Trust) → told_with (Ends f has none) t ≡ []
 unfolding told_with

@@ -5,14 +5,14 @@ use Rattle.std.proofs.Common.{take, Option, Some, None, Ok, Result, Err, refl, s
 use Rattle.std.proofs.Common.{append_assoc, arith, length-append}
 use Rattle.std.proofs.lemmas.List.{append-nil, take_at}
 use Rattle.std.specs.Prelude.{IfSome}
-use Rattle.stl_rows.specs.Programme.{ProgrammeValue}
+use Rattle.stl_rows.specs.Judged.{JudgedValue}
 use Rattle.sub_io.specs.Telling.{Tells, TellsPrefix}
 use Rattle.sub_io.proofs.TellingLemmas.{Tells-trans, TellsPrefix-first, TellsPrefix-second}
 use Rattle.sub_io.proofs.TellingLemmas.{TellsPrefix-whole}
 use Rattle.sub_plan.specs.FrameTime.{Clock, clock_of}
 use Rattle.sub_plan.specs.Options.{OptionsValue}
 use Rattle.sub_rules.specs.Events.{unread_fault}
-use Rattle.sub_rules.specs.FrameRules.{Task, Unread, task_of}
+use Rattle.sub_rules.specs.FrameRules.{Task, Unread, task_beside}
 use Rattle.sub_rules.specs.PacketRules.{packets_of_units}
 use Rattle.sub_rules.specs.PieceEvents.{all_announced, all_of_pieces, ended_run, events_of_pieces}
 use Rattle.sub_rules.specs.PieceEvents.{marks_of_closing, marks_of_each, marks_of_pieces}
@@ -267,14 +267,14 @@ pub none_of_pieces : (g : Task) → events_of_pieces g [] ≡ []
 unfolding events_of_pieces marks_of_each told_after all_announced
 none_of_pieces g = refl
 
-module _ (programme : ProgrammeValue) {options : OptionsValue} {bytes : List ℕ}
+module _ (judging : JudgedValue) {options : OptionsValue} {bytes : List ℕ}
     {all : List Piece} {unread : Option Unread} {remaining : Option (List ℕ)} {pes : ℕ}
     {last : List (List ℕ)} {c : CheckerValue} {q : Passing} {done : List Piece}
     (at : ReadsOn options bytes all unread remaining pes done)
-    (tracks : Tracks (task_of programme options unread) done last c q)
+    (tracks : Tracks (task_beside judging options unread) done last c q)
   where
     abbrev g : Task
-    g = task_of programme options unread
+    g = task_beside judging options unread
 
     abbrev clock : Clock
     clock = clock_of options

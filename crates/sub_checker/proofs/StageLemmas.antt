@@ -2,24 +2,27 @@
 -- where its device said stop, `stops_one`, `stops_two`; events that it was told, `told_ok`,
 -- `told_err`, `told_part`; and that some was passed on, `Moves-trans` and its kin.
 use Rattle.std.proofs.Common.{◌≡◌, ℕ, ◌<◌, ◌==◌, List, [], ◌∷◌, ◌++◌, Bool, true, false, cond, map}
-use Rattle.std.proofs.Common.{None, Option, Result, Ok, Err, refl, sym, ap, ◌∙◌, subst}
+use Rattle.std.proofs.lemmas.Bool.Decides.{nat_tests}
+use Rattle.std.proofs.Common.{◌&&◌, arith, not, None, Option, Result, Ok, Err, refl, sym, ap, ◌∙◌}
+use Rattle.std.proofs.Common.{subst}
 use Rattle.std.proofs.Common.{append_assoc}
 use Rattle.stl_file.specs.TimeCode.{day}
 use Rattle.sub_io.specs.Telling.{Tells, TellsPrefix, TellsSome}
 use Rattle.sub_io.proofs.TellingLemmas.{Tells-none, TellsSome-none, TellsSome-trans}
 use Rattle.sub_rules.specs.Trusted.{Mark}
-use Rattle.sub_rules.specs.Trusted.Mark.{AtEnd, AtPes, Begins, Closes, Ends, Says}
+use Rattle.sub_rules.specs.Trusted.Mark.{AtEnd, AtPes, Begins, Closes, Ends, GoesBack, Says}
 use Rattle.sub_rules.specs.declared.event.Event.{Event}
-use Rattle.sub_checker.specs.Checker.{CheckerValue}
-use Rattle.sub_checker.specs.Following.{quiet_stage}
+use Rattle.sub_checker.specs.Checker.{CheckerValue, back_marks, goes_back_now}
+use Rattle.sub_checker.specs.Following.{back_stage, quiet_stage}
 use Rattle.sub_checker.specs.Passing.{Moves, PassesMarks, at_mark}
 use Rattle.sub_checker.specs.declared.passing.Passing.{Passing}
 use Rattle.sub_checker.specs.declared.passing.Stage.{Stage}
 use Rattle.sub_checker.proofs.PassingLemmas.{IsPassedOn, IsWhole, after-none, at_end_last}
-use Rattle.sub_checker.proofs.PassingLemmas.{begins_last, closes_last, ends_last, pass_then}
-use Rattle.sub_checker.proofs.PassingLemmas.{passed-none, passes_last, passes_prefix, passes_some}
-use Rattle.sub_checker.proofs.PassingLemmas.{passes_whole, pes_last, silent, silent_at_end}
-use Rattle.sub_checker.proofs.PassingLemmas.{stop_first, stop_then, whole_then}
+use Rattle.sub_checker.proofs.PassingLemmas.{back_last, begins_last, closes_last, ends_last}
+use Rattle.sub_checker.proofs.PassingLemmas.{pass_then, passed-none, passes_last, passes_prefix}
+use Rattle.sub_checker.proofs.PassingLemmas.{passes_some, passes_whole, pes_last, silent}
+use Rattle.sub_checker.proofs.PassingLemmas.{silent_at_end, silent_back, silent_begins, stop_first}
+use Rattle.sub_checker.proofs.PassingLemmas.{stop_then, whole_then}
 use Rattle.sub_checker.specs.Trust.{after_mark, told_with}
 
 -- ---- parts of what is passed on
@@ -75,20 +78,6 @@ module _ {D : Type 0} {IsTold : D → Event → D → Type 0} where
       → IsWhole IsTold s.device.now s.passing zs t.device.now t.passing
   whole_mark {s} {t} {m} is at none = rw is (silent IsTold s t m at none)
 
-  pub whole_quiet : (s t : Stage D) (c : CheckerValue) {zs : List Mark}
-      → zs ≡ cond (c.within == 0) [] (AtEnd c.frame None false ∷ [])
-      → t ≡ quiet_stage c s
-      → IsWhole IsTold s.device.now s.passing zs t.device.now t.passing
-  whole_quiet s t c is at = rw is (by (c.within == 0) at)
-    where
-      by : (z : Bool) → t ≡ cond z s (at_mark (AtEnd c.frame None false) s)
-          → IsWhole IsTold s.device.now s.passing (cond z [] (AtEnd c.frame None false ∷ []))
-          t.device.now t.passing
-      by true at =
-          subst (λ (u : Stage D). IsWhole IsTold s.device.now s.passing [] u.device.now u.passing)
-          (sym at) (whole_none refl)
-      by false at = whole_mark refl at (silent_at_end _ _ _ _)
-
   -- The one part, and then the other.
   pub whole_two : {a b c : D} {p q s : Passing} {xs ys zs : List Mark}
       → zs ≡ xs ++ ys
@@ -96,6 +85,56 @@ module _ {D : Type 0} {IsTold : D → Event → D → Type 0} where
       → IsWhole IsTold b q ys c s
       → IsWhole IsTold a p zs c s
   whole_two is first second = rw is (whole_then IsTold _ _ _ _ _ _ _ _ first second)
+
+  -- Since which frame the page is not whole, where that is told.
+  pub whole_back : (s t : Stage D) (c : CheckerValue) {zs : List Mark}
+      → zs ≡ back_marks c
+      → t ≡ back_stage c s
+      → IsWhole IsTold s.device.now s.passing zs t.device.now t.passing
+  unfolding back_stage
+  whole_back s t c is at = rw is (by (goes_back_now c) at)
+    where
+      by : (b : Bool) → t ≡ cond b (at_mark (GoesBack c.since) s) s
+          → IsWhole IsTold s.device.now s.passing (cond b (GoesBack c.since ∷ []) [])
+          t.device.now t.passing
+      by true at = whole_mark refl at (silent_back _ _)
+      by false at =
+          subst (λ (u : Stage D). IsWhole IsTold s.device.now s.passing [] u.device.now u.passing)
+          (sym at) (whole_none refl)
+
+  -- The mark of a frame before it.
+  pub whole_begun : (s t : Stage D) (c : CheckerValue)
+      → t ≡ back_stage c (at_mark (Begins c.frame) s)
+      → IsWhole IsTold s.device.now s.passing (Begins c.frame ∷ back_marks c) t.device.now t.passing
+  whole_begun s t c at =
+      whole_two {xs = Begins c.frame ∷ []} refl
+      (whole_mark {s = s} {t = at_mark (Begins c.frame) s} refl refl (silent_begins _ _))
+      (whole_back (at_mark (Begins c.frame) s) t c refl at)
+
+  pub whole_quiet : (s t : Stage D) (c : CheckerValue) {zs : List Mark}
+      → zs ≡ back_marks c ++ cond (c.within == 0) [] (AtEnd c.frame None false ∷ [])
+      → t ≡ quiet_stage c s
+      → IsWhole IsTold s.device.now s.passing zs t.device.now t.passing
+  unfolding back_stage
+  whole_quiet s t c is at = rw is (by c.beside (c.within == 0) at)
+    where
+      by : (b z : Bool)
+          → t ≡ cond z s (at_mark (AtEnd c.frame None false)
+          (cond (b && not z) (at_mark (GoesBack c.since) s) s))
+          → IsWhole IsTold s.device.now s.passing
+          (cond (b && not z) (GoesBack c.since ∷ []) []
+          ++ cond z [] (AtEnd c.frame None false ∷ [])) t.device.now t.passing
+      by true true at =
+          subst (λ (u : Stage D). IsWhole IsTold s.device.now s.passing [] u.device.now u.passing)
+          (sym at) (whole_none refl)
+      by false true at =
+          subst (λ (u : Stage D). IsWhole IsTold s.device.now s.passing [] u.device.now u.passing)
+          (sym at) (whole_none refl)
+      by true false at =
+          whole_two {xs = GoesBack c.since ∷ []} refl
+          (whole_mark {s = s} {t = at_mark (GoesBack c.since) s} refl refl (silent_back _ _))
+          (whole_mark refl at (silent_at_end _ _ _ _))
+      by false false at = whole_mark refl at (silent_at_end _ _ _ _)
 
   pub passes_two : {X E : Type 0} {a b c : D} {p q s : Passing} {xs ys zs : List Mark}
       {r : Result X E}
@@ -127,6 +166,19 @@ module _ {D : Type 0} {IsTold : D → Event → D → Type 0} where
             (stop_first IsTold _ _ _ _ rest second.told);
         kept = tt;
       })
+
+-- After an end at which nothing stands broken, within frames.
+pub quiet_is : {D : Type 0} (s b t : Stage D) (v c : CheckerValue)
+    → v ≡ c
+    → 0 < v.within
+    → b ≡ back_stage (record v { last = v.frame }) s
+    → t ≡ at_mark (AtEnd v.frame None false) b
+    → t ≡ quiet_stage c s
+unfolding back_stage
+quiet_is s b t v c same some back at =
+    let within = ap (λ (w : CheckerValue). w.within) same in
+    let not_each : (c.within == 0) ≡ false = grind (arith, nat_tests) in
+    rw (at, back, same, not_each) refl
 
 -- ---- events that a stage was told
 
@@ -229,14 +281,64 @@ module _ {D : Type 0} (IsTold : D → Event → D → Type 0) (has_stopped : D �
   Moves-at_end a b f since late is =
       mark_moves a b (AtEnd f since late) is (λ l. rw (at_end_last f since late _) l)
 
-  pub Moves-quiet : (a b : Stage D) (c : CheckerValue) → b ≡ quiet_stage c a
-      → Moves IsTold has_stopped a b
-  Moves-quiet a b c is = by (c.within == 0) is
+  -- Since which frame the page is not whole, where that is told: the device is the same.
+  back_same : (a b : Stage D) (c : CheckerValue) → b ≡ back_stage c a
+      → b.device.now ≡ a.device.now
+  unfolding back_stage
+  back_same a b c is = by (goes_back_now c) is
     where
-      by : (z : Bool) → b ≡ cond z a (at_mark (AtEnd c.frame None false) a)
+      by : (z : Bool) → b ≡ cond z (at_mark (GoesBack c.since) a) a
+          → b.device.now ≡ a.device.now
+      by true at = ap (λ (s : Stage D). s.device.now) at
+      by false at = ap (λ (s : Stage D). s.device.now) at
+
+  pub Moves-back : (a b : Stage D) (c : CheckerValue) → b ≡ back_stage c a
+      → Moves IsTold has_stopped a b
+  unfolding back_stage
+  Moves-back a b c is = by (goes_back_now c) is
+    where
+      by : (z : Bool) → b ≡ cond z (at_mark (GoesBack c.since) a) a
+          → Moves IsTold has_stopped a b
+      by true at = mark_moves a b (GoesBack c.since) at (λ l. rw (back_last c.since _) l)
+      by false at = subst (λ (s : Stage D). Moves IsTold has_stopped a s) (sym at) (Moves-none a)
+
+  pub back_fine : (a b : Stage D) (c : CheckerValue) → b ≡ back_stage c a
+      → has_stopped a.device.now ≡ false
+      → has_stopped b.device.now ≡ false
+  back_fine a b c is fine = ap has_stopped (back_same a b c is) ∙ fine
+
+  -- It, and then another step.
+  pub Moves-backed : (a b d : Stage D) (c : CheckerValue)
+      → b ≡ back_stage c a
+      → has_stopped a.device.now ≡ false
+      → Moves IsTold has_stopped b d
+      → Moves IsTold has_stopped a d
+  Moves-backed a b d c is fine next =
+      Moves-trans a b d (Moves-back a b c is) (back_fine a b c is fine) next
+
+  pub Moves-quiet : (a b : Stage D) (c : CheckerValue) → has_stopped a.device.now ≡ false
+      → b ≡ quiet_stage c a
+      → Moves IsTold has_stopped a b
+  Moves-quiet a b c fine is = by (c.within == 0) is
+    where
+      by : (z : Bool) → b ≡ cond z a (at_mark (AtEnd c.frame None false) (back_stage c a))
           → Moves IsTold has_stopped a b
       by true at = subst (λ (s : Stage D). Moves IsTold has_stopped a s) (sym at) (Moves-none a)
-      by false at = Moves-at_end a b c.frame None false at
+      by false at =
+          Moves-backed a (back_stage c a) b c refl fine
+          (Moves-at_end (back_stage c a) b c.frame None false at)
+
+  -- The mark of a frame before it, and then another step.
+  pub Moves-begun : (a b d : Stage D) (c : CheckerValue)
+      → b ≡ back_stage c (at_mark (Begins c.frame) a)
+      → c.frame < day
+      → has_stopped a.device.now ≡ false
+      → Moves IsTold has_stopped b d
+      → Moves IsTold has_stopped a d
+  Moves-begun a b d c is here fine next =
+      let begun = at_mark (Begins c.frame) a in
+      Moves-trans a begun d (Moves-begins a begun c.frame refl here) fine
+      (Moves-backed begun b d c is fine next)
 
   pub Moves-ends : (a b : Stage D) (f : ℕ) (has none : Bool)
       → b ≡ at_mark (Ends f has none) a

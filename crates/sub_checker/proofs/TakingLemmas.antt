@@ -4,17 +4,17 @@
 use Rattle.std.proofs.lemmas.Bool.Decides.{nat_tests}
 use Rattle.std.proofs.Common.{◌≡◌, ℕ, zero, suc, ◌+◌, ◌-◌, ◌<◌, ◌==◌, Bool, ◌&&◌, not, true}
 use Rattle.std.proofs.Common.{false, cond, List, [], ◌∷◌, ◌++◌, length, map, refl, sym, ap, ◌∙◌}
-use Rattle.std.proofs.Common.{subst, arith, append_assoc, length-append, Result}
+use Rattle.std.proofs.Common.{subst, arith, append_assoc, ap₂, length-append, Result}
 use Rattle.std.specs.Prelude.{OnOk}
 use Rattle.std.proofs.lemmas.Bool.{true≢false}
 use Rattle.std.proofs.lemmas.List.{append-nil}
 use Rattle.ttx_page.specs.PacketKind.{kind}
 use Rattle.ttx_page.specs.Span.{holds_header}
-use Rattle.sub_rules.specs.Events.{first_header_events, standing_at}
+use Rattle.sub_rules.specs.Events.{first_header_events, since_before, standing_at}
 use Rattle.sub_rules.specs.FrameRules.{Task, end_frame, frame_at, packets_before}
 use Rattle.sub_rules.specs.FrameRules.{packets_of_frame}
 use Rattle.sub_rules.specs.PieceEvents.{marks_at_end, marks_of_arrival, marks_of_ending}
-use Rattle.sub_rules.specs.PieceEvents.{marks_of_more}
+use Rattle.sub_rules.specs.PieceEvents.{marks_before, marks_of_more}
 use Rattle.sub_rules.specs.PieceEvents.{marks_of_packets, marks_of_sent, marks_of_waiting}
 use Rattle.sub_rules.specs.Pieces.{goes_on_with, with_packets}
 use Rattle.sub_rules.proofs.JoinedLemmas.{with_packets-length}
@@ -25,15 +25,16 @@ use Rattle.sub_rules.specs.Trusted.Mark.{AtPes, Begins, Ends, Says}
 use Rattle.sub_rules.specs.declared.event.Event.{Event}
 use Rattle.sub_checker.specs.Checker.{AreFew, CheckerValue, HasHeard, after_headers}
 use Rattle.sub_checker.specs.Following.{Arrives, Follows, Heard, Keeps, StaysOpen, next_marks}
-use Rattle.sub_checker.specs.Following.{reaching_marks}
+use Rattle.sub_checker.specs.Following.{back_stage, reaching_marks}
+use Rattle.sub_checker.proofs.EndingLemmas.{back_are}
 use Rattle.sub_checker.specs.Passing.{at_mark}
 use Rattle.sub_checker.specs.declared.counts.Counts.{Counts}
 use Rattle.sub_checker.specs.declared.passing.Stage.{Stage}
 use Rattle.sub_checker.specs.declared.passing.Passing.{Passing}
 use Rattle.sub_checker.proofs.HearingLemmas.{heard_here}
 use Rattle.sub_checker.proofs.MoreLemmas.{opens_more}
-use Rattle.sub_checker.proofs.PassingLemmas.{IsWhole, silent_begins}
-use Rattle.sub_checker.proofs.StageLemmas.{whole_mark, whole_two}
+use Rattle.sub_checker.proofs.PassingLemmas.{IsWhole}
+use Rattle.sub_checker.proofs.StageLemmas.{whole_begun, whole_two}
 
 -- ---- what is kept between two PES packets
 
@@ -216,14 +217,19 @@ one_longer sent s = length-append sent (s ∷ []) ∙ omega arith
 
 -- The way to its frame, and then the mark there. For `take_next`.
 pub arrived : {D : Type 0} {IsTold : D → Event → D → Type 0} {a : D} {p : Passing}
-    {s t : Stage D} (g : Task) (frames : Transmission) (n frame : ℕ)
-    → frame_at frames n ≡ frame
+    (s t : Stage D) (g : Task) (frames : Transmission) (n : ℕ) (last : List (List ℕ))
+    (c : CheckerValue)
+    → Arrives g frames n last c
     → IsWhole IsTold a p (reaching_marks g frames n) s.device.now s.passing
-    → t ≡ at_mark (Begins frame) s
+    → t ≡ back_stage c (at_mark (Begins c.frame) s)
     → IsWhole IsTold a p (marks_of_arrival g frames n) t.device.now t.passing
-arrived g frames n frame at reached begins =
-    whole_two (ap (λ (f : ℕ). reaching_marks g frames n ++ Begins f ∷ []) at) reached
-    (whole_mark refl begins (silent_begins _ _))
+arrived s t g frames n last c arrives reached begins =
+    let back =
+    back_are g frames n n (frame_at frames n) last c arrives.waits.known arrives.waits.since_is in
+    whole_two
+    (ap₂ (λ (f : ℕ) (ms : List Mark). reaching_marks g frames n ++ Begins f ∷ ms)
+    (sym arrives.frame_is) (sym back))
+    reached (whole_begun s t c begins)
 
 -- Its marks where its end comes at once, and where it does not. For `take_next`.
 pub next_each : (g : Task) (frames : Transmission) (n : ℕ) → g.within ≡ 0
@@ -252,17 +258,22 @@ few_later pes n few =
     let p = few.packets in
     record { frames = omega arith; headers = omega arith; packets = omega arith }
 
+-- What comes where it begins.
+abbrev pub begun_marks : Task → Transmission → ℕ → List Mark
+begun_marks g frames n =
+    Begins (frame_at frames n) ∷ marks_before g (since_before g frames n (frame_at frames n))
+
 -- The way to its frame comes first, and then its packets.
 pub reached_part : (g : Task) (frames : Transmission) (n : ℕ)
     → next_marks g frames n
     ≡ reaching_marks g frames n
-    ++ (Begins (frame_at frames n) ∷ []
+    ++ (begun_marks g frames n
     ++ (marks_of_packets g frames n ++ cond (g.within == 0) (marks_of_ending g frames n) []))
 reached_part g frames n =
     let ends = cond (g.within == 0) (marks_of_ending g frames n) [] in
-    append_assoc (reaching_marks g frames n ++ Begins (frame_at frames n) ∷ [])
+    append_assoc (reaching_marks g frames n ++ begun_marks g frames n)
     (marks_of_packets g frames n) ends
-    ∙ append_assoc (reaching_marks g frames n) (Begins (frame_at frames n) ∷ [])
+    ∙ append_assoc (reaching_marks g frames n) (begun_marks g frames n)
     (marks_of_packets g frames n ++ ends)
 
 -- What comes at the end of a frame, the events of the first one before the rest. For `end_sent`.

@@ -4,8 +4,8 @@ use Rattle.std.proofs.lemmas.Bool.Decides.{nat_tests}
 use Rattle.std.proofs.Common.{◌≡◌, arith, List, [], ◌∷◌, ◌++◌, refl, sym, ap, ◌∙◌}
 use Rattle.std.proofs.Common.{append_assoc, is_some, not, true}
 use Rattle.std.specs.List.{list_any}
-use Rattle.sub_rules.specs.Trusted.{Mark, doubted_by, stays_quiet, is_said, last_begun, late_of}
-use Rattle.sub_rules.specs.Trusted.{pes_told}
+use Rattle.sub_rules.specs.Trusted.{Mark, back_of, doubted_by, stays_quiet, is_said, last_begun}
+use Rattle.sub_rules.specs.Trusted.{late_of, pes_told}
 use Rattle.sub_rules.specs.Trusted.{run_of, since_of, tells_fall, told_after, told_at, whole_of}
 use Rattle.sub_rules.specs.Trusted.Mark.{Closes, Says}
 use Rattle.sub_rules.specs.declared.event.Event.{Event}
@@ -39,6 +39,7 @@ record IsKept (past : List Mark) (t : Trust) : Type 0 where
   clean_is : t.is_clean ≡ stays_quiet past
   since_is : t.since ≡ since_of past
   late_is : late_since t ≡ late_of past
+  back_is : t.back ≡ back_of past
   told_is : t.told ≡ list_any is_said past
   run_is : t.run ≡ run_of past
   whole_is : is_some t.run ≡ true → t.whole ≡ whole_of past
@@ -55,13 +56,14 @@ doubted_now past e = refl
 
 -- Before the first mark.
 starts : IsKept [] no_trust
-unfolding pes_told last_begun stays_quiet since_of late_of run_of
+unfolding pes_told last_begun stays_quiet since_of late_of back_of run_of
 starts = grind (arith, nat_tests)
 
 -- After a mark it is so too.
 keeps : (m : Mark) (past : List Mark) (t : Trust) → IsKept past t
     → IsKept (m ∷ past) (after_mark m t)
-unfolding after_mark pes_told last_begun stays_quiet since_of late_of run_of whole_of tells_fall
+unfolding after_mark pes_told last_begun stays_quiet since_of late_of back_of run_of whole_of
+    tells_fall
 keeps (Says e) past t k =
     let now = doubted_now past e in
     let order = order_fall e in

@@ -9,12 +9,14 @@ use Rattle.ttx_page.specs.PacketKind.{kind}
 use Rattle.ttx_page.specs.Span.{is_open_after}
 use Rattle.ttx_pes.specs.DataUnit.{UnitValue}
 use Rattle.sub_rules.specs.Events.{end_events, is_missed, undue_after, unfinished_from, silent_for}
-use Rattle.sub_rules.specs.Events.{wrong_after}
+use Rattle.sub_rules.specs.Events.{was_undecided, wrong_after}
 use Rattle.stl_rows.specs.DuePage.{TellsNextEdge, tci_of_ending}
+use Rattle.stl_rows.specs.Judged.{JudgedValue, is_beside}
+use Rattle.sub_rules.specs.FrameRules.{is_undecided_beside}
 use Rattle.sub_rules.specs.PacketRules.{header_count, packets_of_units}
 use Rattle.sub_rules.specs.Transmission.{SentFrame}
 use Rattle.sub_rules.specs.Trusted.{Mark}
-use Rattle.sub_rules.specs.Trusted.Mark.{AtEnd, Says}
+use Rattle.sub_rules.specs.Trusted.Mark.{AtEnd, GoesBack, Says}
 use Rattle.sub_rules.specs.declared.sending.Sending.{Sending}
 use Rattle.sub_rules.specs.declared.standing.Standing.{Standing}
 use Rattle.sub_packets.specs.Listener.{KnowsLast}
@@ -50,13 +52,16 @@ sent_as sending units = record { frame = sending.frame; packets = packets_of_uni
 
 -- ---- what is kept
 
--- The programme, the repeat bound, within how many frames the page has to be whole, how many frames
+-- The programme, all that is judged, and whether subtitles of the file are refused beside it; the
+-- repeat bound, within how many frames the page has to be whole, how many frames
 -- apart PES packets are at most, where that is asked, what is kept of the packets, the frame of the
 -- first PES packet, the greatest one of all, the frame that a page is due at, that of the last end
 -- and what stood broken there, the first of the frames up to it at whose ends the page was not
 -- whole, one more than the first frame at whose end a header is too long ago, and what was counted.
 pub record CheckerValue : Type 0 where
   pub programme : ProgrammeValue
+  pub judging : JudgedValue
+  pub beside : Bool
   pub every : ℕ
   pub within : ℕ
   pub pace : Option ℕ
@@ -121,10 +126,33 @@ is_overdue_at programme within first None f = false
 is_overdue_at programme within first (Some since) f =
     nat_le (since + within) f || is_missed (tci_of_ending programme.records (f + 1)) first since
 
+-- At this frame it is not known what is due.
+abbrev pub is_undecided_by : CheckerValue → ℕ → Bool
+is_undecided_by c frame = is_undecided_beside c.judging frame
+
+-- The first cell that shows another code than is due, where it is known what is due.
+abbrev pub differs_now : List (List ℕ) → CheckerValue → Option (ℕ × ℕ)
+differs_now heard c =
+    if is_undecided_by c c.frame
+    then None
+    else wrong_after c.listener.watched.page heard c.listener.comparison.due
+
+-- It is not known of a frame what was due, within the frames that count.
+abbrev pub undecided_now : CheckerValue → Bool
+undecided_now c = was_undecided (is_undecided_by c) c.first c.frame c.within
+
+-- The first cell that shows what was not due within the frames that count, where it is known what
+-- was due.
+abbrev pub undue_now : List (List ℕ) → CheckerValue → Option (ℕ × ℕ)
+undue_now heard c =
+    if undecided_now c
+    then None
+    else undue_after c.listener.watched.page heard (due_in c.programme) c.first c.frame c.within
+
 -- The page is not whole.
 abbrev pub is_unfinished_now : List (List ℕ) → CheckerValue → Bool
 is_unfinished_now heard c =
-    is_some (wrong_after c.listener.watched.page heard c.listener.comparison.due)
+    is_some (differs_now heard c)
     || (c.listener.watched.complete && is_open_after (kind c.listener.watched.page) heard)
 
 -- Since which frame it is not.
@@ -139,21 +167,28 @@ late_now heard c =
 -- What stands broken.
 abbrev pub stands : List (List ℕ) → CheckerValue → Standing
 stands heard c = record {
-  content =
-      if late_now heard c
-      then wrong_after c.listener.watched.page heard c.listener.comparison.due
-      else undue_after c.listener.watched.page heard (due_in c.programme) c.first c.frame c.within;
+  content = if late_now heard c then differs_now heard c else undue_now heard c;
   gap = nat_le c.late_at (c.frame + 1);
   incomplete =
       late_now heard c
       && (c.listener.watched.complete && is_open_after (kind c.listener.watched.page) heard);
+  undecided = undecided_now c;
   silent = silent_for c.pace c.latest c.frame;
 }
+
+-- Beside what is refused, and within frames, it is told before a frame since which one the page is
+-- not whole.
+abbrev pub goes_back_now : CheckerValue → Bool
+goes_back_now c = c.beside && not (c.within == 0)
+
+abbrev pub back_marks : CheckerValue → List Mark
+back_marks c = if goes_back_now c then GoesBack c.since ∷ [] else []
 
 -- What comes there.
 abbrev pub end_marks : List (List ℕ) → CheckerValue → List Mark
 end_marks heard c =
-    (if c.within == 0 then [] else AtEnd c.frame (since_now heard c) (late_now heard c) ∷ [])
+    back_marks c
+    ++ (if c.within == 0 then [] else AtEnd c.frame (since_now heard c) (late_now heard c) ∷ [])
     ++ map Says
     (end_events c.standing c.last (stands heard c) c.frame)
 
@@ -180,6 +215,25 @@ is_pending_now c =
     && not (is_overdue_at c.programme c.within c.first c.since c.last)
 
 -- ---- the invariant
+
+-- Up to the next edge it is by this number that it is known at a frame whether what was due was
+-- known, within the frames that count: the frames at which it was not are those below it.
+abbrev pub IsKnownFrom : (ℕ → Bool) → ℕ → ℕ → ℕ → Option ℕ → ℕ → Type 0
+IsKnownFrom undecided first within frame edge known_from =
+    (f : ℕ)
+    → frame ≤ f
+    → f < day
+    → is_before f edge ≡ true
+    → nat_lt f known_from ≡ was_undecided undecided first f within
+
+-- What is judged is what is kept of it, up to the next edge.
+pub record IsJudged
+    (judging : JudgedValue) (programme : ProgrammeValue) (beside : Bool)
+    (first within frame : ℕ) (edge : Option ℕ) (known_from : ℕ)
+    : Type 0 where
+  pub programme_is : programme ≡ judging.programme
+  pub beside_is : beside ≡ is_beside judging
+  pub known_is : IsKnownFrom (is_undecided_beside judging) first within frame edge known_from
 
 -- The page that is kept as due and the next edge are those of the frame, and the numbers are such
 -- that none is too large.

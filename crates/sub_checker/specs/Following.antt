@@ -1,30 +1,39 @@
 -- The parts of the check of one frame of the list, and what is kept after the first n frames.
 -- Private functions alone cite this.
-use Rattle.std.specs.Prelude.{◌≡◌, ℕ, zero, suc, ◌+◌, ◌-◌, ◌<◌, ◌==◌, List, [], ◌++◌, length, map}
+use Rattle.std.specs.Prelude.{◌≡◌, ℕ, suc, ◌+◌, ◌-◌, ◌<◌, ◌==◌, List, [], ◌++◌, length, map}
 use Rattle.std.specs.Prelude.{nat_le, false, true, Option, None, if◌then◌else◌}
 use Rattle.sub_rules.specs.Transmission.{Transmission}
-use Rattle.sub_checker.specs.Checker.{CheckerValue}
+use Rattle.sub_checker.specs.Checker.{CheckerValue, goes_back_now, is_undecided_by}
 use Rattle.sub_rules.specs.Events.{end_before, gap_length, is_gap, latest, nothing_stands}
-use Rattle.sub_rules.specs.Events.{order_events, since_frames, standing_at, standing_before}
-use Rattle.sub_rules.specs.Events.{unfinished_since}
+use Rattle.sub_rules.specs.Events.{order_events, since_before, since_frames, standing_at}
+use Rattle.sub_rules.specs.Events.{standing_before}
 use Rattle.sub_packets.specs.Listener.{KnowsLast}
-use Rattle.sub_rules.specs.FrameRules.{Task, frame_at, packets_of_frame, packets_before, task_with}
+use Rattle.sub_rules.specs.FrameRules.{Task, Unread, frame_at, packets_of_frame, packets_before}
+use Rattle.sub_rules.specs.FrameRules.{task_with}
 use Rattle.sub_rules.specs.PacketRules.{header_count}
 use Rattle.sub_rules.specs.PieceEvents.{marks_of_arrival, marks_of_closing, marks_of_ending}
 use Rattle.sub_rules.specs.PieceEvents.{marks_of_gap, marks_of_packets, marks_of_waiting}
 use Rattle.sub_rules.specs.Trusted.{Mark}
-use Rattle.sub_rules.specs.Trusted.Mark.{AtEnd, Says}
+use Rattle.sub_rules.specs.Trusted.Mark.{AtEnd, GoesBack, Says}
 use Rattle.sub_checker.specs.Passing.{at_mark}
 use Rattle.sub_checker.specs.declared.passing.Stage.{Stage}
 
 -- ---- what is kept
+
+-- The task that is kept, with this end of reading.
+abbrev pub task_kept : CheckerValue → Option Unread → Task
+task_kept c unread =
+    record (task_with c.programme c.listener.watched c.every c.within c.pace unread) {
+      beside = c.beside;
+      undecided = is_undecided_by c;
+    }
 
 -- What is kept of the packets is what the first n frames of the list say, and of the PES packet
 -- that was heard last what its packets do.
 pub record Remembers
     (g : Task) (frames : Transmission) (n : ℕ) (last : List (List ℕ)) (c : CheckerValue)
     : Type 0 where
-  pub task_is : g ≡ task_with c.programme c.listener.watched c.every c.within c.pace g.unread
+  pub task_is : g ≡ task_kept c g.unread
   pub knows : KnowsLast (packets_before frames n) last c.listener
   pub count : c.counts.headers ≡ header_count g.watched.page (packets_before frames n)
 
@@ -33,12 +42,6 @@ pub record Remembers
 pub record HasBegun (g : Task) (frames : Transmission) (n : ℕ) (c : CheckerValue) : Type 0 where
   pub first_is : c.first ≡ frame_at frames 0
   pub late_is : (f : ℕ) → is_gap g frames n f ≡ nat_le c.late_at (f + 1)
-
--- Since which frame the page was not whole at the end before that of frame f, up to which n frames
--- of the list counted.
-unfoldable pub since_before : Task → Transmission → ℕ → ℕ → Option ℕ
-since_before g frames zero f = None
-since_before g frames (suc i) f = unfinished_since g frames (suc i) (f - 1)
 
 -- What is kept after the first n frames of the list, at the end of the last of them.
 pub record Follows
@@ -122,6 +125,11 @@ next_marks g frames i =
 abbrev pub last_marks : Task → Transmission → ℕ → List Mark
 last_marks g list pes = marks_of_waiting g list ++ marks_of_closing g list pes (length list)
 
+-- Before a frame, or its end: since which one the page is not whole, where that is told.
+unfoldable pub back_stage : {D : Type 0} → CheckerValue → Stage D → Stage D
+back_stage c s = if goes_back_now c then at_mark (GoesBack c.since) s else s
+
 -- After an end at which nothing stands broken, and nothing did at the one before.
 abbrev pub quiet_stage : {D : Type 0} → CheckerValue → Stage D → Stage D
-quiet_stage c s = if c.within == 0 then s else at_mark (AtEnd c.frame None false) s
+quiet_stage c s =
+    if c.within == 0 then s else at_mark (AtEnd c.frame None false) (back_stage c s)

@@ -4,7 +4,7 @@ use Rattle.std.specs.Prelude.{ℕ, suc, ◌&&◌, ◌||◌, true, false, not, Bo
 use Rattle.std.specs.Prelude.{Option, Some, None, is_none, is_some, unwrap_or, if◌then◌else◌}
 use Rattle.sub_rules.specs.Fault.{doubted_frame, fault_row}
 use Rattle.sub_rules.specs.Trusted.{Mark, at_pes, trusted}
-use Rattle.sub_rules.specs.Trusted.Mark.{AtEnd, AtPes, Begins, Closes, Ends, Says}
+use Rattle.sub_rules.specs.Trusted.Mark.{AtEnd, AtPes, Begins, Closes, Ends, GoesBack, Says}
 use Rattle.sub_rules.specs.declared.event.Event.{Event}
 use Rattle.sub_rules.specs.declared.event.Event.TheVariants.{Told}
 use Rattle.sub_rules.specs.declared.fault.CheckFault.TheVariants as fault
@@ -21,10 +21,11 @@ unfoldable pub is_order : Event → Bool
 is_order (Told (fault.Order pes)) = true
 is_order event = false
 
--- What is told where a frame is trusted no more, if one is.
-abbrev pub trusted_before : Option ℕ → Option ℕ → Option ℕ → List Event
-trusted_before run whole None = []
-trusted_before run whole (Some f) = trusted run whole f
+-- What is told where a frame is trusted no more, if one is: of the frames before it, without the
+-- last ones, since this one, at whose ends the page was not whole.
+abbrev pub trusted_before : Option ℕ → Option ℕ → Option ℕ → Option ℕ → List Event
+trusted_before run whole back None = []
+trusted_before run whole back (Some f) = trusted run whole (unwrap_or back f)
 
 -- A run goes on; else it begins with this frame, where that has a header of the page.
 abbrev pub run_begun : Option ℕ → Bool → ℕ → Option ℕ
@@ -54,13 +55,14 @@ late_since t = if t.is_late then t.since else None
 
 -- The first frame that is not trusted at the end of the file.
 abbrev pub closing_frame : Trust → Bool → ℕ
-closing_frame t are_left = unwrap_or t.since (if are_left then t.last else suc t.last)
+closing_frame t are_left =
+    unwrap_or t.since (if are_left then unwrap_or t.back t.last else suc t.last)
 
 -- What is told with a mark. At the end of the file what is trusted of the last run is told only
 -- where anything else is.
 unfoldable pub told_with : Mark → Trust → List Event
 told_with (Says e) t =
-    trusted_before t.run t.whole (doubted t.last (late_since t) e) ++ at_pes t.pes e ∷ []
+    trusted_before t.run t.whole t.back (doubted t.last (late_since t) e) ++ at_pes t.pes e ∷ []
 told_with (Closes are_left more) t =
     if t.told || more then trusted t.run t.whole (closing_frame t are_left) else []
 told_with mark t = []
@@ -85,6 +87,7 @@ after_mark (Ends f has_header none) t = record t {
   whole = whole_in t.run t.whole t.since f;
 }
 after_mark (Closes are_left more) t = record t { run = None }
+after_mark (GoesBack since) t = record t { back = since }
 
 -- Before the first mark.
 abbrev pub no_trust : Trust
@@ -97,6 +100,7 @@ no_trust = record {
   is_clean = true;
   since = None;
   is_late = false;
+  back = None;
   told = false;
 }
 

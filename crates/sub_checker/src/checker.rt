@@ -2,22 +2,28 @@
 ghost use Rattle.std.specs.Prelude.{◌≡◌, ℕ, ◌+◌, ◌<◌, ◌≤◌, List, [], Option, max};
 ghost use Rattle.stl_file.specs.TimeCode.{day};
 ghost use Rattle.sub_checker.specs.Checker.{is_before};
-ghost use Rattle.sub_rules.specs.FrameRules.{Unread, task_of};
+ghost use Rattle.sub_rules.specs.FrameRules.{Unread, task_beside};
 ghost use Rattle.stl_rows.specs.Programme.{IsProgramme};
 ghost use Rattle.sub_plan.specs.Options.{IsOptions};
 
 use crate::counts::Counts;
+use crate::passing::Stage;
 use crate::telling::Accepted;
+use crate::undecided::known_from;
 use std::marker::Model;
-use stl_rows::Programme;
+use stl_rows::{Judging, Programme};
+use sub_io::Audience;
 use sub_packets::Listener;
 use sub_plan::Options;
-use sub_rules::{Standing, Watched};
+use sub_rules::{Event, Standing, Watched};
 
 /// How far the check has come.
 #[derive(Drop)]
 pub(crate) struct Checker<'a> {
+    pub judging: &'a Judging<'a>,
     pub programme: &'a Programme,
+    // Subtitles of the file are refused.
+    pub is_beside: bool,
     // The repeat bound.
     pub every: u32,
     // Within how many frames the page has to be whole.
@@ -33,6 +39,9 @@ pub(crate) struct Checker<'a> {
     pub frame: u32,
     // The next frame at which another page may be due.
     pub edge: Option<u32>,
+    // Up to the next edge, from which frame on it is known what is due, and what was within the
+    // frames that count.
+    pub known_from: u64,
     // The frame of the last end, and what stood broken there.
     pub last: u32,
     pub standing: Standing,
@@ -46,12 +55,14 @@ pub(crate) struct Checker<'a> {
 }
 
 impl<'a> Model for Checker<'a> {
-    ghost use Rattle.sub_checker.specs.Checker.{CheckerValue, IsAtFrame};
+    ghost use Rattle.sub_checker.specs.Checker.{CheckerValue, IsAtFrame, IsJudged};
 
     ghost Value = { CheckerValue };
 
     ghost view = { λ c. record {
       programme = c.programme.now;
+      judging = c.judging.now;
+      beside = c.is_beside;
       every = c.every;
       within = c.within;
       pace = c.pace;
@@ -67,37 +78,47 @@ impl<'a> Model for Checker<'a> {
     } };
 
     ghost invariant = { λ c. IsAtFrame c.programme.now c.every c.listener c.first c.latest c.last
-        c.frame c.edge };
+        c.frame c.edge × IsJudged c.judging.now c.programme.now c.is_beside c.first c.within c.frame
+        c.edge c.known_from };
 }
 
 impl<'a> Checker<'a> {
     ghost use Rattle.sub_checker.specs.Checker.{AreFew, at_first, at_frame, at_next, after_headers};
-    ghost use Rattle.sub_checker.specs.Following.{Keeps};
+    ghost use Rattle.sub_checker.specs.Following.{Keeps, back_stage};
+    ghost use Rattle.sub_checker.specs.Passing.{at_mark};
+    ghost use Rattle.sub_rules.specs.Trusted.Mark.{Begins};
     ghost use Rattle.sub_checker.specs.Steps.{AreCounted};
 
     /// Before the first PES packet: nothing was heard.
-    pub fn new(programme: &'a Programme, options: &Options) -> Self
+    pub fn new(judging: &'a Judging<'a>, options: &Options) -> Self
         ensures none { AreFew 0 result.counts }
         ensures keeps { (last : List (List ℕ)) (unread : Option Unread)
-            → Keeps (task_of programme.now options.now unread) [] last result }
+            → Keeps (task_beside judging.now options.now unread) [] last result }
         ensures options { IsOptions options.now }
-        ensures programme { IsProgramme programme.now.drawing programme.now.records }
+        ensures programme { IsProgramme judging.now.programme.drawing
+            judging.now.programme.records }
     {
+        let programme = judging.programme();
+        let is_beside = judging.is_beside();
+        let within = options.within() as u32;
         let watched = Watched {
             page: options.page(),
             national: programme.national(),
             complete: options.asks_complete(),
         };
         Checker {
+            judging,
             programme,
+            is_beside,
             every: options.every() as u32,
-            within: options.within() as u32,
+            within,
             pace: options.pace().map(|frames| frames as u32),
             listener: Listener::new(watched, programme.due_page(0)),
             first: 0,
             latest: 0,
             frame: 0,
             edge: programme.next_edge(0),
+            known_from: known_from(judging, is_beside, 0, 0, within),
             last: 0,
             standing: Standing::none(),
             since: None,
@@ -129,6 +150,7 @@ impl<'a> Checker<'a> {
         let programme = self.programme;
         self.listener.draw(programme.due_page(f));
         self.edge = programme.next_edge(f);
+        self.known_from = known_from(self.judging, self.is_beside, self.first, f, self.within);
         self.frame = f;
     }
 
@@ -141,6 +163,7 @@ impl<'a> Checker<'a> {
         self.first = frame;
         self.latest = frame;
         self.late_at = frame + self.every;
+        self.known_from = known_from(self.judging, self.is_beside, frame, frame, self.within);
     }
 
     /// Goes to the frame of another PES packet.
@@ -150,6 +173,30 @@ impl<'a> Checker<'a> {
     {
         self.move_to(frame);
         self.latest = greater(self.latest, frame);
+    }
+
+    /// The packets of the frame that was reached follow.
+    #[inline(always)]
+    pub fn begin_frame<A: Audience<Event>>(&self, stage: &mut Stage<'_, A>)
+        ensures begun { stage.new
+            ≡ back_stage self.now (at_mark (Begins self.now.frame) stage.old) }
+        ensures same { stage.new.device ≡ stage.old.device }
+    {
+        stage.begin_frame(self.frame);
+        self.go_back(stage);
+    }
+
+    /// What follows is told of the frame that was reached or at its end: beside what is refused,
+    /// and within frames, since which one the page is not whole up to the one before.
+    #[inline(always)]
+    #[tactic(auto, unfolding(crate::specs::Following::back_stage))]
+    pub fn go_back<A: Audience<Event>>(&self, stage: &mut Stage<'_, A>)
+        ensures back { stage.new ≡ back_stage self.now stage.old }
+        ensures same { stage.new.device ≡ stage.old.device }
+    {
+        if self.is_beside && self.within > 0 {
+            stage.go_back(self.since);
+        }
     }
 
     /// Counts the headers of the page in a PES packet of the frame that was reached.

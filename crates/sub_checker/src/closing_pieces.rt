@@ -1,5 +1,6 @@
 //! What is told after the last piece of a PES file.
 ghost use Rattle.std.specs.Prelude.{◌≡◌, ◌<◌, ℕ, List, IfSome, false, is_err, is_none, length, not};
+ghost use Rattle.std.specs.Prelude.{◌||◌};
 ghost use Rattle.sub_io.specs.Telling.{TellsSome, TellsUntilStopped};
 ghost use Rattle.stl_file.specs.TimeCode.{day};
 ghost use Rattle.sub_rules.specs.FrameRules.{Task};
@@ -109,9 +110,24 @@ fn close<A: Audience<Event>>(
         result }
 {
     stage.go_to(pes);
-    let more = tells_more(checker, pes, fault);
+    let more = tells_trusted(checker, pes, fault);
     stage.close(fault.is_some(), more)?;
     tell_rest(checker, pes, fault, stage)
+}
+
+// Whether what is trusted is told whatever came before: beside what is refused of the subtitle
+// file, or since anything is told after the last piece.
+fn tells_trusted(checker: &Checker<'_>, pes: u32, fault: Option<CheckFault>) -> bool
+    ensures { (g : Task) (list : Transmission) (last : List (List ℕ))
+        → Follows g list (length list) last checker.now
+        → fault ≡ ending_fault pes g.unread
+        → result
+        ≡ (g.beside || not (tells_none (closing_of_pieces g list pes (length list)))) }
+{
+    if checker.is_beside {
+        return true;
+    }
+    tells_more(checker, pes, fault)
 }
 
 // Whether anything is told after the last piece.

@@ -3,11 +3,12 @@ ghost use Rattle.std.specs.Prelude.{◌≡◌, ◌==◌, ◌&&◌, ℕ, suc, ◌
 ghost use Rattle.std.specs.Prelude.{false, is_err, length, nat_le, not, true};
 ghost use Rattle.stl_file.specs.TimeCode.{day};
 ghost use Rattle.sub_checker.specs.Checker.{after_end, end_marks, quiet_end, stands};
-ghost use Rattle.sub_checker.specs.Checker.{AreFew, is_overdue_at, late_now, since_now};
+ghost use Rattle.sub_checker.specs.Checker.{AreFew, differs_now, is_overdue_at, late_now};
+ghost use Rattle.sub_checker.specs.Checker.{is_undecided_by, since_now, undecided_now, undue_now};
 ghost use Rattle.sub_checker.specs.Following.{Follows, Heard, Keeps, quiet_stage};
 ghost use Rattle.sub_checker.specs.Passing.{Moves, StagePasses};
 ghost use Rattle.sub_packets.specs.Listener.{Knows};
-ghost use Rattle.sub_rules.specs.Events.{nothing_stands, silent_for, undue_after, wrong_after};
+ghost use Rattle.sub_rules.specs.Events.{nothing_stands, silent_for};
 ghost use Rattle.sub_rules.specs.FrameRules.{Task, packets_of_frame};
 ghost use Rattle.sub_rules.specs.PieceEvents.{marks_of_ending, marks_of_waiting};
 ghost use Rattle.sub_rules.specs.Transmission.{Transmission};
@@ -38,7 +39,7 @@ impl<'a> Checker<'a> {
     // Whether it is known by a few comparisons that nothing stood broken at the last end, and that
     // nothing does at the frame that was reached: so it is most often.
     #[inline(always)]
-    #[tactic(auto, using(crate::proofs::EndingLemmas::quiet_stands))]
+    #[tactic(auto, using(crate::proofs::WholeLemmas::quiet_stands))]
     fn is_quiet(&self) -> bool
         ensures { (heard : List (List ℕ)) → Knows heard self.now.listener → IsTrue result
             → (self.now.standing ≡ nothing_stands) × (stands heard self.now ≡ nothing_stands)
@@ -50,7 +51,10 @@ impl<'a> Checker<'a> {
         if !self.listener.is_known_right() {
             return false;
         }
-        self.frame + 1 < self.late_at && !self.listener.is_incomplete() && !self.is_silent()
+        self.frame + 1 < self.late_at
+            && !self.is_undecided()
+            && !self.listener.is_incomplete()
+            && !self.is_silent()
     }
 
     // What stands broken at the frame that was reached, where the page has to be whole at the end
@@ -60,7 +64,8 @@ impl<'a> Checker<'a> {
         ensures { (heard : List (List ℕ)) → Knows heard self.now.listener
             → result ≡ stands heard self.now }
     {
-        let content = self.listener.first_wrong();
+        let undecided = self.is_undecided();
+        let content = self.first_wrong(undecided);
         let gap = self.has_gap();
         let incomplete = self.listener.is_incomplete();
         let silent = self.is_silent();
@@ -68,8 +73,37 @@ impl<'a> Checker<'a> {
             content,
             gap,
             incomplete,
+            undecided,
             silent,
         }
+    }
+
+    // Whether it is not known at the end of the frame that was reached what is due, or what was
+    // within the frames that count.
+    #[inline(always)]
+    fn is_undecided(&self) -> bool
+        ensures { result ≡ undecided_now self.now }
+    {
+        u64::from(self.frame) < self.known_from
+    }
+
+    // Whether it is not known what is due at that frame.
+    fn is_undecided_here(&self) -> bool
+        ensures { result ≡ is_undecided_by self.now self.now.frame }
+    {
+        self.is_beside && self.judging.is_undecided(self.frame)
+    }
+
+    // The first cell that shows another code than is due, where it is known what is.
+    fn first_wrong(&self, is_undecided: bool) -> Option<(u8, u8)>
+        requires { is_undecided ≡ is_undecided_by self.now self.now.frame }
+        ensures { (heard : List (List ℕ)) → Knows heard self.now.listener
+            → result ≡ differs_now heard self.now }
+    {
+        if is_undecided {
+            return None;
+        }
+        self.listener.first_wrong()
     }
 
     // Whether a header of the page is too long ago at the end of the frame that was reached.
@@ -102,7 +136,7 @@ impl<'a> Checker<'a> {
         ensures late { (heard : List (List ℕ)) → Knows heard self.now.listener
             → result.is_late ≡ late_now heard self.now }
     {
-        let differing = self.listener.first_wrong();
+        let differing = self.first_wrong(self.is_undecided_here());
         let is_open = self.listener.is_incomplete();
         let since = unfinished_from(self.since, differing.is_some() || is_open, self.frame);
         let is_late = self.is_overdue(since, self.frame);
@@ -112,11 +146,13 @@ impl<'a> Checker<'a> {
             self.first_undue(differing)
         };
         let gap = self.has_gap();
+        let undecided = self.is_undecided();
         let silent = self.is_silent();
         let standing = Standing {
             content,
             gap,
             incomplete: is_late && is_open,
+            undecided,
             silent,
         };
         EndWithin {
@@ -126,17 +162,18 @@ impl<'a> Checker<'a> {
         }
     }
 
-    // The first cell that shows a code that was not due within these frames, by the first one that
-    // shows another than is due now: where there is none, nor is there one of the former.
+    // The first cell that shows a code that was not due within these frames, where it is known what
+    // was, by the first one that shows another than is due now: where there is none, nor is there
+    // one of the former.
     fn first_undue(&self, differing: Option<(u8, u8)>) -> Option<(u8, u8)>
         ensures { (heard : List (List ℕ)) → Knows heard self.now.listener
-            → differing ≡ wrong_after self.now.listener.watched.page heard
-            self.now.listener.comparison.due
-            → result ≡ undue_after self.now.listener.watched.page heard (due_in self.now.programme)
-            self.now.first self.now.frame self.now.within }
+            → differing ≡ differs_now heard self.now → result ≡ undue_now heard self.now }
     {
         let frame = self.frame;
         if differing.is_none() {
+            return None;
+        }
+        if self.is_undecided() {
             return None;
         }
         self.listener
@@ -157,9 +194,11 @@ impl<'a> Checker<'a> {
     fn end_quietly<A: Audience<Event>>(&mut self, stage: &mut Stage<'_, A>)
         ensures kept { self.new ≡ quiet_end self.old }
         ensures stage { stage.new ≡ quiet_stage self.old stage.old }
+        ensures same { stage.new.device ≡ stage.old.device }
     {
         self.last = self.frame;
         if self.within > 0 {
+            self.go_back(stage);
             self.since = None;
             stage.at_end(self.frame, None, false);
         }
@@ -204,6 +243,7 @@ impl<'a> Checker<'a> {
     {
         let frame = self.frame;
         let end = self.end_now();
+        self.go_back(stage);
         stage.at_end(frame, end.since, end.is_late);
         tell_change(&self.standing, self.last, &end.standing, frame, stage)?;
         self.standing = end.standing;

@@ -5,7 +5,8 @@
 //! and for receivers, `sub_check` says.
 //!
 //! ```text
-//! tell_pieces(&programme, &mut source, &options, &mut audience)?; // Accepted { frames: 51, .. }
+//! tell_pieces(&Judging::known(&programme), &mut source, &options, &mut audience)?;
+//! // Accepted { frames: 51, .. }
 //! ```
 #![tactic(auto)]
 
@@ -24,6 +25,7 @@ mod taking;
 mod telling;
 mod telling_pieces;
 mod trust;
+mod undecided;
 
 pub use telling::Accepted;
 pub use telling_pieces::tell_pieces;

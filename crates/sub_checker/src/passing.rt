@@ -6,7 +6,8 @@ ghost use Rattle.stl_file.specs.TimeCode.{day};
 ghost use Rattle.sub_io.specs.Telling.{TellsUntilStopped, first_alone};
 ghost use Rattle.sub_rules.specs.PieceEvents.{all_announced, announced, passed_after};
 ghost use Rattle.sub_rules.specs.PieceEvents.{passed_after_all};
-ghost use Rattle.sub_rules.specs.Trusted.Mark.{AtEnd, AtPes, Begins, Closes, Ends, Says};
+ghost use Rattle.sub_rules.specs.Trusted.Mark.{AtEnd, AtPes, Begins, Closes, Ends, GoesBack};
+ghost use Rattle.sub_rules.specs.Trusted.Mark.{Says};
 ghost use Rattle.sub_checker.specs.PassedPieces.{as_run, kept_run};
 ghost use Rattle.sub_checker.specs.Passing.{Passes, PassesMarks, at_mark, nothing_passed};
 
@@ -58,6 +59,14 @@ impl<A: Audience<Event>> Stage<'_, A> {
         ensures { self.new ≡ at_mark (Begins frame) self.old }
     {
         self.passing.trust.begin_frame(frame);
+    }
+
+    /// What follows is told of a frame or at its end: since which frame the page is not whole up to
+    /// the one before it.
+    pub fn go_back(&mut self, since: Option<u32>)
+        ensures { self.new ≡ at_mark (GoesBack since) self.old }
+    {
+        self.passing.trust.go_back(since);
     }
 
     /// What follows is told at the end of a frame: since which frame the page is not whole, and

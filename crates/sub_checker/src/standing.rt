@@ -8,10 +8,11 @@ use sub_packets::tell_if;
 use sub_rules::{CheckFault, EndRule, Event, Standing};
 
 // The rules, in the order in which they are told.
-const RULES: [EndRule; 4] = [
+const RULES: [EndRule; 5] = [
     EndRule::Content,
     EndRule::Gap,
     EndRule::Incomplete,
+    EndRule::Undecided,
     EndRule::Silent,
 ];
 
@@ -99,6 +100,7 @@ fn fault_of(rule: EndRule, frame: u32, cell: (u8, u8)) -> CheckFault
         EndRule::Content => CheckFault::Content { frame, row, column },
         EndRule::Gap => CheckFault::Gap { frame },
         EndRule::Incomplete => CheckFault::Incomplete { frame },
+        EndRule::Undecided => CheckFault::Undecided { frame },
         EndRule::Silent => CheckFault::Silent { frame },
     }
 }

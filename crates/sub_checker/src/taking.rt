@@ -97,7 +97,7 @@ impl<'a> Checker<'a> {
             × OnOk result (Keeps g frames (packets_of_units units.now) self.new) }
     {
         self.reach(sending.frame, stage)?;
-        stage.begin_frame(sending.frame);
+        self.begin_frame(stage);
         let headers = self.hear(sending.again, 0, units, stage)?;
         self.counts.frames += 1;
         if self.within == 0 {

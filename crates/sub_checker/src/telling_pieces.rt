@@ -9,7 +9,7 @@ ghost use Rattle.stl_rows.specs.Programme.{IsProgramme};
 ghost use Rattle.sub_plan.specs.FrameTime.{clock_of};
 ghost use Rattle.sub_plan.specs.Options.{IsOptions};
 ghost use Rattle.sub_rules.specs.Fault.{is_pes_read};
-ghost use Rattle.sub_rules.specs.FrameRules.{Unread, task_of};
+ghost use Rattle.sub_rules.specs.FrameRules.{Unread, task_beside};
 ghost use Rattle.sub_rules.specs.Pieces.{FailsAtPiece, Piece, ReadsPieces, frames_of};
 ghost use Rattle.sub_rules.specs.Trusted.Mark.{AtPes, Says};
 ghost use Rattle.sub_checker.specs.Passing.{StagePasses};
@@ -20,7 +20,7 @@ use crate::closing_pieces::finish;
 use crate::lending::next_followed;
 use crate::passing::{Passing, Stage};
 use crate::telling::{Accepted, is_source_failure};
-use stl_rows::Programme;
+use stl_rows::Judging;
 use sub_io::{Audience, LiveAudience, Source, Stopped};
 use sub_plan::Options;
 use sub_rules::{CheckFault, Event, NextPiece, Sending, units_of};
@@ -28,7 +28,7 @@ use ttx_pes::{ComparingReader, PesFault};
 
 /// Tells all that is broken of a PES file to a device of the caller's, piece by piece, until it
 /// says stop, and counts what was read; `None` where it said stop. Reading goes on behind a piece
-/// that is passed over.
+/// that is passed over. Where subtitles of the file are refused that is told beside them.
 ///
 /// `check_all` of `sub_check` calls it, and says what its events and counts mean.
 ///
@@ -36,7 +36,7 @@ use ttx_pes::{ComparingReader, PesFault};
 ///
 /// `Pes` with `Read` where the source failed: then the events are those of the pieces before.
 pub fn tell_pieces<S: Source, A: LiveAudience<Event>>(
-    programme: &Programme,
+    judging: &Judging<'_>,
     source: &mut S,
     options: &Options,
     audience: &mut A,
@@ -47,7 +47,7 @@ pub fn tell_pieces<S: Source, A: LiveAudience<Event>>(
     ensures exact { (pieces : List Piece) (unread : Option Unread)
         → IfTold (S.remaining source.old) (λ bytes.
         ReadsPieces (clock_of options.now) 0 bytes pieces unread
-        → TellsPieces (task_of programme.now options.now unread) (clock_of options.now) bytes
+        → TellsPieces (task_beside judging.now options.now unread) (clock_of options.now) bytes
         pieces A.is_told audience.old audience.new result) }
     ensures stopped { IfOk result (λ counts. A.has_stopped audience.new ≡ is_none counts) }
     ensures some { TellsSome A.is_told audience.old audience.new }
@@ -63,13 +63,13 @@ pub fn tell_pieces<S: Source, A: LiveAudience<Event>>(
         → FailsAtPacket pes (S.remaining source.old) (S.remaining source.new)) }
     ensures only { IfErr result (λ f. is_pes_read f ≡ true) }
     ensures options { IsOptions options.now }
-    ensures programme { IsProgramme programme.now.drawing programme.now.records }
+    ensures programme { IsProgramme judging.now.programme.drawing judging.now.programme.records }
     // Where the source failed, as each of its calls may, nothing that was told is held back.
     ensures asked { A.held audience.old ≡ 0 → IfErr result (λ _. A.held audience.new ≡ 0) }
     ensures count { CountsIf S.failure_count source.old (failed is_pes_read result) source.new }
 {
     let mut reader = ComparingReader::new();
-    let mut checker = Checker::new(programme, options);
+    let mut checker = Checker::new(judging, options);
     let mut stage = Stage {
         device: audience,
         passing: Passing::new(),

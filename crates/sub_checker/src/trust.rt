@@ -3,7 +3,8 @@ ghost use Rattle.std.specs.Prelude.{◌≡◌, ◌<◌, ◌&&◌, is_some};
 ghost use Rattle.stl_file.specs.TimeCode.{day};
 ghost use Rattle.sub_io.specs.Telling.{first_alone};
 ghost use Rattle.sub_rules.specs.Trusted.{at_pes, trusted};
-ghost use Rattle.sub_rules.specs.Trusted.Mark.{AtEnd, AtPes, Begins, Closes, Ends, Says};
+ghost use Rattle.sub_rules.specs.Trusted.Mark.{AtEnd, AtPes, Begins, Closes, Ends, GoesBack};
+ghost use Rattle.sub_rules.specs.Trusted.Mark.{Says};
 ghost use Rattle.sub_checker.specs.Trust.{after_mark, doubted, first_whole, late_since, no_trust};
 ghost use Rattle.sub_checker.specs.Trust.{is_order, told_with, trusted_before};
 
@@ -29,6 +30,9 @@ pub(crate) struct Trust {
     pub since: Option<u32>,
     /// That end is late.
     pub is_late: bool,
+    /// The first of the frames up to the one before at whose ends the page was not whole, where
+    /// those are not trusted wherever a run is over.
+    pub back: Option<u32>,
     /// Something was told.
     pub told: bool,
 }
@@ -47,6 +51,7 @@ impl Trust {
             is_clean: true,
             since: None,
             is_late: false,
+            back: None,
             told: false,
         }
     }
@@ -68,6 +73,15 @@ impl Trust {
     {
         self.last = frame;
         self.is_clean = self.rises;
+    }
+
+    /// What follows is told of a frame or at its end: the first of the frames up to the one before
+    /// it at whose ends the page was not whole.
+    #[tactic(auto, unfolding(crate::specs::Trust::after_mark))]
+    pub fn go_back(&mut self, since: Option<u32>)
+        ensures { self.new ≡ after_mark (GoesBack since) self.old }
+    {
+        self.back = since;
     }
 
     /// What follows is told at the end of a frame: the first of the frames up to it at whose ends
@@ -125,7 +139,7 @@ impl Trust {
     #[tactic(auto, unfolding(crate::specs::Trust::after_mark))]
     pub fn say(&mut self, event: &Event) -> Option<Event>
         ensures before { first_alone result
-            ≡ trusted_before self.old.run self.old.whole
+            ≡ trusted_before self.old.run self.old.whole self.old.back
             (doubted self.old.last (late_since self.old) event.now) }
         ensures kept { self.new ≡ after_mark (Says event.now) self.old }
     {
@@ -141,7 +155,7 @@ impl Trust {
         }
         self.told = true;
         match frame {
-            Some(frame) => trusted(run, self.whole, frame),
+            Some(frame) => trusted(run, self.whole, self.back.unwrap_or(frame)),
             None => None,
         }
     }
@@ -157,7 +171,11 @@ impl Trust {
     {
         let run = self.run;
         self.run = None;
-        let end = if are_left { self.last } else { self.last + 1 };
+        let end = if are_left {
+            self.back.unwrap_or(self.last)
+        } else {
+            self.last + 1
+        };
         let end = self.since.unwrap_or(end);
         if self.told || tells_more {
             trusted(run, self.whole, end)

@@ -203,8 +203,8 @@ was_undecided undecided first f (suc n) =
 abbrev pub undecided_within : Task → Transmission → ℕ → Bool
 undecided_within g frames f = was_undecided g.undecided (frame_at frames 0) f g.within
 
--- The first cell that shows, after n frames of the list, what was not due within these frames. Where
--- it is not known of one of them what was due, it may have been any code.
+-- The first cell that shows, after n frames of the list, what was not due within these frames.
+-- Where it is not known of one of them what was due, it may have been any code.
 abbrev pub undue_cell : Task → Transmission → ℕ → ℕ → Option (ℕ × ℕ)
 undue_cell g frames n f =
     if undecided_within g frames f

@@ -68,8 +68,8 @@ late_of [] = None
 late_of (AtEnd f since late ∷ past) = if late then since else None
 late_of (m ∷ past) = late_of past
 
--- The first of the frames up to the end before the last frame, or before the last end, at whose ends
--- the page is not whole, where that is asked.
+-- The first of the frames up to the one before the last frame that began, or whose end came, at
+-- whose ends the page is not whole; where that is asked.
 unfoldable pub back_of : List Mark → Option ℕ
 back_of [] = None
 back_of (GoesBack since ∷ past) = since

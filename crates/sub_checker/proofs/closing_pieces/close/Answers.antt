@@ -23,8 +23,8 @@ pub returns-in_err-close-clause-told : goal.returns-in_err-close-clause-told
 returns-in_err-close-clause-told g c = λ task list last follows is.
     let p = err_from_is_err_and c.from_residual.result c.from_residual.ensures.1 in
     let mark =
-    closes_are c.args.fault c.args.pes task.unread c.is_some.result c.tells_more-more.result _
-    c.is_some.ensures is (c.tells_more-more.ensures task list last follows is) in
+    closes_are c.args.fault c.args.pes task.unread c.is_some.result c.tells_trusted-more.result _
+    c.is_some.ensures is (c.tells_trusted-more.ensures task list last follows is) in
     rw p.1
     (stops_two (map Says (closing_of_pieces task list c.args.pes (length list)))
     (ap (λ (m : Mark). AtPes c.args.pes ∷ m
@@ -48,8 +48,8 @@ returns-clause-moves g c =
 pub returns-clause-told : goal.returns-clause-told
 returns-clause-told g c = λ task list last follows is.
     let mark =
-    closes_are c.args.fault c.args.pes task.unread c.is_some.result c.tells_more-more.result _
-    c.is_some.ensures is (c.tells_more-more.ensures task list last follows is) in
+    closes_are c.args.fault c.args.pes task.unread c.is_some.result c.tells_trusted-more.result _
+    c.is_some.ensures is (c.tells_trusted-more.ensures task list last follows is) in
     passes_two
     (ap (λ (m : Mark). (AtPes c.args.pes ∷ m ∷ [])
     ++ map Says (closing_of_pieces task list c.args.pes (length list))) (sym mark))

@@ -1,7 +1,7 @@
 -- The first of the rules that are left, and then the others: told_first.
 use Rattle.std.proofs.Common.{◌≡◌, ℕ, ◌+◌, ◌<◌, ◌++◌, List, Ok, arith, ap, drop, drop-cons}
 use Rattle.std.proofs.Common.{flat_map}
-use Rattle.std.proofs.Common.{get_or, length, refl, suc, ◌∙◌}
+use Rattle.std.proofs.Common.{get_or, length, suc, ◌∙◌}
 use Rattle.sub_io.proofs.TellingLemmas.{TellsPrefix-first, TellsUntilStopped-after, Tells-none}
 use Rattle.sub_packets.proofs.RuleSetLemmas.{stopped}
 use Rattle.sub_rules.specs.Events.{broken_at, end_events, end_rules, rule_events}
@@ -49,5 +49,5 @@ returns-in_err-tell_of-clause-told g c =
 pub returns-clause-told : goal.returns-clause-told
 unfolding end_rules end_events
 returns-clause-told g c =
-    let all : c.loop-rule.rule-index ≡ 4 = omega arith in
+    let all : c.loop-rule.rule-index ≡ 5 = omega arith in
     c.loop-rule.invariant.told _ (Ok tt) (rw all (Tells-none c.loop-rule.audience))

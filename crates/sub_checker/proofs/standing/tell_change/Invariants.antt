@@ -2,7 +2,7 @@
 use Rattle.std.proofs.Common.{◌≡◌, List, Result, false, drop, flat_map}
 use Rattle.sub_io.specs.Telling.{TellsUntilStopped}
 use Rattle.sub_io.specs.declared.audience.Stopped.{Stopped}
-use Rattle.sub_rules.specs.Events.{broken_at, end_events, end_rules, rule_events}
+use Rattle.sub_rules.specs.Events.{broken_at, end_rules, rule_events}
 use Rattle.sub_rules.specs.declared.end_rule.EndRule.{EndRule}
 use Rattle.sub_rules.specs.declared.event.Event.{Event}
 use Rattle.sub_checker.proofs.standing.tell_change.Given as goal

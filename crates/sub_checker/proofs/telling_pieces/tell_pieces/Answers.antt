@@ -9,7 +9,7 @@ use Rattle.sub_io.specs.Telling.{Tells}
 use Rattle.ttx_pes.specs.Comparing.{ComparingValue}
 use Rattle.sub_rules.proofs.PieceFileLemmas.{takes_no_pieces}
 use Rattle.sub_plan.specs.FrameTime.{clock_of}
-use Rattle.sub_rules.specs.FrameRules.{task_of}
+use Rattle.sub_rules.specs.FrameRules.{task_beside}
 use Rattle.sub_rules.specs.Pieces.{Piece, frames_of}
 use Rattle.sub_rules.specs.PieceEvents.{events_of_pieces, marks_of_sent}
 use Rattle.sub_checker.proofs.PieceWaysLemmas.{frames_sent, front, none_of_pieces}
@@ -59,7 +59,7 @@ pieces-init g c = record {
   holds = λ none still. none;
   room = c.new-checker.ensures.none;
   told = λ pieces unread bytes told reads.
-      let task = task_of c.args.programme.now c.args.options.now unread in (
+      let task = task_beside c.args.judging.now c.args.options.now unread in (
         [],
         reads_on_none c.args.options.now pieces unread _ bytes told reads,
         packets_of_units c.new-reader.result.frame.units,
@@ -75,11 +75,11 @@ returns-then-is_source_failure-clause-exact g c = λ pieces unread bytes told re
     let here = rw c.in-Err.is at c.in-Some.ensures.reads in
     let so_far =
     c.next_followed.ensures.told.kept c.args.audience.now _ c.requires.still i.5 in
-    let at = front c.args.programme.now i.1 i.3 in
+    let at = front c.args.judging.now i.1 i.3 in
     let device = c.pieces.invariant.same in
     let told =
     subst (λ (l : List Piece). Tells g.A.Audience.is_told c.args.audience.now
-    c.next_followed.new.audience (events_of_pieces (task_of c.args.programme.now
+    c.next_followed.new.audience (events_of_pieces (task_beside c.args.judging.now
     c.args.options.now unread) l)) (sym at.1) so_far in (
       c.pieces.pes,
       at.0,
@@ -92,7 +92,7 @@ returns-then-is_source_failure-clause-sent g c = λ pes pieces unread is bytes t
     let i = c.pieces.invariant.told pieces unread bytes told reads in
     let here = rw c.in-Err.is at c.in-Some.ensures.reads in
     let failed = sym c.is_source_failure.ensures ∙ c.if-is_source_failure.true in
-    let at = front c.args.programme.now i.1 i.3 in
+    let at = front c.args.judging.now i.1 i.3 in
     let same = named_pes c.in-Err.fault c.pieces.pes pes (here.place failed) is in
     let done : take pes pieces ≡ i.0 =
     ap (λ (n : ℕ). take n pieces) same ∙ at.1 in
@@ -109,7 +109,7 @@ returns-then-is_source_failure-clause-sent g c = λ pes pieces unread is bytes t
 pub returns-in-Err-clause-exact : goal.returns-in-Err-clause-exact
 returns-in-Err-clause-exact g c = λ pieces unread bytes told reads.
     let i = c.pieces.invariant.told pieces unread bytes told reads in
-    let task = task_of c.args.programme.now c.args.options.now unread in
+    let task = task_beside c.args.judging.now c.args.options.now unread in
     let here = rw c.in-Err.is at c.in-Some.ensures.reads in
     let so_far =
     c.next_followed.ensures.told.kept c.args.audience.now _ c.requires.still i.5 in
@@ -117,7 +117,7 @@ returns-in-Err-clause-exact g c = λ pieces unread bytes told reads.
     (sym c.is_source_failure.ensures ∙ c.if-is_source_failure.false) i.1.left in
     let device = c.finish.ensures.same ∙ c.pieces.invariant.same in
     let told =
-    told_whole c.args.programme.now i.1 i.3 c.pieces.invariant.few end.0 _ _ _
+    told_whole c.args.judging.now i.1 i.3 c.pieces.invariant.few end.0 _ _ _
     c.finish.result so_far
     (c.finish.ensures.told task (frames_sent task i.0) i.2 i.3.keeps
     (ap (λ (f : CheckFault). Some f) end.3
@@ -128,7 +128,7 @@ returns-in-Err-clause-exact g c = λ pieces unread bytes told reads.
 pub returns-in_default-next-clause-exact : goal.returns-in_default-next-clause-exact
 returns-in_default-next-clause-exact g c = λ pieces unread bytes told reads.
     let i = c.pieces.invariant.told pieces unread bytes told reads in
-    let task = task_of c.args.programme.now c.args.options.now unread in
+    let task = task_beside c.args.judging.now c.args.options.now unread in
     let here = rw c.in-Ok.is at c.in-Some.ensures.reads in
     let so_far =
     c.next_followed.ensures.told.kept c.args.audience.now _ c.requires.still i.5 in
@@ -136,7 +136,7 @@ returns-in_default-next-clause-exact g c = λ pieces unread bytes told reads.
     (here.exact i.1.ahead unread i.1.rest i.1.rest_is refl i.1.left) in
     let device = c.finish-in_default-next.ensures.same ∙ c.pieces.invariant.same in
     let told =
-    told_whole c.args.programme.now i.1 i.3 c.pieces.invariant.few end.0 _ _ _
+    told_whole c.args.judging.now i.1 i.3 c.pieces.invariant.few end.0 _ _ _
     c.finish-in_default-next.result so_far
     (c.finish-in_default-next.ensures.told task (frames_sent task i.0) i.2 i.3.keeps
     (ap (ending_fault c.pieces.pes) (sym end.1)))
@@ -146,7 +146,7 @@ returns-in_default-next-clause-exact g c = λ pieces unread bytes told reads.
 pub returns-in-Err-tell_passed-clause-exact : goal.returns-in-Err-tell_passed-clause-exact
 returns-in-Err-tell_passed-clause-exact g c = λ pieces unread bytes told reads.
     let i = c.pieces.invariant.told pieces unread bytes told reads in
-    let task = task_of c.args.programme.now c.args.options.now unread in
+    let task = task_beside c.args.judging.now c.args.options.now unread in
     let here = rw c.in-Ok.is at c.in-Some.ensures.reads in
     let so_far =
     c.next_followed.ensures.told.kept c.args.audience.now _ c.requires.still i.5 in
@@ -158,7 +158,7 @@ returns-in-Err-tell_passed-clause-exact g c = λ pieces unread bytes told reads.
     let same = ap (λ (f : CheckFault). AtPes c.pieces.pes ∷ Says (Told f) ∷ []) is in
     let device = c.in-Err-tell_passed.ensures.same ∙ c.pieces.invariant.same in
     let told =
-    told_stop c.args.programme.now i.1 i.3 (Passed at.0) next.more _ _ _ _ next.first
+    told_stop c.args.judging.now i.1 i.3 (Passed at.0) next.more _ _ _ _ next.first
     (passed_marks task i.0 c.pieces.pes i.1.count at.0)
     so_far
     (subst (λ (l : List Mark). TellsPrefix g.A.Audience.is_told c.next_followed.new.audience
@@ -169,7 +169,7 @@ returns-in-Err-tell_passed-clause-exact g c = λ pieces unread bytes told reads.
 pub returns-in-Err-go_on-clause-exact : goal.returns-in-Err-go_on-clause-exact
 returns-in-Err-go_on-clause-exact g c = λ pieces unread bytes told reads.
     let i = c.pieces.invariant.told pieces unread bytes told reads in
-    let task = task_of c.args.programme.now c.args.options.now unread in
+    let task = task_beside c.args.judging.now c.args.options.now unread in
     let here = rw c.in-Ok.is at c.in-Some.ensures.reads in
     let so_far =
     c.next_followed.ensures.told.kept c.args.audience.now _ c.requires.still i.5 in
@@ -192,7 +192,7 @@ returns-in-Err-go_on-clause-exact g c = λ pieces unread bytes told reads.
     ∙ ap packets_of_units (sym (here.again c.in-Sent.sending given both.0) ∙ sym units)) in
     let device = c.in-Err-go_on.ensures.moves.same ∙ c.pieces.invariant.same in
     let told =
-    told_stop c.args.programme.now i.1 i.3 (Sent s) next.more _ _ _ _ next.first
+    told_stop c.args.judging.now i.1 i.3 (Sent s) next.more _ _ _ _ next.first
     (sent_marks task i.0 c.pieces.pes i.1.count s)
     so_far
     (subst (λ (x : SentFrame). TellsPrefix g.A.Audience.is_told c.next_followed.new.audience
@@ -234,7 +234,7 @@ pieces-preserved g c =
                 let at = rw (c.in-Some-next.is, w.in-Passed.is) at
                 (here.exact i.1.ahead unread i.1.rest i.1.rest_is refl i.1.left) in
                 let left = (rw c.in-Some-next.is at (here.left i.1.rest i.1.rest_is)) refl in
-                let s = step_passed c.args.programme.now i.1 i.3 g.A.Audience.is_told _ at.0
+                let s = step_passed c.args.judging.now i.1 i.3 g.A.Audience.is_told _ at.0
                 w.in-Passed.fault w.tell_passed.new.stage.passing _ _ _ left at.2 at.1
                 w.in-Ok-tell_passed.ensures.told.kept so_far
                 w.in-Ok-tell_passed.ensures.told.told in (
@@ -262,7 +262,7 @@ pieces-preserved g c =
             room = w.in-Ok-go_on.ensures.room;
             told = λ pieces unread bytes told reads.
                 let i = inv.told pieces unread bytes told reads in
-                let task = task_of c.args.programme.now c.args.options.now unread in
+                let task = task_beside c.args.judging.now c.args.options.now unread in
                 let so_far = c.next_followed.ensures.told.kept c.args.audience.now _
                 c.requires.still i.5 in
                 let at = rw (c.in-Some-next.is, w.in-Sent.is) at
@@ -285,7 +285,7 @@ pieces-preserved g c =
                 i.4 both.1
                 ∙ ap packets_of_units (sym (here.again w.in-Sent.sending given both.0)
                 ∙ sym units)) in
-                let step = step_sent c.args.programme.now i.1 i.3 g.A.Audience.is_told _
+                let step = step_sent c.args.judging.now i.1 i.3 g.A.Audience.is_told _
                 c.next_followed.new.reader.frame w.in-Sent.sending.frame
                 (packets_of_units c.next_followed.new.reader.frame.units)
                 w.go_on.new.self w.go_on.new.stage.passing _ _ _ left next at.1
@@ -316,7 +316,7 @@ returns-in_default-clause-exact g c = λ pieces unread bytes told reads.
     let i = c.pieces.invariant.told pieces unread bytes told reads in
     let device = c.pieces.invariant.same in
     let told =
-    told_before c.args.programme.now i.1 i.3 _ _
+    told_before c.args.judging.now i.1 i.3 _ _
     (c.next_followed.ensures.told.kept c.args.audience.now _ c.requires.still i.5) in
     search rules
 

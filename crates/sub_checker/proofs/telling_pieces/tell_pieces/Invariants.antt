@@ -6,7 +6,7 @@ use Rattle.stl_file.specs.TimeCode.{day}
 use Rattle.sub_io.specs.HandingOn.{HoldsWhileWaiting}
 use Rattle.sub_io.specs.Telling.{Tells, TellsSome}
 use Rattle.sub_plan.specs.FrameTime.{clock_of}
-use Rattle.sub_rules.specs.FrameRules.{Unread, task_of}
+use Rattle.sub_rules.specs.FrameRules.{Unread, task_beside}
 use Rattle.sub_rules.specs.PacketRules.{packets_of_units}
 use Rattle.sub_rules.specs.PieceEvents.{events_of_pieces}
 use Rattle.sub_rules.specs.Pieces.{Piece, ReadsPieces, TakesPieces}
@@ -36,10 +36,10 @@ invariant-pieces g l = record {
       → (done : List Piece)
       × ReadsOn l.options bytes pieces unread (g.S.Source.remaining l.source) l.pes done
       × (last : List (List ℕ))
-      × Tracks (task_of l.programme l.options unread) done last l.checker l.stage.passing
+      × Tracks (task_beside l.fn.judging l.options unread) done last l.checker l.stage.passing
       × (l.passed ≡ false → last ≡ packets_of_units l.reader.frame.units)
       × Tells g.A.Audience.is_told l.fn.audience l.stage.device.now
-      (events_of_pieces (task_of l.programme l.options unread) done);
+      (events_of_pieces (task_beside l.fn.judging l.options unread) done);
 }
 
 abbrev pub decreases-pieces : goal.decreases-pieces

@@ -1,29 +1,39 @@
 -- Since when the page is not whole, and what changes is told: by EndingLemmas.
-use Rattle.std.proofs.Common.{refl}
+use Rattle.std.proofs.Common.{ap, refl}
 use Rattle.std.proofs.lemmas.Result.{err_from_is_err_and}
+use Rattle.sub_checker.specs.Checker.{back_marks}
 use Rattle.sub_checker.proofs.EndingLemmas.{within_after, within_marks}
 use Rattle.sub_checker.proofs.PassingLemmas.{silent_at_end}
-use Rattle.sub_checker.proofs.StageLemmas.{Moves-at_end, Moves-marked, Moves-tells, ok_whole}
-use Rattle.sub_checker.proofs.StageLemmas.{passes_two, told_err, told_ok, whole_mark, whole_two}
+use Rattle.sub_checker.proofs.StageLemmas.{Moves-at_end, Moves-backed, Moves-marked}
+use Rattle.sub_checker.proofs.StageLemmas.{Moves-tells, back_fine, ok_whole, passes_two, told_err}
+use Rattle.sub_checker.proofs.StageLemmas.{told_ok, whole_back, whole_mark, whole_two}
 use Rattle.sub_checker.proofs.checker.Checker.end_within.Goals as goal
 
 pub returns-in_err-tell_change-clause-moves : goal.returns-in_err-tell_change-clause-moves
 returns-in_err-tell_change-clause-moves g c =
-    Moves-marked g.A.Audience.is_told g.A.Audience.has_stopped _ c.args.stage.now
+    Moves-backed g.A.Audience.is_told g.A.Audience.has_stopped c.args.stage.now
+    c.go_back.new.stage c.tell_change.new.audience _ c.go_back.ensures.back c.requires.goes_on
+    (Moves-marked g.A.Audience.is_told g.A.Audience.has_stopped _ c.go_back.new.stage
     c.at_end.new.self c.tell_change.new.audience c.at_end.ensures
-    (Moves-at_end g.A.Audience.is_told g.A.Audience.has_stopped c.args.stage.now
-    c.at_end.new.self _ _ _ c.at_end.ensures) c.requires.goes_on
+    (Moves-at_end g.A.Audience.is_told g.A.Audience.has_stopped c.go_back.new.stage
+    c.at_end.new.self _ _ _ c.at_end.ensures)
+    (back_fine g.A.Audience.is_told g.A.Audience.has_stopped c.args.stage.now
+    c.go_back.new.stage _ c.go_back.ensures.back c.requires.goes_on)
     (Moves-tells g.A.Audience.is_told g.A.Audience.has_stopped c.at_end.new.self
-    c.tell_change.new.audience c.in_err-tell_change.ensures.told.2)
+    c.tell_change.new.audience c.in_err-tell_change.ensures.told.2))
 
 pub returns-clause-moves : goal.returns-clause-moves
 returns-clause-moves g c =
-    Moves-marked g.A.Audience.is_told g.A.Audience.has_stopped _ c.args.stage.now
+    Moves-backed g.A.Audience.is_told g.A.Audience.has_stopped c.args.stage.now
+    c.go_back.new.stage c.tell_change.new.audience _ c.go_back.ensures.back c.requires.goes_on
+    (Moves-marked g.A.Audience.is_told g.A.Audience.has_stopped _ c.go_back.new.stage
     c.at_end.new.self c.tell_change.new.audience c.at_end.ensures
-    (Moves-at_end g.A.Audience.is_told g.A.Audience.has_stopped c.args.stage.now
-    c.at_end.new.self _ _ _ c.at_end.ensures) c.requires.goes_on
+    (Moves-at_end g.A.Audience.is_told g.A.Audience.has_stopped c.go_back.new.stage
+    c.at_end.new.self _ _ _ c.at_end.ensures)
+    (back_fine g.A.Audience.is_told g.A.Audience.has_stopped c.args.stage.now
+    c.go_back.new.stage _ c.go_back.ensures.back c.requires.goes_on)
     (Moves-tells g.A.Audience.is_told g.A.Audience.has_stopped c.at_end.new.self
-    c.tell_change.new.audience c.in_ok-tell_change.ensures.told)
+    c.tell_change.new.audience c.in_ok-tell_change.ensures.told))
 
 pub returns-in_err-tell_change-clause-told : goal.returns-in_err-tell_change-clause-told
 returns-in_err-tell_change-clause-told g c = λ heard knows.
@@ -33,7 +43,8 @@ returns-in_err-tell_change-clause-told g c = λ heard knows.
     (passes_two
     (within_marks heard _ c.args.self.now _ _ _ c.self.view_is c.requires.within
     (end.standing heard knows) (end.since heard knows) (end.late heard knows))
-    (whole_mark refl c.at_end.ensures (silent_at_end _ _ _ _))
+    (whole_two refl (whole_back _ _ _ (ap back_marks c.self.view_is) c.go_back.ensures.back)
+    (whole_mark refl c.at_end.ensures (silent_at_end _ _ _ _)))
     (told_err g.A.Audience.is_told g.A.Audience.has_stopped c.at_end.new.self
     c.tell_change.new.audience _ refl c.in_err-tell_change.ensures.told))
 
@@ -44,7 +55,8 @@ returns-clause-told g c = λ heard knows.
     (whole_two
     (within_marks heard _ c.args.self.now _ _ _ c.self.view_is c.requires.within
     (end.standing heard knows) (end.since heard knows) (end.late heard knows))
-    (whole_mark refl c.at_end.ensures (silent_at_end _ _ _ _))
+    (whole_two refl (whole_back _ _ _ (ap back_marks c.self.view_is) c.go_back.ensures.back)
+    (whole_mark refl c.at_end.ensures (silent_at_end _ _ _ _)))
     (told_ok g.A.Audience.is_told g.A.Audience.has_stopped c.at_end.new.self
     c.tell_change.new.audience _ refl c.in_ok-tell_change.ensures.stopped
     c.in_ok-tell_change.ensures.told))

@@ -2,11 +2,11 @@
 use Rattle.std.proofs.Common.{◌≡◌, subst}
 use Rattle.sub_plan.specs.Schedule.{due_in}
 use Rattle.sub_checker.specs.Checker.{CheckerValue}
-use Rattle.sub_checker.proofs.EndingLemmas.{none_undue}
+use Rattle.sub_checker.proofs.WholeLemmas.{none_undue}
 use Rattle.sub_checker.proofs.checker.Checker.first_undue.Goals as goal
 
 pub returns-then-is_none : goal.returns-then-is_none
 returns-then-is_none c = λ heard knows is.
     none_undue heard c.args.self.now c.args.differing c.is_none.result
     (subst (λ (v : CheckerValue). v.listener.comparison.due ≡ due_in v.programme v.frame)
-    c.self.view_is c.self.invariant.due_is) c.is_none.ensures c.if-is_none.true is
+    c.self.view_is c.self.invariant.0.due_is) c.is_none.ensures c.if-is_none.true is

@@ -11,7 +11,7 @@ use Rattle.sub_checker.specs.Checker.{CheckerValue}
 use Rattle.sub_checker.specs.Following.{Follows}
 use Rattle.sub_checker.specs.declared.counts.Counts.{Counts}
 use Rattle.sub_checker.proofs.HearingLemmas.{packets_are}
-use Rattle.sub_checker.proofs.StageLemmas.{Moves-begins, Moves-marked, Moves-trans, ok_whole}
+use Rattle.sub_checker.proofs.StageLemmas.{Moves-begun, Moves-trans, ok_whole}
 use Rattle.sub_checker.proofs.StageLemmas.{passes_same, passes_two, stops_one, stops_two, whole_ok}
 use Rattle.sub_checker.proofs.StageLemmas.{whole_two}
 use Rattle.sub_checker.proofs.TakingLemmas.{Keeps-closed, arrived, each_is, next_each}
@@ -30,10 +30,9 @@ pub returns-in_err-headers-clause-moves : goal.returns-in_err-headers-clause-mov
 returns-in_err-headers-clause-moves g c =
     Moves-trans g.A.Audience.is_told g.A.Audience.has_stopped c.args.stage.now
     c.reach.new.stage c.hear.new.stage c.in_ok-reach.ensures.moves c.in_ok-reach.ensures.stopped
-    (Moves-marked g.A.Audience.is_told g.A.Audience.has_stopped _ c.reach.new.stage
-    c.begin_frame.new.self c.hear.new.stage c.begin_frame.ensures
-    (Moves-begins g.A.Audience.is_told g.A.Audience.has_stopped c.reach.new.stage
-    c.begin_frame.new.self _ c.begin_frame.ensures c.requires.day) c.in_ok-reach.ensures.stopped
+    (Moves-begun g.A.Audience.is_told g.A.Audience.has_stopped c.reach.new.stage
+    c.begin_frame.new.stage c.hear.new.stage _ c.begin_frame.ensures.begun
+    (rw c.in_ok-reach.ensures.frame c.requires.day) c.in_ok-reach.ensures.stopped
     c.in_err-headers.ensures.moves)
 
 pub returns-in_err-headers-clause-told : goal.returns-in_err-headers-clause-told
@@ -47,8 +46,8 @@ returns-in_err-headers-clause-told g c = λ task frames n last follows long sent
     let marks = packets_are task frames n last _ _ arrives sent.packets_are in
     rw p.1 (
       stops_two _ refl
-          (arrived task frames n c.args.sending.frame sent.frame_is (whole_ok refl reached.0)
-          c.begin_frame.ensures)
+          (arrived _ _ task frames n last _ arrives (whole_ok refl reached.0)
+          c.begin_frame.ensures.begun)
           (passes_same marks heard.0),
       tt,
     )
@@ -58,11 +57,10 @@ returns-then-self-eq0-clause-moves g c =
     Moves-trans g.A.Audience.is_told g.A.Audience.has_stopped c.args.stage.now
     c.reach.new.stage c.end_sent.new.stage c.in_ok-reach.ensures.moves
     c.in_ok-reach.ensures.stopped
-    (Moves-marked g.A.Audience.is_told g.A.Audience.has_stopped _ c.reach.new.stage
-    c.begin_frame.new.self c.end_sent.new.stage c.begin_frame.ensures
-    (Moves-begins g.A.Audience.is_told g.A.Audience.has_stopped c.reach.new.stage
-    c.begin_frame.new.self _ c.begin_frame.ensures c.requires.day) c.in_ok-reach.ensures.stopped
-    (Moves-trans g.A.Audience.is_told g.A.Audience.has_stopped c.begin_frame.new.self
+    (Moves-begun g.A.Audience.is_told g.A.Audience.has_stopped c.reach.new.stage
+    c.begin_frame.new.stage c.end_sent.new.stage _ c.begin_frame.ensures.begun
+    (rw c.in_ok-reach.ensures.frame c.requires.day) c.in_ok-reach.ensures.stopped
+    (Moves-trans g.A.Audience.is_told g.A.Audience.has_stopped c.begin_frame.new.stage
     c.hear.new.stage c.end_sent.new.stage c.in_ok-headers.ensures.moves
     c.in_ok-headers.ensures.stopped c.end_sent.ensures.moves))
 
@@ -100,8 +98,8 @@ returns-then-self-eq0-clause-told g c = λ task frames n last follows long sent 
     ∙ c.requires.closed in (
       passes_two (next_each task frames n each)
           (whole_two refl
-          (arrived task frames n c.args.sending.frame sent.frame_is (whole_ok refl reached.0)
-          c.begin_frame.ensures)
+          (arrived _ _ task frames n last _ arrives (whole_ok refl reached.0)
+          c.begin_frame.ensures.begun)
           (whole_ok marks heard.0))
           end.0,
       ok_map _ _ c.end_sent.result end.1
@@ -113,10 +111,9 @@ pub returns-clause-moves : goal.returns-clause-moves
 returns-clause-moves g c =
     Moves-trans g.A.Audience.is_told g.A.Audience.has_stopped c.args.stage.now
     c.reach.new.stage c.hear.new.stage c.in_ok-reach.ensures.moves c.in_ok-reach.ensures.stopped
-    (Moves-marked g.A.Audience.is_told g.A.Audience.has_stopped _ c.reach.new.stage
-    c.begin_frame.new.self c.hear.new.stage c.begin_frame.ensures
-    (Moves-begins g.A.Audience.is_told g.A.Audience.has_stopped c.reach.new.stage
-    c.begin_frame.new.self _ c.begin_frame.ensures c.requires.day) c.in_ok-reach.ensures.stopped
+    (Moves-begun g.A.Audience.is_told g.A.Audience.has_stopped c.reach.new.stage
+    c.begin_frame.new.stage c.hear.new.stage _ c.begin_frame.ensures.begun
+    (rw c.in_ok-reach.ensures.frame c.requires.day) c.in_ok-reach.ensures.stopped
     c.in_ok-headers.ensures.moves)
 
 pub returns-clause-told : goal.returns-clause-told
@@ -140,8 +137,8 @@ returns-clause-told g c = λ task frames n last follows long sent again.
     let task_within = ap (λ (t : Task). t.within) arrives.waits.known.task_is in (
       ok_whole (next_within task frames n (omega (arith, task_within, within)))
           (whole_two refl
-          (arrived task frames n c.args.sending.frame sent.frame_is (whole_ok refl reached.0)
-          c.begin_frame.ensures)
+          (arrived _ _ task frames n last _ arrives (whole_ok refl reached.0)
+          c.begin_frame.ensures.begun)
           (whole_ok marks heard.0)),
       next_keeps task frames n last ps c.reach.new.self c.hear.new.self arrives sent.there
           sent.packets_are heard.1.0 _ before c.len.result within long

@@ -1,0 +1,211 @@
+-- At which frames it is not known what is due: the same between two edges, `undecided_same`; and
+-- from when on it is known, within the frames that count, `known_none`, `known_not`, `known_last`,
+-- `known_never`.
+use Rattle.std.proofs.lemmas.Bool.Decides.{nat_tests}
+use Rattle.std.proofs.Common.{◌≡◌, ℕ, zero, suc, ◌+◌, ◌-◌, ◌<◌, ◌≤◌, ◌⊎◌, Bool, true, false, ◌&&◌}
+use Rattle.std.proofs.Common.{List, [], ◌∷◌, Option, Some, None, refl, sym, ap, ◌∙◌, arith}
+use Rattle.std.proofs.Common.{inl, inr, nat_lt, subst}
+use Rattle.std.proofs.lemmas.Bool.{cases_lt}
+use Rattle.stl_file.specs.Subtitle.{SubtitleValue}
+use Rattle.stl_file.specs.TimeCode.{day}
+use Rattle.stl_rows.specs.DuePage.{IsEdge, TellsNextEdge}
+use Rattle.stl_rows.specs.Judged.{JudgedValue, is_beside, is_undecided_from, is_undecided_in}
+use Rattle.stl_rows.specs.Judged.{with_bits}
+use Rattle.sub_rules.specs.Events.{was_undecided}
+use Rattle.sub_rules.specs.FrameRules.{is_undecided_beside}
+use Rattle.sub_checker.specs.Checker.{IsKnownFrom, is_before}
+
+-- ---- between two edges
+
+-- No edge is after the one frame and up to the other.
+abbrev NoEdge : List SubtitleValue → ℕ → ℕ → Type 0
+NoEdge ts f g = (e : ℕ) → IsEdge ts e → f < e → e ≤ g → ⊥
+
+fewer : (t : SubtitleValue) (ts : List SubtitleValue) (f g : ℕ) → NoEdge (t ∷ ts) f g
+    → NoEdge ts f g
+fewer t ts f g none e edge = none e (suc edge.0, edge.1, omega (arith, edge.2), edge.3, edge.4)
+
+from_same : (ts : List SubtitleValue) (bits : List Bool) (other : Bool) (start f g : ℕ)
+    → f ≤ g
+    → (f < start → start ≤ g → ⊥)
+    → NoEdge ts f g
+    → is_undecided_from start (with_bits ts bits) other f
+    ≡ is_undecided_from start (with_bits ts bits) other g
+from_same [] bits other start f g le still none = grind (arith, nat_tests)
+from_same (t ∷ ts) [] other start f g le still none =
+    let begins = none t.tci (0, t, omega arith, refl, inl refl) in
+    let ends = none t.tco (0, t, omega arith, refl, inr refl) in
+    let rest = from_same ts [] other t.tco f g le ends (fewer t ts f g none) in
+    grind (arith, nat_tests)
+from_same (t ∷ ts) (bit ∷ bits) other start f g le still none =
+    let begins = none t.tci (0, t, omega arith, refl, inl refl) in
+    let ends = none t.tco (0, t, omega arith, refl, inr refl) in
+    let rest = from_same ts bits other t.tco f g le ends (fewer t ts f g none) in
+    grind (arith, nat_tests)
+
+-- For `frame_before`.
+pub undecided_same : (j : JudgedValue) (f g : ℕ)
+    → f ≤ g
+    → NoEdge j.programme.records f g
+    → is_undecided_in j f ≡ is_undecided_in j g
+unfolding is_undecided_in
+undecided_same j f g le none =
+    from_same j.programme.records j.behind_other j.is_before_other 0 f g le
+    (λ low. absurd (omega (arith, low))) none
+
+-- From a frame up to before the next edge.
+until_edge : (j : JudgedValue) (frame f : ℕ) (edge : Option ℕ)
+    → TellsNextEdge j.programme.records frame edge
+    → frame ≤ f
+    → is_before f edge ≡ true
+    → is_undecided_in j f ≡ is_undecided_in j frame
+until_edge j frame f None tells low before =
+    sym (undecided_same j frame f low
+    (λ e edge after until. let l = tells e edge in omega (arith, l, after)))
+until_edge j frame f (Some next) tells low before =
+    let l : f < next = grind (arith, nat_tests) in
+    sym (undecided_same j frame f low
+    (λ e edge after until. let m = tells.least e edge after in omega (arith, l, m, until)))
+
+-- ---- within the frames that count
+
+module _ (undecided : ℕ → Bool) (first f : ℕ) where
+  -- Where it is known at each of them.
+  pub was-none : (n : ℕ)
+      → undecided f ≡ false
+      → ((e : ℕ) → first ≤ e → f ≤ e + n → e ≤ f → undecided e ≡ false)
+      → was_undecided undecided first f n ≡ false
+  unfolding was_undecided
+  was-none zero here none = here
+  was-none (suc n) here none =
+      let rest = was-none n here (λ e low reach until. none e low (omega arith) until) in
+      let one : first + suc n ≤ f → undecided (f - suc n) ≡ false =
+      λ l. none (f - suc n) (omega arith) (omega arith) (omega arith) in
+      grind (arith, nat_tests)
+
+  -- Where it is not at one of them.
+  pub was-some : (n e : ℕ)
+      → (first ≤ e) ⊎ (e ≡ f)
+      → f ≤ e + n
+      → e ≤ f
+      → undecided e ≡ true
+      → was_undecided undecided first f n ≡ true
+  unfolding was_undecided
+  was-some zero e low reach until is =
+      let here : e ≡ f = omega (arith, reach, until) in subst (λ k. undecided k ≡ true) here is
+  was-some (suc n) e low reach until is =
+      by (cases_lt (e + n) f) (λ l. was-some n e low l until is)
+    where
+      by : (e + n < f) ⊎ (f ≤ e + n)
+          → (f ≤ e + n → was_undecided undecided first f n ≡ true)
+          → was_undecided undecided first f (suc n) ≡ true
+      by (inl l) rest =
+          let there : f - suc n ≡ e = omega (arith, l, reach) in
+          let far : first + suc n ≤ f = at low in
+          let test = subst (λ k. undecided k ≡ true) (sym there) is in
+          grind (arith, nat_tests)
+        where
+          at : (first ≤ e) ⊎ (e ≡ f) → first + suc n ≤ f
+          at (inl m) = omega (arith, l, m, reach)
+          at (inr same) = absurd (omega (arith, l, same))
+      by (inr l) rest = let nearer = rest l in grind (arith, nat_tests)
+
+  -- Where none before it counts.
+  pub was-once : (n : ℕ) → n ≡ 0 → was_undecided undecided first f n ≡ undecided f
+  unfolding was_undecided
+  was-once n none = rw none refl
+
+  -- At the frame itself.
+  pub was-here : (n : ℕ) → was_undecided undecided first f n ≡ false → undecided f ≡ false
+  unfolding was_undecided
+  was-here zero none = none
+  was-here (suc n) none = let rest = was-here n in grind (arith, nat_tests)
+
+-- ---- from when on it is known
+
+none_below : (f : ℕ) → nat_lt f 0 ≡ false
+none_below f = grind (arith, nat_tests)
+
+module _ (j : JudgedValue) (first within frame : ℕ) (edge : Option ℕ)
+    (tells : TellsNextEdge j.programme.records frame edge) where
+  -- Nothing is refused. For `known_from`.
+  pub known_none : is_beside j ≡ false
+      → IsKnownFrom (is_undecided_beside j) first within frame edge 0
+  known_none none f low small before =
+      none_below f
+      ∙ sym (was-none (is_undecided_beside j) first f within
+      (ap (λ b. b && is_undecided_in j f) none)
+      (λ e m reach until. ap (λ b. b && is_undecided_in j e) none))
+
+  module _ (is : is_beside j ≡ true) where
+    beside_is : (e : ℕ) → is_undecided_beside j e ≡ is_undecided_in j e
+    beside_is e = ap (λ b. b && is_undecided_in j e) is
+
+    -- It is not known here.
+    pub known_not : (k : ℕ)
+        → day ≤ k
+        → is_undecided_in j frame ≡ true
+        → IsKnownFrom (is_undecided_beside j) first within frame edge k
+    known_not k high here f low small before =
+        let there = was-some (is_undecided_beside j) first f within f (inr refl) (omega arith)
+        (omega arith) (beside_is f ∙ until_edge j frame f edge tells low before ∙ here) in
+        rw there (grind (arith, nat_tests))
+
+    -- It was not known last at this frame.
+    pub known_last : (last : ℕ)
+        → first ≤ last
+        → last < frame
+        → is_undecided_in j last ≡ true
+        → ((f : ℕ) → last < f → f ≤ frame → is_undecided_in j f ≡ false)
+        → IsKnownFrom (is_undecided_beside j) first within frame edge (last + within + 1)
+    known_last last some less here none f low small before = by (cases_lt (last + within) f)
+      where
+        since : (e : ℕ) → last < e → e ≤ f → is_undecided_beside j e ≡ false
+        since e after until = beside_is e ∙ go (cases_lt e frame)
+          where
+            go : (e < frame) ⊎ (frame ≤ e) → is_undecided_in j e ≡ false
+            go (inl l) = none e after (omega arith)
+            go (inr l) =
+                until_edge j frame e edge tells l (earlier edge before)
+                ∙ none frame less (omega arith)
+              where
+                earlier : (o : Option ℕ) → is_before f o ≡ true → is_before e o ≡ true
+                earlier None b = refl
+                earlier (Some next) b = grind (arith, nat_tests)
+
+        by : (last + within < f) ⊎ (f ≤ last + within)
+            → nat_lt f (last + within + 1) ≡ was_undecided (is_undecided_beside j) first f within
+        by (inl l) =
+            rw (was-none (is_undecided_beside j) first f within
+            (since f (omega arith) (omega arith))
+            (λ e m reach until. since e (omega (arith, l, reach)) until))
+            (grind (arith, nat_tests))
+        by (inr l) =
+            rw (was-some (is_undecided_beside j) first f within last (inl some) l (omega arith)
+            (beside_is last ∙ here))
+            (grind (arith, nat_tests))
+
+    -- It was known at each of them.
+    pub known_never : (least : ℕ)
+        → ((f : ℕ) → first ≤ f → frame ≤ f + within → least ≤ f)
+        → is_undecided_in j frame ≡ false
+        → ((f : ℕ) → least ≤ f → f ≤ frame → is_undecided_in j f ≡ false)
+        → IsKnownFrom (is_undecided_beside j) first within frame edge 0
+    known_never least counts here none f low small before =
+        none_below f
+        ∙ sym (was-none (is_undecided_beside j) first f within (at f low (omega arith)) each)
+      where
+        at : (e : ℕ) → frame ≤ e → e ≤ f → is_undecided_beside j e ≡ false
+        at e l until =
+            beside_is e ∙ until_edge j frame e edge tells l (earlier edge before) ∙ here
+          where
+            earlier : (o : Option ℕ) → is_before f o ≡ true → is_before e o ≡ true
+            earlier None b = refl
+            earlier (Some next) b = grind (arith, nat_tests)
+
+        each : (e : ℕ) → first ≤ e → f ≤ e + within → e ≤ f → is_undecided_beside j e ≡ false
+        each e m reach until = go (cases_lt e frame)
+          where
+            go : (e < frame) ⊎ (frame ≤ e) → is_undecided_beside j e ≡ false
+            go (inl l) = beside_is e ∙ none e (counts e m (omega arith)) (omega arith)
+            go (inr l) = at e l until

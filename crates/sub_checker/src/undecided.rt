@@ -1,0 +1,81 @@
+//! From which frame on it is known again what is due, within the frames that count.
+ghost use Rattle.std.specs.Prelude.{◌≡◌, ℕ, ◌+◌, ◌<◌, ◌≤◌, MatchOption, Option};
+ghost use Rattle.std.specs.Prelude.{false, true};
+ghost use Rattle.stl_rows.specs.DuePage.{TellsNextEdge};
+ghost use Rattle.stl_rows.specs.Judged.{is_beside, is_undecided_in};
+ghost use Rattle.sub_rules.specs.FrameRules.{is_undecided_beside};
+ghost use Rattle.sub_checker.specs.Checker.{IsKnownFrom};
+
+use stl_rows::Judging;
+
+/// The frame from which on, up to the next edge, it is known what is due, and what was at each of
+/// the `within` frames before, none of them before the frame `first`. It is a number above all
+/// frames where that is not known at this one, and 0 where it was known all the time.
+pub(crate) fn known_from(
+    judging: &Judging<'_>,
+    beside: bool,
+    first: u32,
+    frame: u32,
+    within: u32,
+) -> u64
+    requires { beside ≡ is_beside judging.now }
+    ensures { (edge : Option ℕ) → TellsNextEdge judging.now.programme.records frame edge
+        → IsKnownFrom (is_undecided_beside judging.now) first within frame edge result }
+{
+    if !beside {
+        return 0;
+    }
+    if judging.is_undecided(frame) {
+        return u64::MAX;
+    }
+    let least = earliest(first, frame, within);
+    match last_undecided(judging, frame, least) {
+        Some(last) => u64::from(last) + u64::from(within) + 1,
+        None => 0,
+    }
+}
+
+// The earliest frame that counts: one of the last frames, and none before the first one.
+fn earliest(first: u32, frame: u32, within: u32) -> u32
+    ensures first { first ≤ result }
+    ensures last { frame ≤ result + within }
+    ensures least { (f : ℕ) → first ≤ f → frame ≤ f + within → result ≤ f }
+{
+    let from = frame.saturating_sub(within);
+    if from < first { first } else { from }
+}
+
+// The last frame before a frame at which it is known what is due, from the least on, at which it is
+// not.
+fn last_undecided(judging: &Judging<'_>, frame: u32, least: u32) -> Option<u32>
+    requires known { is_undecided_in judging.now frame ≡ false }
+    ensures { MatchOption result
+        ((f : ℕ) → least ≤ f → f ≤ frame → is_undecided_in judging.now f ≡ false)
+        (λ last. (least ≤ last) × (last < frame) × (is_undecided_in judging.now last ≡ true)
+        × ((f : ℕ) → last < f → f ≤ frame → is_undecided_in judging.now f ≡ false)) }
+{
+    let mut at = frame;
+    while let Some(before) = frame_before(judging, at, least) {
+        if judging.is_undecided(before) {
+            return Some(before);
+        }
+        at = before;
+    }
+    None
+}
+
+// The last frame before one of which more or less may be known than there. `None` where that is
+// before the least frame.
+fn frame_before(judging: &Judging<'_>, at: u32, least: u32) -> Option<u32>
+    ensures { MatchOption result
+        ((f : ℕ) → least ≤ f → f ≤ at
+        → is_undecided_in judging.now f ≡ is_undecided_in judging.now at)
+        (λ before. (least ≤ before) × (before < at)
+        × ((f : ℕ) → before < f → f ≤ at
+        → is_undecided_in judging.now f ≡ is_undecided_in judging.now at)) }
+{
+    let Some(edge) = judging.programme().last_edge(at) else {
+        return None;
+    };
+    if edge > least { Some(edge - 1) } else { None }
+}
