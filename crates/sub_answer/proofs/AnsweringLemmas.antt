@@ -131,8 +131,8 @@ as_answered
       printed = printed;
       sources = sources;
       checked = checked;
-      ends = status-told drawing options stl pes out (verdict number answer) status answer printed
-          sources
+      ends = status-told drawing options stl pes out (verdict number answer) status answer _
+          printed sources
           (λ none other file told bytes heard.
           let are = rw heard at (checked file told) in
           done-exactly drawing options file bytes number answer _ are

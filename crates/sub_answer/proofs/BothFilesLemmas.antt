@@ -30,7 +30,6 @@ use Rattle.sub_listing.specs.DeviceCall.{SinkCall, SourceCall}
 use Rattle.sub_listing.specs.Faults.{kind_by}
 use Rattle.sub_listing.specs.Listing.{Listing, PrintsOrFails}
 use Rattle.sub_listing.specs.Told.{status_of}
-use Rattle.sub_listing.specs.Writing.{PrintsMemory}
 use Rattle.sub_listing.specs.declared.status.Status.{Status}
 use Rattle.sub_listing.specs.declared.status.Status.TheVariants.{Done, Fault}
 use Rattle.sub_listing.proofs.PrintingLemmas.{did_not_rise, printed-status, printed-whole}
@@ -136,6 +135,7 @@ pub status-told :
     {Counts : Type 0} {AtBlock AtPes : ℕ → Type 0} {Untouched : Type 0} {is_of_subtitles : Bool}
     (drawing : Drawing) (options : OptionsValue) (stl pes : SourceCall) (out : SinkCall)
     (listing : Listing) (status : Status) (answer : Result Counts CheckFault)
+    (PrintsMemory : Type 0)
     → PrintsOrFails out listing status
     → TellsSources AtBlock AtPes Untouched is_of_subtitles stl pes answer
     → (options.within ≡ 0
@@ -151,10 +151,10 @@ pub status-told :
     → ((block : ℕ)
     → answer ≡ Err (fault.Subtitles (load_fault block load.Memory))
     → Appends out.old out.new listing.text
-    → PrintsMemory drawing stl.told out.old out.new)
-    → TellsStatus drawing options stl pes out status
-status-told drawing options stl pes out listing status answer printed sources done done_within
-    fails memory =
+    → PrintsMemory)
+    → TellsStatus drawing options stl pes out PrintsMemory status
+status-told drawing options stl pes out listing status answer PrintsMemory printed sources done
+    done_within fails memory =
     record {
       done = λ none file told bytes heard other.
           let is = printed-status out listing status printed other in

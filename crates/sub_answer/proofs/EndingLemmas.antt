@@ -36,6 +36,7 @@ touched
       printed = is.printed;
       sources = sources-touched _ _ Untouched _ first.call second.call is.answer is.sources;
       listed = is.listed;
+      unjudged = is.unjudged;
       checked = is.checked;
       ends = is.ends;
     }

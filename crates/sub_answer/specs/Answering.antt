@@ -35,7 +35,7 @@ use Rattle.sub_listing.specs.PacketsListing.{ListsPackets}
 use Rattle.sub_listing.specs.SurveyListing.{PrintsSurvey}
 use Rattle.sub_listing.specs.Told.{told_from}
 use Rattle.sub_listing.specs.ShowListing.{ListsSubtitles}
-use Rattle.sub_listing.specs.Writing.{EndsWork, Normalizes, Schedules}
+use Rattle.sub_listing.specs.Writing.{EndsWork, Normalizes, PrintsMemory, Schedules}
 use Rattle.sub_request.specs.declared.request.Request.{Request}
 use Rattle.sub_request.specs.declared.request.Request.TheVariants as ask
 use Rattle.sub_listing.specs.declared.status.Status.{Status}
@@ -83,7 +83,8 @@ pub record AnswersCheck
   -- each due page is shown so at the end of one of them. A subtitle file that gives no programme is
   -- refused.
   pub checked : IfTold stl.told (λ file. AreChecked drawing options file pes.told answer)
-  pub ends : TellsStatus drawing options stl pes out status
+  pub ends :
+      TellsStatus drawing options stl pes out (PrintsMemory drawing stl.told out.old out.new) status
 
 -- It is printed what a receiver shows that heard the frames of the PES file, and leaves this code
 -- in a cell whose byte has even parity; or the refusal. The first PES packet has the number `first`

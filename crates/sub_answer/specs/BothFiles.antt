@@ -12,7 +12,6 @@ use Rattle.sub_rules.specs.Fault.{is_pes_read, is_stl_read}
 use Rattle.sub_rules.specs.declared.fault.CheckFault.{CheckFault}
 use Rattle.sub_rules.specs.declared.fault.CheckFault.TheVariants.{Pes, Subtitles}
 use Rattle.sub_listing.specs.DeviceCall.{SinkCall, SourceCall}
-use Rattle.sub_listing.specs.Writing.{PrintsMemory}
 use Rattle.sub_listing.specs.declared.status.Status.{Status}
 use Rattle.sub_listing.specs.declared.status.Status.TheVariants.{Done, Fault}
 
@@ -32,10 +31,10 @@ pub record TellsSources
   -- Where it refuses the subtitle file or could not read that, no PES byte is read.
   pub before : is_of_subtitles ≡ true → Untouched
 
--- What the status tells of both files.
+-- What the status tells of both files, by what is printed where memory was refused.
 pub record TellsStatus
     (drawing : Drawing) (options : OptionsValue) (stl pes : SourceCall) (out : SinkCall)
-    (status : Status)
+    (PrintsMemory : Type 0) (status : Status)
     : Type 0 where
   -- Failing devices and want of memory aside, it is `Done` exactly where the files are accepted.
   pub done :
@@ -55,4 +54,4 @@ pub record TellsStatus
       → stl.new_count ≡ stl.old_count
       → pes.new_count ≡ pes.old_count
       → out.new_count ≡ out.old_count
-      → PrintsMemory drawing stl.told out.old out.new
+      → PrintsMemory
