@@ -56,7 +56,9 @@ fn reads_on_after_a_subtitle_that_is_refused(rt: HostRuntime) {
     other[1] = 2;
     let first = block(&open, &HI);
     assert_tells_three(&rt, &first, &block(&head(TEN, TEN, 22), &HI), &good,
-        "refused 21 EmptyTime block 1\n1 faults\n");
+        "refused 21 EmptyTime block 1\n\
+        trusted frames 10:00:00:00 10:00:02:00\n\
+        1 faults\n");
     assert_tells_three(&rt, &first, &block(&other, &HI), &good,
         "refused 21 EmptyTime block 1\nrefused 22 Sequence block 2\n2 faults\n");
     let mut no_time = head(TEN + 25, TEN + 75, 22);

@@ -33,4 +33,6 @@ mod stopped;
 #[cfg(test)]
 mod trusted;
 #[cfg(test)]
+mod undecided;
+#[cfg(test)]
 mod within;

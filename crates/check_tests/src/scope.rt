@@ -6,30 +6,30 @@ use std::alloc::Global;
 use std::process::Abort;
 use sub_io::MemSink;
 
-// `Hi` with another last letter.
-const HO: [u8; 7] = [0x0D, 0x0B, 0x0B, 0x48, 0x6F, 0x0A, 0x0A];
+/// `Hi` with another last letter.
+pub const HO: [u8; 7] = [0x0D, 0x0B, 0x0B, 0x48, 0x6F, 0x0A, 0x0A];
 
-// `Hi` with a letter that level 1 has not.
-const BAD: [u8; 7] = [0x0D, 0x0B, 0x0B, 0x48, 0xE6, 0x0A, 0x0A];
+/// `Hi` with a letter that level 1 has not.
+pub const BAD: [u8; 7] = [0x0D, 0x0B, 0x0B, 0x48, 0xE6, 0x0A, 0x0A];
 
-// The block of a text at these frames after 10:00:00:00.
-fn at(from: u32, to: u32, text: &[u8; 7]) -> [u8; 128] {
+/// The block of a text at these frames after 10:00:00:00.
+pub fn at(from: u32, to: u32, text: &[u8; 7]) -> [u8; 128] {
     block(
         &head(TEN.saturating_add(from), TEN.saturating_add(to), 22),
         text,
     )
 }
 
-// The file of three blocks.
-fn file_of_blocks(first: &[u8; 128], second: &[u8; 128], third: &[u8; 128]) -> [u8; 1408] {
+/// The file of three blocks.
+pub fn file_of_blocks(first: &[u8; 128], second: &[u8; 128], third: &[u8; 128]) -> [u8; 1408] {
     let mut file = [0; 1408];
     put(&mut file, 0, &file_of_two(first, second));
     put(&mut file, 1280, third);
     file
 }
 
-// `Hi`, a subtitle that can't be drawn, and `Hi` after a pause.
-fn file_with_bad() -> [u8; 1408] {
+/// `Hi`, a subtitle that can't be drawn, and `Hi` after a pause.
+pub fn file_with_bad() -> [u8; 1408] {
     file_of_blocks(&at(0, 50, &HI), &at(50, 100, &BAD), &at(120, 150, &HI))
 }
 

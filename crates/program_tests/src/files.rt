@@ -190,6 +190,42 @@ fn answers_each_command_that_reads_files(rt: HostRuntime) {
     assert_answers(&rt, &packet, &[], &mut [], HEADER_LINES);
 }
 
+// Asserts that words over a subtitle file and a PES file, of which any read fails, are refused with
+// this line.
+fn assert_refuses_unread<'a>(
+    rt: &(impl Abort + Alloc<A = Global>),
+    words: &'a [&'a str],
+    stl: &[u8],
+    want: &str,
+) {
+    let failing = Entry {
+        name: "b",
+        fails: true,
+        ..INPUT
+    };
+    let subtitles = Entry {
+        bytes: Some(stl),
+        ..INPUT
+    };
+    let mut text = [0; 64];
+    let is_done = answers(rt.alloc(), words, &[subtitles, failing], &mut [], &mut text);
+    let len = want.len().min(64);
+    assert!(rt; !is_done && &text[..len] == want.as_bytes(), "{words:?}");
+}
+
+// A byte of the PES file is asked for only where the subtitle file is not refused.
+#[test]
+fn reads_no_pes_file_beside_a_refused_subtitle_file(rt: HostRuntime) {
+    let stl = file_of_hi();
+    let mut refused = stl;
+    refused[13] = b'1'; // CCT
+    assert_refuses_unread(&rt, &CHECK, &refused, "refused 14 Alphabet block 0\n");
+    assert_refuses_unread(&rt, &CHECK, &stl, "fault 41 Read pes 0\n");
+    let carried = ["subttx", "check", "a", "b", "--pid", "257", "--pes", "3-"];
+    assert_refuses_unread(&rt, &carried, &refused, "refused 14 Alphabet block 0\n");
+    assert_refuses_unread(&rt, &carried, &stl, "fault 41 Read pes 0\n");
+}
+
 // Asserts that this was written into a room that held bytes of ones, and no more.
 fn assert_starts(rt: &impl Abort, room: &[u8], written: &[u8]) {
     let len = written.len().min(room.len());

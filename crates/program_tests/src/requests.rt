@@ -21,6 +21,37 @@ fn reads_the_words_of_files(rt: HostRuntime) {
     }
 }
 
+// Words that ask for help.
+#[rattlefmt::skip]
+const HELPS: [&[&str]; 7] = [
+    &["subttx", "--help"],
+    &["subttx", "-h"],
+    &["subttx", "help"],
+    &["subttx", "help", "packet"],
+    &["subttx", "packet", "--help"],
+    &["subttx", "check", "a.stl", "b.pes", "-h"],
+    &["subttx", "help", "--help", "me"],
+];
+
+#[test]
+fn reads_the_words_for_help(rt: HostRuntime) {
+    for words in &HELPS {
+        match Request::parse(rt.alloc(), *words) {
+            Ok(Request::Help) => {}
+            _ => panic!(rt; "no help"),
+        }
+    }
+}
+
+// A file may have the name of a word for help.
+#[test]
+fn reads_the_name_of_a_file_behind_two_dashes(rt: HostRuntime) {
+    match Request::parse(rt.alloc(), &["subttx", "show", "--", "--help"]) {
+        Ok(Request::Show { stl }) => assert!(rt; stl == "--help"),
+        _ => panic!(rt; "no listing"),
+    }
+}
+
 // Asserts that words ask for the schedule of files a and b with these options.
 fn assert_schedules<'a>(
     rt: &(impl Abort + Alloc<A = Global>),

@@ -27,17 +27,14 @@ fn prints_the_line_of_refused_words_into_any_output(rt: HostRuntime) {
 
 // Words that are no command.
 #[rattlefmt::skip]
-const NO_WORDS: [&[&str]; 54] = [
+const NO_WORDS: [&[&str]; 51] = [
     &[], // not even the program's name
     &["subttx"],
-    &["subttx", "--help"],
-    &["subttx", "-h"],
-    &["subttx", "help"],
-    &["subttx", "help", "packet"],
+    &["subttx", "help", "packet", "15"],
     &["subttx", "--version"],
     &["subttx", "-V"],
     &["subttx", "packet"],
-    &["subttx", "packet", "--help"],
+    &["subttx", "packet", "--", "--help", "15"],
     &["subttx", "packet", "15", "15"],
     &["subttx", "packet", "--hex", "15"],
     &["subttx", "Packet", "15"],

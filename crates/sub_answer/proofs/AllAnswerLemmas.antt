@@ -10,15 +10,19 @@ use Rattle.std.specs.Io.KnownBytes.{Appends}
 use Rattle.std.proofs.KnownBytes.{Appends-trans}
 use Rattle.sub_io.proofs.DeviceLemmas.{AppendsPrefix-first, AppendsPrefix-second}
 use Rattle.sub_io.specs.Device.{AppendsPrefix, RisesIf, failed}
-use Rattle.stl_rows.specs.EveryFault.{load_fault}
-use Rattle.stl_rows.specs.Loading.{loaded}
+use Rattle.sub_io.specs.Reading.{IfTold}
+use Rattle.stl_rows.specs.EveryFault.{faults, load_fault}
+use Rattle.stl_rows.specs.Judged.{JudgedValue}
+use Rattle.stl_rows.specs.Loading.{LawOfLoading, loaded}
 use Rattle.stl_rows.specs.Programme.{ProgrammeValue}
 use Rattle.stl_rows.proofs.LoadingLaw.{none_of_loaded}
+use Rattle.stl_rows.specs.declared.fault.LoadFault.{LoadFault}
 use Rattle.stl_rows.specs.declared.fault.LoadFaultKind.TheVariants as load
 use Rattle.stl_rows.specs.declared.layout.Drawing.{Drawing}
 use Rattle.sub_plan.specs.Options.{OptionsValue}
-use Rattle.sub_check.specs.CheckedFiles.{answer_by, first_answer}
+use Rattle.sub_check.specs.CheckedFiles.{all_events_by, all_events_of, answer_by, first_answer}
 use Rattle.sub_rules.specs.Events.{first_told}
+use Rattle.sub_check.proofs.FilesLemmas.{accepted-loads, accepted-loads_within}
 use Rattle.sub_check.proofs.RuleToldLemmas.{first_of_rule}
 use Rattle.sub_check.proofs.FirstToldLemmas.{of_rule}
 use Rattle.sub_rules.specs.declared.event.Event.TheVariants.{Ended, PassedUntil, Told, Trusted}
@@ -28,8 +32,7 @@ use Rattle.sub_rules.specs.declared.event.Event.{Event}
 use Rattle.sub_rules.specs.declared.fault.CheckFault.{CheckFault}
 use Rattle.sub_rules.specs.declared.fault.CheckFault.TheVariants as fault
 use Rattle.sub_listing.specs.DeviceCall.{Counts, SinkCall, SourceCall}
-use Rattle.sub_answer.specs.EveryFault.{AnswersAll, AreListed, CanEnd}
-use Rattle.sub_answer.specs.EveryFault.{TellsBoth}
+use Rattle.sub_answer.specs.EveryFault.{AnswersAll, AreListed, PrintsMemoryLast, TellsBoth}
 use Rattle.sub_answer.specs.FaultListing.{all_listing, last_listing}
 use Rattle.sub_listing.specs.EventLines.{event_lines, most_counted, refusals, subtitle_events}
 use Rattle.sub_listing.specs.Faults.{kind_by, load_told}
@@ -108,26 +111,36 @@ never-fault (Some f) e = cc
 
 -- An answer with the status `Fault` is a failure.
 answer-fails : (first : ℕ) (events : List Event) (answer : Result (Option Accepted) CheckFault)
-    → IfErr answer (CanEnd events)
+    → IfErr answer (λ f. is_failure f ≡ true)
     → (all_listing first events answer).status ≡ Fault
     → failed is_failure answer ≡ true
 answer-fails first events (Ok None) ended is = cc
 answer-fails first events (Ok (Some a)) ended is =
     absurd (never-fault (first_told events) (sym (read-status first events a) ∙ is))
-answer-fails first events (Err f) ended is = ended.fails
+answer-fails first events (Err f) ended is = ended
 
--- Want of memory is told alone.
-memory-alone : (old new : Option (List ℕ)) (first : ℕ) (events : List Event)
-    (answer : Result (Option Accepted) CheckFault) (block : ℕ)
-    → IfErr answer (CanEnd events)
+-- Want of memory is told last, after faults of the subtitle file.
+memory-last : (drawing : Drawing) (options : OptionsValue) (told pes old new : Option (List ℕ))
+    (first : ℕ) (events : List Event) (answer : Result (Option Accepted) CheckFault) (block : ℕ)
     → answer ≡ Err (fault.Subtitles (load_fault block load.Memory))
+    → IfTold told (λ file. AreListed drawing options file pes events answer)
     → Appends old new (all_listing first events answer).text
-    → Appends old new (line_of (load_told load.Memory block))
-memory-alone old new first events answer block ended memory text =
-    let can = rw memory at ended in
-    subst (λ (es : List Event). Appends old new
-    (event_lines first es ++ line_of (load_told load.Memory block)))
-    (can.alone refl refl) (rw memory at text)
+    → PrintsMemoryLast drawing told old new
+memory-last drawing options told pes old new first events answer block memory listed text = (
+  first,
+  events,
+  block,
+  rw memory at text,
+  λ file heard.
+      subst (AreListed drawing options file pes events) memory (listed file heard),
+)
+
+-- Where no refusal is told nothing is told of the subtitle file.
+untold : (fs : List LoadFault) (more : List Event)
+    → first_told (subtitle_events fs ++ more) ≡ None
+    → fs ≡ []
+untold [] more none = refl
+untold (f ∷ fs) more none = cc
 
 -- Where nothing failed, the last line says that the files are accepted exactly where they are.
 done-exactly :
@@ -136,7 +149,7 @@ done-exactly :
     (Means : Type 0)
     → pes ≡ Some bytes
     → (all_listing first events answer).status ≢ Fault
-    → IfErr answer (CanEnd events)
+    → IfErr answer (λ f. is_failure f ≡ true)
     → AreListed drawing options file pes events answer
     → ((a : Accepted) → answer ≡ Ok (Some a)
     → Exactly drawing file (first_answer events a) Means)
@@ -144,7 +157,7 @@ done-exactly :
     → ((all_listing first events answer).status ≡ Done) ↔ Means
 done-exactly drawing options file bytes pes first events (Err f) Means known runs ended are exact
     loads =
-    absurd (runs (ap (λ b. status_of (kind_by b)) ended.fails))
+    absurd (runs (ap (λ b. status_of (kind_by b)) ended))
 done-exactly drawing options file bytes pes first events (Ok None) Means known runs ended are exact
     loads = (
       λ done. cc,
@@ -163,17 +176,27 @@ done-exactly drawing options file bytes pes first events (Ok (Some a)) Means kno
         → Exactly drawing file (answer_by o a) Means
         → (by_first o ≡ Done) ↔ Means
     go None is exactly = (
-      λ done. (exactly.exactly are.programme are.loads refl refl).0 refl,
+      λ done.
+          let none = untold (faults drawing file) are.more (ap first_told (sym are.both) ∙ is) in
+          (exactly.exactly are.judged.programme (are.by.whole none).0 refl refl).0 refl,
       λ is. refl,
     )
     go (Some f) is exactly = (
       λ done. cc,
       λ accepted.
-          let own =
-          of_rule f (first_of_rule are.programme options bytes f
-          (ap first_told (sym (are.listed bytes known).0) ∙ is)) in
+          let given = loads accepted in
+          let none = none_of_loaded drawing file given.0 given.1 in
+          let whole = are.by.whole none in
+          let p = are.judged.programme in
+          let alone : events ≡ are.more =
+          are.both ∙ ap (λ fs. subtitle_events fs ++ are.more) none in
+          let told : all_events_of p options bytes ≡ events =
+          sym (ap (λ (j : JudgedValue). all_events_by j options bytes) whole.1)
+          ∙ sym (are.listed bytes known).0
+          ∙ sym alone in
+          let own = of_rule f (first_of_rule p options bytes f (ap first_told told ∙ is)) in
           let ok =
-          (exactly.exactly are.programme are.loads own.no_subtitle own.no_source).1 accepted in
+          (exactly.exactly p whole.0 own.no_subtitle own.no_source).1 accepted in
           cc,
     )
 
@@ -198,6 +221,7 @@ answers_cut drawing options stl pes first Untouched old new given t failing = re
       (t.prints.cut failing) (t.prints.cut_count failing);
   sources = t.sources;
   listed = t.listed;
+  unjudged = λ other. absurd (other refl);
   checked = λ other. absurd (other refl);
   ends = record {
     done = λ none file heard bytes known other. absurd (other refl);
@@ -212,6 +236,7 @@ pub answers_end :
     (drawing : Drawing) (options : OptionsValue) (stl pes : SourceCall) (first : Option ℕ)
     (Untouched : Type 0) (old new : PrinterValue) (given : Result (Option Accepted) CheckFault)
     (end : Option (List ℕ)) (end_count : ℕ) (status : Status)
+    → LawOfLoading
     → TellsBoth drawing options stl pes first Untouched old new given
     → new.failed ≡ false
     → old.refused ≡ 0
@@ -221,7 +246,8 @@ pub answers_end :
     (sink old.contents old.count end end_count) status
 unfolding counted
 answers_end
-    drawing options stl pes first Untouched old new given end end_count status t holds none last =
+    drawing options stl pes first Untouched old new given end end_count status loading t holds none
+    last =
     let refused : new.refused ≡ min (refusals t.events) most_counted =
     t.prints.put_refused holds ∙ ap (λ n. min (n + refusals t.events) most_counted) none
     ∙ (let none_before : 0 + refusals t.events ≡ refusals t.events = omega arith in
@@ -243,33 +269,30 @@ answers_end
       printed = printed;
       sources = t.sources;
       listed = t.listed;
+      unjudged = λ other. t.unjudged holds;
       checked = λ other. t.checked holds;
       ends = status-told drawing options stl pes (sink old.contents old.count end end_count)
-          (all_listing t.number t.events t.answer) status t.answer printed t.sources
+          (all_listing t.number t.events t.answer) status t.answer _ printed t.sources
           (λ none runs file heard bytes known.
           done-exactly drawing options file bytes pes.told t.number t.events t.answer _ known runs
           t.ended
           (t.listed file heard)
           (λ a is.
-          exactly-accepted drawing options file bytes (first_answer t.events a)
+          exactly-accepted drawing options file bytes (first_answer t.events a) loading
           (λ p loads. ((rw is at (t.checked holds file heard bytes known)) p loads).1 none))
-          (λ is. (is.programme, is.loads)))
+          (accepted-loads drawing options file bytes loading))
           (λ runs file heard bytes known.
           done-exactly drawing options file bytes pes.told t.number t.events t.answer _ known runs
           t.ended
           (t.listed file heard)
           (λ a is.
-          exactly-accepted_within drawing options file bytes (first_answer t.events a)
+          exactly-accepted_within drawing options file bytes (first_answer t.events a) loading
           (λ p loads. ((rw is at (t.checked holds file heard bytes known)) p loads).0))
-          (λ is. (is.programme, is.loads)))
+          (accepted-loads_within drawing options file bytes loading))
           (answer-fails t.number t.events t.answer t.ended)
-          (λ block memory text. (
-            block,
-            memory-alone old.contents end t.number t.events t.answer block t.ended memory text,
-            λ file heard.
-                (subst (AreListed drawing options file pes.told t.events) memory
-                (t.listed file heard)).1,
-          ));
+          (λ block memory text.
+          memory-last drawing options stl.told pes.told old.contents end t.number t.events t.answer
+          block memory t.listed text);
     }
 
 -- What is answered of a sink is answered of one with the same contents and count. For

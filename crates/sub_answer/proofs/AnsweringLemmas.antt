@@ -12,7 +12,7 @@ use Rattle.stl_rows.specs.declared.fault.LoadFault.{LoadFault}
 use Rattle.stl_rows.specs.declared.fault.LoadFaultKind.{LoadFaultKind}
 use Rattle.stl_rows.specs.declared.fault.LoadFaultKind.TheVariants as load
 use Rattle.stl_rows.specs.declared.layout.Drawing.{Drawing}
-use Rattle.stl_rows.specs.Loading.{FailsLoading, TellsFault, loaded}
+use Rattle.stl_rows.specs.Loading.{FailsLoading, LawOfLoading, TellsFault, loaded}
 use Rattle.stl_rows.specs.Programme.{ProgrammeValue}
 use Rattle.sub_plan.specs.Options.{OptionsValue}
 use Rattle.sub_check.specs.CheckedFiles.{AreChecked, IsCheckedWithin, TellsSubtitles}
@@ -114,6 +114,7 @@ pub as_answered :
     (drawing : Drawing) (options : OptionsValue) (stl pes : SourceCall) (first : Option ℕ)
     (Untouched : Type 0) (out : SinkCall) (status : Status) (number : ℕ)
     (answer : Result Accepted CheckFault)
+    → LawOfLoading
     → PrintsOrFails out (verdict number answer) status
     → (failed is_subtitle_fault answer ≡ false → StartsAt first pes number)
     → TellsSources (FailsLoading drawing stl.told stl.left)
@@ -122,25 +123,25 @@ pub as_answered :
     → IfTold stl.told (λ file. AreChecked drawing options file pes.told answer)
     → AnswersCheck drawing options stl pes first Untouched out status
 as_answered
-    drawing options stl pes first Untouched out status number answer printed starts sources
-    checked = record {
+    drawing options stl pes first Untouched out status number answer loading printed starts
+    sources checked = record {
       answer = answer;
       number = number;
       starts = starts;
       printed = printed;
       sources = sources;
       checked = checked;
-      ends = status-told drawing options stl pes out (verdict number answer) status answer printed
-          sources
+      ends = status-told drawing options stl pes out (verdict number answer) status answer _
+          printed sources
           (λ none other file told bytes heard.
           let are = rw heard at (checked file told) in
           done-exactly drawing options file bytes number answer _ are
-          (exactly-accepted drawing options file bytes answer
+          (exactly-accepted drawing options file bytes answer loading
           (λ p loads. are.checked p loads none bytes refl)) other)
           (λ other file told bytes heard.
           let are = rw heard at (checked file told) in
           done-exactly drawing options file bytes number answer _ are
-          (exactly-accepted_within drawing options file bytes answer
+          (exactly-accepted_within drawing options file bytes answer loading
           (λ p loads. are.within p loads bytes refl)) other)
           (answer-fails number answer)
           (λ block memory line. (

@@ -12,7 +12,7 @@ use Rattle.ttx_pes.specs.declared.fault.PesFault.TheVariants as pes_fault
 use Rattle.stl_file.specs.declared.fault.StlFault.TheVariants as stl
 use Rattle.stl_rows.specs.Fault.{is_read_kind}
 use Rattle.stl_rows.specs.EveryFault.{load_fault}
-use Rattle.stl_rows.specs.Loading.{loaded}
+use Rattle.stl_rows.specs.Loading.{LawOfLoading, loaded}
 use Rattle.stl_rows.specs.Programme.{ProgrammeValue}
 use Rattle.stl_rows.specs.declared.fault.LoadFaultKind.{LoadFaultKind}
 use Rattle.stl_rows.specs.declared.fault.LoadFaultKind.TheVariants as load
@@ -23,16 +23,17 @@ use Rattle.sub_rules.specs.Fault.{is_subtitle_fault}
 use Rattle.sub_rules.specs.declared.fault.CheckFault.{CheckFault}
 use Rattle.sub_rules.specs.declared.fault.CheckFault.TheVariants as fault
 use Rattle.sub_checker.specs.declared.telling.Accepted.{Accepted}
-use Rattle.sub_check.specs.CheckedFiles.{IsChecked, IsCheckedWithin}
+use Rattle.sub_check.specs.CheckedFiles.{IsAccepted, IsAcceptedWithin, IsChecked, IsCheckedWithin}
+use Rattle.sub_check.proofs.FilesLemmas.{accepted-loads, accepted-loads_within, as_accepted}
+use Rattle.sub_check.proofs.FilesLemmas.{as_accepted_within, of_accepted, of_accepted_within}
 use Rattle.sub_listing.specs.DeviceCall.{SinkCall, SourceCall}
 use Rattle.sub_listing.specs.Faults.{kind_by}
 use Rattle.sub_listing.specs.Listing.{Listing, PrintsOrFails}
 use Rattle.sub_listing.specs.Told.{status_of}
-use Rattle.sub_listing.specs.Writing.{PrintsMemory}
 use Rattle.sub_listing.specs.declared.status.Status.{Status}
 use Rattle.sub_listing.specs.declared.status.Status.TheVariants.{Done, Fault}
 use Rattle.sub_listing.proofs.PrintingLemmas.{did_not_rise, printed-status, printed-whole}
-use Rattle.sub_answer.specs.BothFiles.{IsAccepted, IsAcceptedWithin, TellsSources, TellsStatus}
+use Rattle.sub_answer.specs.BothFiles.{TellsSources, TellsStatus}
 
 -- ---- what is told of a fault, and its status
 
@@ -82,63 +83,6 @@ memory-fault (Err f) fails read fine = cc
 
 -- ---- what is accepted
 
-module _ (drawing : Drawing) (options : OptionsValue) (file bytes : List ℕ)
-    (programme : ProgrammeValue) (answer : Result Accepted CheckFault)
-    (loads : loaded drawing file ≡ Ok programme) where
-  -- A programme with a good transmission is accepted.
-  pub good-accepted : IsChecked programme options bytes answer
-      → failed is_subtitle_fault answer ≡ false
-      → failed is_pes_read answer ≡ false
-      → IsOk answer
-      → IsAccepted drawing options file bytes
-  good-accepted checked looked fine ok =
-      let good = (checked.accepted looked fine).0 ok in
-      record {
-        programme = programme;
-        frames = good.0;
-        loads = loads;
-        carries = good.1;
-        good = good.2;
-        complete = good.3;
-      }
-
-  -- One with a transmission that is good within the frames of the options is accepted too.
-  pub good-accepted_within : IsCheckedWithin programme options bytes answer
-      → failed is_subtitle_fault answer ≡ false
-      → failed is_pes_read answer ≡ false
-      → IsOk answer
-      → IsAcceptedWithin drawing options file bytes
-  good-accepted_within checked looked fine ok =
-      let good = (checked.accepted looked fine).0 ok in
-      record {
-        programme = programme;
-        frames = good.0;
-        loads = loads;
-        carries = good.1;
-        good = good.2;
-      }
-
-  -- No rule refuses what is accepted.
-  pub accepted-ok : IsChecked programme options bytes answer
-      → failed is_subtitle_fault answer ≡ false
-      → failed is_pes_read answer ≡ false
-      → IsAccepted drawing options file bytes
-      → IsOk answer
-  accepted-ok checked looked fine is =
-      let one : programme ≡ is.programme = let both = sym loads ∙ is.loads in cc in
-      ((subst (λ (p : ProgrammeValue). IsChecked p options bytes answer) one checked).accepted
-      looked fine).1 (is.frames, is.carries, is.good, is.complete)
-
-  pub accepted-ok_within : IsCheckedWithin programme options bytes answer
-      → failed is_subtitle_fault answer ≡ false
-      → failed is_pes_read answer ≡ false
-      → IsAcceptedWithin drawing options file bytes
-      → IsOk answer
-  accepted-ok_within checked looked fine is =
-      let one : programme ≡ is.programme = let both = sym loads ∙ is.loads in cc in
-      ((subst (λ (p : ProgrammeValue). IsCheckedWithin p options bytes answer) one
-      checked).accepted looked fine).1 (is.frames, is.carries, is.good)
-
 -- Where the subtitle file gives a programme, an answer that failed at no device is accepted exactly
 -- where the files are: in these words.
 pub record Exactly
@@ -155,31 +99,35 @@ pub record Exactly
 pub exactly-accepted :
     (drawing : Drawing) (options : OptionsValue) (file bytes : List ℕ)
     (answer : Result Accepted CheckFault)
+    → LawOfLoading
     → ((programme : ProgrammeValue)
     → loaded drawing file ≡ Ok programme
     → IsChecked programme options bytes answer)
     → Exactly drawing file answer (IsAccepted drawing options file bytes)
-exactly-accepted drawing options file bytes answer checked = record {
-  exactly = λ p loads looked fine. (
-    good-accepted drawing options file bytes p answer loads (checked p loads) looked fine,
-    accepted-ok drawing options file bytes p answer loads (checked p loads) looked fine,
-  );
-  loads = λ is. (is.programme, is.loads);
+exactly-accepted drawing options file bytes answer loading checked = record {
+  exactly = λ p loads looked fine.
+      let exact = (checked p loads).accepted looked fine in (
+        λ ok. as_accepted drawing options file bytes loading p loads (exact.0 ok),
+        λ is. exact.1 (of_accepted drawing options file bytes loading p loads is),
+      );
+  loads = accepted-loads drawing options file bytes loading;
 }
 
 pub exactly-accepted_within :
     (drawing : Drawing) (options : OptionsValue) (file bytes : List ℕ)
     (answer : Result Accepted CheckFault)
+    → LawOfLoading
     → ((programme : ProgrammeValue)
     → loaded drawing file ≡ Ok programme
     → IsCheckedWithin programme options bytes answer)
     → Exactly drawing file answer (IsAcceptedWithin drawing options file bytes)
-exactly-accepted_within drawing options file bytes answer checked = record {
-  exactly = λ p loads looked fine. (
-    good-accepted_within drawing options file bytes p answer loads (checked p loads) looked fine,
-    accepted-ok_within drawing options file bytes p answer loads (checked p loads) looked fine,
-  );
-  loads = λ is. (is.programme, is.loads);
+exactly-accepted_within drawing options file bytes answer loading checked = record {
+  exactly = λ p loads looked fine.
+      let exact = (checked p loads).accepted looked fine in (
+        λ ok. as_accepted_within drawing options file bytes loading p loads (exact.0 ok),
+        λ is. exact.1 (of_accepted_within drawing options file bytes loading p loads is),
+      );
+  loads = accepted-loads_within drawing options file bytes loading;
 }
 
 -- The status that was printed with a listing, by what that tells of the files.
@@ -187,6 +135,7 @@ pub status-told :
     {Counts : Type 0} {AtBlock AtPes : ℕ → Type 0} {Untouched : Type 0} {is_of_subtitles : Bool}
     (drawing : Drawing) (options : OptionsValue) (stl pes : SourceCall) (out : SinkCall)
     (listing : Listing) (status : Status) (answer : Result Counts CheckFault)
+    (PrintsMemory : Type 0)
     → PrintsOrFails out listing status
     → TellsSources AtBlock AtPes Untouched is_of_subtitles stl pes answer
     → (options.within ≡ 0
@@ -202,10 +151,10 @@ pub status-told :
     → ((block : ℕ)
     → answer ≡ Err (fault.Subtitles (load_fault block load.Memory))
     → Appends out.old out.new listing.text
-    → PrintsMemory drawing stl.told out.old out.new)
-    → TellsStatus drawing options stl pes out status
-status-told drawing options stl pes out listing status answer printed sources done done_within
-    fails memory =
+    → PrintsMemory)
+    → TellsStatus drawing options stl pes out PrintsMemory status
+status-told drawing options stl pes out listing status answer PrintsMemory printed sources done
+    done_within fails memory =
     record {
       done = λ none file told bytes heard other.
           let is = printed-status out listing status printed other in

@@ -16,6 +16,7 @@ touched :
     (status : Status)
     → Answers request first second Untouched file out status
     → Answers request first second ⊤ file out status
+touched ask.Help first second Untouched file out status is = is
 touched (ask.Packet bytes) first second Untouched file out status is = is
 touched (ask.Packets pes) first second Untouched file out status is = is
 touched (ask.Show stl) first second Untouched file out status is = is
@@ -35,6 +36,7 @@ touched
       printed = is.printed;
       sources = sources-touched _ _ Untouched _ first.call second.call is.answer is.sources;
       listed = is.listed;
+      unjudged = is.unjudged;
       checked = is.checked;
       ends = is.ends;
     }

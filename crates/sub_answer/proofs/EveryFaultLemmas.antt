@@ -1,58 +1,43 @@
--- What a printer was told of two files, and what is answered by it. Main lemmas: after_error,
--- after_faults, after_pes, both_answers.
+-- What a printer was told of a subtitle file, and of a PES file after it, and what is answered by
+-- it. Main lemmas: after_error, after_faults, after_unhanded, after_judged.
 use Rattle.std.proofs.Common.{◌≡◌, ◌∙◌, ap, refl, sym, subst, arith, inl, inr, ℕ, ◌+◌, ◌<◌, ◌≤◌}
-use Rattle.std.proofs.Common.{zero, suc, List, [], ◌∷◌, take, length, Bool, true, false, Option}
-use Rattle.std.proofs.Common.{Some, None, Result, Ok, Err, ◌-◌}
+use Rattle.std.proofs.Common.{List, [], ◌∷◌, take, length, Bool, true, false, Option}
+use Rattle.std.proofs.Common.{Some, None, Result, Ok, Err, ◌-◌, ◌++◌}
 use Rattle.std.proofs.lemmas.Bool.{true≢false}
-use Rattle.std.proofs.lemmas.Bool.Decides.{nat_tests}
-use Rattle.std.specs.Prelude.{◌⊎◌, IfOk, IfErr, IfSome, is_none}
+use Rattle.std.specs.Prelude.{◌⊎◌, ◌||◌, not, is_err, IfErr}
 use Rattle.std.specs.List.{filter}
 use Rattle.sub_io.specs.Device.{RisesIf, failed}
 use Rattle.sub_io.specs.Reading.{IfTold}
-use Rattle.sub_io.specs.Telling.{Tells, TellsSome}
-use Rattle.ttx_packet.specs.PageId.{PageIdValue}
+use Rattle.sub_io.specs.Telling.{Tells, TellsInTurn, TellsSome}
 use Rattle.ttx_pes.specs.declared.fault.PesFault.TheVariants as pes_fault
 use Rattle.stl_file.specs.declared.fault.StlFault.TheVariants as stl_fault
-use Rattle.stl_rows.specs.EveryFault.{FailsTelling, TellsFaults, TellsOfFile, faults, load_fault}
-use Rattle.stl_rows.specs.EveryFault.{is_told_before}
+use Rattle.stl_rows.specs.EveryFault.{FailsTelling, TellsFaults, TellsOfFile, WantsMemory, faults}
+use Rattle.stl_rows.specs.EveryFault.{is_told_before, load_fault}
+use Rattle.stl_rows.specs.Judged.{JudgedValue, JudgesBy, judges, known}
+use Rattle.stl_rows.proofs.LoadingLaw.{none_of_loaded}
 use Rattle.stl_rows.specs.Fault.{is_read, is_read_kind}
-use Rattle.stl_rows.specs.Loading.{EndsRecord, loaded}
+use Rattle.stl_rows.specs.Loading.{loaded}
 use Rattle.stl_rows.specs.Programme.{ProgrammeValue}
 use Rattle.stl_rows.specs.declared.fault.LoadFault.{LoadFault}
 use Rattle.stl_rows.specs.declared.fault.LoadFaultKind.{LoadFaultKind}
 use Rattle.stl_rows.specs.declared.fault.LoadFaultKind.TheVariants as load
 use Rattle.stl_rows.specs.declared.layout.Drawing.{Drawing}
-use Rattle.sub_plan.specs.FrameTime.{clock_of}
 use Rattle.sub_plan.specs.Options.{OptionsValue}
-use Rattle.sub_check.specs.CheckedFiles.{IsChecked, IsCheckedWithin, TellsEvents, all_events_of}
-use Rattle.sub_check.specs.CheckedFiles.{events_of_first_pieces, first_answer, frames_read}
-use Rattle.sub_checker.specs.Telling.{CountsRead}
-use Rattle.sub_rules.specs.Events.{latest}
-use Rattle.sub_rules.specs.Fault.{is_pes_read}
-use Rattle.sub_rules.specs.FrameRules.{frame_at, packets_before}
-use Rattle.sub_rules.specs.PacketRules.{header_count}
-use Rattle.sub_rules.specs.Pieces.{FailsAtPiece, piece_file_of}
-use Rattle.sub_rules.specs.Transmission.{Transmission}
+use Rattle.sub_check.specs.CheckedFiles.{first_answer}
+use Rattle.sub_rules.specs.Fault.{is_failure_kind}
+use Rattle.sub_rules.specs.Pieces.{FailsAtPiece}
 use Rattle.sub_checker.specs.declared.telling.Accepted.{Accepted}
 use Rattle.sub_rules.specs.declared.event.Event.{Event}
 use Rattle.sub_rules.specs.declared.fault.CheckFault.{CheckFault}
 use Rattle.sub_rules.specs.declared.fault.CheckFault.TheVariants as fault
 use Rattle.sub_listing.specs.DeviceCall.{SourceCall}
-use Rattle.sub_listing.specs.FirstPacket.{StartsAt}
-use Rattle.sub_answer.specs.EveryFault.{AreListedBefore, CanEnd, FailsAtBlock, IsAnswer}
-use Rattle.sub_answer.specs.EveryFault.{TellsBoth}
+use Rattle.sub_answer.specs.EveryFault.{AreListedBefore, AreListedOfPes, FailsAtBlock, IsAnswer}
+use Rattle.sub_answer.specs.EveryFault.{IsListedOf, TellsBoth, TellsPes, read_answer}
 use Rattle.sub_listing.specs.EventLines.{most_counted, refusals, subtitle_event, subtitle_events}
-use Rattle.sub_listing.specs.Printer.{PrinterValue, PrintsEvent, PrintsEvents}
-use Rattle.sub_listing.proofs.PrinterLemmas.{as_told, prints-taken, prints_all}
-
--- Where a source tells its bytes, these decide what else is something.
-decided : {A : Type 0} (Q : A → Type 0) (told : Option (List ℕ)) (given : List ℕ → A) (some : A)
-    → Q some
-    → IfTold told (λ bytes. Q (given bytes))
-    → (x : A) × Q x × IfTold told (λ bytes. x ≡ given bytes)
-decided Q None given some holds told = (some, holds, λ bytes heard. cc)
-decided Q (Some bytes) given some holds told =
-    (given bytes, told bytes refl, λ other heard. let same : bytes ≡ other = cc in ap given same)
+use Rattle.sub_listing.specs.Printer.{PrinterValue, PrintsEvent, PrintsEvents, can_fail}
+use Rattle.sub_listing.proofs.PrinterLemmas.{prints-renumbered, prints-taken, prints-two}
+use Rattle.sub_listing.proofs.PrinterLemmas.{prints_all, still_goes}
+use Rattle.sub_answer.proofs.PesEventLemmas.{decided}
 
 -- ---- the subtitle file
 
@@ -85,7 +70,7 @@ module _ {D : Type 0} (IsTold : D → LoadFault → D → Type 0) (value : D →
       → Tells IsTold old new items
       → RisesIf stl.old_count (is_read_kind kind) stl.new_count
       → (is_read_kind kind ≡ true → FailsAtBlock stl.told stl.left block)
-      → CanEnd (subtitle_events items) (fault.Subtitles (load_fault block kind))
+      → is_failure_kind kind ≡ true
       → IfTold stl.told (λ file.
       AreListedBefore drawing file (subtitle_events items) block kind)
       → TellsBoth drawing options stl pes first Untouched (value old) (value new)
@@ -108,23 +93,27 @@ module _ {D : Type 0} (IsTold : D → LoadFault → D → Type 0) (value : D →
     };
     ended = ended;
     cut = λ failing. absurd (true≢false (sym failing ∙ quiet));
+    unjudged = λ holds is. cc;
     checked = λ holds file heard bytes known. tt;
     listed = are;
   }
 
-  -- Memory was refused before anything was told.
+  -- Memory was refused.
   at_memory : (block : ℕ)
       → (value new).failed ≡ false
-      → Tells IsTold old new []
+      → TellsSome IsTold old new
       → RisesIf stl.old_count (is_read (load_fault block load.Memory)) stl.new_count
-      → IfTold stl.told (λ file. EndsRecord drawing file block)
+      → IfTold stl.told (λ file. WantsMemory drawing file IsTold old new block)
       → TellsBoth drawing options stl pes first Untouched (value old) (value new)
       (Err (fault.Subtitles (load_fault block load.Memory)))
-  at_memory block quiet told count memory =
-      ended_at block load.Memory [] quiet told count
-      (λ is. cc)
-      (record { fails = refl; alone = λ read fine. refl })
-      (λ file known. (refl, memory file known))
+  at_memory block quiet some count wants =
+      let items =
+      decided (Tells IsTold old new) stl.told
+      (λ file. filter (is_told_before block) (faults drawing file)) some.items some.told
+      (λ file told. (wants file told).told) in
+      ended_at block load.Memory items.0 quiet items.1 count
+      (λ is. cc) refl
+      (λ file told. (ap subtitle_events (items.2 file told), (wants file told).ends))
 
   -- The source failed.
   at_read : (block : ℕ)
@@ -139,8 +128,7 @@ module _ {D : Type 0} (IsTold : D → LoadFault → D → Type 0) (value : D →
       decided (Tells IsTold old new) stl.told
       (λ file. filter (is_told_before block) (faults drawing file)) some.items some.told f.told in
       ended_at block (load.File stl_fault.Read) items.0 quiet items.1 count
-      (λ is. record { bytes = f.bytes; consumed = f.consumed; block_is = f.block_is })
-      (record { fails = refl; alone = λ other fine. cc })
+      (λ is. record { bytes = f.bytes; consumed = f.consumed; block_is = f.block_is }) refl
       (λ file told. ap subtitle_events (items.2 file told))
 
   -- The subtitle file can't be read on. For `tell_every_fault`.
@@ -148,14 +136,14 @@ module _ {D : Type 0} (IsTold : D → LoadFault → D → Type 0) (value : D →
       → (value new).failed ≡ false
       → (kind ≡ load.Memory) ⊎ (kind ≡ load.File stl_fault.Read)
       → TellsSome IsTold old new
-      → (kind ≡ load.Memory → Tells IsTold old new [])
       → RisesIf stl.old_count (is_read (load_fault block kind)) stl.new_count
-      → IfTold stl.told (λ file. kind ≡ load.Memory → EndsRecord drawing file block)
+      → IfTold stl.told (λ file.
+      kind ≡ load.Memory → WantsMemory drawing file IsTold old new block)
       → (is_read (load_fault block kind) ≡ true
       → FailsTelling drawing stl.told stl.left IsTold old new block)
       → TellsBoth drawing options stl pes first Untouched (value old) (value new)
       (Err (fault.Subtitles (load_fault block kind)))
-  after_error block kind quiet kinds some none count memory read =
+  after_error block kind quiet kinds some count memory read =
       let Answers : LoadFaultKind → Type 0 =
       λ k. TellsBoth drawing options stl pes first Untouched (value old) (value new)
       (Err (fault.Subtitles (load_fault block k))) in
@@ -164,7 +152,7 @@ module _ {D : Type 0} (IsTold : D → LoadFault → D → Type 0) (value : D →
       elim kinds [
         | inl e ↦
             subst Answers (sym e)
-            (at_memory block quiet (none e) (subst Counts e count)
+            (at_memory block quiet some (subst Counts e count)
             (λ file told. memory file told e))
         | inr e ↦
             subst Answers (sym e)
@@ -198,9 +186,10 @@ module _ {D : Type 0} (IsTold : D → LoadFault → D → Type 0) (value : D →
       → ((value new).failed ≡ false → (value new).count ≡ (value old).count → stopped ≡ false)
       → TellsOfFile IsTold old new
       → IfTold stl.told (λ file. TellsFaults IsTold old new stopped (faults drawing file))
+      → IfTold stl.told (λ file. (stopped ≡ true) ⊎ (judges drawing file ≡ false))
       → RisesIf stl.old_count false stl.new_count
       → TellsBoth drawing options stl pes first Untouched (value old) (value new) (Ok None)
-  after_faults stopped quiet some told count =
+  after_faults stopped quiet some told unjudged count =
       let here = printed some.faults some.told in
       let items =
       decided (λ (fs : List LoadFault). PrintsEvents (value old) (subtitle_events fs) (value new)
@@ -223,268 +212,194 @@ module _ {D : Type 0} (IsTold : D → LoadFault → D → Type 0) (value : D →
         };
         ended = tt;
         cut = λ failing. refl;
+        unjudged = λ holds is file heard. elim (unjudged file heard) [
+          | inl stopping ↦
+              absurd (true≢false (sym stopping ∙ quiet holds (here.put_count holds)))
+          | inr unread ↦ unread
+        ];
         checked = λ holds file heard bytes known. tt;
         listed = λ file heard.
             (ap subtitle_events (items.2 file heard), rw (refusals-subtitles items.0) items.1.1);
       }
 
--- ---- the PES file
-
--- The frames that are counted are holds fewer than none.
-latest-first : (frames : Transmission) (n : ℕ)
-    → frame_at frames 0 ≤ latest frames (suc n)
-unfolding latest
-latest-first frames zero = grind (arith, nat_tests)
-latest-first frames (suc n) =
-    let before = latest-first frames n in grind (arith, nat_tests)
-
--- What was read can be counted.
-some_counts : (page : PageIdValue) (frames : Transmission) (n : ℕ) → length frames ≡ n
-    → (a : Accepted) × CountsRead page frames a
-some_counts page frames zero is = (
-  record {
-    frames = 0;
-    transmissions = header_count page (packets_before frames (length frames));
-  },
-  record {
-    none = λ none. refl;
-    frames_are = λ some. absurd (omega (arith, is, some));
-    transmissions_are = refl;
-  },
-)
-some_counts page frames (suc n) is =
-    let first = latest-first frames n in (
-      record {
-        frames = (latest frames (suc n) + 1) - frame_at frames 0;
-        transmissions = header_count page (packets_before frames (length frames));
-      },
-      record {
-        none = λ none. absurd (omega (arith, is, none));
-        frames_are = λ some. rw is (omega (arith, first));
-        transmissions_are = refl;
-      },
-    )
-
--- Where the source of the PES file failed, the fault names the piece within which it did. It stands
--- apart since `cc` refutes its cases quickly only where little else is known.
-read_at : (f : CheckFault)
-    → is_pes_read f ≡ true
-    → (n : ℕ) × (f ≡ fault.Pes n pes_fault.Read)
-read_at (fault.Pes n pes_fault.Read) is = (n, refl)
-read_at f is = cc
-
--- What `check_all` answers within frames, and where the page has to be whole at once. For
--- `tell_every_fault`.
-pub both_answers : (programme : ProgrammeValue) (options : OptionsValue) (pes : Option (List ℕ))
-    (r : Result (Option Accepted) CheckFault)
-    → IfTold pes (λ bytes. IfOk r (λ counts. IfSome counts (λ a. IsCheckedWithin programme options
-    bytes (first_answer (all_events_of programme options bytes) a))))
-    → (options.within ≡ 0
-    → IfTold pes (λ bytes. IfOk r (λ counts. IfSome counts (λ a. IsChecked programme options
-    bytes (first_answer (all_events_of programme options bytes) a)))))
-    → IfTold pes (λ bytes. IfOk r (λ counts. IfSome counts (λ a. IsAnswer programme options
-    bytes (first_answer (all_events_of programme options bytes) a))))
-both_answers programme options pes (Ok (Some a)) within at_once bytes heard =
-    (within bytes heard, λ none. at_once none bytes heard)
-both_answers programme options pes (Ok None) within at_once bytes heard = tt
-both_answers programme options pes (Err f) within at_once bytes heard = tt
-
-module _ {D : Type 0} (IsTold : D → Event → D → Type 0) (value : D → PrinterValue)
-    (one : (s t : D) (x : Event) → IsTold s x t → PrintsEvent (value s) x (value t))
-    (drawing : Drawing) (options : OptionsValue) (stl pes : SourceCall) (first : Option ℕ)
-    (Untouched : Type 0) (programme : ProgrammeValue) (old new : D)
-    (goes : (value old).failed ≡ false) (few : (value old).refused ≤ most_counted)
-    (starts : StartsAt first pes (value old).first)
-    (loads : IfTold stl.told (λ file. loaded drawing file ≡ Ok programme))
-    (stl_count : RisesIf stl.old_count false stl.new_count) where
-  put : (items : List Event) → Tells IsTold old new items
-      → PrintsEvents (value old) items (value new)
-  put items told =
-      as_told (value old) (value new) items
-      (prints_all IsTold value (λ (e : Event). e) one old new items goes few told)
-
-  -- The source of the PES file failed.
-  after_pes_error : (f : CheckFault)
-      → is_pes_read f ≡ true
-      → (value new).failed ≡ false
-      → TellsSome IsTold old new
-      → IfTold pes.told (λ bytes. TellsEvents programme options bytes IsTold old new (Err f))
-      → RisesIf pes.old_count (is_pes_read f) pes.new_count
-      → ((index : ℕ)
-      → (let r : Result (Option Accepted) CheckFault = Err f in r)
-      ≡ Err (fault.Pes index pes_fault.Read)
-      → FailsAtPiece index pes.told pes.left)
-      → TellsBoth drawing options stl pes first Untouched (value old) (value new) (Err f)
-  after_pes_error f is quiet some told count fails = go (read_at f is).0 (read_at f is).1
-    where
-      go : (n : ℕ) → f ≡ fault.Pes n pes_fault.Read
-          → TellsBoth drawing options stl pes first Untouched (value old) (value new) (Err f)
-      go n same =
-          let events =
-          decided (λ (es : List Event). Tells IsTold old new es) pes.told
-          (λ bytes. events_of_first_pieces programme options bytes n) some.items some.told
-          (λ bytes heard.
-          let here = told bytes heard in
-          let at : here.0 ≡ n = let e = here.2 in cc in
-          subst (λ (m : ℕ). Tells IsTold old new
-          (events_of_first_pieces programme options bytes m)) at here.3) in
-          let are : IfTold pes.told (λ bytes.
-          (n ≤ length (piece_file_of (clock_of options) bytes).pieces)
-          × (events.0 ≡ events_of_first_pieces programme options bytes n)) =
-          λ bytes heard.
-          let here = told bytes heard in
-          let at : here.0 ≡ n = let e = here.2 in cc in (
-            subst (λ (m : ℕ). m ≤ length (piece_file_of (clock_of options) bytes).pieces) at here.1,
-            events.2 bytes heard,
-          ) in
-          record {
-            events = events.0;
-            answer = Err f;
-            same = λ holds. refl;
-            number = (value old).first;
-            starts = λ is. starts;
-            prints = put events.0 events.1;
-            sources = record {
-              stl_count = rw same stl_count;
-              pes_count = count;
-              stl_read = λ g e. let other = rw same at e in cc;
-              pes_read = fails;
-              before = λ e. let other = rw same at e in cc;
-            };
-            ended = rw same (record { fails = refl; alone = λ read fine. cc });
-            cut = λ failing. absurd (true≢false (sym failing ∙ quiet));
-            checked = λ holds file heard bytes known. tt;
-            listed = λ file heard.
-                rw same (record { programme = programme; loads = loads file heard; listed = are });
-          }
-
-  -- These are the events of the PES file, of which the sink may have a part.
-  read_pes : (items : List Event) (a : Accepted) (given : Result (Option Accepted) CheckFault)
-      → PrintsEvents (value old) items (value new)
-      → ((value new).failed ≡ false → Ok (Some a) ≡ given)
-      → RisesIf pes.old_count false pes.new_count
-      → IfTold pes.told (λ bytes. (items ≡ all_events_of programme options bytes)
-      × CountsRead options.page (frames_read options bytes) a)
-      → ((value new).failed ≡ false
-      → IfTold pes.told (λ bytes. IsAnswer programme options bytes (first_answer items a)))
-      → TellsBoth drawing options stl pes first Untouched (value old) (value new) given
-  read_pes items a given prints same count are verdict = record {
-    events = items;
-    answer = Ok (Some a);
-    same = same;
+  -- These faults were told, at least one, and the sink failed as it was to hand on their lines. For
+  -- `tell_every_fault`.
+  pub after_unhanded : (fs : List LoadFault)
+      → (value new).failed ≡ true
+      → Tells IsTold old new fs
+      → 0 < length fs
+      → IfTold stl.told (λ file. fs ≡ faults drawing file)
+      → RisesIf stl.old_count false stl.new_count
+      → TellsBoth drawing options stl pes first Untouched (value old) (value new) (Ok None)
+  after_unhanded fs failing told some are count = record {
+    events = subtitle_events fs;
+    answer = Ok None;
+    same = λ holds. refl;
     number = (value old).first;
-    starts = λ is. starts;
-    prints = prints;
+    starts = λ is. cc;
+    prints = printed fs told;
     sources = record {
-      stl_count = stl_count;
-      pes_count = count;
+      stl_count = count;
+      pes_count = pes_count;
       stl_read = λ f is. cc;
       pes_read = λ index is. cc;
-      before = λ is. cc;
+      before = λ is. untouched;
     };
     ended = tt;
-    cut = λ failing. refl;
-    checked = λ holds file heard bytes known other is.
-        let here = loads file heard in
-        let one : programme ≡ other = cc in
-        subst (λ (p : ProgrammeValue). IsAnswer p options bytes (first_answer items a)) one
-        (verdict holds bytes known);
-    listed = λ file told. record { programme = programme; loads = loads file told; listed = are };
+    cut = λ _. refl;
+    unjudged = λ holds. absurd (true≢false (sym failing ∙ holds));
+    checked = λ holds file heard bytes known. tt;
+    listed = λ file heard.
+        (ap subtitle_events (are file heard), rw (refusals-subtitles fs) some);
   }
 
-  -- The PES file was read.
-  after_all : (given : Accepted)
-      → TellsSome IsTold old new
-      → IfTold pes.told (λ bytes. TellsEvents programme options bytes IsTold old new
-      (Ok (Some given)))
-      → IfTold pes.told (λ bytes. IsAnswer programme options bytes
-      (first_answer (all_events_of programme options bytes) given))
-      → RisesIf pes.old_count false pes.new_count
-      → TellsBoth drawing options stl pes first Untouched (value old) (value new) (Ok (Some given))
-  after_all given some told first count =
-      let events =
-      decided (λ (es : List Event). Tells IsTold old new es) pes.told
-      (all_events_of programme options) some.items some.told (λ bytes heard. (told bytes heard).0)
-      in
-      read_pes events.0 given (Ok (Some given)) (put events.0 events.1) (λ holds. refl) count
-      (λ bytes heard. (events.2 bytes heard, (told bytes heard).1))
-      (λ quiet bytes heard. rw (events.2 bytes heard) (first bytes heard))
+-- ---- lines that are handed on
 
-  -- The sink failed.
-  after_stop : (value new).failed ≡ true
-      → TellsSome IsTold old new
-      → IfTold pes.told (λ bytes. TellsEvents programme options bytes IsTold old new (Ok None))
-      → RisesIf pes.old_count false pes.new_count
-      → TellsBoth drawing options stl pes first Untouched (value old) (value new) (Ok None)
-  after_stop failing some told count =
-      let counts = λ (bytes : List ℕ).
-      some_counts options.page (frames_read options bytes) (length (frames_read options bytes)) refl
-      in
-      let events =
-      decided (λ (x : List Event × Accepted). PrintsEvents (value old) x.0 (value new)) pes.told
-      (λ bytes. (all_events_of programme options bytes, (counts bytes).0))
-      (some.items, record { frames = 0; transmissions = 0 }) (put some.items some.told)
-      (λ bytes heard.
-      let p = told bytes heard in
-      let whole = all_events_of programme options bytes in
-      as_told (value old) (value new) whole
-      (prints-taken (λ (e : Event). e) (value old) (value new) p.0 whole failing
-      (prints_all IsTold value (λ (e : Event). e) one old new (take p.0 whole) goes few p.2)))
-      in
-      read_pes events.0.0 events.0.1 (Ok None) events.1
-      (λ holds. absurd (true≢false (sym failing ∙ holds))) count
-      (λ bytes heard.
-      rw (events.2 bytes heard) (refl, (counts bytes).1))
-      (λ quiet. absurd (true≢false (sym failing ∙ quiet)))
+-- A printer that can't hand on what it was told has failed. For `tell_every_fault`.
+pub stops_failed : (old new : PrinterValue) (events : List Event)
+    → PrintsEvents old events new
+    → old.count < 0xFFFF_FFFF_FFFF_FFFF
+    → (new.failed || not (can_fail new.count)) ≡ true
+    → new.failed ≡ true
+stops_failed old new events prints room stopped = go new.failed refl
+  where
+    go : (b : Bool) → new.failed ≡ b → new.failed ≡ true
+    go true is = is
+    go false is =
+        absurd (true≢false (sym stopped
+        ∙ still_goes new.failed old.count new.count room is (prints.put_count is)))
 
-  -- The PES file was read, or its source failed, or the sink. For `tell_every_fault`.
-  pub after_pes : (r : Result (Option Accepted) CheckFault) (stopped : Bool)
-      → ((value new).failed ≡ true → stopped ≡ true)
-      → ((value new).failed ≡ false → (value new).count ≡ (value old).count → stopped ≡ false)
-      → TellsSome IsTold old new
-      → IfTold pes.told (λ bytes. TellsEvents programme options bytes IsTold old new r)
-      → IfTold pes.told (λ bytes. IfOk r (λ counts. IfSome counts (λ a. IsAnswer programme options
-      bytes (first_answer (all_events_of programme options bytes) a))))
-      → IfOk r (λ counts. stopped ≡ is_none counts)
-      → IfErr r (λ f. stopped ≡ false)
-      → IfErr r (λ f. is_pes_read f ≡ true)
-      → RisesIf pes.old_count (failed is_pes_read r) pes.new_count
-      → ((index : ℕ)
-      → r ≡ Err (fault.Pes index pes_fault.Read)
-      → FailsAtPiece index pes.told pes.left)
-      → TellsBoth drawing options stl pes first Untouched (value old) (value new) r
-  after_pes (Ok (Some a)) stopped stops quiet some told first is goes_on only count fails =
-      after_all a some told first count
-  after_pes (Ok None) stopped stops quiet some told first is goes_on only count fails =
-      after_stop (failing (value new).failed refl) some told count
+-- One that waits was told something. For `tell_every_fault`.
+pub some_told : {D : Type 0} (IsTold : D → LoadFault → D → Type 0) (waits : D → Bool)
+    (old new : D) (fs : List LoadFault)
+    → Tells IsTold old new fs
+    → waits old ≡ false
+    → waits new ≡ true
+    → 0 < length fs
+some_told IsTold waits old new [] told still waiting =
+    absurd (true≢false (sym waiting ∙ ap waits told.in_turn ∙ still))
+some_told IsTold waits old new (f ∷ fs) told still waiting = omega arith
+
+-- One that holds nothing back while it does not wait does so after it was told some. For
+-- `tell_every_fault`.
+pub held_told : {D : Type 0} (IsTold : D → LoadFault → D → Type 0) (waits : D → Bool)
+    (held : D → ℕ)
+    (one : (s t : D) (f : LoadFault) → IsTold s f t → waits t ≡ false → held t ≡ 0)
+    (old new : D) (fs : List LoadFault)
+    → (waits old ≡ false → held old ≡ 0)
+    → TellsInTurn IsTold old new fs
+    → waits new ≡ false
+    → held new ≡ 0
+held_told IsTold waits held one old new [] holds told =
+    subst (λ d. waits d ≡ false → held d ≡ 0) (sym told) holds
+held_told IsTold waits held one old new (f ∷ fs) holds (mid, first, rest) =
+    held_told IsTold waits held one mid new fs (one old mid f first) rest
+
+-- What holds of an error. For `tell_every_fault`.
+pub when_err : {X E : Type 0} {Q : Type 0} (r : Result X E) → is_err r ≡ true → IfErr r (λ _. Q) → Q
+when_err (Ok x) is holds = absurd (true≢false (sym is))
+when_err (Err e) is holds = holds
+
+-- ---- both files
+
+module _ (drawing : Drawing) (options : OptionsValue) (stl pes : SourceCall) (first : Option ℕ)
+    (Untouched : Type 0) (old mid new : PrinterValue) (judged : JudgedValue)
+    (fs : List LoadFault)
+    (goes : mid.failed ≡ false)
+    (before : PrintsEvents old (subtitle_events fs) mid)
+    (stl_count : RisesIf stl.old_count false stl.new_count)
+    (by : IfTold stl.told (λ file. JudgesBy drawing file judged))
+    (are : IfTold stl.told (λ file. fs ≡ faults drawing file)) where
+  -- All lines of the one and then of the other.
+  both_printed : (number : ℕ) (events : List Event)
+      → PrintsEvents (record mid { first = number }) events new
+      → PrintsEvents (record old { first = number }) (subtitle_events fs ++ events) new
+  both_printed number events more =
+      prints-two (record old { first = number }) (record mid { first = number }) new
+      (subtitle_events fs) events (prints-renumbered number old mid fs before) goes more
+
+  -- What is listed then.
+  both_listed : (events : List Event) (answer : Result Accepted ℕ)
+      → IfTold pes.told (λ bytes. AreListedOfPes judged options bytes events answer)
+      → IfTold stl.told (λ file.
+      IsListedOf drawing options file pes.told (subtitle_events fs ++ events) answer)
+  both_listed events answer listed file heard = record {
+    judged = judged;
+    by = by file heard;
+    more = events;
+    both = ap (λ gs. subtitle_events gs ++ events) (are file heard);
+    listed = listed;
+  }
+
+  -- Where the file gives a programme nothing was told of it, and all of it is known.
+  verdict : (events : List Event) (a : Accepted)
+      → IfTold pes.told (λ bytes.
+      (programme : ProgrammeValue)
+      → judged ≡ known programme
+      → IsAnswer programme options bytes (first_answer events a))
+      → IfTold stl.told (λ file.
+      IfTold pes.told (λ bytes.
+      (programme : ProgrammeValue)
+      → loaded drawing file ≡ Ok programme
+      → IsAnswer programme options bytes (first_answer (subtitle_events fs ++ events) a)))
+  verdict events a checked file heard bytes told programme loads =
+      let none = none_of_loaded drawing file programme loads in
+      let whole = (by file heard).whole none in
+      let one : judged.programme ≡ programme = let both = sym whole.0 ∙ loads in cc in
+      let nothing : fs ≡ [] = are file heard ∙ none in
+      subst (λ gs. IsAnswer programme options bytes (first_answer (subtitle_events gs ++ events) a))
+      (sym nothing) (checked bytes told programme (whole.1 ∙ ap known one))
+
+  -- The faults of the subtitle file were told, and then what is told of the PES file. For
+  -- `tell_every_fault`.
+  pub after_judged : (given : Result (Option Accepted) CheckFault)
+      → TellsPes judged options pes first mid new given
+      → TellsBoth drawing options stl pes first Untouched old new given
+  after_judged given t = go t.answer refl
     where
-      failing : (b : Bool) → (value new).failed ≡ b → (value new).failed ≡ true
-      failing true e = e
-      failing false e =
-          absurd (true≢false (sym is ∙ quiet e ((put some.items some.told).put_count e)))
-  after_pes (Err f) stopped stops quiet some told first is goes_on only count fails =
-      after_pes_error f only (calm (value new).failed refl) some told count fails
-    where
-      calm : (b : Bool) → (value new).failed ≡ b → (value new).failed ≡ false
-      calm true e = absurd (true≢false (sym (stops e) ∙ goes_on))
-      calm false e = e
-
--- What is told with another first number before is told. For `tell_every_fault`.
-pub with_first : (drawing : Drawing) (options : OptionsValue) (stl pes : SourceCall)
-    (first : Option ℕ) (Untouched : Type 0) (old new : PrinterValue) (number : ℕ)
-    (given : Result (Option Accepted) CheckFault)
-    → TellsBoth drawing options stl pes first Untouched (record old { first = number }) new given
-    → TellsBoth drawing options stl pes first Untouched old new given
-with_first drawing options stl pes first Untouched old new number given t = record {
-  events = t.events;
-  answer = t.answer;
-  same = t.same;
-  number = t.number;
-  starts = t.starts;
-  prints = t.prints;
-  sources = t.sources;
-  ended = t.ended;
-  cut = t.cut;
-  checked = t.checked;
-  listed = t.listed;
-}
+      go : (r : Result Accepted ℕ) → t.answer ≡ r
+          → TellsBoth drawing options stl pes first Untouched old new given
+      go (Ok a) is = record {
+        events = subtitle_events fs ++ t.events;
+        answer = Ok (Some a);
+        same = λ holds. ap read_answer (sym is) ∙ t.same holds;
+        number = t.number;
+        starts = λ own. t.starts;
+        prints = both_printed t.number t.events t.prints;
+        sources = record {
+          stl_count = stl_count;
+          pes_count = rw is at t.count;
+          stl_read = λ f e. cc;
+          pes_read = λ index e. cc;
+          before = λ e. cc;
+        };
+        ended = tt;
+        cut = λ failing. refl;
+        unjudged = λ holds e. cc;
+        checked = λ holds.
+            verdict t.events a
+            (λ bytes told programme known_is. t.checked holds bytes told programme a known_is is);
+        listed = both_listed t.events (Ok a) (λ bytes told. rw is at (t.listed bytes told));
+      }
+      go (Err n) is = record {
+        events = subtitle_events fs ++ t.events;
+        answer = Err (fault.Pes n pes_fault.Read);
+        same = λ holds. ap read_answer (sym is) ∙ t.same holds;
+        number = t.number;
+        starts = λ own. t.starts;
+        prints = both_printed t.number t.events t.prints;
+        sources = record {
+          stl_count = stl_count;
+          pes_count = rw is at t.count;
+          stl_read = λ f e. cc;
+          pes_read = λ index e.
+              let at : n ≡ index = cc in
+              subst (λ (m : ℕ). FailsAtPiece m pes.told pes.left) at (t.read n is);
+          before = λ e. cc;
+        };
+        ended = refl;
+        cut = λ failing. let ok = rw is at (t.cut failing) in cc;
+        unjudged = λ holds e. cc;
+        checked = λ holds file heard bytes told. tt;
+        listed = both_listed t.events (Err n) (λ bytes told. rw is at (t.listed bytes told));
+      }

@@ -4,15 +4,16 @@ use Rattle.std.proofs.Common.{◌≡◌, refl, sym, subst, arith, ℕ, ◌<◌}
 use Rattle.std.proofs.Common.{List, [], Bool, true, Option}
 use Rattle.std.proofs.Common.{Result, Ok, Err}
 use Rattle.std.proofs.lemmas.Bool.{true≢false}
-use Rattle.std.specs.Prelude.{IfErr, IsOk}
+use Rattle.std.specs.Prelude.{IfErr, IsOk, is_err, is_ok, not}
 use Rattle.sub_io.specs.Device.{RisesIf, failed}
 use Rattle.sub_io.specs.Telling.{Tells}
 use Rattle.ttx_pes.specs.declared.fault.PesFault.TheVariants as pes_fault
+use Rattle.stl_rows.specs.Judged.{JudgedValue}
 use Rattle.stl_rows.specs.Programme.{ProgrammeValue}
 use Rattle.stl_rows.specs.declared.layout.Drawing.{Drawing}
 use Rattle.sub_plan.specs.Options.{OptionsValue}
 use Rattle.sub_check.specs.CheckedFiles.{TellsEvents}
-use Rattle.sub_check.specs.CheckedFiles.{events_of_first_pieces}
+use Rattle.sub_check.specs.CheckedFiles.{events_of_first_by, events_of_first_pieces}
 use Rattle.sub_rules.specs.Fault.{is_pes_read}
 use Rattle.sub_rules.specs.PieceEvents.{all_announced, events_of_pieces, marks_of_each}
 use Rattle.sub_rules.specs.Trusted.{told_after}
@@ -33,17 +34,28 @@ pub no_events : (programme : ProgrammeValue) (options : OptionsValue) (bytes : L
 unfolding events_of_pieces all_announced told_after marks_of_each
 no_events programme options bytes = refl
 
--- The source failed before its first PES packet was found. For `tell_every_fault`.
-pub tells_none : {D : Type 0} (IsTold : D → Event → D → Type 0) (programme : ProgrammeValue)
+-- Nor beside what is refused of the subtitle file.
+no_events_by : (judged : JudgedValue) (options : OptionsValue) (bytes : List ℕ)
+    → events_of_first_by judged options bytes 0 ≡ []
+unfolding events_of_pieces all_announced told_after marks_of_each
+no_events_by judged options bytes = refl
+
+-- The source failed before its first PES packet was found. For `tell_transmission`.
+pub tells_none : {D : Type 0} (IsTold : D → Event → D → Type 0) (judged : JudgedValue)
     (options : OptionsValue) (bytes : List ℕ) (old : D)
-    → TellsEvents programme options bytes IsTold old old (Err (fault.Pes 0 pes_fault.Read))
-tells_none IsTold programme options bytes old = (
+    → TellsEvents judged options bytes IsTold old old (Err (fault.Pes 0 pes_fault.Read))
+tells_none IsTold judged options bytes old = (
   0,
   omega arith,
   refl,
-  subst (Tells IsTold old old) (sym (no_events programme options bytes))
+  subst (Tells IsTold old old) (sym (no_events_by judged options bytes))
       (record { in_turn = refl }),
 )
+
+-- An answer that is no success is a failure. For `hand_on_told`.
+pub not_is_err : {X E : Type 0} (r : Result X E) → not (is_ok r) ≡ is_err r
+not_is_err (Ok x) = refl
+not_is_err (Err e) = refl
 
 -- What holds of an error holds where it is one of these.
 pub error_fails : {X E : Type 0} (Q : Type 0) (is_one : E → Bool) (r : Result X E)

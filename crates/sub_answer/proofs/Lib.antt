@@ -1,6 +1,7 @@
 pub mod BothFilesLemmas
 pub mod AnsweringLemmas
 pub mod ListenListingLemmas
+pub mod PesEventLemmas
 pub mod EveryFaultLemmas
 pub mod FailedReadLemmas
 pub mod AllAnswerLemmas

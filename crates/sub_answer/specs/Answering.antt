@@ -27,6 +27,7 @@ use Rattle.sub_answer.specs.BothFiles.{TellsSources, TellsStatus}
 use Rattle.sub_answer.specs.EveryFault.{AnswersAll}
 use Rattle.sub_answer.specs.FaultListing.{accepted_line}
 use Rattle.sub_listing.specs.Faults.{check_told}
+use Rattle.sub_listing.specs.Help.{help_text}
 use Rattle.sub_answer.specs.ListenListing.{listen_told, Listens}
 use Rattle.sub_listing.specs.Listing.{Listing, PrintsListing, PrintsOrFails, done, packet_listing}
 use Rattle.sub_listing.specs.Listing.{told_listing}
@@ -34,7 +35,7 @@ use Rattle.sub_listing.specs.PacketsListing.{ListsPackets}
 use Rattle.sub_listing.specs.SurveyListing.{PrintsSurvey}
 use Rattle.sub_listing.specs.Told.{told_from}
 use Rattle.sub_listing.specs.ShowListing.{ListsSubtitles}
-use Rattle.sub_listing.specs.Writing.{EndsWork, Normalizes, Schedules}
+use Rattle.sub_listing.specs.Writing.{EndsWork, Normalizes, PrintsMemory, Schedules}
 use Rattle.sub_request.specs.declared.request.Request.{Request}
 use Rattle.sub_request.specs.declared.request.Request.TheVariants as ask
 use Rattle.sub_listing.specs.declared.status.Status.{Status}
@@ -82,7 +83,8 @@ pub record AnswersCheck
   -- each due page is shown so at the end of one of them. A subtitle file that gives no programme is
   -- refused.
   pub checked : IfTold stl.told (λ file. AreChecked drawing options file pes.told answer)
-  pub ends : TellsStatus drawing options stl pes out status
+  pub ends :
+      TellsStatus drawing options stl pes out (PrintsMemory drawing stl.told out.old out.new) status
 
 -- It is printed what a receiver shows that heard the frames of the PES file, and leaves this code
 -- in a cell whose byte has even parity; or the refusal. The first PES packet has the number `first`
@@ -136,6 +138,7 @@ input_call remaining failure_count number old new = record {
 -- no byte of the second source was read.
 abbrev pub Answers :
     Request → InputCall → InputCall → Type 0 → SinkCall → SinkCall → Status → Type 0
+Answers ask.Help first second Untouched file out status = PrintsOrFails out (done help_text) status
 Answers (ask.Packet bytes) first second Untouched file out status =
     PrintsOrFails out (packet_listing bytes) status
 Answers (ask.Packets pes) first second Untouched file out status =

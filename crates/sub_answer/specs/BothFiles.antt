@@ -1,49 +1,19 @@
 -- What the answers to `check` and to `check --all` both say of a subtitle file and a PES file.
-use Rattle.std.specs.Prelude.{◌≡◌, ◌≢◌, ◌↔◌, ℕ, Bool, true, List, Result, Ok, Err, IsTrue}
+use Rattle.std.specs.Prelude.{◌≡◌, ◌≢◌, ◌↔◌, ℕ, Bool, true, Result, Err}
 use Rattle.sub_io.specs.Device.{RisesIf, failed}
 use Rattle.sub_io.specs.Reading.{IfTold}
 use Rattle.ttx_pes.specs.declared.fault.PesFault.TheVariants.{Read}
 use Rattle.stl_rows.specs.Fault.{is_read}
-use Rattle.stl_rows.specs.Loading.{loaded}
-use Rattle.stl_rows.specs.Programme.{ProgrammeValue}
 use Rattle.stl_rows.specs.declared.fault.LoadFault.{LoadFault}
 use Rattle.stl_rows.specs.declared.layout.Drawing.{Drawing}
-use Rattle.sub_plan.specs.FrameTime.{clock_of}
 use Rattle.sub_plan.specs.Options.{OptionsValue}
+use Rattle.sub_check.specs.CheckedFiles.{IsAccepted, IsAcceptedWithin}
 use Rattle.sub_rules.specs.Fault.{is_pes_read, is_stl_read}
-use Rattle.sub_rules.specs.Good.{Good}
-use Rattle.sub_rules.specs.GoodWithin.{GoodWithin}
-use Rattle.sub_rules.specs.PesFrames.{Carries, CarriesBy}
-use Rattle.sub_rules.specs.Transmission.{Transmission}
 use Rattle.sub_rules.specs.declared.fault.CheckFault.{CheckFault}
 use Rattle.sub_rules.specs.declared.fault.CheckFault.TheVariants.{Pes, Subtitles}
-use Rattle.sub_laws.specs.OnScreen.{Complete}
 use Rattle.sub_listing.specs.DeviceCall.{SinkCall, SourceCall}
-use Rattle.sub_listing.specs.Writing.{PrintsMemory}
 use Rattle.sub_listing.specs.declared.status.Status.{Status}
 use Rattle.sub_listing.specs.declared.status.Status.TheVariants.{Done, Fault}
-
--- The files are accepted, where the page has to be whole at the end of each frame: the subtitle
--- file gives a programme, and the PES file carries a transmission that is good for it, of complete
--- pages where these are asked for.
-pub record IsAccepted
-    (drawing : Drawing) (options : OptionsValue) (file bytes : List ℕ) : Type 0 where
-  pub programme : ProgrammeValue
-  pub frames : Transmission
-  pub loads : loaded drawing file ≡ Ok programme
-  pub carries : Carries options.origin bytes frames
-  pub good : Good programme frames options
-  pub complete : IsTrue options.asks_complete → Complete frames options
-
--- They are accepted within as many frames as the options give: the transmission is good within
--- these.
-pub record IsAcceptedWithin
-    (drawing : Drawing) (options : OptionsValue) (file bytes : List ℕ) : Type 0 where
-  pub programme : ProgrammeValue
-  pub frames : Transmission
-  pub loads : loaded drawing file ≡ Ok programme
-  pub carries : CarriesBy (clock_of options) options.within bytes frames
-  pub good : GoodWithin programme frames options
 
 -- What an answer tells of the sources of both files, by what it means that one of them failed at
 -- this block or at this PES packet.
@@ -61,10 +31,10 @@ pub record TellsSources
   -- Where it refuses the subtitle file or could not read that, no PES byte is read.
   pub before : is_of_subtitles ≡ true → Untouched
 
--- What the status tells of both files.
+-- What the status tells of both files, by what is printed where memory was refused.
 pub record TellsStatus
     (drawing : Drawing) (options : OptionsValue) (stl pes : SourceCall) (out : SinkCall)
-    (status : Status)
+    (PrintsMemory : Type 0) (status : Status)
     : Type 0 where
   -- Failing devices and want of memory aside, it is `Done` exactly where the files are accepted.
   pub done :
@@ -84,4 +54,4 @@ pub record TellsStatus
       → stl.new_count ≡ stl.old_count
       → pes.new_count ≡ pes.old_count
       → out.new_count ≡ out.old_count
-      → PrintsMemory drawing stl.told out.old out.new
+      → PrintsMemory

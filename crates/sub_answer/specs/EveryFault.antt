@@ -1,13 +1,15 @@
 -- What is said of the answer to `check --all`.
-use Rattle.std.specs.Prelude.{◌≡◌, ◌≢◌, ⊤, ℕ, ◌<◌, ◌≤◌, length, Bool, true, false, List, []}
-use Rattle.std.specs.Prelude.{Option, Some, None, Result, Ok, Err, IfErr, IsOk}
+use Rattle.std.specs.Prelude.{◌≡◌, ◌≢◌, ⊤, ℕ, ◌<◌, ◌≤◌, length, Bool, true, false, List, ◌++◌}
+use Rattle.std.specs.Prelude.{Option, Some, None, Result, Ok, Err, IfErr, IsOk, is_err}
 use Rattle.std.specs.List.{filter}
-use Rattle.std.specs.Io.KnownBytes.{Consumes}
+use Rattle.std.specs.Io.KnownBytes.{Appends, Consumes}
+use Rattle.sub_io.specs.Device.{RisesIf}
 use Rattle.sub_io.specs.Reading.{IfTold}
 use Rattle.ttx_pes.specs.declared.fault.PesFault.TheVariants.{Read}
-use Rattle.stl_file.specs.Reader.{block_of_byte}
-use Rattle.stl_rows.specs.EveryFault.{faults, is_told_before}
-use Rattle.stl_rows.specs.Loading.{EndsRecord, loaded}
+use Rattle.stl_file.specs.Reader.{block_of_byte, findings_for}
+use Rattle.stl_rows.specs.EveryFault.{EndsAfter, faults, is_told_before}
+use Rattle.stl_rows.specs.Judged.{JudgedValue, JudgesBy, judges, known}
+use Rattle.stl_rows.specs.Loading.{loaded}
 use Rattle.stl_rows.specs.Programme.{ProgrammeValue}
 use Rattle.stl_rows.specs.declared.fault.LoadFaultKind.{LoadFaultKind}
 use Rattle.stl_rows.specs.declared.fault.LoadFaultKind.TheVariants.{File, Memory}
@@ -15,10 +17,10 @@ use Rattle.stl_rows.specs.declared.layout.Drawing.{Drawing}
 use Rattle.stl_file.specs.declared.fault.StlFault.TheVariants as stl_fault
 use Rattle.sub_plan.specs.FrameTime.{clock_of}
 use Rattle.sub_plan.specs.Options.{OptionsValue}
-use Rattle.sub_check.specs.CheckedFiles.{IsChecked, IsCheckedWithin, all_events_of}
-use Rattle.sub_check.specs.CheckedFiles.{events_of_first_pieces, first_answer, frames_read}
+use Rattle.sub_check.specs.CheckedFiles.{IsChecked, IsCheckedWithin, all_events_by}
+use Rattle.sub_check.specs.CheckedFiles.{events_of_first_by, first_answer, frames_read}
 use Rattle.sub_checker.specs.Telling.{CountsRead}
-use Rattle.sub_rules.specs.Fault.{is_failure, is_pes_read, is_stl_read, is_subtitle_fault}
+use Rattle.sub_rules.specs.Fault.{is_failure, is_subtitle_fault}
 use Rattle.sub_rules.specs.Pieces.{FailsAtPiece, piece_file_of}
 use Rattle.sub_checker.specs.declared.telling.Accepted.{Accepted}
 use Rattle.sub_rules.specs.declared.event.Event.{Event}
@@ -27,50 +29,58 @@ use Rattle.sub_rules.specs.declared.fault.CheckFault.TheVariants.{Pes, Subtitles
 use Rattle.sub_listing.specs.DeviceCall.{SinkCall, SourceCall}
 use Rattle.sub_answer.specs.BothFiles.{TellsSources, TellsStatus}
 use Rattle.sub_answer.specs.FaultListing.{all_listing}
-use Rattle.sub_listing.specs.EventLines.{refusals, subtitle_events}
+use Rattle.sub_listing.specs.EventLines.{event_lines, refusals, subtitle_events}
+use Rattle.sub_listing.specs.Faults.{load_told}
 use Rattle.sub_listing.specs.FirstPacket.{StartsAt}
 use Rattle.sub_listing.specs.Listing.{PrintsOrFails}
 use Rattle.sub_listing.specs.Printer.{PrinterValue, PrintsEvents}
+use Rattle.sub_listing.specs.Told.{line_of}
 use Rattle.sub_listing.specs.declared.status.Status.{Status}
 use Rattle.sub_listing.specs.declared.status.Status.TheVariants.{Fault}
 
--- An answer, `None` for a refused subtitle file, refuses that file or could not read it.
+-- An answer, `None` where no transmission is judged beside a refused subtitle file, refuses that
+-- file or could not read it.
 abbrev pub is_of_subtitles : Result (Option Accepted) CheckFault → Bool
 is_of_subtitles (Ok None) = true
 is_of_subtitles (Ok (Some a)) = false
 is_of_subtitles (Err f) = is_subtitle_fault f
 
--- What is told where the subtitle file can't be read on, at this block: where its source failed,
--- the faults that are found before it; where memory was refused nothing, since it is wanted only
--- for a subtitle before which there is no fault.
+-- What is told where the subtitle file can't be read on, at this block: the faults that are found
+-- before it. Where memory was refused, it was wanted for a subtitle that ends there, and of which
+-- nothing is told.
 abbrev pub AreListedBefore : Drawing → List ℕ → List Event → ℕ → LoadFaultKind → Type 0
 AreListedBefore drawing file events block (File stl_fault.Read) =
     events ≡ subtitle_events (filter (is_told_before block) (faults drawing file))
 AreListedBefore drawing file events block Memory =
-    (events ≡ []) × EndsRecord drawing file block
+    (events ≡ subtitle_events (filter (is_told_before block) (faults drawing file)))
+    × EndsAfter drawing None (filter (is_told_before block) (faults drawing file)) block
+    (findings_for drawing.scope file)
 AreListedBefore drawing file events block kind = ⊥
 
 -- What is told of the PES file, by how many pieces of it were read: of all of them, and the frames
 -- that they send are counted; or where its source failed, of those before that.
 abbrev pub AreListedOfPes :
-    ProgrammeValue → OptionsValue → List ℕ → List Event → Result Accepted ℕ → Type 0
-AreListedOfPes programme options bytes events (Ok a) =
-    (events ≡ all_events_of programme options bytes)
+    JudgedValue → OptionsValue → List ℕ → List Event → Result Accepted ℕ → Type 0
+AreListedOfPes judged options bytes events (Ok a) =
+    (events ≡ all_events_by judged options bytes)
     × CountsRead options.page (frames_read options bytes) a
-AreListedOfPes programme options bytes events (Err n) =
+AreListedOfPes judged options bytes events (Err n) =
     (n ≤ length (piece_file_of (clock_of options) bytes).pieces)
-    × (events ≡ events_of_first_pieces programme options bytes n)
+    × (events ≡ events_of_first_by judged options bytes n)
 
--- What is listed of both files, where the subtitle file gives a programme.
+-- What is listed of both files, where a transmission is judged by the subtitle file: all faults of
+-- the one, and then what is told of the other, by what can be judged beside these.
 pub record IsListedOf
     (drawing : Drawing) (options : OptionsValue) (file : List ℕ) (pes : Option (List ℕ))
     (events : List Event) (answer : Result Accepted ℕ) : Type 0 where
-  pub programme : ProgrammeValue
-  pub loads : loaded drawing file ≡ Ok programme
-  pub listed : IfTold pes (λ bytes. AreListedOfPes programme options bytes events answer)
+  pub judged : JudgedValue
+  pub by : JudgesBy drawing file judged
+  pub more : List Event
+  pub both : events ≡ subtitle_events (faults drawing file) ++ more
+  pub listed : IfTold pes (λ bytes. AreListedOfPes judged options bytes more answer)
 
--- These are the events of a subtitle file and of a PES file: all faults of the one, where it has
--- any; else all events of the other.
+-- These are the events of a subtitle file and of a PES file: all faults of the one, and then all
+-- events of the other, where that is judged.
 abbrev pub AreListed :
     Drawing → OptionsValue → List ℕ → Option (List ℕ) → List Event
     → Result (Option Accepted) CheckFault → Type 0
@@ -110,11 +120,45 @@ IsVerdict drawing options file bytes events (Ok (Some a)) =
     → IsAnswer programme options bytes (first_answer events a)
 IsVerdict drawing options file bytes events answer = ⊤
 
--- What can end the listing before its end: that a source failed; or want of memory, before any
--- event.
-pub record CanEnd (events : List Event) (f : CheckFault) : Type 0 where
-  pub fails : is_failure f ≡ true
-  pub alone : is_stl_read f ≡ false → is_pes_read f ≡ false → events ≡ []
+-- Want of memory is printed, after the lines of these faults of the subtitle file.
+abbrev pub PrintsMemoryLast :
+    Drawing → Option (List ℕ) → Option (List ℕ) → Option (List ℕ) → Type 0
+PrintsMemoryLast drawing told old new =
+    (first : ℕ)
+    × (events : List Event)
+    × (block : ℕ)
+    × Appends old new (event_lines first events ++ line_of (load_told Memory block))
+    × IfTold told (λ file. AreListedBefore drawing file events block Memory)
+
+-- An answer by what was read of the PES file: all of it, or its source failed at this piece.
+abbrev pub read_answer : Result Accepted ℕ → Result (Option Accepted) CheckFault
+read_answer (Ok a) = Ok (Some a)
+read_answer (Err n) = Err (Pes n Read)
+
+-- What a printer was told of the PES file, and the answer, which is the one that was given where
+-- its sink has not failed.
+pub record TellsPes
+    (judged : JudgedValue) (options : OptionsValue) (pes : SourceCall) (first : Option ℕ)
+    (old new : PrinterValue) (given : Result (Option Accepted) CheckFault)
+    : Type 0 where
+  pub events : List Event
+  pub answer : Result Accepted ℕ
+  pub same : new.failed ≡ false → read_answer answer ≡ given
+  pub number : ℕ
+  pub starts : StartsAt first pes number
+  pub prints : PrintsEvents (record old { first = number }) events new
+  pub count : RisesIf pes.old_count (is_err answer) pes.new_count
+  pub read : (n : ℕ) → answer ≡ Err n → FailsAtPiece n pes.told pes.left
+  pub cut : new.failed ≡ true → IsOk answer
+  -- Where nothing of the subtitle file is refused, the first event decides what `check` answers.
+  pub checked :
+      new.failed ≡ false
+      → IfTold pes.told (λ bytes.
+      (programme : ProgrammeValue) (a : Accepted)
+      → judged ≡ known programme
+      → answer ≡ Ok a
+      → IsAnswer programme options bytes (first_answer events a))
+  pub listed : IfTold pes.told (λ bytes. AreListedOfPes judged options bytes events answer)
 
 -- The answer tells so of the sources of both files: that one failed is told at the block of the
 -- byte that was asked for, or at the piece within which it failed. Where the subtitle file is
@@ -138,8 +182,12 @@ pub record TellsBoth
   pub starts : is_of_subtitles answer ≡ false → StartsAt first pes number
   pub prints : PrintsEvents (record old { first = number }) events new
   pub sources : TellsBothSources stl pes Untouched answer
-  pub ended : IfErr answer (CanEnd events)
+  pub ended : IfErr answer (λ f. is_failure f ≡ true)
   pub cut : new.failed ≡ true → IsOk answer
+  pub unjudged :
+      new.failed ≡ false
+      → answer ≡ Ok None
+      → IfTold stl.told (λ file. judges drawing file ≡ false)
   pub checked :
       new.failed ≡ false
       → IfTold stl.told (λ file.
@@ -165,10 +213,17 @@ pub record AnswersAll
   -- Where the files tell their bytes, these decide the events.
   pub listed :
       IfTold stl.told (λ file. AreListed drawing options file pes.told events answer)
+  -- The PES file is left unread only where no transmission is judged by the subtitle file.
+  pub unjudged :
+      status ≢ Fault
+      → answer ≡ Ok None
+      → IfTold stl.told (λ file. judges drawing file ≡ false)
   -- Failing devices and want of memory aside, the answer of `check` that goes with the events is
   -- one of the bytes of both files.
   pub checked :
       status ≢ Fault
       → IfTold stl.told (λ file.
       IfTold pes.told (λ bytes. IsVerdict drawing options file bytes events answer))
-  pub ends : TellsStatus drawing options stl pes out status
+  pub ends :
+      TellsStatus drawing options stl pes out (PrintsMemoryLast drawing stl.told out.old out.new)
+      status

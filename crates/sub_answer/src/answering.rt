@@ -23,8 +23,8 @@ use std::alloc::Global;
 use stl_rows::Drawing;
 use sub_io::{Flush, Sink, Source};
 use sub_listing::{
-    FirstPacket, Status, extract_packets, list_packets, list_subtitles, print_survey, print_told,
-    show_packet, told_of_usage, write_normal, write_schedule,
+    FirstPacket, Status, extract_packets, list_packets, list_subtitles, print_help, print_survey,
+    print_told, show_packet, told_of_usage, write_normal, write_schedule,
 };
 use sub_request::{ReceiverKind, Request, UsageFault};
 use ttx_page::{Blank, Keep};
@@ -96,6 +96,7 @@ pub fn answer<N: FirstPacket<S>, M: FirstPacket<T>, S: Source, T: Source, F: Flu
         + K.failure_count out.new }
 {
     match request {
+        Request::Help => print_help(out),
         Request::Packet { bytes } => show_packet(bytes, out),
         Request::Packets { .. } => list_packets::<N, S, K>(first, out),
         Request::Show { .. } => list_subtitles(first, out),
@@ -107,10 +108,12 @@ pub fn answer<N: FirstPacket<S>, M: FirstPacket<T>, S: Source, T: Source, F: Flu
             scope,
             ..
         } => {
-            let (national, layout, scope) = (*national, *layout, *scope);
-            write_schedule(
-                alloc, national, layout, scope, options, *serial, first, file, out,
-            )
+            let drawing = Drawing {
+                national: *national,
+                layout: *layout,
+                scope: *scope,
+            };
+            write_schedule(alloc, drawing, options, *serial, first, file, out)
         }
         Request::Normal { .. } => write_normal(alloc, first, file, out),
         Request::Check {
@@ -121,18 +124,15 @@ pub fn answer<N: FirstPacket<S>, M: FirstPacket<T>, S: Source, T: Source, F: Flu
             all,
             ..
         } => {
-            let (national, layout, scope) = (*national, *layout, *scope);
+            let drawing = Drawing {
+                national: *national,
+                layout: *layout,
+                scope: *scope,
+            };
             if *all {
-                let drawing = Drawing {
-                    national,
-                    layout,
-                    scope,
-                };
                 print_every_fault::<M, S, T, K>(alloc, first, second, drawing, options, out)
             } else {
-                print_verdict::<M, S, T, K>(
-                    alloc, first, second, national, layout, scope, options, out,
-                )
+                print_verdict::<M, S, T, K>(alloc, first, second, drawing, options, out)
             }
         }
         Request::Listen { listening, .. } => match listening.receiver {

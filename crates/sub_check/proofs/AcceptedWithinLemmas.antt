@@ -16,20 +16,19 @@ none_failed (Err f) ok = cc
 pub law_of_accepted_within_more : LawOfAcceptedWithinMore
 law_of_accepted_within_more
     drawing options more stl pes answer later low longer is is_later fine ok =
-    let means = (is.accepted (none_failed answer ok)).0 ok in
-    let mean = means.2 in
+    let of = (is.accepted (none_failed answer ok)).0 ok in
     let both =
-    law_of_longer_delay_of_files (record { drawing = drawing; records = means.0 }) options more
-    pes means.1 low longer mean.carries means.3 in
-    (is_later.accepted fine).1 (
-      means.0,
-      means.1,
-      record {
-        gsi = mean.gsi;
-        subtitle_file = mean.subtitle_file;
-        in_order = mean.in_order;
-        drawable = mean.drawable;
+    law_of_longer_delay_of_files (record { drawing = drawing; records = of.subtitles }) options more
+    pes of.transmission low longer of.mean.carries of.good in
+    (is_later.accepted fine).1 (record {
+      subtitles = of.subtitles;
+      transmission = of.transmission;
+      mean = record {
+        gsi = of.mean.gsi;
+        subtitle_file = of.mean.subtitle_file;
+        in_order = of.mean.in_order;
+        drawable = of.mean.drawable;
         carries = both.0;
-      },
-      both.1,
-    )
+      };
+      good = both.1;
+    })

@@ -1,26 +1,33 @@
 -- What is told of both files, for `check_files`: `files_accepted`, `files_refused`, and within
--- frames `files_accepted_within`, `files_refused_within`.
+-- frames `files_accepted_within`, `files_refused_within`. Both files are accepted where the one
+-- gives a programme and the other has a good transmission of it: `as_accepted`, `of_accepted`.
 use Rattle.std.proofs.lemmas.Bool.Decides.{nat_tests}
 use Rattle.std.proofs.Common.{◌≡◌, ℕ, List, Result, Ok, Err, false, sym, ap, ◌∙◌, subst, arith}
+use Rattle.std.specs.Prelude.{IsTrue}
 use Rattle.sub_io.specs.Device.{failed}
 use Rattle.stl_file.specs.Subtitle.{SubtitleValue}
-use Rattle.stl_rows.specs.Loading.{LawOfLoading, TellsFault, loaded}
+use Rattle.stl_rows.specs.EveryFault.{faults}
+use Rattle.stl_rows.specs.Loading.{LawOfLoading, TellsFault, loaded, unless_told}
 use Rattle.stl_rows.specs.Programme.{ProgrammeValue}
 use Rattle.stl_rows.specs.declared.fault.LoadFault.{LoadFault}
 use Rattle.stl_rows.specs.declared.fault.LoadFaultKind.{LoadFaultKind}
 use Rattle.stl_rows.specs.declared.layout.Drawing.{Drawing}
+use Rattle.sub_plan.specs.FrameTime.{clock_of}
 use Rattle.sub_plan.specs.Options.{OptionsValue}
 use Rattle.sub_rules.specs.Fault.{is_failure, is_failure_kind, is_pes_read, is_subtitle_fault}
 use Rattle.sub_rules.specs.Good.{Good}
 use Rattle.sub_rules.specs.GoodWithin.{GoodWithin}
+use Rattle.sub_rules.specs.PesFrames.{Carries, CarriesBy}
 use Rattle.sub_rules.specs.Transmission.{Transmission}
 use Rattle.sub_rules.specs.declared.fault.CheckFault.{CheckFault}
 use Rattle.sub_rules.specs.declared.fault.CheckFault.TheVariants as fault
 use Rattle.sub_checker.specs.declared.telling.Accepted.{Accepted}
 use Rattle.sub_laws.specs.Delay.{HasPromisesWithDelay}
+use Rattle.sub_laws.specs.OnScreen.{Complete}
 use Rattle.sub_laws.specs.Stretch.{HasPromises}
-use Rattle.sub_check.specs.CheckedFiles.{AreAccepted, AreAcceptedWithin, IsChecked, IsCheckedWithin}
-use Rattle.sub_check.specs.CheckedFiles.{Mean, MeanWithin}
+use Rattle.sub_check.specs.CheckedFiles.{AreAccepted, AreAcceptedWithin, IsAccepted}
+use Rattle.sub_check.specs.CheckedFiles.{IsAcceptedWithin, IsChecked, IsCheckedWithin, Mean}
+use Rattle.sub_check.specs.CheckedFiles.{MeanWithin}
 
 -- A file gives one programme. For `check_files`.
 pub same_programme :
@@ -34,6 +41,18 @@ looked_at :
     → failed is_failure answer ≡ false
     → failed is_pes_read answer ≡ false
 looked_at answer looked fine = grind (arith, nat_tests)
+
+-- Where nothing is told of a file it gives this programme.
+one_given : (faults : List LoadFault) (p q : ProgrammeValue) → unless_told faults p ≡ Ok q → p ≡ q
+one_given faults p q h = grind (arith, nat_tests)
+
+-- The programme that a file gives is drawn as was asked.
+own_drawing : (drawing : Drawing) (stl : List ℕ) (programme : ProgrammeValue)
+    → loaded drawing stl ≡ Ok programme
+    → programme.drawing ≡ drawing
+unfolding loaded
+own_drawing drawing stl programme given =
+    sym (ap (λ (p : ProgrammeValue). p.drawing) (one_given (faults drawing stl) _ programme given))
 
 module _ (drawing : Drawing) (options : OptionsValue) (stl pes : List ℕ)
     (loading : LawOfLoading) where
@@ -52,9 +71,22 @@ module _ (drawing : Drawing) (options : OptionsValue) (stl pes : List ℕ)
       (loading drawing stl subtitles).1
       (mean.gsi, mean.subtitle_file, mean.in_order, mean.drawable)
 
-  module _ (programme : ProgrammeValue) (given : loaded drawing stl ≡ Ok programme)
-      (own : programme.drawing ≡ drawing) (answer : Result Accepted CheckFault)
-      (looked : failed is_subtitle_fault answer ≡ false) where
+  -- Files that are accepted give a programme. Also for `sub_answer`.
+  pub accepted-loads : IsAccepted drawing options stl pes
+      → (programme : ProgrammeValue) × (loaded drawing stl ≡ Ok programme)
+  accepted-loads is = (
+    record { drawing = drawing; records = is.subtitles },
+    loads is.subtitles is.transmission is.mean,
+  )
+
+  pub accepted-loads_within : IsAcceptedWithin drawing options stl pes
+      → (programme : ProgrammeValue) × (loaded drawing stl ≡ Ok programme)
+  accepted-loads_within is = (
+    record { drawing = drawing; records = is.subtitles },
+    loads_within is.subtitles is.transmission is.mean,
+  )
+
+  module _ (programme : ProgrammeValue) (given : loaded drawing stl ≡ Ok programme) where
     -- What was loaded is the programme of any subtitles of the file.
     programme_is : (subtitles : List SubtitleValue)
         → loaded drawing stl ≡ Ok (record { drawing = drawing; records = subtitles })
@@ -64,81 +96,104 @@ module _ (drawing : Drawing) (options : OptionsValue) (stl pes : List ℕ)
     of : programme ≡ record { drawing = drawing; records = programme.records }
     of =
         ap (λ n. let p : ProgrammeValue = record { drawing = n; records = programme.records } in p)
-        own
+        (own_drawing drawing stl programme given)
 
-    -- Both files, where the page has to be whole at the end of each frame. For `check_files`.
-    pub files_accepted : IsChecked programme options pes answer
-        → AreAccepted drawing options stl pes answer
-    files_accepted checked =
+    -- A good transmission of the programme is one of both files. Also for `sub_answer`.
+    pub as_accepted : (t : Transmission)
+        × Carries options.origin pes t
+        × Good programme t options
+        × (IsTrue options.asks_complete → Complete t options)
+        → IsAccepted drawing options stl pes
+    as_accepted (t, carries, good, complete) =
         let file = (loading drawing stl programme.records).0 (given ∙ ap (λ p. Ok p) of) in
         record {
-          accepted = λ fine.
-              let exactly = checked.accepted looked (looked_at answer looked fine) in (
-                λ ok.
-                    let (t, carries, good, complete) = exactly.0 ok in (
-                      programme.records,
-                      t,
-                      record {
-                        gsi = file.0;
-                        subtitle_file = file.1;
-                        in_order = file.2;
-                        drawable = file.3;
-                        carries = carries;
-                      },
-                      subst (λ (p : ProgrammeValue). Good p t options) of good,
-                      complete,
-                    ),
-                λ any.
-                    let same = programme_is any.0 (loads any.0 any.1 any.2) in
-                    exactly.1 (
-                      any.1,
-                      any.2.carries,
-                      subst (λ (p : ProgrammeValue). Good p any.1 options) (sym same) any.3,
-                      any.4,
-                    ),
-              );
-          serves = λ subtitles t mean ok.
-              let (promises, complete) = checked.serves t mean.carries ok in (
-                subst (λ (p : ProgrammeValue). HasPromises p t options)
-                    (programme_is subtitles (loads subtitles t mean)) promises,
-                complete,
-              );
+          subtitles = programme.records;
+          transmission = t;
+          mean = record {
+            gsi = file.0;
+            subtitle_file = file.1;
+            in_order = file.2;
+            drawable = file.3;
+            carries = carries;
+          };
+          good = subst (λ (p : ProgrammeValue). Good p t options) of good;
+          complete = complete;
         }
 
-    -- Both files, within frames. For `check_files`.
-    pub files_accepted_within : IsCheckedWithin programme options pes answer
-        → AreAcceptedWithin drawing options stl pes answer
-    files_accepted_within checked =
+    -- One of both files is one of the programme. Also for `sub_answer`.
+    pub of_accepted : IsAccepted drawing options stl pes
+        → (t : Transmission)
+        × Carries options.origin pes t
+        × Good programme t options
+        × (IsTrue options.asks_complete → Complete t options)
+    of_accepted is =
+        let same = programme_is is.subtitles (loads is.subtitles is.transmission is.mean) in (
+          is.transmission,
+          is.mean.carries,
+          subst (λ (p : ProgrammeValue). Good p is.transmission options) (sym same) is.good,
+          is.complete,
+        )
+
+    -- The same within frames.
+    pub as_accepted_within : (t : Transmission)
+        × CarriesBy (clock_of options) options.within pes t
+        × GoodWithin programme t options
+        → IsAcceptedWithin drawing options stl pes
+    as_accepted_within (t, carries, good) =
         let file = (loading drawing stl programme.records).0 (given ∙ ap (λ p. Ok p) of) in
         record {
-          accepted = λ fine.
-              let exactly = checked.accepted looked (looked_at answer looked fine) in (
-                λ ok.
-                    let (t, carries, good) = exactly.0 ok in (
-                      programme.records,
-                      t,
-                      record {
-                        gsi = file.0;
-                        subtitle_file = file.1;
-                        in_order = file.2;
-                        drawable = file.3;
-                        carries = carries;
-                      },
-                      subst (λ (p : ProgrammeValue). GoodWithin p t options) of good,
-                    ),
-                λ any.
-                    let same = programme_is any.0 (loads_within any.0 any.1 any.2) in
-                    exactly.1 (
-                      any.1,
-                      any.2.carries,
-                      subst (λ (p : ProgrammeValue). GoodWithin p any.1 options) (sym same) any.3,
-                    ),
-              );
-          serves = λ subtitles t mean ok.
-              subst (λ (p : ProgrammeValue). HasPromisesWithDelay p t options)
-              (programme_is subtitles (loads_within subtitles t mean))
-              (checked.serves t mean.carries ok).1;
+          subtitles = programme.records;
+          transmission = t;
+          mean = record {
+            gsi = file.0;
+            subtitle_file = file.1;
+            in_order = file.2;
+            drawable = file.3;
+            carries = carries;
+          };
+          good = subst (λ (p : ProgrammeValue). GoodWithin p t options) of good;
         }
+
+    pub of_accepted_within : IsAcceptedWithin drawing options stl pes
+        → (t : Transmission)
+        × CarriesBy (clock_of options) options.within pes t
+        × GoodWithin programme t options
+    of_accepted_within is =
+        let same = programme_is is.subtitles (loads_within is.subtitles is.transmission is.mean) in (
+          is.transmission,
+          is.mean.carries,
+          subst (λ (p : ProgrammeValue). GoodWithin p is.transmission options) (sym same) is.good,
+        )
+
+    module _ (answer : Result Accepted CheckFault)
+        (looked : failed is_subtitle_fault answer ≡ false) where
+      -- Both files, where the page has to be whole at the end of each frame. For `check_files`.
+      pub files_accepted : IsChecked programme options pes answer
+          → AreAccepted drawing options stl pes answer
+      files_accepted checked = record {
+        accepted = λ fine.
+            let exactly = checked.accepted looked (looked_at answer looked fine) in
+            (λ ok. as_accepted (exactly.0 ok), λ is. exactly.1 (of_accepted is));
+        serves = λ subtitles t mean ok.
+            let (promises, complete) = checked.serves t mean.carries ok in (
+              subst (λ (p : ProgrammeValue). HasPromises p t options)
+                  (programme_is subtitles (loads subtitles t mean)) promises,
+              complete,
+            );
+      }
+
+      -- Both files, within frames. For `check_files`.
+      pub files_accepted_within : IsCheckedWithin programme options pes answer
+          → AreAcceptedWithin drawing options stl pes answer
+      files_accepted_within checked = record {
+        accepted = λ fine.
+            let exactly = checked.accepted looked (looked_at answer looked fine) in
+            (λ ok. as_accepted_within (exactly.0 ok), λ is. exactly.1 (of_accepted_within is));
+        serves = λ subtitles t mean ok.
+            subst (λ (p : ProgrammeValue). HasPromisesWithDelay p t options)
+            (programme_is subtitles (loads_within subtitles t mean))
+            (checked.serves t mean.carries ok).1;
+      }
 
 -- A fault of loading that is no failure is the file's own.
 own_fault :
@@ -159,7 +214,7 @@ module _ (drawing : Drawing) (options : OptionsValue) (stl pes : List ℕ) (f : 
       λ ok. cc,
       λ g.
           absurd (own_fault drawing stl _ f.block f.kind told fine
-          (loads drawing options stl pes loading g.0 g.1 g.2)),
+          (accepted-loads drawing options stl pes loading g).1),
     );
     serves = λ subtitles transmission mean ok. cc;
   }
@@ -170,7 +225,7 @@ module _ (drawing : Drawing) (options : OptionsValue) (stl pes : List ℕ) (f : 
       λ ok. cc,
       λ g.
           absurd (own_fault drawing stl _ f.block f.kind told fine
-          (loads_within drawing options stl pes loading g.0 g.1 g.2)),
+          (accepted-loads_within drawing options stl pes loading g).1),
     );
     serves = λ subtitles transmission mean ok. cc;
   }

@@ -74,6 +74,7 @@ frames_own g = record {
   at_pes = λ n. refl;
   begins = λ f. refl;
   at_end = λ f since late. refl;
+  at_back = λ since. refl;
   ends = λ f has_header none. refl;
   of_end = end_own;
   of_rule = rule_own;

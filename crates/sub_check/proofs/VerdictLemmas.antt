@@ -1,5 +1,6 @@
 -- What is told of the whole file decides the answer of `check`: `answered`, `accepted_none`,
--- `refused_first`; and of `check_all`, `checked_first`, `tells_events`.
+-- `refused_first`; and of `check_all`, `checked_first`, `tells_events`. Where nothing of the subtitle
+-- file is refused, `tells_known`.
 use Rattle.std.proofs.lemmas.Bool.Decides.{nat_tests}
 use Rattle.std.proofs.lemmas.Slice.Zip.{AllZip-long}
 use Rattle.std.proofs.Common.{◌≡◌, ◌≢◌, ◌↔◌, ℕ, ◌≤◌, List, [], Bool, All, Option, Some, None}
@@ -13,13 +14,14 @@ use Rattle.sub_io.specs.Device.{failed}
 use Rattle.ttx_packet.specs.PacketAddress.{IsPacket}
 use Rattle.ttx_pes.specs.PesPacket.{IsPesPacket}
 use Rattle.ttx_pes.specs.declared.fault.PesFault.TheVariants as Pes
+use Rattle.stl_rows.specs.Judged.{JudgedValue, known}
 use Rattle.stl_rows.specs.Programme.{IsProgramme, ProgrammeValue}
 use Rattle.sub_plan.specs.FrameTime.{clock_of}
 use Rattle.sub_plan.specs.Options.{OptionsValue, IsOptions}
 use Rattle.sub_plan.specs.Schedule.{plan}
 use Rattle.sub_rules.specs.Events.{first_told}
 use Rattle.sub_rules.specs.Fault.{is_pes_read}
-use Rattle.sub_rules.specs.FrameRules.{Task, Unread, task_of}
+use Rattle.sub_rules.specs.FrameRules.{Task, Unread, task_beside, task_of}
 use Rattle.sub_rules.specs.GoodWithin.{GoodWithin}
 use Rattle.sub_rules.specs.PesFrames.{Carries, CarriesBy, IsReadAs}
 use Rattle.sub_rules.specs.PesReading.{pes_file_of}
@@ -415,18 +417,44 @@ answers_at_once programme options bytes (Err f) none all = tt
 
 -- What was told of the file as one value. For `check_all`.
 pub tells_events :
-    (programme : ProgrammeValue) (options : OptionsValue) (bytes : List ℕ)
+    (judged : JudgedValue) (options : OptionsValue) (bytes : List ℕ)
     {D : Type 0} (IsTold : D → Event → D → Type 0) (old new : D)
     (r : Result (Option Accepted) CheckFault)
     → ((pieces : List Piece) (unread : Option Unread)
     → ReadsPieces (clock_of options) 0 bytes pieces unread
-    → TellsPieces (task_of programme options unread) (clock_of options) bytes pieces IsTold old new
+    → TellsPieces (task_beside judged options unread) (clock_of options) bytes pieces IsTold old new
     r)
-    → TellsEvents programme options bytes IsTold old new r
-tells_events programme options bytes IsTold old new (Ok (Some a)) told =
+    → TellsEvents judged options bytes IsTold old new r
+tells_events judged options bytes IsTold old new (Ok (Some a)) told =
     let file = piece_file_of (clock_of options) bytes in
     let whole = told file.pieces file.unread refl in (whole.0, whole.1.counts)
-tells_events programme options bytes IsTold old new (Ok None) told =
+tells_events judged options bytes IsTold old new (Ok None) told =
     let file = piece_file_of (clock_of options) bytes in told file.pieces file.unread refl
-tells_events programme options bytes IsTold old new (Err f) told =
+tells_events judged options bytes IsTold old new (Err f) told =
     let file = piece_file_of (clock_of options) bytes in told file.pieces file.unread refl
+
+-- What is told where nothing of the subtitle file is refused is told of its programme. For `check`
+-- and `check_all`.
+pub tells_known :
+    (judged : JudgedValue) (programme : ProgrammeValue) (options : OptionsValue)
+    (bytes : List ℕ) {D : Type 0} (IsTold : D → Event → D → Type 0) (old new : D)
+    (r : Result (Option Accepted) CheckFault)
+    → judged ≡ known programme
+    → ((pieces : List Piece) (unread : Option Unread)
+    → ReadsPieces (clock_of options) 0 bytes pieces unread
+    → TellsPieces (task_beside judged options unread) (clock_of options) bytes pieces IsTold old new
+    r)
+    → (pieces : List Piece) (unread : Option Unread)
+    → ReadsPieces (clock_of options) 0 bytes pieces unread
+    → TellsPieces (task_of programme options unread) (clock_of options) bytes pieces IsTold old new r
+tells_known judged programme options bytes IsTold old new r is told pieces unread reads =
+    subst (λ (j : JudgedValue). TellsPieces (task_beside j options unread) (clock_of options) bytes
+    pieces IsTold old new r) is (told pieces unread reads)
+
+-- Such a programme is one that `check` takes.
+pub programme_known : (judged : JudgedValue) (programme : ProgrammeValue)
+    → judged ≡ known programme
+    → IsProgramme judged.programme.drawing judged.programme.records
+    → IsProgramme programme.drawing programme.records
+programme_known judged programme is p =
+    subst (λ (j : JudgedValue). IsProgramme j.programme.drawing j.programme.records) is p

@@ -1,13 +1,14 @@
 -- What the checker tells of the bytes of a subtitle file and a PES file.
 use Rattle.std.specs.Prelude.{◌≡◌, ◌≢◌, ◌↔◌, ℕ, ◌≤◌, length, take, List, [], Bool, false, true}
 use Rattle.std.specs.Prelude.{Option, Some, None, All, Contains, IsOk, Result, Ok, Err, IfOk, IfErr}
-use Rattle.std.specs.Prelude.{IfSome, IsTrue, ◌+◌, ◌++◌, flat_map, ⊤}
+use Rattle.std.specs.Prelude.{IfSome, IsFalse, IsTrue, ◌+◌, ◌++◌, flat_map, ⊤}
 use Rattle.sub_io.specs.Device.{failed}
 use Rattle.sub_io.specs.Reading.{IfTold}
 use Rattle.ttx_pes.specs.declared.fault.PesFault.TheVariants.{Read}
 use Rattle.stl_file.specs.File.{IsFileFor}
 use Rattle.stl_file.specs.Subtitle.{SubtitleValue}
 use Rattle.stl_rows.specs.DrawnPage.{drawn}
+use Rattle.stl_rows.specs.Judged.{JudgedValue}
 use Rattle.stl_rows.specs.Loading.{loaded, TellsFault}
 use Rattle.stl_rows.specs.Programme.{AreInOrder, ProgrammeValue}
 use Rattle.stl_rows.specs.declared.layout.Drawing.{Drawing}
@@ -17,12 +18,12 @@ use Rattle.sub_plan.specs.Schedule.{plan}
 use Rattle.sub_io.specs.Telling.{Tells, TellsPrefix}
 use Rattle.ttx_packet.specs.PageId.{PageIdValue}
 use Rattle.sub_rules.specs.Events.{first_told}
-use Rattle.sub_rules.specs.FrameRules.{task_of}
+use Rattle.sub_rules.specs.FrameRules.{is_undecided_beside, task_beside, task_of}
 use Rattle.sub_rules.specs.PacketRules.{header_count}
 use Rattle.sub_rules.specs.Transmission.{SentFrame, first_frame, last_frame, Transmission}
 use Rattle.sub_rules.specs.declared.event.Event.{Event}
 use Rattle.sub_rules.specs.declared.event.Event.TheVariants.{Trusted}
-use Rattle.sub_trusted.specs.TrustedFrames.{MayStay, StaysAsRead}
+use Rattle.sub_trusted.specs.TrustedFrames.{MayStay, StaysAsRead, rising_of}
 use Rattle.sub_trusted.specs.TrustedWithDelay.{MayStayWithDelay}
 use Rattle.sub_rules.specs.Fault.{is_failure, is_pes_read, is_subtitle_fault}
 use Rattle.sub_rules.specs.Good.{Good}
@@ -72,23 +73,27 @@ pub record Mean
   -- PTS and the Teletext packets of that frame.
   pub carries : Carries origin pes transmission
 
--- What acceptance means for the bytes of both files, where the page has to be whole at the end of
--- each frame.
+-- The bytes of both files are accepted, where the page has to be whole at the end of each frame:
+-- they mean some subtitles and a good transmission of these, of complete pages where the options
+-- ask for them.
+pub record IsAccepted
+    (drawing : Drawing) (options : OptionsValue) (stl pes : List ℕ) : Type 0 where
+  pub subtitles : List SubtitleValue
+  pub transmission : Transmission
+  pub mean : Mean drawing options.origin stl pes subtitles transmission
+  pub good : Good (record { drawing = drawing; records = subtitles }) transmission options
+  pub complete : IsTrue options.asks_complete → Complete transmission options
+
+-- What is answered for the bytes of both files, where the page has to be whole at the end of each
+-- frame.
 pub record AreAccepted
     (drawing : Drawing) (options : OptionsValue) (stl pes : List ℕ)
     (answer : Result Accepted CheckFault)
     : Type 0 where
-  -- They are accepted exactly where they mean some subtitles and a good transmission of these, of
-  -- complete pages where the options ask for them, but for sources that failed and memory that was
+  -- It is `Ok` exactly where they are accepted, but for sources that failed and memory that was
   -- refused.
   pub accepted :
-      failed is_failure answer ≡ false
-      → IsOk answer
-      ↔ ((subtitles : List SubtitleValue)
-      × (transmission : Transmission)
-      × Mean drawing options.origin stl pes subtitles transmission
-      × Good (record { drawing = drawing; records = subtitles }) transmission options
-      × (IsTrue options.asks_complete → Complete transmission options))
+      failed is_failure answer ≡ false → IsOk answer ↔ IsAccepted drawing options stl pes
   -- What is accepted keeps all promises; and its pages are complete where the options ask for it.
   pub serves :
       (subtitles : List SubtitleValue) (transmission : Transmission)
@@ -112,20 +117,24 @@ pub record MeanWithin
   pub drawable : All (λ t. IsOk (drawn drawing t)) subtitles
   pub carries : CarriesBy (clock_of options) options.within pes transmission
 
--- What acceptance means for the bytes of both files, within as many frames as the options give.
+-- The bytes of both files are accepted, within as many frames as the options give: they mean some
+-- subtitles and a transmission of these that is good within these frames.
+pub record IsAcceptedWithin
+    (drawing : Drawing) (options : OptionsValue) (stl pes : List ℕ) : Type 0 where
+  pub subtitles : List SubtitleValue
+  pub transmission : Transmission
+  pub mean : MeanWithin drawing options stl pes subtitles transmission
+  pub good : GoodWithin (record { drawing = drawing; records = subtitles }) transmission options
+
+-- What is answered for the bytes of both files, within as many frames as the options give.
 pub record AreAcceptedWithin
     (drawing : Drawing) (options : OptionsValue) (stl pes : List ℕ)
     (answer : Result Accepted CheckFault)
     : Type 0 where
-  -- They are accepted exactly where they mean some subtitles and a transmission of these that is
-  -- good within these frames, but for sources that failed and memory that was refused.
+  -- It is `Ok` exactly where they are accepted so, but for sources that failed and memory that was
+  -- refused.
   pub accepted :
-      failed is_failure answer ≡ false
-      → IsOk answer
-      ↔ ((subtitles : List SubtitleValue)
-      × (transmission : Transmission)
-      × MeanWithin drawing options stl pes subtitles transmission
-      × GoodWithin (record { drawing = drawing; records = subtitles }) transmission options)
+      failed is_failure answer ≡ false → IsOk answer ↔ IsAcceptedWithin drawing options stl pes
   -- What is accepted keeps all promises of a transmission that may be late.
   pub serves :
       (subtitles : List SubtitleValue) (transmission : Transmission)
@@ -278,47 +287,76 @@ answer_by (Some f) a = Err f
 abbrev pub first_answer : List Event → Accepted → Result Accepted CheckFault
 first_answer events a = answer_by (first_told events) a
 
+-- ---- a PES file, against what can be judged of a subtitle file
+
+-- All that is told of the bytes of a PES file, checked against what can be judged of a subtitle
+-- file. Where nothing of that is refused, it is what is told of them against its programme.
+abbrev pub all_events_by : JudgedValue → OptionsValue → List ℕ → List Event
+all_events_by judged options bytes =
+    let file = piece_file_of (clock_of options) bytes in
+    all_of_pieces (task_beside judged options file.unread) file.pieces
+
+-- What is told of its first n pieces.
+abbrev pub events_of_first_by : JudgedValue → OptionsValue → List ℕ → ℕ → List Event
+events_of_first_by judged options bytes n =
+    let file = piece_file_of (clock_of options) bytes in
+    events_of_pieces (task_beside judged options file.unread) (take n file.pieces)
+
 -- Frames that are told as trusted may stay on air as they are, whatever is on air elsewhere: in the
 -- part of the transmission in which frames rise, receivers recover there.
-abbrev pub TellsWhatMayStay : ProgrammeValue → OptionsValue → List ℕ → Type 0
-TellsWhatMayStay programme options bytes =
+abbrev pub TellsWhatMayStay : JudgedValue → OptionsValue → List ℕ → Type 0
+TellsWhatMayStay judged options bytes =
     let file = piece_file_of (clock_of options) bytes in
     (from to : ℕ)
-    → Contains (all_events_of programme options bytes) (Trusted from to)
-    → StaysAsRead (task_of programme options file.unread) file.pieces from to
-    (λ on_air. MayStay programme on_air options from to)
+    → Contains (all_events_by judged options bytes) (Trusted from to)
+    → StaysAsRead (task_beside judged options file.unread) file.pieces from to
+    (λ on_air. MayStay judged.programme on_air options from to)
 
 -- So they may within frames: receivers recover there with a delay, and one of the frames at least
 -- is finished.
-abbrev pub TellsWhatMayStayWithDelay : ProgrammeValue → OptionsValue → List ℕ → Type 0
-TellsWhatMayStayWithDelay programme options bytes =
+abbrev pub TellsWhatMayStayWithDelay : JudgedValue → OptionsValue → List ℕ → Type 0
+TellsWhatMayStayWithDelay judged options bytes =
     let file = piece_file_of (clock_of options) bytes in
     (from to : ℕ)
-    → Contains (all_events_of programme options bytes) (Trusted from to)
-    → StaysAsRead (task_of programme options file.unread) file.pieces from to
-    (λ on_air. MayStayWithDelay programme on_air options from to)
+    → Contains (all_events_by judged options bytes) (Trusted from to)
+    → StaysAsRead (task_beside judged options file.unread) file.pieces from to
+    (λ on_air. MayStayWithDelay judged.programme on_air options from to)
+
+-- At each of these frames it is known what is due; and within frames at each of so many before one
+-- of them that is not before the first frame that was read.
+abbrev pub TellsWhatIsKnown : JudgedValue → OptionsValue → List ℕ → Type 0
+TellsWhatIsKnown judged options bytes =
+    let file = piece_file_of (clock_of options) bytes in
+    let read = rising_of (task_beside judged options file.unread) file.pieces in
+    (from to : ℕ)
+    → Contains (all_events_by judged options bytes) (Trusted from to)
+    → (frame : ℕ)
+    → first_frame read ≤ frame
+    → frame ≤ to
+    → from ≤ frame + options.within
+    → IsFalse (is_undecided_beside judged frame)
 
 -- What is told of its first pieces, wherever the source failed, begins what is told of all. So what
 -- is promised of trusted frames holds of those that were told before.
-abbrev pub BeginsWhatIsTold : ProgrammeValue → OptionsValue → List ℕ → Type 0
-BeginsWhatIsTold programme options bytes =
+abbrev pub BeginsWhatIsTold : JudgedValue → OptionsValue → List ℕ → Type 0
+BeginsWhatIsTold judged options bytes =
     (n : ℕ)
     → (rest : List Event)
-    × (all_events_of programme options bytes
-    ≡ events_of_first_pieces programme options bytes n ++ rest)
+    × (all_events_by judged options bytes
+    ≡ events_of_first_by judged options bytes n ++ rest)
 
--- What a device was told of the bytes of a PES file, checked against a programme: where it did not
--- say stop, all events, and the answer counts what was read; else the events up to there, and
--- nothing is counted. Where the source failed, the events of the pieces that were read whole.
-abbrev pub TellsEvents : {D : Type 0} → ProgrammeValue → OptionsValue → List ℕ
+-- What a device was told of the bytes of a PES file, checked against what can be judged: where it
+-- did not say stop, all events, and the answer counts what was read; else the events up to there,
+-- and nothing is counted. Where the source failed, the events of the pieces that were read whole.
+abbrev pub TellsEvents : {D : Type 0} → JudgedValue → OptionsValue → List ℕ
     → (D → Event → D → Type 0) → D → D → Result (Option Accepted) CheckFault → Type 0
-TellsEvents programme options bytes IsTold old new (Ok (Some a)) =
-    Tells IsTold old new (all_events_of programme options bytes)
+TellsEvents judged options bytes IsTold old new (Ok (Some a)) =
+    Tells IsTold old new (all_events_by judged options bytes)
     × CountsRead options.page (frames_read options bytes) a
-TellsEvents programme options bytes IsTold old new (Ok None) =
-    TellsPrefix IsTold old new (all_events_of programme options bytes)
-TellsEvents programme options bytes IsTold old new (Err f) =
+TellsEvents judged options bytes IsTold old new (Ok None) =
+    TellsPrefix IsTold old new (all_events_by judged options bytes)
+TellsEvents judged options bytes IsTold old new (Err f) =
     (n : ℕ)
     × (n ≤ length (piece_file_of (clock_of options) bytes).pieces)
     × (f ≡ fault.Pes n Read)
-    × Tells IsTold old new (events_of_first_pieces programme options bytes n)
+    × Tells IsTold old new (events_of_first_by judged options bytes n)

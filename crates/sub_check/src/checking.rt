@@ -1,18 +1,26 @@
 //! The exact checker: a PES file against a programme.
-ghost use Rattle.std.specs.Prelude.{◌≡◌, ◌<◌, ℕ, Err, IfErr, IfOk, IfSome, false, is_none, true};
+ghost use Rattle.std.specs.Prelude.{◌≡◌, ◌<◌, ℕ, Err, IfErr, IfOk, IfSome, List, Option, false};
+ghost use Rattle.std.specs.Prelude.{is_none, length, take, true};
 ghost use Rattle.sub_io.specs.Device.{CanFail, CountsIf, failed};
 ghost use Rattle.sub_io.specs.Reading.{IfTold};
 ghost use Rattle.sub_io.specs.Telling.{TellsSome};
 ghost use Rattle.ttx_pes.specs.Reader.{FailsAtPacket};
+ghost use Rattle.stl_rows.specs.Judged.{known};
+ghost use Rattle.stl_rows.specs.Programme.{IsProgramme, ProgrammeValue};
+ghost use Rattle.sub_plan.specs.FrameTime.{clock_of};
+ghost use Rattle.sub_plan.specs.Options.{IsOptions};
 ghost use Rattle.sub_rules.specs.Fault.{is_pes_read, is_pes_write, is_subtitle_fault};
-ghost use Rattle.sub_rules.specs.Pieces.{FailsAtPiece};
+ghost use Rattle.sub_rules.specs.FrameRules.{Unread, task_of};
+ghost use Rattle.sub_rules.specs.Pieces.{FailsAtPiece, Piece, ReadsPieces, frames_of};
+ghost use Rattle.sub_checker.specs.PieceTelling.{TellsPieces};
 ghost use Rattle.sub_check.specs.CheckedFiles.{BeginsWhatIsTold, IsChecked, IsCheckedWithin};
 ghost use Rattle.sub_check.specs.CheckedFiles.{TellsEvents, TellsWhatMayStay};
-ghost use Rattle.sub_check.specs.CheckedFiles.{TellsWhatMayStayWithDelay, all_events_of};
+ghost use Rattle.sub_check.specs.CheckedFiles.{TellsWhatIsKnown, TellsWhatMayStayWithDelay};
+ghost use Rattle.sub_check.specs.CheckedFiles.{all_events_of};
 ghost use Rattle.sub_check.specs.CheckedFiles.{first_answer};
 
 use crate::first_fault::FirstFault;
-use stl_rows::Programme;
+use stl_rows::{Judging, Programme};
 use sub_checker::{Accepted, tell_pieces};
 use sub_io::{LiveAudience, Source};
 use sub_plan::Options;
@@ -64,15 +72,49 @@ pub fn check<S: Source>(
     ensures count { CountsIf S.failure_count source.old (failed is_pes_read result) source.new }
 {
     let mut first = FirstFault::new();
-    match tell_pieces(programme, source, options, &mut first) {
+    match tell_known(programme, source, options, &mut first) {
         Err(fault) => Err(fault),
         Ok(Some(counts)) => Ok(counts),
         Ok(None) => Err(first.into_fault()),
     }
 }
 
-/// Checks a PES file against a programme, as `check` does, and tells all that is broken to a device
-/// of the caller's, one event after another, until it says stop.
+// Tells all that is broken of a PES file, checked against a programme of a subtitle file of which
+// nothing is refused.
+fn tell_known<S: Source, A: LiveAudience<Event>>(
+    programme: &Programme,
+    source: &mut S,
+    options: &Options,
+    audience: &mut A,
+) -> Result<Option<Accepted>, CheckFault>
+    requires failures { CanFail (S.failure_count source.old) }
+    requires goes_on { A.has_stopped audience.old ≡ false }
+    requires still { A.is_waiting audience.old ≡ false }
+    ensures exact { (pieces : List Piece) (unread : Option Unread)
+        → IfTold (S.remaining source.old) (λ bytes.
+        ReadsPieces (clock_of options.now) 0 bytes pieces unread
+        → TellsPieces (task_of programme.now options.now unread) (clock_of options.now) bytes
+        pieces A.is_told audience.old audience.new result) }
+    ensures stopped { IfOk result (λ counts. A.has_stopped audience.new ≡ is_none counts) }
+    ensures goes_on { IfErr result (λ _. A.has_stopped audience.new ≡ false) }
+    ensures read { (pes : ℕ) → result ≡ Err (CheckFault.Pes pes PesFault.Read)
+        → FailsAtPiece pes (S.remaining source.old) (S.remaining source.new) }
+    ensures sent { (pes : ℕ) (pieces : List Piece) (unread : Option Unread)
+        → result ≡ Err (CheckFault.Pes pes PesFault.Read)
+        → IfTold (S.remaining source.old) (λ bytes.
+        ReadsPieces (clock_of options.now) 0 bytes pieces unread
+        → length (frames_of (take pes pieces)) ≡ pes
+        → FailsAtPacket pes (S.remaining source.old) (S.remaining source.new)) }
+    ensures only { IfErr result (λ f. is_pes_read f ≡ true) }
+    ensures options { IsOptions options.now }
+    ensures programme { IsProgramme programme.now.drawing programme.now.records }
+    ensures count { CountsIf S.failure_count source.old (failed is_pes_read result) source.new }
+{
+    tell_pieces(&Judging::known(programme), source, options, audience)
+}
+
+/// Checks a PES file, as `check` does, against what can be judged of a subtitle file, and tells all
+/// that is broken to a device of the caller's, one event after another, until it says stop.
 ///
 /// The events are those of `check`'s list, each where it is broken: all rules that a packet breaks;
 /// of a rule that is asked at the end of each frame, where it begins to be broken and where it has
@@ -80,7 +122,9 @@ pub fn check<S: Source>(
 /// is over. A piece that begins as a PES packet does and is as long as its length field says, but
 /// is none that can be read, or whose PTS is that of no frame of the day, is passed over: its fault
 /// is told, of pieces one directly after the other with one fault that of the first, and up to
-/// which one they go. Where the bytes can't be read on, that is the last event. It counts what was
+/// which one they go. Where the bytes can't be read on, that is the last event. Where subtitles of
+/// the file are refused, no cell is asked for at the frames at which it is not known for that what
+/// is due; `Undecided` is told there, and what is trusted always. It counts what was
 /// read: the frames of the day from the first PES packet's to the latest one's, and the headers of
 /// the page. `None` where the device said stop: the PES packet at which it did was read in part.
 ///
@@ -92,7 +136,7 @@ pub fn check<S: Source>(
 ///
 /// `Pes` with `Read` where the source failed: then the events are those of the pieces before.
 pub fn check_all<S: Source, A: LiveAudience<Event>>(
-    programme: &Programme,
+    judging: &Judging<'_>,
     source: &mut S,
     options: &Options,
     audience: &mut A,
@@ -102,25 +146,34 @@ pub fn check_all<S: Source, A: LiveAudience<Event>>(
     requires still { A.is_waiting audience.old ≡ false }
     // Where the source tells its bytes, these decide what the device is told.
     ensures told { IfTold (S.remaining source.old) (λ bytes.
-        TellsEvents programme.now options.now bytes A.is_told audience.old audience.new result) }
-    // Where all was told, `check` answers by the first fault of it, or else with these counts.
-    ensures first { options.now.within ≡ 0 → IfTold (S.remaining source.old) (λ bytes.
-        IfOk result (λ counts. IfSome counts (λ a. IsChecked programme.now options.now bytes
-        (first_answer (all_events_of programme.now options.now bytes) a)))) }
-    ensures first_within { IfTold (S.remaining source.old) (λ bytes.
-        IfOk result (λ counts. IfSome counts (λ a. IsCheckedWithin programme.now options.now bytes
-        (first_answer (all_events_of programme.now options.now bytes) a)))) }
-    // The next three are laws of what it is told: they name neither the answer nor the device, and
+        TellsEvents judging.now options.now bytes A.is_told audience.old audience.new result) }
+    // Where all was told, and nothing of the subtitle file is refused, `check` answers by the first
+    // fault of it, or else with these counts.
+    ensures first { (programme : ProgrammeValue)
+        → judging.now ≡ known programme
+        → options.now.within ≡ 0
+        → IfTold (S.remaining source.old) (λ bytes.
+        IfOk result (λ counts. IfSome counts (λ a. IsChecked programme options.now bytes
+        (first_answer (all_events_of programme options.now bytes) a)))) }
+    ensures first_within { (programme : ProgrammeValue)
+        → judging.now ≡ known programme
+        → IfTold (S.remaining source.old) (λ bytes.
+        IfOk result (λ counts. IfSome counts (λ a. IsCheckedWithin programme options.now bytes
+        (first_answer (all_events_of programme options.now bytes) a)))) }
+    // The next four are laws of what it is told: they name neither the answer nor the device, and
     // stand here so that this call carries them.
     // What is told as trusted may stay on air as it is, whatever is on air elsewhere.
     ensures trusted { options.now.within ≡ 0 → IfTold (S.remaining source.old) (λ bytes.
-        TellsWhatMayStay programme.now options.now bytes) }
+        TellsWhatMayStay judging.now options.now bytes) }
     // So it may, with a delay, within frames.
     ensures trusted_within { 0 < options.now.within → IfTold (S.remaining source.old) (λ bytes.
-        TellsWhatMayStayWithDelay programme.now options.now bytes) }
+        TellsWhatMayStayWithDelay judging.now options.now bytes) }
+    // It is known there what is due.
+    ensures known { IfTold (S.remaining source.old) (λ bytes.
+        TellsWhatIsKnown judging.now options.now bytes) }
     // What is told where the source failed begins what is told of all.
     ensures begins { IfTold (S.remaining source.old) (λ bytes.
-        BeginsWhatIsTold programme.now options.now bytes) }
+        BeginsWhatIsTold judging.now options.now bytes) }
     // Nothing is counted exactly where the device said stop.
     ensures stopped { IfOk result (λ counts. A.has_stopped audience.new ≡ is_none counts) }
     // Whatever the source tells, the device was told some events, and did not say stop where the
@@ -137,5 +190,5 @@ pub fn check_all<S: Source, A: LiveAudience<Event>>(
     ensures asked { A.held audience.old ≡ 0 → IfErr result (λ _. A.held audience.new ≡ 0) }
     ensures count { CountsIf S.failure_count source.old (failed is_pes_read result) source.new }
 {
-    tell_pieces(programme, source, options, audience)
+    tell_pieces(judging, source, options, audience)
 }

@@ -2,6 +2,7 @@
 use Rattle.std.proofs.Common.{◌≡◌, ◌∙◌, ap, refl, sym, subst, arith, ℕ, zero, suc, ◌+◌, ◌<◌, ◌≤◌}
 use Rattle.std.proofs.Common.{◌++◌, List, [], Option, Some, None, length, take, drop}
 use Rattle.std.proofs.Common.{append_assoc, if◌then◌else◌, take-append-drop, length-append, Ok}
+use Rattle.std.proofs.Common.{inl, inr}
 use Rattle.std.proofs.KnownBytes.{Appends-kept, Appends-nil, Appends-trans}
 use Rattle.std.specs.Io.KnownBytes.{Appends, Keeps}
 use Rattle.sub_io.specs.Device.{AppendsPrefix}
@@ -12,7 +13,8 @@ use Rattle.ttx_pes.specs.PieceRange.{behind_pieces, count_pieces, first_pieces, 
 use Rattle.ttx_pes.proofs.PieceRangeLemmas.{behind_none, behind_one, count_none, count_one}
 use Rattle.ttx_pes.proofs.PieceRangeLemmas.{first_one, piece_told}
 use Rattle.sub_listing.specs.Copying.{CopiesRest, HasCopied, HasCopiedPieces}
-use Rattle.sub_listing.specs.Extracting.{AreGiven, AreRefused, begins_with_mark, count_marks}
+use Rattle.sub_listing.specs.Extracting.{AreCut, AreGiven, AreRefused, begins_with_mark}
+use Rattle.sub_listing.specs.Extracting.{count_marks}
 use Rattle.sub_listing.specs.Extracting.{most_pieces, refusal_at}
 
 marks_one : (n : ℕ) (b : List ℕ) (size : ℕ) → piece_size b ≡ Some size
@@ -271,11 +273,29 @@ too_many bytes left old mid k gaps f so_far is =
       refused = λ less. absurd (omega (arith, large, less));
     }
 
--- Nothing was written after them.
-pub part_kept : (bytes : List ℕ) (left old mid new : Option (List ℕ)) (k gaps : ℕ)
+-- The source failed behind them: nothing was written after them.
+pub cut_behind : (bytes : List ℕ) (left old mid new : Option (List ℕ)) (k gaps : ℕ)
     → HasCopiedPieces bytes left old mid k gaps
     → Keeps mid new
-    → AppendsPrefix old new bytes
-part_kept bytes left old mid new k gaps so_far kept =
-    part_copied bytes left old mid new k gaps so_far
-    (0, omega arith, keeps_nothing mid new kept)
+    → AreCut bytes old new k
+cut_behind bytes left old mid new k gaps so_far kept = record {
+  pieces = so_far.number;
+  behind = mid;
+  given = so_far.written;
+  rest = inl kept;
+}
+
+-- It failed in what follows them, which no piece begins.
+pub cut_in_rest : (bytes : List ℕ) (left old mid there new next : Option (List ℕ))
+    (k gaps read : ℕ) (f : PesFault)
+    → HasCopiedPieces bytes left old mid k gaps
+    → refusal_at (behind_pieces k bytes) ≡ Some f
+    → HasCopied (behind_pieces k bytes) next mid there read
+    → AppendsPrefix there new (drop read (behind_pieces k bytes))
+    → AreCut bytes old new k
+cut_in_rest bytes left old mid there new next k gaps read f so_far is copied part = record {
+  pieces = so_far.number;
+  behind = mid;
+  given = so_far.written;
+  rest = inr (f, is, rest_part (behind_pieces k bytes) mid there new next read copied part);
+}

@@ -9,9 +9,16 @@ use Rattle.std.proofs.lemmas.Bool.Decides.{nat_tests}
 use Rattle.std.proofs.KnownBytes.{Appends-nil, Appends-trans, Keeps-refl}
 use Rattle.sub_io.proofs.DeviceLemmas.{AppendsPrefix-first, AppendsPrefix-second}
 use Rattle.sub_io.specs.Device.{AppendsPrefix}
+use Rattle.std.specs.Io.KnownBytes.{Appends}
 use Rattle.sub_io.specs.Telling.{Tells, TellsInTurn, TellsSome}
+use Rattle.stl_rows.specs.declared.fault.LoadFault.{LoadFault}
+use Rattle.stl_rows.specs.declared.fault.LoadFaultKind.{LoadFaultKind}
+use Rattle.stl_rows.specs.declared.fault.LoadFaultKind.TheVariants as load
+use Rattle.sub_rules.specs.Fault.{load_place}
 use Rattle.sub_rules.specs.declared.event.Event.{Event}
 use Rattle.sub_listing.specs.EventLines.{event_line, event_lines, most_counted, refusal, refusals}
+use Rattle.sub_listing.specs.EventLines.{subtitle_event, subtitle_events}
+use Rattle.sub_listing.specs.Told.{place_text}
 use Rattle.sub_listing.specs.Printer.{PrinterValue, PrintsEvent, PrintsEvents, StaysPrinted}
 use Rattle.sub_listing.specs.Printer.{HandsOnLines, can_fail, counted}
 
@@ -25,7 +32,7 @@ pub counted-none : (r : ℕ) → r ≤ most_counted → counted r 0 ≡ r
 unfolding counted
 counted-none r few = grind (arith, nat_tests)
 
-counted-few : (r m : ℕ) → counted r m ≤ most_counted
+pub counted-few : (r m : ℕ) → counted r m ≤ most_counted
 unfolding counted
 counted-few r m = grind (arith, nat_tests)
 
@@ -104,6 +111,70 @@ prints-prefix a b events more failing prints = record {
       (event_lines a.first more) (prints.cut fails));
   cut_count = λ fails. prints.cut_count failing;
 }
+
+-- Refusals of some events and of others.
+refusals-append : (xs ys : List Event) → refusals (xs ++ ys) ≡ refusals xs + refusals ys
+refusals-append [] ys = omega arith
+refusals-append (x ∷ xs) ys = let rest = refusals-append xs ys in omega (arith, rest)
+
+-- Events, after which the sink has not failed, and others after them. For `sub_answer`.
+pub prints-two : (a b c : PrinterValue) (xs ys : List Event)
+    → PrintsEvents a xs b
+    → b.failed ≡ false
+    → PrintsEvents b ys c
+    → PrintsEvents a (xs ++ ys) c
+prints-two a b c xs ys some goes more =
+    let lines = event_lines-append a.first xs ys in
+    record {
+      counts_from = more.counts_from ∙ some.counts_from;
+      put = λ holds.
+          subst (Appends a.contents c.contents) (sym lines)
+          (Appends-trans a.contents b.contents c.contents (event_lines a.first xs)
+          (event_lines a.first ys) (some.put goes)
+          (rw some.counts_from at (more.put holds)));
+      put_count = λ holds. more.put_count holds ∙ some.put_count goes;
+      put_refused = λ holds.
+          more.put_refused holds
+          ∙ ap (λ r. counted r (refusals ys)) (some.put_refused goes)
+          ∙ counted-twice a.refused (refusals xs) (refusals ys)
+          ∙ ap (counted a.refused) (sym (refusals-append xs ys));
+      cut = λ failing.
+          subst (AppendsPrefix a.contents c.contents) (sym lines)
+          (AppendsPrefix-second a.contents b.contents c.contents (event_lines a.first xs)
+          (event_lines a.first ys) (some.put goes)
+          (rw some.counts_from at (more.cut failing)));
+      cut_count = λ failing. more.cut_count failing ∙ ap (λ n. n + 1) (some.put_count goes);
+    }
+
+-- ---- lines of the subtitle file
+
+-- No PES packet stands in them.
+place-same : (n m block : ℕ) (kind : LoadFaultKind)
+    → place_text n (load_place kind block) ≡ place_text m (load_place kind block)
+place-same n m block (load.Row f) = refl
+place-same n m block kind = refl
+
+lines-same : (n m : ℕ) (fs : List LoadFault)
+    → event_lines n (subtitle_events fs) ≡ event_lines m (subtitle_events fs)
+lines-same n m [] = refl
+lines-same n m (f ∷ fs) =
+    rw (place-same n m f.block f.kind)
+    (ap (λ (l : List ℕ). event_line m (subtitle_event f) ++ l) (lines-same n m fs))
+
+-- So they are printed whichever number the first PES packet has. For `sub_answer`.
+pub prints-renumbered : (n : ℕ) (a b : PrinterValue) (fs : List LoadFault)
+    → PrintsEvents a (subtitle_events fs) b
+    → PrintsEvents (record a { first = n }) (subtitle_events fs) (record b { first = n })
+prints-renumbered n a b fs prints =
+    let lines = lines-same a.first n fs in
+    record {
+      counts_from = refl;
+      put = λ holds. subst (Appends a.contents b.contents) lines (prints.put holds);
+      put_count = prints.put_count;
+      put_refused = prints.put_refused;
+      cut = λ failing. subst (AppendsPrefix a.contents b.contents) lines (prints.cut failing);
+      cut_count = prints.cut_count;
+    }
 
 -- A printer that has failed has printed a list's events where it has printed its first ones.
 pub prints-taken : {A : Type 0} (event : A → Event) (a b : PrinterValue) (n : ℕ) (items : List A)

@@ -2,12 +2,12 @@
 -- after another, and what follows them.
 use Rattle.std.specs.Prelude.{◌≡◌, ℕ, zero, suc, ◌+◌, ◌<◌, ◌==◌, ◌&&◌, nat_le, nat_lt, Bool}
 use Rattle.std.specs.Prelude.{true, false, List, [], ◌++◌, codes, decimal, length, take, drop}
-use Rattle.std.specs.Prelude.{Option, Some, None, Result, Ok, Err, if◌then◌else◌}
+use Rattle.std.specs.Prelude.{Option, Some, None, Result, Ok, Err, if◌then◌else◌, ◌⊎◌}
 use Rattle.std.specs.Io.KnownBytes.{Appends, Keeps}
 use Rattle.sub_io.specs.Device.{AppendsPrefix, RisesIf, failed}
 use Rattle.sub_io.specs.Reading.{IfTold}
 use Rattle.ttx_pes.specs.PesPacket.{payload_size}
-use Rattle.ttx_pes.specs.PieceRange.{behind_pieces, by_piece, count_pieces, piece_size}
+use Rattle.ttx_pes.specs.PieceRange.{behind_pieces, by_piece, count_pieces, first_pieces, piece_size}
 use Rattle.ttx_pes.specs.Reading.{is_mark, size_at}
 use Rattle.ttx_pes.specs.declared.fault.PesFault.{PesFault}
 use Rattle.ttx_pes.specs.declared.fault.PesFault.TheVariants as pes
@@ -92,16 +92,25 @@ pub record AreRefused
   pub refused :
       length bytes < most_pieces → refusal_at (behind_pieces pes bytes) ≡ Some f
 
--- What the file has taken of the bytes that the source told, and the answer. Where a device failed,
--- it is a prefix of them; where that is the source, `pes` pieces were given, and then as many begin
--- the bytes.
+-- The source failed behind so many pieces of the bytes. The file has taken these, and nothing of
+-- what follows them but where no piece begins that.
+pub record AreCut (bytes : List ℕ) (old new : Option (List ℕ)) (pes : ℕ) : Type 0 where
+  pub pieces : count_pieces pes bytes ≡ pes
+  pub behind : Option (List ℕ)
+  pub given : Appends old behind (first_pieces pes bytes)
+  pub rest :
+      Keeps behind new
+      ⊎ ((f : PesFault) × (refusal_at (behind_pieces pes bytes) ≡ Some f)
+      × AppendsPrefix behind new (behind_pieces pes bytes))
+
+-- What the file has taken of the bytes that the source told, and the answer. Where the file failed,
+-- it is a prefix of them.
 abbrev pub Extracts :
     Option (List ℕ) → Option (List ℕ) → Option (List ℕ) → Result Extracted ExtractFault → Type 0
 Extracts told old new (Ok e) = IfTold told (λ bytes. AreGiven bytes old new e.pes e.gaps)
 Extracts told old new (Err Empty) = IfTold told (λ bytes. (bytes ≡ []) × Keeps old new)
 Extracts told old new (Err (Refused f n)) = IfTold told (λ bytes. AreRefused bytes old new f n)
-Extracts told old new (Err (Read n)) =
-    IfTold told (λ bytes. (count_pieces n bytes ≡ n) × AppendsPrefix old new bytes)
+Extracts told old new (Err (Read n)) = IfTold told (λ bytes. AreCut bytes old new n)
 Extracts told old new (Err Write) = IfTold told (AppendsPrefix old new)
 
 -- ---- what is printed

@@ -162,7 +162,8 @@ impl<K: Flush> Audience<LoadFault> for Printer<'_, K> {
         s.first)
         (subtitle_event fault)
         (printer_value (K.contents t.out.now) (K.failure_count t.out.now) t.refused t.failed
-        t.first) };
+        t.first)
+        × (t.waiting ≡ false → K.held t.out.now ≡ 0) };
 
     ghost has_stopped = { λ p. p.failed || not (can_fail (K.failure_count p.out.now)) };
 
@@ -208,6 +209,15 @@ impl<K: Flush> LiveAudience<Event> for Printer<'_, K> {
     ghost stays_told = { record {
       told = λ before old new item ok is waits on.
           (on.0 ∙ is.0, line_stays _ _ _ item is.1 on.1.stays, on.2 waits);
+      stopped = λ old new ok on. on.1.stopped;
+      waits = λ before new item is. is.2;
+    } };
+}
+
+impl<K: Flush> LiveAudience<LoadFault> for Printer<'_, K> {
+    ghost stays_told = { record {
+      told = λ before old new item ok is waits on.
+          (on.0 ∙ is.0, line_stays _ _ _ (subtitle_event item) is.1 on.1.stays, on.2 waits);
       stopped = λ old new ok on. on.1.stopped;
       waits = λ before new item is. is.2;
     } };

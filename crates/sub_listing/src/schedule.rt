@@ -10,7 +10,7 @@ use crate::status::Status;
 use crate::writing::{Work, WriteFault, write};
 use std::alloc::Global;
 use stl_file::Scope;
-use stl_rows::{Layout, National, Programme, load};
+use stl_rows::{Drawing, Layout, National, Programme, load};
 use sub_io::{Flush, Sink, Source};
 use sub_plan::{Options, PlanFault, schedule};
 
@@ -21,9 +21,7 @@ use sub_plan::{Options, PlanFault, schedule};
 /// ran out.
 pub fn write_schedule<S: Source, F: Flush, K: Sink>(
     alloc: Global,
-    national: National,
-    layout: Layout,
-    scope: Scope,
+    drawing: Drawing,
     options: &Options,
     serial: bool,
     input: &mut S,
@@ -38,12 +36,17 @@ pub fn write_schedule<S: Source, F: Flush, K: Sink>(
         (sink_call F.contents F.failure_count file.old file.new)
         (sink_call K.contents K.failure_count out.old out.new) result
         (codes " transmissions\n")
-        (Schedules (drawing_within national layout scope) options.now serial) }
+        (Schedules drawing options.now serial) }
     ensures input_count { CountsFault S.failure_count input.old result input.new }
     ensures file_count { CountsFault F.failure_count file.old result file.new }
     ensures out_count { CountsFault K.failure_count out.old result out.new }
     ensures held { result ≡ Status.Done → F.held file.new ≡ 0 }
 {
+    let Drawing {
+        national,
+        layout,
+        scope,
+    } = drawing;
     let work = ScheduleWork {
         options,
         serial,

@@ -15,7 +15,7 @@ use ts_survey::SurveyOptions;
 /// The texts are for people; what the program prints are the lines of `say`.
 #[derive(Debug, Drop, Error)]
 pub enum UsageFault {
-    /// 0: the words are not those of a command, or ask for help or a version.
+    /// 0: the words are not those of a command, or ask for a version.
     #[error("the words are not those of a command")]
     Words,
     /// 2: HEX is not 84 hexadecimal digits.
@@ -112,6 +112,8 @@ impl UsageFault {
 /// What to do: a variant for each command, with the values of its words.
 #[derive(Drop)]
 pub enum Request<'a> {
+    /// `--help`: tells how the program is used.
+    Help,
     /// `packet HEX`: shows one packet.
     Packet {
         /// The 42 bytes of the packet, in the order of EN 300 706: bit 1 is the lowest.

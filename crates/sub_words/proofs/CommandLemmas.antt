@@ -1,5 +1,5 @@
 -- What clap's contract says of the program's own words. Main lemmas: command_in-parsed,
--- refusals-parsed and IsFaultOf-refused; asked_for-met. The last is of the answer.
+-- refusals-parsed and IsFaultOfCommand-refused; asked_for-met. The last is of the answer.
 use Rattle.std.proofs.Common.{◌≡◌, ◌≢◌, ◌∙◌, true, false, List, [], Option, Some, None, Ok, Err}
 use Rattle.std.proofs.Common.{refl, ap, subst, sym, inl, inr, arith, drop, get_or, ◌+◌, ◌≤◌}
 use Rattle.std.specs.Borrow.{Bor}
@@ -26,7 +26,7 @@ use Rattle.clap.proofs.WalkLemmas.{first_value-rows}
 use Rattle.sub_words.specs.Commands.{are_sound, clap_rule, command_in, clap_refusals, subttx_app}
 use Rattle.sub_words.specs.Commands.{texts_of}
 use Rattle.sub_words.specs.declared.command.Argument.{Argument}
-use Rattle.sub_words.specs.Requests.{Asked, IsFaultIn, IsFaultOf, IsReadExactly, IsReadGivenMemory}
+use Rattle.sub_words.specs.Requests.{Asked, IsFaultIn, IsFaultOfCommand, IsReadExactly, IsReadGivenMemory}
 use Rattle.sub_words.specs.Requests.{asked_for, asked_in, is_own}
 use Rattle.sub_request.specs.declared.request.Request.{Request}
 use Rattle.sub_request.specs.declared.request.UsageFault.{UsageFault}
@@ -73,7 +73,7 @@ none-refused = (λ e. cc, λ e. cc)
 -- No words at all.
 pub no-words : (words : List (Bor (List ℕ)))
     → (length words == 0) ≡ true
-    → IsFaultOf (texts_of words) fault.Words
+    → IsFaultOfCommand (texts_of words) fault.Words
 no-words [] none = none-refused
 no-words (w ∷ ws) none =
     let more : 0 < length (w ∷ ws) = omega arith in absurd (grind (arith, nat_tests))
@@ -109,7 +109,7 @@ fault-read : (words : List Text) (asked : Result Asked UsageFault) (f : UsageFau
     → clap_refusals words ≡ []
     → asked_for words ≡ Some asked
     → IsFaultIn asked f
-    → IsFaultOf words f
+    → IsFaultOfCommand words f
 fault-read words asked fault.Memory some taken is read = some
 fault-read words asked fault.Words some taken is read = cc
 fault-read words asked fault.Open some taken is read = cc
@@ -123,7 +123,7 @@ pub fault-of_read :
     → clap_refusals words ≡ []
     → asked_for words ≡ Some asked
     → IsReadGivenMemory asked result
-    → IfErr result (IsFaultOf words)
+    → IfErr result (IsFaultOfCommand words)
 fault-of_read words asked (Ok r) some taken is read = tt
 fault-of_read words asked (Err f) some taken is read =
     fault-read words asked f some taken is read
@@ -175,14 +175,14 @@ kind_among kinds e has other none = elim has [
 ]
 
 -- Words that are refused for another cause than memory.
-pub IsFaultOf-refused : (app : App) (words : List Text) (e : Error)
+pub IsFaultOfCommand-refused : (app : App) (words : List Text) (e : Error)
     → app ≡ subttx_app
     → (is_simple_and_free app ≡ true → FailsBy {T = ArgMatches} (fault_of app words) (Err e))
     → (takes app words ≡ true → kind_of e ≡ OutOfMemory)
     → kind_of e ≢ OutOfMemory
     → (clap_refusals words ≢ []) × (are_sound words ≢ true)
 unfolding clap_refusals are_sound
-IsFaultOf-refused app words e is_program fails passes other =
+IsFaultOfCommand-refused app words e is_program fails passes other =
     let P : App → Type 0 = λ a. is_simple_and_free a ≡ true → HasKind (fault_of a words) e in
     let Q : App → Type 0 = λ a. takes a words ≡ true → kind_of e ≡ OutOfMemory in (
       kind_among (fault_of subttx_app words) e (subst P is_program fails is_free-subttx) other,

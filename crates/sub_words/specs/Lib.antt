@@ -1,3 +1,4 @@
+pub mod Help
 pub mod Commands
 pub mod Texts
 pub mod PesTexts

@@ -1,5 +1,5 @@
 -- How the words of the command line are read.
-use Rattle.std.specs.Prelude.{◌≡◌, ◌≢◌, ◌==◌, ⊤, ℕ, Bool, true, false, List, [], Option, Some}
+use Rattle.std.specs.Prelude.{◌≡◌, ◌≢◌, ◌⊎◌, ◌==◌, ⊤, ℕ, Bool, true, false, List, [], Option, Some}
 use Rattle.std.specs.Prelude.{Ok, Err, MatchResult, Result, codes, ok_or, option_map}
 use Rattle.std.specs.Prelude.{if◌then◌else◌}
 use Rattle.std.specs.Result.{result_ok}
@@ -17,6 +17,7 @@ use Rattle.sub_words.specs.Arguments.{layout_of, national_of, options_of, pacing
 use Rattle.sub_words.specs.Arguments.{packet_size_of, pes_packets_of, required_pid_of, scope_of}
 use Rattle.sub_words.specs.Arguments.{survey_options_of}
 use Rattle.sub_words.specs.Commands.{are_sound, command_in, clap_refusals}
+use Rattle.sub_words.specs.Help.{asks_help}
 use Rattle.sub_words.specs.Texts.{flip_of_text, frame_of_text, is_same_byte, number_of_text}
 use Rattle.sub_words.specs.Texts.{receiver_of_text}
 use Rattle.sub_request.specs.declared.listening.Flip.{Flip}
@@ -30,6 +31,7 @@ use Rattle.sub_request.specs.declared.request.UsageFault.TheVariants as fault
 
 -- What is asked for: a request, without where its texts and lists lie in memory.
 pub data Asked : Type 0 where
+  Help : Asked
   Packet : (bytes : List ℕ) → Asked
   Packets : (pes : PesAsked) → Asked
   Show : (stl : Text) → Asked
@@ -48,6 +50,7 @@ pes_asked pes = record { name = pes.name.now; stream = pes.stream; range = pes.r
 
 -- What a request asks for.
 abbrev pub asked_by : Request → Asked
+asked_by ask.Help = Help
 asked_by (ask.Packet bytes) = Packet bytes
 asked_by (ask.Packets pes) = Packets (pes_asked pes)
 asked_by (ask.Show stl) = Show stl.now
@@ -184,8 +187,8 @@ IsReadGivenMemory asked result =
 abbrev pub asked_for : List Text → Option (Result Asked UsageFault)
 asked_for words = option_map (λ command. asked_in command.0 command.1) (command_in words)
 
--- The request is the one that the words ask for, and `clap` takes them.
-pub record AsksFor (words : List Text) (request : Request) : Type 0 where
+-- The request is the one that the command asks for which the words name, and `clap` takes them.
+pub record AsksOfCommand (words : List Text) (request : Request) : Type 0 where
   pub taken : clap_refusals words ≡ []
   pub asked : asked_for words ≡ Some (Ok (asked_by request))
 
@@ -196,8 +199,19 @@ pub record Breaks (words : List Text) (fault : UsageFault) : Type 0 where
 
 -- The fault is one that the words have: `clap` refuses them, or they break the program's own rule.
 -- Want of memory says of the words only that there are some, and no file is opened by reading them.
-abbrev pub IsFaultOf : List Text → UsageFault → Type 0
-IsFaultOf words fault.Words = (clap_refusals words ≢ []) × (are_sound words ≢ true)
-IsFaultOf words fault.Memory = words ≢ []
-IsFaultOf words fault.Open = ⊥
-IsFaultOf words own = Breaks words own
+abbrev pub IsFaultOfCommand : List Text → UsageFault → Type 0
+IsFaultOfCommand words fault.Words = (clap_refusals words ≢ []) × (are_sound words ≢ true)
+IsFaultOfCommand words fault.Memory = words ≢ []
+IsFaultOfCommand words fault.Open = ⊥
+IsFaultOfCommand words own = Breaks words own
+
+-- The request is the one that the words ask for: help, or what a command asks for.
+abbrev pub AsksFor : List Text → Request → Type 0
+AsksFor words request =
+    ((asks_help words ≡ true) × (request ≡ ask.Help))
+    ⊎ ((asks_help words ≡ false) × AsksOfCommand words request)
+
+-- The fault is one that the words have, which do not ask for help.
+pub record IsFaultOf (words : List Text) (fault : UsageFault) : Type 0 where
+  pub no_help : asks_help words ≡ false
+  pub of_command : IsFaultOfCommand words fault

@@ -11,6 +11,7 @@
 mod arguments;
 mod command;
 mod flips;
+mod help;
 mod laws;
 mod lists;
 mod numbers;

@@ -2,9 +2,10 @@
 ghost use Rattle.std.specs.Prelude.{◌≡◌, ◌≢◌, [], IfErr, IfOk, OnOk, true};
 ghost use Rattle.clap.specs.Words.{has_subcommand, subcommand_rows_of};
 ghost use Rattle.sub_words.specs.Commands.{command_in, clap_refusals, texts_of};
-ghost use Rattle.sub_words.specs.Requests.{AsksFor, IsFaultOf};
+ghost use Rattle.sub_words.specs.Requests.{AsksFor, AsksOfCommand, IsFaultOf, IsFaultOfCommand};
 
 use crate::command::subttx_command;
+use crate::help::asks_help;
 use crate::reading::read_command;
 use clap::ArgMatches;
 use clap::error::ErrorKind;
@@ -17,8 +18,8 @@ use sub_request::{Request, UsageFault};
 pub trait ParseWords<'a>: Sized {
     /// Reads the words, of which the first is the program's name.
     ///
-    /// What it gives are the matches that `clap` has for the words, defaults included, read by
-    /// the rules of their command.
+    /// Words that ask for help are not looked at any further. What it gives of others are the
+    /// matches that `clap` has for them, defaults included, read by the rules of their command.
     ///
     /// # Errors
     ///
@@ -35,14 +36,25 @@ impl<'a> ParseWords<'a> for Request<'a> {
         ensures request { IfOk result (AsksFor (texts_of words.now)) }
         ensures fault { IfErr result (IsFaultOf (texts_of words.now)) }
     {
-        if words.is_empty() {
-            return Err(UsageFault::Words);
+        if asks_help(words) {
+            return Ok(Request::Help);
         }
-        let matches = matches_of(alloc, words)?;
-        match matches.subcommand() {
-            Some((name, arguments)) => read_command(alloc, name, arguments),
-            None => Err(UsageFault::Words),
-        }
+        parse_command(alloc, words)
+    }
+}
+
+// What is asked for by words that name a command.
+fn parse_command<'a>(alloc: Global, words: &'a [&'a str]) -> Result<Request<'a>, UsageFault>
+    ensures request { IfOk result (AsksOfCommand (texts_of words.now)) }
+    ensures fault { IfErr result (IsFaultOfCommand (texts_of words.now)) }
+{
+    if words.is_empty() {
+        return Err(UsageFault::Words);
+    }
+    let matches = matches_of(alloc, words)?;
+    match matches.subcommand() {
+        Some((name, arguments)) => read_command(alloc, name, arguments),
+        None => Err(UsageFault::Words),
     }
 }
 
@@ -52,7 +64,7 @@ fn matches_of<'a>(alloc: Global, words: &'a [&'a str]) -> Result<ArgMatches<'a>,
     ensures command { IfOk result (λ m. subcommand_rows_of m ≡ command_in (texts_of words.now)) }
     ensures there { IfOk result (λ m. has_subcommand m ≡ true) }
     ensures taken { OnOk result (clap_refusals (texts_of words.now) ≡ []) }
-    ensures fault { IfErr result (IsFaultOf (texts_of words.now)) }
+    ensures fault { IfErr result (IsFaultOfCommand (texts_of words.now)) }
 {
     let Ok(command) = subttx_command(alloc) else {
         return Err(UsageFault::Memory);

@@ -1,7 +1,8 @@
 -- How a run of the program ends, of the words that the system gave: what was answered, or why
 -- nothing was.
-use Rattle.std.specs.Prelude.{◌≡◌, ◌⊎◌, List, [], None, Result, Ok, Err}
+use Rattle.std.specs.Prelude.{◌≡◌, ◌⊎◌, ℕ, List, [], Option, None, Result, Ok, Err, false}
 use Rattle.clap.specs.Words.{Text}
+use Rattle.sub_io.specs.Buffered.{HeldBack}
 use Rattle.sub_files.specs.FileCalls.{FileCall}
 use Rattle.sub_files.specs.Opening.{OpensBy}
 use Rattle.sub_request.specs.Files.{files_of}
@@ -9,8 +10,9 @@ use Rattle.sub_request.specs.declared.request.Request.{Request}
 use Rattle.sub_request.specs.declared.request.UsageFault.{UsageFault}
 use Rattle.sub_request.specs.declared.request.UsageFault.TheVariants as usage
 use Rattle.sub_words.specs.Requests.{AsksFor, IsFaultOf}
+use Rattle.sub_listing.specs.Listing.{exit_code}
 use Rattle.sub_listing.specs.declared.status.Status.{Status}
-use Rattle.sub_answer.specs.Ending.{Ends, Lines, Says, ToldOfFiles}
+use Rattle.sub_answer.specs.Ending.{Ends, Lines, Says, ToldOfFiles, lines_of}
 
 -- The words that the system gave asked for a request, and it was answered so, over the files that
 -- were opened by the calls that were made.
@@ -59,3 +61,24 @@ abbrev pub EndsRun :
 EndsRun AreMade told IsClose given old new result =
     Answered AreMade told IsClose given old new result
     ⊎ IsUnanswered AreMade given old new result
+
+-- A run of the program, from the words that the system gave, its files and standard output to the
+-- exit status. There is a buffer before standard output, which held nothing, and no other device.
+pub record Runs
+    {I O K : Type 0} (AreMade : List (FileCall I O) → Type 0) (told : ToldOfFiles I O)
+    (IsClose : O → O → Type 0) (given : Result (List Text) UsageFault)
+    (contents : K → Option (List ℕ)) (failure_count : K → ℕ) (output : K) (code : ℕ)
+    : Type 0 where
+  pub room : ℕ
+  pub new : HeldBack K
+  pub status : Status
+  pub code_is : code ≡ exit_code status
+  -- It ends as said above, or memory ran out before the words were looked at.
+  pub ends :
+      (let old : HeldBack K =
+      record { device = output; held = []; room = room; failed = false; refused = 0 } in
+      let EndsSo = EndsRun AreMade told IsClose given (lines_of contents failure_count old)
+      (lines_of contents failure_count new) status in
+      let SaysMemory = Says usage.Memory (lines_of contents failure_count old)
+      (lines_of contents failure_count new) status in
+      EndsSo ⊎ (AreMade [] × SaysMemory))

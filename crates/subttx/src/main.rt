@@ -10,38 +10,59 @@ ghost use Rattle.std.specs.Prelude.{◌≡◌, IfErr, IfOk};
 ghost use Rattle.sub_io.specs.Buffered.{failures_and_refused};
 ghost use Rattle.sub_answer.specs.Ending.{lines_of, told_of_files};
 ghost use Rattle.sub_files.specs.FileCalls.{CallsInTurn};
-ghost use Rattle.subttx.specs.Run.{Answered, EndsRun, IsCause};
+ghost use Rattle.subttx.specs.Run.{Answered, EndsRun, IsCause, Runs};
 ghost use Rattle.subttx.specs.Words.{words_given};
 
 use crate::words::{texts_of, words_of};
 use std::alloc::Global;
 use std::env::Args;
 use std::process::ExitCode;
-use std::rt::{Env, Files};
 use std::{env, io};
-use sub_answer::{Status, open_and_answer, say, say_and_hand_on};
+use sub_answer::{Status, open_and_answer, say_and_hand_on};
 use sub_files::{BUFFER, FileSystem, SystemFiles, room};
 use sub_io::{BufferedSink, IntoWrite, Sink};
 use sub_request::{Request, UsageFault};
 use sub_words::ParseWords;
 
+// Room for the line that tells that memory ran out.
+const LITTLE: usize = 64;
+
 fn main(rt: HostRuntime) -> ExitCode {
-    ExitCode::from(run(&rt).code())
+    let standard_output = IntoWrite::new(io::writer(&rt));
+    ExitCode::from(run(
+        rt.alloc(),
+        env::args(&rt),
+        &mut SystemFiles::new(&rt),
+        standard_output,
+    ))
 }
 
-// Runs the program over standard output, which gets what is printed through one buffer.
-fn run<R: AllocGlobal + Env + Files + Print>(rt: &R) -> Status {
-    let mut standard_output = IntoWrite::new(io::writer(rt));
-    let Some(mut room) = room(rt.alloc(), BUFFER) else {
-        return say(&UsageFault::Memory, &mut standard_output);
-    };
-    let mut out = BufferedSink::new(standard_output, room.as_mut_slice());
-    answer_or_say(
-        rt.alloc(),
-        env::args(rt),
-        &mut SystemFiles::new(rt),
-        &mut out,
-    )
+// Runs the program: answers the words that the system gave, over the files that it has and standard
+// output, which gets what is printed through one buffer, and gives the exit status.
+fn run<D: FileSystem, K: Sink + Drop>(
+    alloc: Global,
+    given: io::Result<Args>,
+    files: &mut D,
+    standard_output: K,
+) -> u8
+    requires { K.failure_count standard_output ≡ 0 }
+    ensures { Runs (CallsInTurn D.is_call files.old files.new)
+        (told_of_files D.Input.remaining D.Input.failure_count
+        D.Output.contents D.Output.failure_count)
+        D.Output.is_close (words_given given)
+        K.contents K.failure_count standard_output result }
+{
+    match room(alloc, BUFFER) {
+        Some(mut room) => {
+            let mut out = BufferedSink::new(standard_output, room.as_mut_slice());
+            answer_or_say(alloc, given, files, &mut out).code()
+        }
+        None => {
+            let mut little = [0; LITTLE];
+            let mut out = BufferedSink::new(standard_output, &mut little);
+            say_and_hand_on(&UsageFault::Memory, &mut out).code()
+        }
+    }
 }
 
 // Answers the words that the system gave, or else prints the line that tells why they are not

@@ -141,16 +141,24 @@ class Clones(Case):
         self.must("its path", clone.tool("program") == [clone.path("dist", "subttx")])
 
     def test_helps_who_asks(self) -> None:
-        """Without a command, or with one word that asks for help, the script tells how it is
-        called, and then the program answers as ever; with other words it tells nothing."""
+        """Without words the script tells how it is called, and the program refuses them; asked for
+        help the program tells it, in the same words, and the script where there is none, which then
+        proves nothing; with other words the script tells nothing."""
         clone = Clone(self)
-        helping: list[list[str]] = [[], ["--help"], ["-h"], ["help"]]
+        none = clone.run()
+        self.must("no words", none.status == 2 and none.out == b"usage 0 Words\n"
+                  and none.told[0] == "usage: subttx COMMAND FILES [options]", none)
+        text = "".join(f"{line}\n" for line in none.told).encode()
+        helping = [["--help"], ["-h"], ["help"], ["help", "check"], ["check", "--help"],
+                   ["check", "a.stl", "b.pes", "-h"]]
+        for words in helping:
+            self.must(f"{words}", clone.run(*words) == Done(0, text, []))
+        for words in [["check"], ["chec"], ["help", "me", "please"]]:
+            self.must(f"{words}", clone.run(*words) == Done(2, b"usage 0 Words\n", []))
+        os.remove(clone.path("dist", "PROVED"))
         for words in helping:
             done = clone.run(*words)
-            self.must(f"{words}", done.status == 2 and done.out == b"usage 0 Words\n"
-                      and done.told[0] == "usage: subttx COMMAND FILES [options]", done)
-        for words in [["help", "check"], ["check"], ["chec"]]:
-            self.must(f"{words}", clone.run(*words) == Done(2, b"usage 0 Words\n", []))
+            self.must(f"{words} without a program", (done.status, done.out) == (0, text), done)
 
     def test_finds_damage(self) -> None:
         """One byte of the program is another; also after the choice was kept."""

@@ -17,7 +17,7 @@ ghost use Rattle.sub_listing.specs.Listing.{PrintsOrFails, done};
 
 use std::alloc::Global;
 use stl_file::Scope;
-use stl_rows::{Layout, National, Programme, load};
+use stl_rows::{Drawing, Layout, National, Programme, law_of_loading, load};
 use sub_check::{Accepted, CheckFault, check};
 use sub_io::{Sink, Source};
 use sub_listing::{
@@ -36,16 +36,14 @@ pub fn print_verdict<N: FirstPacket<T>, S: Source, T: Source, K: Sink>(
     alloc: Global,
     stl: &mut S,
     pes: &mut T,
-    national: National,
-    layout: Layout,
-    scope: Scope,
+    drawing: Drawing,
     options: &Options,
     out: &mut K,
 ) -> Status
     requires stl { CanFail (S.failure_count stl.old) }
     requires pes { CanFail (T.failure_count pes.old) }
     requires out { CanFail (K.failure_count out.old) }
-    ensures check { AnswersCheck (drawing_within national layout scope) options.now
+    ensures check { AnswersCheck drawing options.now
         (source_call S.remaining S.failure_count stl.old stl.new)
         (source_call T.remaining T.failure_count pes.old pes.new) (N.number pes.old)
         (pes.new ≡ pes.old)
@@ -54,6 +52,8 @@ pub fn print_verdict<N: FirstPacket<T>, S: Source, T: Source, K: Sink>(
     ensures pes_count { CountsFault T.failure_count pes.old result pes.new }
     ensures out_count { CountsFault K.failure_count out.old result out.new }
 {
+    law_of_loading();
+    let (national, layout, scope) = (drawing.national, drawing.layout, drawing.scope);
     let answer = check_files::<N, S, T>(alloc, stl, pes, national, layout, scope, options);
     print_answer(answer.first, answer.result, out)
 }

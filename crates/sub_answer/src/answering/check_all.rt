@@ -1,9 +1,11 @@
-//! `check STL PES --all`: prints every broken place of a subtitle file, or else of a PES file.
-ghost use Rattle.std.specs.Prelude.{◌≡◌, ◌<◌, IfErr, false, true};
+//! `check STL PES --all`: prints every broken place of a subtitle file, and then of a PES file.
+ghost use Rattle.std.specs.Prelude.{◌≡◌, ◌<◌, ◌≤◌, IfErr, OnOk, false, is_err, true};
 ghost use Rattle.sub_io.specs.Device.{CountsIf, failed};
+ghost use Rattle.sub_io.specs.HandingOn.{HoldsWhileWaiting, KeepsTold};
 ghost use Rattle.sub_rules.specs.Fault.{is_pes_read};
 ghost use Rattle.sub_listing.specs.DeviceCall.{CanFail, CountsFault, sink_call, source_call};
-ghost use Rattle.sub_answer.specs.EveryFault.{AnswersAll, TellsBoth};
+ghost use Rattle.sub_answer.specs.EveryFault.{AnswersAll, TellsBoth, TellsPes};
+ghost use Rattle.sub_listing.specs.EventLines.{most_counted};
 ghost use Rattle.sub_answer.specs.FaultListing.{faults_listing, last_listing};
 ghost use Rattle.sub_listing.specs.Faults.{check_told};
 ghost use Rattle.sub_listing.specs.LastLine.{HoldsLastLine, PutsLine};
@@ -13,9 +15,9 @@ ghost use Rattle.sub_listing.specs.Told.{line_of, told_from};
 
 use crate::answering::check::print_accepted;
 use std::alloc::Global;
-use stl_rows::{Drawing, load_all};
+use stl_rows::{Drawing, Judging, LoadFault, law_of_loading, load_all};
 use sub_check::{Accepted, CheckFault, check_all};
-use sub_io::{Flush, Sink, Source, put_all};
+use sub_io::{Flush, LiveAudience, Sink, Source, Stopped, put_all};
 use sub_listing::{
     FirstPacket, Line, Printer, Status, print_told, push_decimal, push_text, told_of_check,
 };
@@ -23,10 +25,11 @@ use sub_plan::Options;
 use ttx_pes::PesFault;
 
 /// Checks a PES file against a subtitle file, and prints a line for each place that is broken, and
-/// where a rule of a frame's end is so no more, as they are found; then how many are refused, or
-/// the line of what is accepted.
+/// where a rule of a frame's end is so no more, as they are found, those of the subtitle file first;
+/// then how many are refused, or the line of what is accepted.
 ///
-/// `pes` is not touched where the subtitle file is refused. `Done` where the files are accepted;
+/// Beside what is refused in the subtitle file the PES file is judged by what can be relied on of
+/// it; `pes` is not touched where that is not enough. `Done` where the files are accepted;
 /// `Refused` where a place is broken; `Fault` where a device failed or memory ran out, with its
 /// line last. Once `out` failed nothing more is read or printed.
 pub fn print_every_fault<N: FirstPacket<T>, S: Source, T: Source, K: Flush>(
@@ -54,6 +57,7 @@ pub fn print_every_fault<N: FirstPacket<T>, S: Source, T: Source, K: Flush>(
         → T.failure_count pes.old < T.failure_count pes.new
         → HoldsLastLine K.contents K.held K.is_push out.new }
 {
+    law_of_loading();
     let mut printer = Printer {
         out,
         refused: 0,
@@ -75,8 +79,9 @@ pub fn print_every_fault<N: FirstPacket<T>, S: Source, T: Source, K: Flush>(
     print_end(first, refused, answer, out)
 }
 
-// Tells a printer what is broken in the subtitle file, or else in the PES file. `None` where the
-// subtitle file is refused or the printer said stop, else what was read of the PES file.
+// Tells a printer what is broken in the subtitle file, and then in the PES file, where a transmission
+// is judged beside that. `None` where it is not, or the printer said stop, else what was read of the
+// PES file.
 fn tell_every_fault<N: FirstPacket<T>, S: Source, T: Source, K: Flush>(
     alloc: Global,
     stl: &mut S,
@@ -108,19 +113,67 @@ fn tell_every_fault<N: FirstPacket<T>, S: Source, T: Source, K: Flush>(
     match load_all(alloc, stl, national, layout, scope, printer) {
         Err(fault) => Err(CheckFault::Subtitles(fault)),
         Ok(None) => Ok(None),
-        Ok(Some(programme)) => match N::find(pes) {
-            Ok(first) => {
-                printer.first = first;
-                check_all(&programme, pes, options, printer)
+        Ok(Some(judged)) => {
+            // The PES file may have to be waited for.
+            if hand_on_told(printer).is_err() {
+                return Ok(None);
             }
-            Err(at) => {
-                printer.first = at.pes;
-                Err(CheckFault::Pes {
-                    fault: PesFault::Read,
-                    pes: 0,
-                })
-            }
-        },
+            tell_transmission::<N, T, K>(&judged.judging(), pes, options, printer)
+        }
+    }
+}
+
+// Has a device hand on what it was told of a subtitle file, where it may hold something back.
+fn hand_on_told<A: LiveAudience<LoadFault>>(audience: &mut A) -> Result<(), Stopped>
+    requires { A.has_stopped audience.old ≡ false }
+    ensures told { KeepsTold A.is_told A.is_waiting audience.old audience.new }
+    ensures stopped { A.has_stopped audience.new ≡ is_err result }
+    ensures waited { IfErr result (λ _. A.is_waiting audience.old ≡ true) }
+    ensures still { OnOk result (A.is_waiting audience.new ≡ false) }
+    ensures held { HoldsWhileWaiting A.is_waiting A.held audience.old
+        → OnOk result (A.held audience.new ≡ 0) }
+{
+    if !audience.waits() {
+        return Ok(());
+    }
+    audience.hand_on()
+}
+
+// Tells a printer what is broken in the PES file, by what can be judged of the subtitle file.
+fn tell_transmission<N: FirstPacket<T>, T: Source, K: Flush>(
+    judging: &Judging<'_>,
+    pes: &mut T,
+    options: &Options,
+    printer: &mut Printer<'_, K>,
+) -> Result<Option<Accepted>, CheckFault>
+    requires pes { CanFail (T.failure_count pes.old) }
+    requires out { CanFail (K.failure_count printer.old.out.now) }
+    requires goes_on { printer.old.failed ≡ false }
+    requires still { printer.old.waiting ≡ false }
+    requires few { printer.old.refused ≤ most_counted }
+    ensures same { printer.new.out.ghost_name ≡ printer.old.out.ghost_name }
+    ensures told { TellsPes judging.now options.now
+        (source_call T.remaining T.failure_count pes.old pes.new) (N.number pes.old)
+        (printer_value (K.contents printer.old.out.now) (K.failure_count printer.old.out.now)
+        printer.old.refused printer.old.failed printer.old.first)
+        (printer_value (K.contents printer.new.out.now) (K.failure_count printer.new.out.now)
+        printer.new.refused printer.new.failed printer.new.first) result }
+    ensures count { CountsIf T.failure_count pes.old (failed is_pes_read result) pes.new }
+    ensures asked { K.held printer.old.out.now ≡ 0
+        → failed is_pes_read result ≡ true → K.held printer.new.out.now ≡ 0 }
+{
+    match N::find(pes) {
+        Ok(first) => {
+            printer.first = first;
+            check_all(judging, pes, options, printer)
+        }
+        Err(at) => {
+            printer.first = at.pes;
+            Err(CheckFault::Pes {
+                fault: PesFault::Read,
+                pes: 0,
+            })
+        }
     }
 }
 

@@ -15,7 +15,7 @@ returns-in-Ok-Some-clause-checked g c = λ none bytes told.
     let answer =
     nothing_kept c.args.programme.now c.args.options.now bytes c.in-Ok-Some.ensures.options
     c.in-Ok-Some.ensures.programme
-    c.new-first.result c.tell_pieces.new.audience c.in-Ok-Some.counts c.new-first.ensures
+    c.new-first.result c.tell_known.new.audience c.in-Ok-Some.counts c.new-first.ensures
     (rw c.in-Ok-Some.field-0-is at c.in-Ok-Some.ensures.stopped)
     (λ pieces unread reads.
     rw c.in-Ok-Some.field-0-is at (c.in-Ok-Some.ensures.exact pieces unread bytes told reads)) in
@@ -26,7 +26,7 @@ returns-in-Ok-Some-clause-within g c = λ bytes told.
     let answer =
     nothing_kept c.args.programme.now c.args.options.now bytes c.in-Ok-Some.ensures.options
     c.in-Ok-Some.ensures.programme
-    c.new-first.result c.tell_pieces.new.audience c.in-Ok-Some.counts c.new-first.ensures
+    c.new-first.result c.tell_known.new.audience c.in-Ok-Some.counts c.new-first.ensures
     (rw c.in-Ok-Some.field-0-is at c.in-Ok-Some.ensures.stopped)
     (λ pieces unread reads.
     rw c.in-Ok-Some.field-0-is at (c.in-Ok-Some.ensures.exact pieces unread bytes told reads)) in
@@ -37,7 +37,7 @@ returns-in-Ok-None-clause-checked g c = λ none bytes told.
     let answer =
     fault_kept c.args.programme.now c.args.options.now bytes c.in-Ok-None.ensures.options
     c.in-Ok-None.ensures.programme
-    c.new-first.result c.tell_pieces.new.audience c.into_fault.result c.new-first.ensures
+    c.new-first.result c.tell_known.new.audience c.into_fault.result c.new-first.ensures
     c.into_fault.ensures.kept
     (λ pieces unread reads.
     rw c.in-Ok-None.field-0-is at (c.in-Ok-None.ensures.exact pieces unread bytes told reads)) in
@@ -48,7 +48,7 @@ returns-in-Ok-None-clause-within g c = λ bytes told.
     let answer =
     fault_kept c.args.programme.now c.args.options.now bytes c.in-Ok-None.ensures.options
     c.in-Ok-None.ensures.programme
-    c.new-first.result c.tell_pieces.new.audience c.into_fault.result c.new-first.ensures
+    c.new-first.result c.tell_known.new.audience c.into_fault.result c.new-first.ensures
     c.into_fault.ensures.kept
     (λ pieces unread reads.
     rw c.in-Ok-None.field-0-is at (c.in-Ok-None.ensures.exact pieces unread bytes told reads)) in
@@ -59,7 +59,7 @@ returns-in-Err-clause-checked g c = λ none bytes told.
     let answer =
     read_failed c.args.programme.now c.args.options.now bytes c.in-Err.ensures.options
     c.in-Err.ensures.programme
-    c.new-first.result c.tell_pieces.new.audience c.in-Err.fault c.new-first.ensures
+    c.new-first.result c.tell_known.new.audience c.in-Err.fault c.new-first.ensures
     c.in-Err.ensures.goes_on
     (λ pieces unread reads. c.in-Err.ensures.exact pieces unread bytes told reads)
     c.in-Err.ensures.only in
@@ -70,7 +70,7 @@ returns-in-Err-clause-within g c = λ bytes told.
     let answer =
     read_failed c.args.programme.now c.args.options.now bytes c.in-Err.ensures.options
     c.in-Err.ensures.programme
-    c.new-first.result c.tell_pieces.new.audience c.in-Err.fault c.new-first.ensures
+    c.new-first.result c.tell_known.new.audience c.in-Err.fault c.new-first.ensures
     c.in-Err.ensures.goes_on
     (λ pieces unread reads. c.in-Err.ensures.exact pieces unread bytes told reads)
     c.in-Err.ensures.only in
@@ -81,7 +81,7 @@ returns-in-Err-clause-read g c = λ pes is.
     let same : c.in-Err.fault ≡ fault.Pes pes Read = cc in
     let failed = ap (λ f. let r : Result (Option Accepted) CheckFault = Err f in r) same in
     fails_at_packet c.args.programme.now c.args.options.now
-    c.new-first.result c.tell_pieces.new.audience c.in-Err.fault pes _ _ c.new-first.ensures
+    c.new-first.result c.tell_known.new.audience c.in-Err.fault pes _ _ c.new-first.ensures
     c.in-Err.ensures.goes_on same (c.in-Err.ensures.read pes failed)
     (λ bytes told pieces unread reads. c.in-Err.ensures.exact pieces unread bytes told reads)
     (λ bytes told sent.

@@ -18,13 +18,11 @@ returns-in-Ok-clause-accepted g c = λ none file told bytes heard.
     files_accepted (drawing_within c.args.national c.args.layout c.args.scope)
     c.args.options.now file bytes
     c.law_of_loading.ensures c.in-Ok.programme (c.in-Ok.ensures.exact file told)
-    c.in-Ok.ensures.drawing c.check.result
-    c.check.ensures.own (c.check.ensures.checked none bytes heard)
+    c.check.result c.check.ensures.own (c.check.ensures.checked none bytes heard)
 
 pub returns-in-Ok-clause-accepted_within : goal.returns-in-Ok-clause-accepted_within
 returns-in-Ok-clause-accepted_within g c = λ file told bytes heard.
     files_accepted_within (drawing_within c.args.national c.args.layout c.args.scope)
     c.args.options.now file bytes
     c.law_of_loading.ensures c.in-Ok.programme (c.in-Ok.ensures.exact file told)
-    c.in-Ok.ensures.drawing c.check.result
-    c.check.ensures.own (c.check.ensures.within bytes heard)
+    c.check.result c.check.ensures.own (c.check.ensures.within bytes heard)

@@ -1,8 +1,9 @@
 -- The pieces so far and one more: no_pieces, next_copied; and how it ended: pieces_given,
--- none_given, rest_refused, rest_cut, part_copied, too_many.
+-- none_given, rest_refused, rest_cut, cut_behind, cut_in_rest, part_copied, too_many.
 use Rattle.std.proofs.Common.{arith, rules}
-use Rattle.sub_listing.proofs.ExtractingLemmas.{next_copied, no_pieces, none_given, part_copied}
-use Rattle.sub_listing.proofs.ExtractingLemmas.{part_kept, pieces_given, rest_cut, rest_refused}
+use Rattle.sub_listing.proofs.ExtractingLemmas.{cut_behind, cut_in_rest, next_copied, no_pieces}
+use Rattle.sub_listing.proofs.ExtractingLemmas.{none_given, part_copied, pieces_given, rest_cut}
+use Rattle.sub_listing.proofs.ExtractingLemmas.{rest_refused}
 use Rattle.sub_listing.proofs.ExtractingLemmas.{too_many}
 use Rattle.sub_listing.proofs.extract.copy_pieces.Goals as goal
 
@@ -41,11 +42,9 @@ pub returns-in-Err-Read-copy_rest-clause-extracts :
     goal.returns-in-Err-Read-copy_rest-clause-extracts
 returns-in-Err-Read-copy_rest-clause-extracts g c = λ bytes told.
     let so_far = c.pieces.invariant.copied bytes told in
-    let here = rw c.in-Ok-Rest.field-0-is at (c.in-Ok-Rest.ensures.told _ so_far.left_is) in (
-      so_far.number,
-      rest_cut bytes _ _ _ _ _ _ _ _ here.0 so_far here.2
-          (c.in-Err-Read-copy_rest.ensures.told _ here.2.left_is),
-    )
+    let here = rw c.in-Ok-Rest.field-0-is at (c.in-Ok-Rest.ensures.told _ so_far.left_is) in
+    cut_in_rest bytes _ _ _ _ _ _ _ _ here.0 _ so_far here.1 here.2
+    (c.in-Err-Read-copy_rest.ensures.told _ here.2.left_is)
 
 pub returns-in-Err-Write-copy_rest-clause-extracts :
     goal.returns-in-Err-Write-copy_rest-clause-extracts
@@ -59,7 +58,7 @@ pub returns-in-Err-Read-clause-extracts : goal.returns-in-Err-Read-clause-extrac
 returns-in-Err-Read-clause-extracts g c = λ bytes told.
     let so_far = c.pieces.invariant.copied bytes told in
     let here = rw c.in-Err-Read.field-0-is at (c.in-Err-Read.ensures.told _ so_far.left_is) in
-    (so_far.number, part_kept bytes _ _ _ _ _ _ so_far here)
+    cut_behind bytes _ _ _ _ _ _ so_far here
 
 pub returns-in-Err-Write-clause-extracts : goal.returns-in-Err-Write-clause-extracts
 returns-in-Err-Write-clause-extracts g c = λ bytes told.

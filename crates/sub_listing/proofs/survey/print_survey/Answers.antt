@@ -1,5 +1,5 @@
 -- The lines, and that of a fault behind them: printed-told.
-use Rattle.std.proofs.Common.{◌≡◌, ◌+◌, arith, rules}
+use Rattle.std.proofs.Common.{arith}
 use Rattle.sub_listing.specs.DeviceCall.{sink_call}
 use Rattle.sub_listing.proofs.SurveyListingLemmas.{printed-told}
 use Rattle.sub_listing.proofs.survey.print_survey.Goals as goal

@@ -1,8 +1,8 @@
 -- A parse of the program's command is exact; by command_in-parsed, has_subcommand-parsed,
--- refusals-parsed and IsFaultOf-refused.
+-- refusals-parsed and IsFaultOfCommand-refused.
 use Rattle.std.proofs.Common.{◌∙◌}
 use Rattle.sub_words.specs.Commands.{texts_of}
-use Rattle.sub_words.proofs.CommandLemmas.{IsFaultOf-refused, command_in-parsed}
+use Rattle.sub_words.proofs.CommandLemmas.{IsFaultOfCommand-refused, command_in-parsed}
 use Rattle.sub_words.proofs.CommandLemmas.{has_subcommand-parsed, refusals-parsed, some-words}
 use Rattle.sub_words.proofs.parsing.matches_of.Goals as goal
 
@@ -20,7 +20,7 @@ returns-in-Ok-try_get_matches_from c =
 
 pub returns-clause-fault : goal.returns-clause-fault
 returns-clause-fault c =
-    IsFaultOf-refused _ (texts_of c.args.words.now) c.in-Err.error c.in-Ok.ensures
+    IsFaultOfCommand-refused _ (texts_of c.args.words.now) c.in-Err.error c.in-Ok.ensures
     c.in-Err.ensures.kinds c.in-Err.ensures.passes
     (λ memory. c.in_default-kind.not-OutOfMemory (c.kind.ensures ∙ memory))
 

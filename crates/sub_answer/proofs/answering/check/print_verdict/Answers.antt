@@ -8,8 +8,8 @@ use Rattle.sub_answer.proofs.answering.check.print_verdict.Goals as goal
 pub returns-clause-check : goal.returns-clause-check
 returns-clause-check g c =
     let made = c.check_files-answer.ensures in
-    as_answered _ _ _ _ _ _ _ _ _ c.check_files-answer.result.result c.print_answer.ensures.printed
-    made.starts (search rules) made.checked
+    as_answered _ _ _ _ _ _ _ _ _ c.check_files-answer.result.result c.law_of_loading.ensures
+    c.print_answer.ensures.printed made.starts (search rules) made.checked
 
 pub returns-clause-stl_count : goal.returns-clause-stl_count
 returns-clause-stl_count g c =

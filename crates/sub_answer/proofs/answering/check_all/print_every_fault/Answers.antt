@@ -14,21 +14,21 @@ returns-then-failed-clause-all g c =
 pub returns-clause-all : goal.returns-clause-all
 returns-clause-all g c =
     answers_at _ _ _ _ _ _ _ _ _ _ _ _ _
-    (answers_end _ _ _ _ _ _ _ _ _ _ _ _ c.tell_every_fault-answer.ensures.told c.if-failed.false
-    refl c.print_end.ensures.printed)
+    (answers_end _ _ _ _ _ _ _ _ _ _ _ _ c.law_of_loading.ensures
+    c.tell_every_fault-answer.ensures.told c.if-failed.false refl c.print_end.ensures.printed)
     (search rules) (search rules)
 
 pub returns-clause-stl_count : goal.returns-clause-stl_count
 returns-clause-stl_count g c =
     (counts _ _ _ _ _ _ _ _
-    (answers_end _ _ _ _ _ _ _ _ _ _ _ _ c.tell_every_fault-answer.ensures.told c.if-failed.false
-    refl c.print_end.ensures.printed)).0
+    (answers_end _ _ _ _ _ _ _ _ _ _ _ _ c.law_of_loading.ensures
+    c.tell_every_fault-answer.ensures.told c.if-failed.false refl c.print_end.ensures.printed)).0
 
 pub returns-clause-pes_count : goal.returns-clause-pes_count
 returns-clause-pes_count g c =
     (counts _ _ _ _ _ _ _ _
-    (answers_end _ _ _ _ _ _ _ _ _ _ _ _ c.tell_every_fault-answer.ensures.told c.if-failed.false
-    refl c.print_end.ensures.printed)).1
+    (answers_end _ _ _ _ _ _ _ _ _ _ _ _ c.law_of_loading.ensures
+    c.tell_every_fault-answer.ensures.told c.if-failed.false refl c.print_end.ensures.printed)).1
 
 pub returns-then-failed-clause-followed : goal.returns-then-failed-clause-followed
 returns-then-failed-clause-followed g c = λ none risen.

@@ -4,7 +4,7 @@ use Rattle.clap.specs.Words.{found_of, rows_of}
 use Rattle.clap.specs.declared.parser.matches.ArgMatches.TheViews.{out-ArgMatches}
 use Rattle.sub_words.specs.Commands.{texts_of}
 use Rattle.sub_words.proofs.CommandLemmas.{asked_for-met, fault-of_read, no-words, some-texts}
-use Rattle.sub_words.proofs.parsing.RequestParseWords.parse.Goals as goal
+use Rattle.sub_words.proofs.parsing.parse_command.Goals as goal
 
 pub returns-in-Some : goal.returns-in-Some
 returns-in-Some c =

@@ -1,0 +1,324 @@
+-- What a printer was told of a PES file, and what is answered by it. Main lemmas: after_pes,
+-- both_answers.
+use Rattle.std.proofs.Common.{◌≡◌, ◌∙◌, ap, refl, sym, subst, arith, ℕ, ◌+◌, ◌≤◌}
+use Rattle.std.proofs.Common.{zero, suc, List, take, length, Bool, true, false, Option}
+use Rattle.std.proofs.Common.{Some, None, Result, Ok, Err, ◌-◌}
+use Rattle.std.proofs.lemmas.Bool.{true≢false}
+use Rattle.std.proofs.lemmas.Bool.Decides.{nat_tests}
+use Rattle.std.specs.Prelude.{IfOk, IfErr, IfSome, is_none}
+use Rattle.sub_io.specs.Device.{RisesIf, failed}
+use Rattle.sub_io.specs.Reading.{IfTold}
+use Rattle.sub_io.specs.Telling.{Tells, TellsSome}
+use Rattle.ttx_packet.specs.PageId.{PageIdValue}
+use Rattle.ttx_pes.specs.declared.fault.PesFault.TheVariants as pes_fault
+use Rattle.stl_rows.specs.Judged.{JudgedValue, known}
+use Rattle.stl_rows.specs.Programme.{ProgrammeValue}
+use Rattle.sub_plan.specs.FrameTime.{clock_of}
+use Rattle.sub_plan.specs.Options.{OptionsValue}
+use Rattle.sub_check.specs.CheckedFiles.{IsChecked, IsCheckedWithin, TellsEvents, all_events_by}
+use Rattle.sub_check.specs.CheckedFiles.{all_events_of, events_of_first_by, first_answer}
+use Rattle.sub_check.specs.CheckedFiles.{frames_read}
+use Rattle.sub_checker.specs.Telling.{CountsRead}
+use Rattle.sub_rules.specs.Events.{latest}
+use Rattle.sub_rules.specs.Fault.{is_pes_read}
+use Rattle.sub_rules.specs.FrameRules.{frame_at, packets_before}
+use Rattle.sub_rules.specs.PacketRules.{header_count}
+use Rattle.sub_rules.specs.Pieces.{FailsAtPiece, piece_file_of}
+use Rattle.sub_rules.specs.Transmission.{Transmission}
+use Rattle.sub_checker.specs.declared.telling.Accepted.{Accepted}
+use Rattle.sub_rules.specs.declared.event.Event.{Event}
+use Rattle.sub_rules.specs.declared.fault.CheckFault.{CheckFault}
+use Rattle.sub_rules.specs.declared.fault.CheckFault.TheVariants as fault
+use Rattle.sub_listing.specs.DeviceCall.{SourceCall}
+use Rattle.sub_listing.specs.FirstPacket.{StartsAt}
+use Rattle.sub_answer.specs.EveryFault.{IsAnswer}
+use Rattle.sub_answer.specs.EveryFault.{TellsPes}
+use Rattle.sub_listing.specs.EventLines.{most_counted}
+use Rattle.sub_listing.specs.Printer.{PrinterValue, PrintsEvent, PrintsEvents}
+use Rattle.sub_listing.proofs.PrinterLemmas.{as_told, prints-taken}
+use Rattle.sub_listing.proofs.PrinterLemmas.{prints_all}
+
+-- Where a source tells its bytes, these decide what else is something.
+pub decided : {A : Type 0} (Q : A → Type 0) (told : Option (List ℕ)) (given : List ℕ → A) (some : A)
+    → Q some
+    → IfTold told (λ bytes. Q (given bytes))
+    → (x : A) × Q x × IfTold told (λ bytes. x ≡ given bytes)
+decided Q None given some holds told = (some, holds, λ bytes heard. cc)
+decided Q (Some bytes) given some holds told =
+    (given bytes, told bytes refl, λ other heard. let same : bytes ≡ other = cc in ap given same)
+
+-- The frames that are counted are holds fewer than none.
+latest-first : (frames : Transmission) (n : ℕ)
+    → frame_at frames 0 ≤ latest frames (suc n)
+unfolding latest
+latest-first frames zero = grind (arith, nat_tests)
+latest-first frames (suc n) =
+    let before = latest-first frames n in grind (arith, nat_tests)
+
+-- What was read can be counted.
+some_counts : (page : PageIdValue) (frames : Transmission) (n : ℕ) → length frames ≡ n
+    → (a : Accepted) × CountsRead page frames a
+some_counts page frames zero is = (
+  record {
+    frames = 0;
+    transmissions = header_count page (packets_before frames (length frames));
+  },
+  record {
+    none = λ none. refl;
+    frames_are = λ some. absurd (omega (arith, is, some));
+    transmissions_are = refl;
+  },
+)
+some_counts page frames (suc n) is =
+    let first = latest-first frames n in (
+      record {
+        frames = (latest frames (suc n) + 1) - frame_at frames 0;
+        transmissions = header_count page (packets_before frames (length frames));
+      },
+      record {
+        none = λ none. absurd (omega (arith, is, none));
+        frames_are = λ some. rw is (omega (arith, first));
+        transmissions_are = refl;
+      },
+    )
+
+-- Where the source of the PES file failed, the fault names the piece within which it did. It stands
+-- apart since `cc` refutes its cases quickly only where little else is known.
+read_at : (f : CheckFault)
+    → is_pes_read f ≡ true
+    → (n : ℕ) × (f ≡ fault.Pes n pes_fault.Read)
+read_at (fault.Pes n pes_fault.Read) is = (n, refl)
+read_at f is = cc
+
+-- What `check_all` answers within frames, and where the page has to be whole at once, of a programme
+-- of which all is known. For `tell_transmission`.
+pub both_answers : (judged : JudgedValue) (options : OptionsValue) (pes : Option (List ℕ))
+    (r : Result (Option Accepted) CheckFault)
+    → ((programme : ProgrammeValue)
+    → judged ≡ known programme
+    → IfTold pes (λ bytes. IfOk r (λ counts. IfSome counts (λ a. IsCheckedWithin programme options
+    bytes (first_answer (all_events_of programme options bytes) a)))))
+    → ((programme : ProgrammeValue)
+    → judged ≡ known programme
+    → options.within ≡ 0
+    → IfTold pes (λ bytes. IfOk r (λ counts. IfSome counts (λ a. IsChecked programme options
+    bytes (first_answer (all_events_of programme options bytes) a)))))
+    → IfTold pes (λ bytes.
+    (programme : ProgrammeValue)
+    → judged ≡ known programme
+    → IfOk r (λ counts. IfSome counts (λ a. IsAnswer programme options
+    bytes (first_answer (all_events_of programme options bytes) a))))
+both_answers judged options pes (Ok (Some a)) within at_once bytes heard programme is =
+    (within programme is bytes heard, λ none. at_once programme is none bytes heard)
+both_answers judged options pes (Ok None) within at_once bytes heard programme is = tt
+both_answers judged options pes (Err f) within at_once bytes heard programme is = tt
+
+-- What is told where nothing of the subtitle file is refused is told of its programme.
+events_known : (judged : JudgedValue) (programme : ProgrammeValue) (options : OptionsValue)
+    (bytes : List ℕ)
+    → judged ≡ known programme
+    → all_events_by judged options bytes ≡ all_events_of programme options bytes
+events_known judged programme options bytes is =
+    ap (λ (j : JudgedValue). all_events_by j options bytes) is
+
+module _ {D : Type 0} (IsTold : D → Event → D → Type 0) (value : D → PrinterValue)
+    (one : (s t : D) (x : Event) → IsTold s x t → PrintsEvent (value s) x (value t))
+    (judged : JudgedValue) (options : OptionsValue) (pes : SourceCall) (first : Option ℕ)
+    (old new : D)
+    (goes : (value old).failed ≡ false) (few : (value old).refused ≤ most_counted)
+    (starts : StartsAt first pes (value old).first) where
+  put : (items : List Event) → Tells IsTold old new items
+      → PrintsEvents (value old) items (value new)
+  put items told =
+      as_told (value old) (value new) items
+      (prints_all IsTold value (λ (e : Event). e) one old new items goes few told)
+
+  -- The source of the PES file failed.
+  after_pes_error : (f : CheckFault)
+      → is_pes_read f ≡ true
+      → (value new).failed ≡ false
+      → TellsSome IsTold old new
+      → IfTold pes.told (λ bytes. TellsEvents judged options bytes IsTold old new (Err f))
+      → RisesIf pes.old_count (is_pes_read f) pes.new_count
+      → ((index : ℕ)
+      → (let r : Result (Option Accepted) CheckFault = Err f in r)
+      ≡ Err (fault.Pes index pes_fault.Read)
+      → FailsAtPiece index pes.told pes.left)
+      → TellsPes judged options pes first (value old) (value new) (Err f)
+  after_pes_error f is quiet some told count fails = go (read_at f is).0 (read_at f is).1
+    where
+      go : (n : ℕ) → f ≡ fault.Pes n pes_fault.Read
+          → TellsPes judged options pes first (value old) (value new) (Err f)
+      go n same =
+          let events =
+          decided (λ (es : List Event). Tells IsTold old new es) pes.told
+          (λ bytes. events_of_first_by judged options bytes n) some.items some.told
+          (λ bytes heard.
+          let here = told bytes heard in
+          let at : here.0 ≡ n = let e = here.2 in cc in
+          subst (λ (m : ℕ). Tells IsTold old new
+          (events_of_first_by judged options bytes m)) at here.3) in
+          let are : IfTold pes.told (λ bytes.
+          (n ≤ length (piece_file_of (clock_of options) bytes).pieces)
+          × (events.0 ≡ events_of_first_by judged options bytes n)) =
+          λ bytes heard.
+          let here = told bytes heard in
+          let at : here.0 ≡ n = let e = here.2 in cc in (
+            subst (λ (m : ℕ). m ≤ length (piece_file_of (clock_of options) bytes).pieces) at here.1,
+            events.2 bytes heard,
+          ) in
+          record {
+            events = events.0;
+            answer = Err n;
+            same = λ holds. rw same refl;
+            number = (value old).first;
+            starts = starts;
+            prints = put events.0 events.1;
+            count =
+                subst (λ (g : CheckFault). RisesIf pes.old_count (is_pes_read g) pes.new_count) same
+                count;
+            read = λ m e.
+                let at : n ≡ m = cc in
+                subst (λ (k : ℕ). FailsAtPiece k pes.told pes.left) at
+                (fails n
+                (ap (λ g. let r : Result (Option Accepted) CheckFault = Err g in r) same));
+            cut = λ failing. absurd (true≢false (sym failing ∙ quiet));
+            checked = λ holds bytes known programme a given e. cc;
+            listed = are;
+          }
+
+  -- These are the events of the PES file, of which the sink may have a part.
+  read_pes : (items : List Event) (a : Accepted) (given : Result (Option Accepted) CheckFault)
+      → PrintsEvents (value old) items (value new)
+      → ((value new).failed ≡ false → Ok (Some a) ≡ given)
+      → RisesIf pes.old_count false pes.new_count
+      → IfTold pes.told (λ bytes. (items ≡ all_events_by judged options bytes)
+      × CountsRead options.page (frames_read options bytes) a)
+      → ((value new).failed ≡ false
+      → IfTold pes.told (λ bytes.
+      (programme : ProgrammeValue)
+      → judged ≡ known programme
+      → IsAnswer programme options bytes (first_answer items a)))
+      → TellsPes judged options pes first (value old) (value new) given
+  read_pes items a given prints same count are verdict = record {
+    events = items;
+    answer = Ok a;
+    same = same;
+    number = (value old).first;
+    starts = starts;
+    prints = prints;
+    count = count;
+    read = λ n is. cc;
+    cut = λ failing. refl;
+    checked = λ holds bytes heard programme b is e.
+        let one : a ≡ b = cc in
+        subst (λ (c : Accepted). IsAnswer programme options bytes (first_answer items c)) one
+        (verdict holds bytes heard programme is);
+    listed = are;
+  }
+
+  -- The PES file was read.
+  after_all : (given : Accepted)
+      → TellsSome IsTold old new
+      → IfTold pes.told (λ bytes. TellsEvents judged options bytes IsTold old new
+      (Ok (Some given)))
+      → IfTold pes.told (λ bytes.
+      (programme : ProgrammeValue)
+      → judged ≡ known programme
+      → IsAnswer programme options bytes
+      (first_answer (all_events_of programme options bytes) given))
+      → RisesIf pes.old_count false pes.new_count
+      → TellsPes judged options pes first (value old) (value new) (Ok (Some given))
+  after_all given some told first_is count =
+      let events =
+      decided (λ (es : List Event). Tells IsTold old new es) pes.told
+      (all_events_by judged options) some.items some.told (λ bytes heard. (told bytes heard).0)
+      in
+      read_pes events.0 given (Ok (Some given)) (put events.0 events.1) (λ holds. refl) count
+      (λ bytes heard. (events.2 bytes heard, (told bytes heard).1))
+      (λ quiet bytes heard programme is.
+      subst (λ (es : List Event). IsAnswer programme options bytes (first_answer es given))
+      (sym (events.2 bytes heard ∙ events_known judged programme options bytes is))
+      (first_is bytes heard programme is))
+
+  -- The sink failed.
+  after_stop : (value new).failed ≡ true
+      → TellsSome IsTold old new
+      → IfTold pes.told (λ bytes. TellsEvents judged options bytes IsTold old new (Ok None))
+      → RisesIf pes.old_count false pes.new_count
+      → TellsPes judged options pes first (value old) (value new) (Ok None)
+  after_stop failing some told count =
+      let counts = λ (bytes : List ℕ).
+      some_counts options.page (frames_read options bytes) (length (frames_read options bytes)) refl
+      in
+      let events =
+      decided (λ (x : List Event × Accepted). PrintsEvents (value old) x.0 (value new)) pes.told
+      (λ bytes. (all_events_by judged options bytes, (counts bytes).0))
+      (some.items, record { frames = 0; transmissions = 0 }) (put some.items some.told)
+      (λ bytes heard.
+      let p = told bytes heard in
+      let whole = all_events_by judged options bytes in
+      as_told (value old) (value new) whole
+      (prints-taken (λ (e : Event). e) (value old) (value new) p.0 whole failing
+      (prints_all IsTold value (λ (e : Event). e) one old new (take p.0 whole) goes few p.2)))
+      in
+      read_pes events.0.0 events.0.1 (Ok None) events.1
+      (λ holds. absurd (true≢false (sym failing ∙ holds))) count
+      (λ bytes heard.
+      rw (events.2 bytes heard) (refl, (counts bytes).1))
+      (λ quiet. absurd (true≢false (sym failing ∙ quiet)))
+
+  -- The PES file was read, or its source failed, or the sink. For `tell_transmission`.
+  pub after_pes : (r : Result (Option Accepted) CheckFault) (stopped : Bool)
+      → ((value new).failed ≡ true → stopped ≡ true)
+      → ((value new).failed ≡ false → (value new).count ≡ (value old).count → stopped ≡ false)
+      → TellsSome IsTold old new
+      → IfTold pes.told (λ bytes. TellsEvents judged options bytes IsTold old new r)
+      → IfTold pes.told (λ bytes.
+      (programme : ProgrammeValue)
+      → judged ≡ known programme
+      → IfOk r (λ counts. IfSome counts (λ a. IsAnswer programme options
+      bytes (first_answer (all_events_of programme options bytes) a))))
+      → IfOk r (λ counts. stopped ≡ is_none counts)
+      → IfErr r (λ f. stopped ≡ false)
+      → IfErr r (λ f. is_pes_read f ≡ true)
+      → RisesIf pes.old_count (failed is_pes_read r) pes.new_count
+      → ((index : ℕ)
+      → r ≡ Err (fault.Pes index pes_fault.Read)
+      → FailsAtPiece index pes.told pes.left)
+      → TellsPes judged options pes first (value old) (value new) r
+  after_pes (Ok (Some a)) stopped stops quiet some told first_is is goes_on only count fails =
+      after_all a some told first_is count
+  after_pes (Ok None) stopped stops quiet some told first_is is goes_on only count fails =
+      after_stop (failing (value new).failed refl) some told count
+    where
+      failing : (b : Bool) → (value new).failed ≡ b → (value new).failed ≡ true
+      failing true e = e
+      failing false e =
+          absurd (true≢false (sym is ∙ quiet e ((put some.items some.told).put_count e)))
+  after_pes (Err f) stopped stops quiet some told first_is is goes_on only count fails =
+      after_pes_error f only (calm (value new).failed refl) some told count fails
+    where
+      calm : (b : Bool) → (value new).failed ≡ b → (value new).failed ≡ false
+      calm true e = absurd (true≢false (sym (stops e) ∙ goes_on))
+      calm false e = e
+
+-- What is told with another first number before is told. For `tell_transmission`.
+pub with_first : (judged : JudgedValue) (options : OptionsValue) (pes : SourceCall)
+    (first : Option ℕ) (old new : PrinterValue) (number : ℕ)
+    (given : Result (Option Accepted) CheckFault)
+    → TellsPes judged options pes first (record old { first = number }) new given
+    → TellsPes judged options pes first old new given
+with_first judged options pes first old new number given t = record {
+  events = t.events;
+  answer = t.answer;
+  same = t.same;
+  number = t.number;
+  starts = t.starts;
+  prints = t.prints;
+  count = t.count;
+  read = t.read;
+  cut = t.cut;
+  checked = t.checked;
+  listed = t.listed;
+}

@@ -1,0 +1,89 @@
+-- What was told of the PES file: by PesEventLemmas and FailedReadLemmas.
+use Rattle.std.proofs.Common.{◌≡◌, ◌∙◌, refl, sym, arith, ℕ, ◌+◌, List, [], false, inl, inr, Err}
+use Rattle.std.proofs.lemmas.Bool.{true≢false}
+use Rattle.ttx_pes.specs.declared.fault.PesFault.TheVariants.{Read}
+use Rattle.sub_rules.specs.declared.fault.CheckFault.TheVariants as fault
+use Rattle.sub_listing.proofs.FirstPacketLemmas.{fails_first_piece, fails_piece_kept, told_kept}
+use Rattle.sub_rules.specs.declared.event.Event.{Event}
+use Rattle.sub_listing.specs.DeviceCall.{source_call}
+use Rattle.sub_listing.specs.Printer.{PrinterValue, PrintsEvent, printer_value}
+use Rattle.std.proofs.Common.{Option}
+use Rattle.sub_listing.specs.declared.printer.Printer.{Printer}
+use Rattle.sub_answer.proofs.PesEventLemmas.{after_pes, both_answers, with_first}
+use Rattle.sub_answer.proofs.FailedReadLemmas.{error_fails, tells_none}
+use Rattle.sub_listing.proofs.PrinterLemmas.{has_stopped, same_all, still_goes}
+use Rattle.sub_answer.proofs.answering.check_all.tell_transmission.Goals as goal
+
+-- The printer by what is known of its sink.
+abbrev value_of : {K : Type 0} → (K → Option (List ℕ)) → (K → ℕ) → Printer K → PrinterValue
+value_of contents count p =
+    printer_value (contents p.out.now) (count p.out.now) p.refused p.failed p.first
+
+-- How it stands after an event.
+abbrev IsToldEvent : {K : Type 0} → (K → Option (List ℕ)) → (K → ℕ) → (K → ℕ)
+    → Printer K → Event → Printer K → Type 0
+IsToldEvent contents count held s x t = (t.out.ghost_name ≡ s.out.ghost_name)
+    × PrintsEvent (value_of contents count s) x (value_of contents count t)
+    × (t.waiting ≡ false → held t.out.now ≡ 0)
+
+pub returns-in-Ok-clause-same : goal.returns-in-Ok-clause-same
+returns-in-Ok-clause-same g c =
+    same_all (IsToldEvent g.K.Sink.contents g.K.Sink.failure_count g.K.Flush.held)
+    (λ (p : Printer g.row.K.Denot). p.out.ghost_name) (λ s t x h. h.0) _ _
+    c.check_all.ensures.some
+
+pub returns-in-Ok-clause-told : goal.returns-in-Ok-clause-told
+returns-in-Ok-clause-told g c =
+    let n = c.in-Ok.first in
+    let start : Printer g.row.K.Denot = record c.args.printer.now { first = n } in
+    let found = c.in-Ok.ensures in
+    let counted = found.count in
+    let same : g.T.Source.failure_count c.find.new.source
+    ≡ g.T.Source.failure_count c.args.pes.now = omega (arith, counted) in
+    let e = c.check_all.ensures in
+    with_first _ _ _ _ (value_of g.K.Sink.contents g.K.Sink.failure_count c.args.printer.now) _ n _
+    (after_pes (IsToldEvent g.K.Sink.contents g.K.Sink.failure_count g.K.Flush.held)
+    (value_of g.K.Sink.contents g.K.Sink.failure_count) (λ s t x h. h.1)
+    c.args.judging.now c.args.options.now
+    (source_call g.T.Source.remaining g.T.Source.failure_count c.args.pes.now
+    c.check_all.new.source) (g.N.FirstPacket.number c.args.pes.now)
+    start c.check_all.new.audience c.requires.goes_on c.requires.few
+    (λ k is. inl (found.first k is))
+    c.check_all.result _ (has_stopped _ _)
+    (λ holds quiet. still_goes _ _ _ c.requires.out holds quiet)
+    e.some (λ bytes told. e.told bytes (told_kept _ _ bytes found.kept told))
+    (both_answers c.args.judging.now _ _ c.check_all.result
+    (λ programme is bytes told.
+    e.first_within programme is bytes (told_kept _ _ bytes found.kept told))
+    (λ programme is zero bytes told.
+    e.first programme is zero bytes (told_kept _ _ bytes found.kept told)))
+    e.stopped e.goes_on e.only (rw same at e.count)
+    (λ index is. fails_piece_kept index _ _ _ found.kept (e.read index is)))
+
+pub returns-in-Ok-clause-asked : goal.returns-in-Ok-clause-asked
+returns-in-Ok-clause-asked g c = λ none.
+    error_fails _ _ _ (c.check_all.ensures.asked none)
+
+pub returns-in-Err-clause-told : goal.returns-in-Err-clause-told
+returns-in-Err-clause-told g c =
+    let n = c.in-Err.at.pes in
+    let start : Printer g.row.K.Denot = record c.args.printer.now { first = n } in
+    let found = c.in-Err.ensures in
+    let counted = found.count in
+    let risen : g.T.Source.failure_count c.find.new.source
+    ≡ g.T.Source.failure_count c.args.pes.now + 1 = omega (arith, counted) in
+    with_first _ _ _ _ (value_of g.K.Sink.contents g.K.Sink.failure_count c.args.printer.now) _ n _
+    (after_pes (IsToldEvent g.K.Sink.contents g.K.Sink.failure_count g.K.Flush.held)
+    (value_of g.K.Sink.contents g.K.Sink.failure_count) (λ s t x h. h.1)
+    c.args.judging.now c.args.options.now
+    (source_call g.T.Source.remaining g.T.Source.failure_count c.args.pes.now c.find.new.source)
+    (g.N.FirstPacket.number c.args.pes.now) start start c.requires.goes_on c.requires.few
+    (λ k is. inr (found.before k is, (risen, found.kept)))
+    (Err (fault.Pes 0 Read)) false
+    (λ fails. absurd (true≢false (sym fails ∙ c.requires.goes_on)))
+    (λ holds quiet. refl)
+    (record { items = []; told = record { in_turn = refl } })
+    (λ bytes told. tells_none _ c.args.judging.now c.args.options.now bytes start)
+    (λ bytes told programme is. tt) tt refl refl risen
+    (λ index is.
+    let first : index ≡ 0 = cc in rw first (fails_first_piece _ _ found.kept)))

@@ -1,0 +1,21 @@
+-- What was answered through the buffer that was made, and the status.
+use Rattle.std.proofs.Common.{inl, inr, refl}
+use Rattle.subttx.proofs.run.Goals as goal
+
+pub returns-in-Some : goal.returns-in-Some
+returns-in-Some g c = record {
+  room = c.new-out.result.room;
+  new = c.answer_or_say.new.out;
+  status = c.answer_or_say.result;
+  code_is = c.code.ensures;
+  ends = inl (rw c.new-out.ensures at c.answer_or_say.ensures);
+}
+
+pub returns-in-None : goal.returns-in-None
+returns-in-None g c = record {
+  room = c.new-out-in-None.result.room;
+  new = c.say_and_hand_on.new.out;
+  status = c.say_and_hand_on.result;
+  code_is = c.code-in-None.ensures;
+  ends = inr (refl, rw c.new-out-in-None.ensures at c.say_and_hand_on.ensures.says);
+}
