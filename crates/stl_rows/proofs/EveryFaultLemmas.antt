@@ -13,7 +13,7 @@ use Rattle.stl_rows.specs.declared.fault.LoadFaultKind.{LoadFaultKind}
 use Rattle.stl_rows.specs.declared.layout.Drawing.{Drawing}
 use Rattle.stl_rows.specs.declared.fault.LoadFaultKind.TheVariants.{File, Memory}
 use Rattle.stl_rows.specs.EveryFault.{FailsTelling, TellsFaults, TellsOfFile, faults, is_of_file}
-use Rattle.stl_rows.specs.EveryFault.{EndsAfter, WantsMemory, is_told_before, load_fault}
+use Rattle.stl_rows.specs.EveryFault.{EndsSubtitleAfter, WantsMemory, is_told_before, load_fault}
 use Rattle.stl_rows.specs.Judged.{JudgedValue, JudgesBy}
 use Rattle.stl_rows.specs.Loading.{EndsBehind, EndsRecord, FailsLoading, TellsFault, loaded}
 use Rattle.stl_rows.specs.Loading.{unless_told}
@@ -128,7 +128,7 @@ loads-all drawing file j judged told =
 
 -- Where nothing is told before a subtitle that is kept nothing is wrong up to it.
 ends_behind : (drawing : Drawing) (before : Option Times) (at : ℕ) (left : Findings)
-    → EndsAfter drawing before [] at left
+    → EndsSubtitleAfter drawing before [] at left
     → EndsBehind drawing before at left
 ends_behind drawing before at no_more e = e
 ends_behind drawing before at (breaks f block) e = e

@@ -19,7 +19,7 @@ use Rattle.stl_rows.specs.declared.layout.Drawing.{Drawing}
 use Rattle.stl_rows.specs.declared.fault.LoadFault.{LoadFault}
 use Rattle.stl_rows.specs.declared.times.Times.{Times}
 use Rattle.stl_rows.specs.EveryFault.{FailsTelling, faults, is_told_before}
-use Rattle.stl_rows.specs.Keeping.{KeptValue}
+use Rattle.stl_rows.specs.Keeping.{KeptRecords}
 use Rattle.stl_rows.proofs.LoadingLemmas.{GoesOn, IsToldBy, tells-unread}
 
 -- The GSI block and `block` TTI blocks were taken.
@@ -60,7 +60,7 @@ none_before-0 (f ∷ fs) = grind (arith, nat_tests, none_before-0 fs)
 
 -- While a subtitle is read.
 pub fails-next : {drawing : Drawing} {start old new : Option (List ℕ)} {before : Option Times}
-    {kept : KeptValue} {early : List LoadFault} {D : Type 0}
+    {kept : KeptRecords} {early : List LoadFault} {D : Type 0}
     {IsTold : D → LoadFault → D → Type 0} {told_old told_new : D} {scope : Scope}
     (reader : ResumingValue) {block : ℕ}
     → HasTaken start old reader.block

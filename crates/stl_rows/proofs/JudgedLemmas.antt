@@ -205,12 +205,14 @@ undecided-next (t ∷ ts) [] other start frame (suc at) d le each inside before 
     let times = (each 0 t (omega arith)).times in
     let rest = undecided-next ts [] other t.tco frame at d own
     (λ k d h. each (suc k) d (omega arith)) (omega arith)
-    (λ k d h. before (suc k) d (omega arith)) (λ k d h b. after (suc k) d (omega arith) (omega arith)) in
+    (λ k d h. before (suc k) d (omega arith))
+    (λ k d h b. after (suc k) d (omega arith) (omega arith)) in
     grind (arith, nat_tests)
 undecided-next (t ∷ ts) (bit ∷ bits) other start frame (suc at) d le each inside before after =
     let own : t.tco ≤ frame = before 0 t (omega arith) in
     let times = (each 0 t (omega arith)).times in
     let rest = undecided-next ts bits other t.tco frame at d own
     (λ k d h. each (suc k) d (omega arith)) (omega arith)
-    (λ k d h. before (suc k) d (omega arith)) (λ k d h b. after (suc k) d (omega arith) (omega arith)) in
+    (λ k d h. before (suc k) d (omega arith))
+    (λ k d h b. after (suc k) d (omega arith) (omega arith)) in
     grind (arith, nat_tests)

@@ -1,7 +1,8 @@
 -- What is kept of a file while it is read, and the rest, are what can be relied on: judged-start,
 -- judged-refused, judged-next, judged-end. Subtitles that are in order: ordered.
-use Rattle.std.proofs.Common.{◌≡◌, ℕ, zero, suc, ◌+◌, ◌-◌, ◌<◌, ◌≤◌, Bool, false, true, List, [], ◌∷◌}
-use Rattle.std.proofs.Common.{◌++◌, length, take, drop, map, replicate, Option, Some, None, refl, sym}
+use Rattle.std.proofs.Common.{◌≡◌, ℕ, zero, suc, ◌+◌, ◌-◌, ◌<◌, ◌≤◌, Bool, false, true, List, []}
+use Rattle.std.proofs.Common.{◌∷◌, ◌++◌, length, take, drop, map, replicate, Option, Some, None}
+use Rattle.std.proofs.Common.{refl, sym}
 use Rattle.std.proofs.Common.{◌∙◌, ap, arith, inl, inr, append_assoc, append-nil, get_or}
 use Rattle.std.proofs.Common.{length-append, length-take}
 use Rattle.std.proofs.lemmas.List.{length-replicate}
@@ -9,7 +10,8 @@ use Rattle.std.proofs.Math.Seq.{drop-cons, take-append_seam}
 use Rattle.std.proofs.lemmas.Bool.{cases_Bool}
 use Rattle.std.proofs.lemmas.Bool.Decides.{nat_tests}
 use Rattle.std.proofs.lemmas.List.Elements.{All-nil, All-push, All-take}
-use Rattle.std.specs.Prelude.{All, IsOk, ◌==◌, is_some, option_map, ◌&&◌, not, nat_lt, is_none, if◌then◌else◌}
+use Rattle.std.specs.Prelude.{All, IsOk, ◌==◌, is_some, option_map, ◌&&◌, not, nat_lt, is_none}
+use Rattle.std.specs.Prelude.{if◌then◌else◌}
 use Rattle.stl_file.specs.Reading.{Findings, finds, no_more, refuses}
 use Rattle.stl_file.specs.Subtitle.{IsSubtitle, SubtitleValue}
 use Rattle.stl_file.specs.declared.fault.StlFault.{StlFault}
@@ -20,7 +22,7 @@ use Rattle.stl_rows.specs.declared.times.Times.{Times}
 use Rattle.stl_rows.specs.Judged.{AllJudged, JudgedSubtitle, are_in_order, are_some}
 use Rattle.stl_rows.specs.Judged.{is_followed_in_order}
 use Rattle.stl_rows.specs.Judged.{judged_before, judged_behind, start_from, with_bits}
-use Rattle.stl_rows.specs.Keeping.{KeptValue, all_kept, kept_after, nothing_kept, passed}
+use Rattle.stl_rows.specs.Keeping.{KeptRecords, all_kept, kept_after, nothing_kept, passed}
 use Rattle.stl_rows.specs.EveryFault.{load_fault}
 use Rattle.stl_rows.specs.Keeping.{are_none, bits_after, is_enough, is_whole}
 use Rattle.stl_rows.specs.Keeping.{passed_latest, with_one, without_last}
@@ -53,7 +55,8 @@ with_bits-set (s ∷ ts) [] t =
     let rest = with_bits-set ts [] t in
     let left : suc (length ts) - 0 ≡ suc (length ts) = omega arith in
     let same : length ts - 0 ≡ length ts = omega arith in
-    rw left (ap (λ (l : List JudgedSubtitle). with_bit s false ∷ l) (rw (same, take_none (length ts)) at rest))
+    rw left (ap (λ (l : List JudgedSubtitle). with_bit s false ∷ l)
+    (rw (same, take_none (length ts)) at rest))
 with_bits-set (s ∷ ts) (bit ∷ bits) t =
     let left : suc (length ts) - suc (length bits) ≡ length ts - length bits = omega arith in
     rw left (ap (λ (l : List JudgedSubtitle). with_bit s bit ∷ l) (with_bits-set ts bits t))
@@ -208,7 +211,7 @@ is_followed (Some times) left = is_followed_in_order times left
 
 -- What can be relied on of a file: what is kept, but not its last where that is early or overlaps,
 -- and what can be in the rest.
-abbrev pub judged_on : Drawing → Option Times → KeptValue → Findings → AllJudged
+abbrev pub judged_on : Drawing → Option Times → KeptRecords → Findings → AllJudged
 judged_on drawing before k left =
     if k.is_latest && not (is_followed before left)
     then joined (take (length k.records - 1) (all_kept k)) (judged_behind drawing before true left)
@@ -231,7 +234,7 @@ end_none true other js given =
     ap (λ (l : List JudgedSubtitle). record { judged = l; is_before_other = other })
     (append-nil js)
 
-pub judged-end : (drawing : Drawing) (before : Option Times) (k : KeptValue)
+pub judged-end : (drawing : Drawing) (before : Option Times) (k : KeptRecords)
     → judged_on drawing before k no_more
     ≡ record { judged = all_kept k; is_before_other = k.is_before_other }
 unfolding judged_behind
@@ -239,7 +242,7 @@ judged-end drawing None k = end_none k.is_latest k.is_before_other (all_kept k) 
 judged-end drawing (Some times) k = end_none k.is_latest k.is_before_other (all_kept k) _
 
 -- One is refused.
-pub judged-refused : (drawing : Drawing) (before : Option Times) (k : KeptValue)
+pub judged-refused : (drawing : Drawing) (before : Option Times) (k : KeptRecords)
     (fault : StlFault) (block : ℕ) (left : Findings)
     → judged_on drawing before k (refuses fault block left)
     ≡ judged_on drawing before (passed k) left
@@ -269,7 +272,8 @@ finds_told drawing before other t block left some = rw some refl
 
 -- Whether one is in order with those times is whether nothing is told of its own.
 followed_is : (before : Option Times) (t : SubtitleValue) (block : ℕ) (left : Findings)
-    → is_followed before (finds t block left) ≡ is_none (first_of (order_faults before (times_of t)))
+    → is_followed before (finds t block left)
+    ≡ is_none (first_of (order_faults before (times_of t)))
 followed_is None t block left = refl
 followed_is (Some times) t block left = refl
 
@@ -281,7 +285,7 @@ clean_order [] row none = refl
 clean_order (k ∷ ks) row none = absurd cc
 
 -- One more that is kept.
-bits_kept : (k : KeptValue) (t : SubtitleValue)
+bits_kept : (k : KeptRecords) (t : SubtitleValue)
     → length k.behind_other ≤ length k.records
     → all_kept (with_one t k) ≡ all_kept k ++ with_bit t k.is_before_other ∷ []
 bits_kept k t fits = elim (cases_Bool k.is_before_other) [
@@ -318,7 +322,7 @@ clean_step false false given behind other_behind js then_kept j n is size =
 clean_step true false given behind other_behind js then_kept j n is size =
     rw (is, drop_last js j n size) refl
 
-judged_clean : (drawing : Drawing) (before : Option Times) (k : KeptValue) (t : SubtitleValue)
+judged_clean : (drawing : Drawing) (before : Option Times) (k : KeptRecords) (t : SubtitleValue)
     (block : ℕ) (left : Findings)
     → length k.behind_other ≤ length k.records
     → is_none (first_of (follow_faults drawing before t)) ≡ true
@@ -336,7 +340,7 @@ judged_clean drawing before k t block left fits none =
     (judged_behind drawing (Some (times_of t)) true left) (all_kept k) (all_kept (with_one t k))
     (with_bit t k.is_before_other) (length (k.records ++ t ∷ []) - 1) (bits_kept k t fits) size)
 
-judged_told : (drawing : Drawing) (before : Option Times) (k : KeptValue) (t : SubtitleValue)
+judged_told : (drawing : Drawing) (before : Option Times) (k : KeptRecords) (t : SubtitleValue)
     (block : ℕ) (left : Findings) (in_order : Bool)
     → is_none (first_of (follow_faults drawing before t)) ≡ false
     → in_order ≡ is_none (first_of (order_faults before (times_of t)))
@@ -354,7 +358,7 @@ judged_told drawing before k t block left in_order some is =
     ])
 
 -- One more of the file.
-pub judged-next : (drawing : Drawing) (before : Option Times) (k : KeptValue)
+pub judged-next : (drawing : Drawing) (before : Option Times) (k : KeptRecords)
     (t : SubtitleValue) (block : ℕ) (left : Findings) (in_order clean : Bool)
     → length k.behind_other ≤ length k.records
     → in_order ≡ is_none (first_of (order_faults before (times_of t)))
@@ -371,7 +375,7 @@ judged-next drawing before k t block left in_order false fits is_order is_clean 
 -- What is kept of the subtitles so far: it is all of them while nothing was told, and then it is a
 -- programme.
 pub record AreKept (drawing : Drawing) (before : Option Times) (early : List LoadFault)
-    (k : KeptValue) : Type 0 where
+    (k : KeptRecords) : Type 0 where
   pub each : All IsSubtitle k.records
   pub drawable : All (λ t. IsOk (drawn drawing t)) k.records
   pub fits : length k.behind_other ≤ length k.records
@@ -404,7 +408,7 @@ not_empty (x ∷ xs) ys y e = absurd cc
 
 -- One more is refused.
 pub kept-refused : {drawing : Drawing} {before : Option Times} {early : List LoadFault}
-    {k : KeptValue} (fault : LoadFault)
+    {k : KeptRecords} (fault : LoadFault)
     → AreKept drawing before early k
     → AreKept drawing before (early ++ fault ∷ []) (passed k)
 kept-refused {early = early} {k} fault kept = record {
@@ -437,7 +441,7 @@ told_more early block (kind ∷ kinds) some =
 none_some : {A : Type 0} (xs : List A) → is_none (first_of xs) ≡ false → xs ≡ [] → ⊥
 none_some xs some none = grind (arith, nat_tests)
 
-module _ {drawing : Drawing} {before : Option Times} {early : List LoadFault} {k : KeptValue}
+module _ {drawing : Drawing} {before : Option Times} {early : List LoadFault} {k : KeptRecords}
     (t : SubtitleValue) (block : ℕ) (kept : AreKept drawing before early k) where
   fits_then : (other : Bool)
       → length (bits_after (length k.records) other k.behind_other) ≤ length (k.records ++ t ∷ [])
@@ -530,7 +534,8 @@ module _ {drawing : Drawing} {before : Option Times} {early : List LoadFault} {k
 -- ---- what is judged by
 
 -- Where all is kept nothing was told.
-pub whole_none : {drawing : Drawing} {before : Option Times} {early : List LoadFault} {k : KeptValue}
+pub whole_none : {drawing : Drawing} {before : Option Times} {early : List LoadFault}
+    {k : KeptRecords}
     → AreKept drawing before early k
     → is_whole k ≡ true
     → early ≡ []
@@ -538,7 +543,7 @@ whole_none {early = early} kept whole = none-first early (sym kept.whole ∙ who
 
 -- What is enough to judge by is a programme.
 pub programme-kept : {drawing : Drawing} {before : Option Times} {early : List LoadFault}
-    {k : KeptValue}
+    {k : KeptRecords}
     → AreKept drawing before early k
     → is_enough k ≡ true
     → IsProgramme drawing k.records
@@ -559,18 +564,8 @@ pub none_is : (bits : List Bool) → are_none bits ≡ (length bits == 0)
 none_is [] = refl
 none_is (bit ∷ bits) = grind (arith, nat_tests)
 
--- Of some of a file it is asked whether there are any.
-pub enough-none : (k : KeptValue) → is_whole k ≡ false → length k.records ≡ 0 → is_enough k ≡ false
-enough-none k part none =
-    let size = kept_length k.records k.behind_other in
-    rw (part, no_some (all_kept k) (size ∙ none)) refl
-  where
-    no_some : (js : List JudgedSubtitle) → length js ≡ 0 → are_some js ≡ false
-    no_some [] none = refl
-    no_some (j ∷ js) none = absurd (omega arith)
-
 -- And whether they are in order.
-pub enough-some : (k : KeptValue)
+pub enough-some : (k : KeptRecords)
     → is_whole k ≡ false
     → 0 < length k.records
     → is_enough k ≡ are_in_order (with_bits k.records [])

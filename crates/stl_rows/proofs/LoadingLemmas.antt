@@ -31,10 +31,11 @@ use Rattle.stl_rows.specs.declared.times.Times.{Times}
 use Rattle.stl_rows.specs.DrawnPage.{drawn}
 use Rattle.stl_rows.specs.EveryFault.{StopsWithin, TellsFaults, TellsOfFile, faults, faults_behind}
 use Rattle.stl_rows.specs.EveryFault.{ends_in_subtitle, is_told_before, is_of_file}
-use Rattle.stl_rows.specs.EveryFault.{EndsAfter, WantsMemory, load_fault}
+use Rattle.stl_rows.specs.EveryFault.{EndsSubtitleAfter, WantsMemory, load_fault}
 use Rattle.stl_rows.specs.Judged.{AllJudged, JudgedSubtitle, JudgesBy, are_in_order, are_some}
 use Rattle.stl_rows.specs.Judged.{judged_of, judges}
-use Rattle.stl_rows.specs.Keeping.{KeptValue, all_kept, are_none, is_enough, is_whole, judged_with}
+use Rattle.stl_rows.specs.Keeping.{KeptRecords, all_kept, are_none, is_enough, is_whole}
+use Rattle.stl_rows.specs.Keeping.{judged_with}
 use Rattle.stl_rows.specs.Keeping.{kept_after, nothing_kept, passed}
 use Rattle.stl_rows.specs.Loading.{loaded, records_of}
 use Rattle.stl_rows.proofs.JudgedLemmas.{all_decided}
@@ -138,13 +139,13 @@ stops-last drawing before t block old mid new order row is_order is_row some p q
 -- What was told of the subtitles so far, and what is wrong with the rest, is all that is wrong with
 -- the file; and so it is with what is kept and what can be relied on.
 pub record GoesOn (drawing : Drawing) (file : List ℕ) (left : Findings) (before : Option Times)
-    (kept : KeptValue) (early : List LoadFault) : Type 0 where
+    (kept : KeptRecords) (early : List LoadFault) : Type 0 where
   pub same : faults drawing file ≡ early ++ faults_behind drawing before left
   pub judged : judged_of drawing file ≡ judged_on drawing before kept left
   pub whole : is_read_whole (findings_for drawing.scope file) ≡ is_read_whole left
   pub ends_after : (rest : List LoadFault) (at : ℕ)
-      → EndsAfter drawing before rest at left
-      → EndsAfter drawing None (early ++ rest) at (findings_for drawing.scope file)
+      → EndsSubtitleAfter drawing before rest at left
+      → EndsSubtitleAfter drawing None (early ++ rest) at (findings_for drawing.scope file)
 
 -- Nothing was read yet.
 pub goes_on-start : (drawing : Drawing) (file : List ℕ)
@@ -158,7 +159,7 @@ goes_on-start drawing file = record {
 }
 
 module _ {drawing : Drawing} {file : List ℕ} {rest : Findings} {before : Option Times}
-    {kept : KeptValue} {early : List LoadFault} where
+    {kept : KeptRecords} {early : List LoadFault} where
   -- One subtitle more.
   pub goes_on-next : (t : SubtitleValue) (block : ℕ) (in_order clean : Bool)
       → AreKept drawing before early kept
@@ -268,7 +269,7 @@ module _ {D : Type 0} {IsTold : D → LoadFault → D → Type 0} {old mid new :
 -- ---- each way out
 
 module _ {D : Type 0} {IsTold : D → LoadFault → D → Type 0} {old mid : D} {drawing : Drawing}
-    {file : List ℕ} {left : Findings} {before : Option Times} {kept : KeptValue}
+    {file : List ℕ} {left : Findings} {before : Option Times} {kept : KeptRecords}
     {early : List LoadFault} (on : GoesOn drawing file left before kept early)
     (told : Tells IsTold old mid early) where
   -- Faults were told, and nothing is wrong with the rest of the file.
@@ -339,7 +340,7 @@ whole_bits [] true h = absurd cc
 whole_bits (bit ∷ bits) other h = absurd cc
 
 module _ {drawing : Drawing} {file : List ℕ} {left : Findings} {before : Option Times}
-    {kept : KeptValue} {early : List LoadFault}
+    {kept : KeptRecords} {early : List LoadFault}
     (on : GoesOn drawing file left before kept early) where
   -- All was read.
   module _ (is : left ≡ no_more) where
@@ -392,7 +393,7 @@ module _ {drawing : Drawing} {file : List ℕ} {left : Findings} {before : Optio
       rw broken refl
 
 -- Then something was told.
-pub some-few : {drawing : Drawing} {before : Option Times} {kept : KeptValue}
+pub some-few : {drawing : Drawing} {before : Option Times} {kept : KeptRecords}
     {early : List LoadFault}
     → AreKept drawing before early kept
     → is_enough kept ≡ false
@@ -448,7 +449,7 @@ late drawing before block (finds t at left) names =
 
 -- The faults that are found before this block.
 unread : {drawing : Drawing} {file : List ℕ} {left : Findings} {before : Option Times}
-    {kept : KeptValue} {early : List LoadFault} (from block : ℕ)
+    {kept : KeptRecords} {early : List LoadFault} (from block : ℕ)
     → from < block
     → All (IsToldBy from) early
     → FindsFrom block left
@@ -465,7 +466,7 @@ unread {drawing} {left = left} {before} {early = early} from block lt early_told
 -- The faults before the block at which the source failed were told.
 pub tells-unread : {D : Type 0} {IsTold : D → LoadFault → D → Type 0} {old new : D}
     {drawing : Drawing} {file : List ℕ} {left : Findings} {before : Option Times}
-    {kept : KeptValue} {early : List LoadFault} (from block : ℕ)
+    {kept : KeptRecords} {early : List LoadFault} (from block : ℕ)
     → from < block
     → All (IsToldBy from) early
     → FindsFrom block left
@@ -494,7 +495,7 @@ found-from scope block refused b le =
 
 -- For a subtitle with which nothing is wrong.
 pub wants-memory : {D : Type 0} {IsTold : D → LoadFault → D → Type 0} {old new : D}
-    {drawing : Drawing} {file : List ℕ} {before : Option Times} {kept : KeptValue}
+    {drawing : Drawing} {file : List ℕ} {before : Option Times} {kept : KeptRecords}
     {early : List LoadFault} (from block : ℕ) (t : SubtitleValue) (rest : Findings)
     → from < block
     → All (IsToldBy from) early

@@ -100,18 +100,18 @@ pub record FailsTelling
 
 -- A subtitle that follows one of these times ends at this block, nothing is told of it, and this is
 -- all that is told before it.
-abbrev pub EndsAfter : Drawing → Option Times → List LoadFault → ℕ → Findings → Type 0
-EndsAfter drawing before told at no_more = ⊥
-EndsAfter drawing before told at (breaks fault block) = ⊥
-EndsAfter drawing before told at (refuses fault block more) =
+abbrev pub EndsSubtitleAfter : Drawing → Option Times → List LoadFault → ℕ → Findings → Type 0
+EndsSubtitleAfter drawing before told at no_more = ⊥
+EndsSubtitleAfter drawing before told at (breaks fault block) = ⊥
+EndsSubtitleAfter drawing before told at (refuses fault block more) =
     (rest : List LoadFault)
     × (told ≡ load_fault block (File fault) ∷ rest)
-    × EndsAfter drawing before rest at more
-EndsAfter drawing before told at (finds t block more) =
+    × EndsSubtitleAfter drawing before rest at more
+EndsSubtitleAfter drawing before told at (finds t block more) =
     ((at ≡ block) × (told ≡ []) × (follow_faults drawing before t ≡ []))
     ⊎ ((rest : List LoadFault)
     × (told ≡ map (load_fault block) (follow_faults drawing before t) ++ rest)
-    × EndsAfter drawing (Some (times_of t)) rest at more)
+    × EndsSubtitleAfter drawing (Some (times_of t)) rest at more)
 
 -- The memory for the subtitle that ends at this block was refused: nothing is told of it, and the
 -- device was told the faults before it.
@@ -121,5 +121,5 @@ pub record WantsMemory
     : Type 0 where
   pub told : Tells IsTold old new (filter (is_told_before block) (faults drawing file))
   pub ends :
-      EndsAfter drawing None (filter (is_told_before block) (faults drawing file)) block
+      EndsSubtitleAfter drawing None (filter (is_told_before block) (faults drawing file)) block
       (findings_for drawing.scope file)

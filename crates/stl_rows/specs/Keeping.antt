@@ -9,23 +9,23 @@ use Rattle.stl_rows.specs.Judged.{JudgedSubtitle, JudgedValue, are_in_order, are
 -- The subtitles that are kept; behind which of them another one of the file stands, false where
 -- bits are missing; whether another one stands behind the last; and whether the last is the one
 -- with whose times the next ones are compared.
-pub record KeptValue : Type 0 where
+pub record KeptRecords : Type 0 where
   pub records : List SubtitleValue
   pub behind_other : List Bool
   pub is_before_other : Bool
   pub is_latest : Bool
 
 -- Nothing was read yet.
-abbrev pub nothing_kept : KeptValue
+abbrev pub nothing_kept : KeptRecords
 nothing_kept =
     record { records = []; behind_other = []; is_before_other = false; is_latest = false }
 
 -- Each with its bit.
-abbrev pub all_kept : KeptValue → List JudgedSubtitle
+abbrev pub all_kept : KeptRecords → List JudgedSubtitle
 all_kept k = with_bits k.records k.behind_other
 
 -- What it gives to judge by.
-abbrev pub judged_with : Drawing → KeptValue → JudgedValue
+abbrev pub judged_with : Drawing → KeptRecords → JudgedValue
 judged_with drawing k = record {
   programme = record { drawing = drawing; records = k.records };
   behind_other = k.behind_other;
@@ -40,7 +40,7 @@ bits_after n other bits =
     if other then take n bits ++ (replicate (n - length bits) false ++ true ∷ []) else bits
 
 -- With one more that is kept.
-abbrev pub with_one : SubtitleValue → KeptValue → KeptValue
+abbrev pub with_one : SubtitleValue → KeptRecords → KeptRecords
 with_one t k = record {
   records = k.records ++ t ∷ [];
   behind_other = bits_after (length k.records) k.is_before_other k.behind_other;
@@ -49,15 +49,15 @@ with_one t k = record {
 }
 
 -- With one more that is refused: times are not compared with it.
-abbrev pub passed : KeptValue → KeptValue
+abbrev pub passed : KeptRecords → KeptRecords
 passed k = record k { is_before_other = true }
 
 -- With one more of which something is told.
-abbrev pub passed_latest : KeptValue → KeptValue
+abbrev pub passed_latest : KeptRecords → KeptRecords
 passed_latest k = record k { is_before_other = true; is_latest = false }
 
 -- The last one is not relied on.
-abbrev pub without_last : KeptValue → KeptValue
+abbrev pub without_last : KeptRecords → KeptRecords
 without_last k = record k {
   records = take (length k.records - 1) k.records;
   behind_other = take (length k.records - 1) k.behind_other;
@@ -65,7 +65,7 @@ without_last k = record k {
 
 -- With one more, of which nothing is told, or something; where its times are not in order with
 -- those of the one before it, that one is not relied on either.
-abbrev pub kept_after : Bool → Bool → SubtitleValue → KeptValue → KeptValue
+abbrev pub kept_after : Bool → Bool → SubtitleValue → KeptRecords → KeptRecords
 kept_after in_order clean t k =
     if clean then with_one t k
     else if k.is_latest && not in_order then passed_latest (without_last k)
@@ -79,9 +79,9 @@ are_none [] = true
 are_none (bit ∷ bits) = false
 
 -- No other one stands anywhere: nothing was told.
-abbrev pub is_whole : KeptValue → Bool
+abbrev pub is_whole : KeptRecords → Bool
 is_whole k = are_none k.behind_other && not k.is_before_other
 
 -- A transmission is judged by it.
-abbrev pub is_enough : KeptValue → Bool
+abbrev pub is_enough : KeptRecords → Bool
 is_enough k = is_whole k || (are_some (all_kept k) && are_in_order (all_kept k))

@@ -27,9 +27,9 @@ pub struct Kept<A: Allocator + Copy> {
 }
 
 impl<A: Allocator + Copy> Model for Kept<A> {
-    ghost use Rattle.stl_rows.specs.Keeping.{KeptValue};
+    ghost use Rattle.stl_rows.specs.Keeping.{KeptRecords};
 
-    ghost Value = { KeptValue };
+    ghost Value = { KeptRecords };
 
     ghost view = { λ k. record {
       records = k.subtitles.items;

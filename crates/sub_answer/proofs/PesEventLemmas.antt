@@ -90,8 +90,8 @@ read_at : (f : CheckFault)
 read_at (fault.Pes n pes_fault.Read) is = (n, refl)
 read_at f is = cc
 
--- What `check_all` answers within frames, and where the page has to be whole at once, of a programme
--- of which all is known. For `tell_transmission`.
+-- What `check_all` answers within frames, and where the page has to be whole at once, of a
+-- programme of which all is known. For `tell_transmission`.
 pub both_answers : (judged : JudgedValue) (options : OptionsValue) (pes : Option (List ℕ))
     (r : Result (Option Accepted) CheckFault)
     → ((programme : ProgrammeValue)

@@ -7,7 +7,7 @@ use Rattle.sub_io.specs.Device.{RisesIf}
 use Rattle.sub_io.specs.Reading.{IfTold}
 use Rattle.ttx_pes.specs.declared.fault.PesFault.TheVariants.{Read}
 use Rattle.stl_file.specs.Reader.{block_of_byte, findings_for}
-use Rattle.stl_rows.specs.EveryFault.{EndsAfter, faults, is_told_before}
+use Rattle.stl_rows.specs.EveryFault.{EndsSubtitleAfter, faults, is_told_before}
 use Rattle.stl_rows.specs.Judged.{JudgedValue, JudgesBy, judges, known}
 use Rattle.stl_rows.specs.Loading.{loaded}
 use Rattle.stl_rows.specs.Programme.{ProgrammeValue}
@@ -53,7 +53,7 @@ AreListedBefore drawing file events block (File stl_fault.Read) =
     events ≡ subtitle_events (filter (is_told_before block) (faults drawing file))
 AreListedBefore drawing file events block Memory =
     (events ≡ subtitle_events (filter (is_told_before block) (faults drawing file)))
-    × EndsAfter drawing None (filter (is_told_before block) (faults drawing file)) block
+    × EndsSubtitleAfter drawing None (filter (is_told_before block) (faults drawing file)) block
     (findings_for drawing.scope file)
 AreListedBefore drawing file events block kind = ⊥
 

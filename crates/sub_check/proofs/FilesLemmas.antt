@@ -159,7 +159,8 @@ module _ (drawing : Drawing) (options : OptionsValue) (stl pes : List ℕ)
         × CarriesBy (clock_of options) options.within pes t
         × GoodWithin programme t options
     of_accepted_within is =
-        let same = programme_is is.subtitles (loads_within is.subtitles is.transmission is.mean) in (
+        let same =
+        programme_is is.subtitles (loads_within is.subtitles is.transmission is.mean) in (
           is.transmission,
           is.mean.carries,
           subst (λ (p : ProgrammeValue). GoodWithin p is.transmission options) (sym same) is.good,

@@ -1,6 +1,6 @@
 -- What is told of the whole file decides the answer of `check`: `answered`, `accepted_none`,
--- `refused_first`; and of `check_all`, `checked_first`, `tells_events`. Where nothing of the subtitle
--- file is refused, `tells_known`.
+-- `refused_first`; and of `check_all`, `checked_first`, `tells_events`. Where nothing of the
+-- subtitle file is refused, `tells_known`.
 use Rattle.std.proofs.lemmas.Bool.Decides.{nat_tests}
 use Rattle.std.proofs.lemmas.Slice.Zip.{AllZip-long}
 use Rattle.std.proofs.Common.{◌≡◌, ◌≢◌, ◌↔◌, ℕ, ◌≤◌, List, [], Bool, All, Option, Some, None}
@@ -446,7 +446,8 @@ pub tells_known :
     r)
     → (pieces : List Piece) (unread : Option Unread)
     → ReadsPieces (clock_of options) 0 bytes pieces unread
-    → TellsPieces (task_of programme options unread) (clock_of options) bytes pieces IsTold old new r
+    → TellsPieces (task_of programme options unread) (clock_of options) bytes pieces IsTold old new
+    r
 tells_known judged programme options bytes IsTold old new r is told pieces unread reads =
     subst (λ (j : JudgedValue). TellsPieces (task_beside j options unread) (clock_of options) bytes
     pieces IsTold old new r) is (told pieces unread reads)

@@ -1,5 +1,5 @@
--- Where the page is whole at an end nothing shows that was not due, `none_undue`; and nothing stands
--- broken, as few comparisons tell, `quiet_stands`.
+-- Where the page is whole at an end nothing shows that was not due, `none_undue`; and nothing
+-- stands broken, as few comparisons tell, `quiet_stands`.
 use Rattle.std.proofs.lemmas.Bool.Decides.{nat_tests}
 use Rattle.std.proofs.Common.{◌≡◌, ℕ, zero, suc, ◌+◌, ◌<◌, Bool, true, false, ◌&&◌, ◌||◌, nat_le}
 use Rattle.std.proofs.Common.{cond, not, List, Option, Some, None, is_some, refl, sym, ap, ◌∙◌}

@@ -7,7 +7,8 @@ use Rattle.std.specs.Io.KnownBytes.{Appends, Keeps}
 use Rattle.sub_io.specs.Device.{AppendsPrefix, RisesIf, failed}
 use Rattle.sub_io.specs.Reading.{IfTold}
 use Rattle.ttx_pes.specs.PesPacket.{payload_size}
-use Rattle.ttx_pes.specs.PieceRange.{behind_pieces, by_piece, count_pieces, first_pieces, piece_size}
+use Rattle.ttx_pes.specs.PieceRange.{behind_pieces, by_piece, count_pieces, first_pieces}
+use Rattle.ttx_pes.specs.PieceRange.{piece_size}
 use Rattle.ttx_pes.specs.Reading.{is_mark, size_at}
 use Rattle.ttx_pes.specs.declared.fault.PesFault.{PesFault}
 use Rattle.ttx_pes.specs.declared.fault.PesFault.TheVariants as pes

@@ -21,8 +21,10 @@ use Rattle.sub_laws.specs.CleanStretch.{IsEnd}
 use Rattle.sub_laws.proofs.DueCodeLemmas.{MayShow, none_undue, undue_none}
 use Rattle.sub_laws.proofs.FrameByFrame.{IsQuiet}
 use Rattle.sub_laws.proofs.PrefixLemmas.{RiseTo, end_high}
-use Rattle.sub_laws.proofs.StandingLemmas.{always_known, known_at, known_back, quiet_parts, undue_is}
-use Rattle.sub_laws.proofs.UnfinishedLemmas.{none_since, since_at, since_end, since_none, since_some}
+use Rattle.sub_laws.proofs.StandingLemmas.{always_known, known_at, known_back, quiet_parts}
+use Rattle.sub_laws.proofs.StandingLemmas.{undue_is}
+use Rattle.sub_laws.proofs.UnfinishedLemmas.{none_since, since_at, since_end, since_none}
+use Rattle.sub_laws.proofs.UnfinishedLemmas.{since_some}
 use Rattle.sub_laws.proofs.UnfinishedLemmas.{unfinished_at}
 
 -- The task where at each frame it is known what is due: these pages; with the TCI of the subtitle

@@ -1,6 +1,6 @@
 -- For `law_of_trusted_alike`.
--- Frames that are told as trusted beside what is refused of a subtitle file are so by each task that
--- asks alike wherever it is known what is due: `told_too`.
+-- Frames that are told as trusted beside what is refused of a subtitle file are so by each task
+-- that asks alike wherever it is known what is due: `told_too`.
 use Rattle.std.proofs.Common.{◌≡◌, ◌≢◌, ℕ, ◌-◌, ◌<◌, ◌≤◌, inl, inr, true}
 use Rattle.std.proofs.Common.{List, [], Contains, Option, Some, length, refl, sym, ap, ◌∙◌}
 use Rattle.std.proofs.Common.{arith, subst}

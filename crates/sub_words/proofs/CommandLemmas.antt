@@ -26,7 +26,8 @@ use Rattle.clap.proofs.WalkLemmas.{first_value-rows}
 use Rattle.sub_words.specs.Commands.{are_sound, clap_rule, command_in, clap_refusals, subttx_app}
 use Rattle.sub_words.specs.Commands.{texts_of}
 use Rattle.sub_words.specs.declared.command.Argument.{Argument}
-use Rattle.sub_words.specs.Requests.{Asked, IsFaultIn, IsFaultOfCommand, IsReadExactly, IsReadGivenMemory}
+use Rattle.sub_words.specs.Requests.{Asked, IsFaultIn, IsFaultOfCommand, IsReadExactly}
+use Rattle.sub_words.specs.Requests.{IsReadGivenMemory}
 use Rattle.sub_words.specs.Requests.{asked_for, asked_in, is_own}
 use Rattle.sub_request.specs.declared.request.Request.{Request}
 use Rattle.sub_request.specs.declared.request.UsageFault.{UsageFault}

@@ -64,7 +64,7 @@ EndsRun AreMade told IsClose given old new result =
 
 -- A run of the program, from the words that the system gave, its files and standard output to the
 -- exit status. There is a buffer before standard output, which held nothing, and no other device.
-pub record Runs
+pub record RunsProgram
     {I O K : Type 0} (AreMade : List (FileCall I O) → Type 0) (told : ToldOfFiles I O)
     (IsClose : O → O → Type 0) (given : Result (List Text) UsageFault)
     (contents : K → Option (List ℕ)) (failure_count : K → ℕ) (output : K) (code : ℕ)

@@ -10,7 +10,7 @@ ghost use Rattle.std.specs.Prelude.{◌≡◌, IfErr, IfOk};
 ghost use Rattle.sub_io.specs.Buffered.{failures_and_refused};
 ghost use Rattle.sub_answer.specs.Ending.{lines_of, told_of_files};
 ghost use Rattle.sub_files.specs.FileCalls.{CallsInTurn};
-ghost use Rattle.subttx.specs.Run.{Answered, EndsRun, IsCause, Runs};
+ghost use Rattle.subttx.specs.Run.{Answered, EndsRun, IsCause, RunsProgram};
 ghost use Rattle.subttx.specs.Words.{words_given};
 
 use crate::words::{texts_of, words_of};
@@ -46,7 +46,7 @@ fn run<D: FileSystem, K: Sink + Drop>(
     standard_output: K,
 ) -> u8
     requires { K.failure_count standard_output ≡ 0 }
-    ensures { Runs (CallsInTurn D.is_call files.old files.new)
+    ensures { RunsProgram (CallsInTurn D.is_call files.old files.new)
         (told_of_files D.Input.remaining D.Input.failure_count
         D.Output.contents D.Output.failure_count)
         D.Output.is_close (words_given given)

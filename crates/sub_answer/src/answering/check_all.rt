@@ -25,8 +25,8 @@ use sub_plan::Options;
 use ttx_pes::PesFault;
 
 /// Checks a PES file against a subtitle file, and prints a line for each place that is broken, and
-/// where a rule of a frame's end is so no more, as they are found, those of the subtitle file first;
-/// then how many are refused, or the line of what is accepted.
+/// where a rule of a frame's end is so no more, as they are found, those of the subtitle file
+/// first; then how many are refused, or the line of what is accepted.
 ///
 /// Beside what is refused in the subtitle file the PES file is judged by what can be relied on of
 /// it; `pes` is not touched where that is not enough. `Done` where the files are accepted;
@@ -79,9 +79,9 @@ pub fn print_every_fault<N: FirstPacket<T>, S: Source, T: Source, K: Flush>(
     print_end(first, refused, answer, out)
 }
 
-// Tells a printer what is broken in the subtitle file, and then in the PES file, where a transmission
-// is judged beside that. `None` where it is not, or the printer said stop, else what was read of the
-// PES file.
+// Tells a printer what is broken in the subtitle file, and then in the PES file, where a
+// transmission is judged beside that. `None` where it is not, or the printer said stop, else what
+// was read of the PES file.
 fn tell_every_fault<N: FirstPacket<T>, S: Source, T: Source, K: Flush>(
     alloc: Global,
     stl: &mut S,
