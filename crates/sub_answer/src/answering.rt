@@ -26,8 +26,7 @@ use sub_listing::{
     FirstPacket, Status, extract_packets, list_packets, list_subtitles, print_help, print_survey,
     print_told, show_packet, told_of_usage, write_normal, write_schedule,
 };
-use sub_request::{ReceiverKind, Request, UsageFault};
-use ttx_page::{Blank, Keep};
+use sub_request::{Request, UsageFault};
 
 /// Answers a request that `Request::parse` gave.
 ///
@@ -108,11 +107,7 @@ pub fn answer<N: FirstPacket<S>, M: FirstPacket<T>, S: Source, T: Source, F: Flu
             scope,
             ..
         } => {
-            let drawing = Drawing {
-                national: *national,
-                layout: *layout,
-                scope: *scope,
-            };
+            let drawing = Drawing::new(*national, *layout, *scope);
             write_schedule(alloc, drawing, options, *serial, first, file, out)
         }
         Request::Normal { .. } => write_normal(alloc, first, file, out),
@@ -124,24 +119,14 @@ pub fn answer<N: FirstPacket<S>, M: FirstPacket<T>, S: Source, T: Source, F: Flu
             all,
             ..
         } => {
-            let drawing = Drawing {
-                national: *national,
-                layout: *layout,
-                scope: *scope,
-            };
+            let drawing = Drawing::new(*national, *layout, *scope);
             if *all {
                 print_every_fault::<M, S, T, K>(alloc, first, second, drawing, options, out)
             } else {
                 print_verdict::<M, S, T, K>(alloc, first, second, drawing, options, out)
             }
         }
-        Request::Listen { listening, .. } => match listening.receiver {
-            // One that drops rows hears none with a byte of even parity.
-            ReceiverKind::Keep | ReceiverKind::DropRow => {
-                print_listening::<N, Keep, S, K>(first, listening, out)
-            }
-            ReceiverKind::Blank => print_listening::<N, Blank, S, K>(first, listening, out),
-        },
+        Request::Listen { listening, .. } => print_listening::<N, S, K>(first, listening, out),
         Request::Extract { .. } => extract_packets(first, file, out),
         Request::Survey { options, .. } => print_survey(alloc, *options, first, out),
     }

@@ -4,24 +4,25 @@ ghost use Rattle.ttx_page.specs.Page.{AreCodes};
 ghost use Rattle.sub_answer.specs.Answering.{AnswersListen, PrintsHeard};
 ghost use Rattle.sub_listing.specs.DeviceCall.{CanFail, CountsFault, sink_call, source_call};
 ghost use Rattle.sub_answer.specs.ListenListing.{IsOldPage, listen_told};
+ghost use Rattle.sub_listen.specs.Reception.{left_by};
 
 use sub_io::{Sink, Source};
 use sub_listen::{ListenFault, listen};
 use sub_listing::{
     FirstPacket, Kind, Status, Told, print_state, print_told, told_of_check, told_of_failed_read,
 };
-use sub_request::Listening;
+use sub_request::{Listening, ReceiverKind};
 use sub_rules::FaultPlace;
-use ttx_page::{Page, Receiver};
+use ttx_page::{Blank, Keep, Page, Receiver};
 
-/// Runs a receiver over the PES packets of a file up to TIME, and prints what it has heard and
-/// shows, or why the file is refused (`listen` of `sub_listen`).
+/// Runs the receiver that is asked for over the PES packets of a file up to TIME, and prints what it
+/// has heard and shows, or why the file is refused (`listen` of `sub_listen`).
 ///
 /// The receiver is tuned to the page with an old page that holds 3F in every cell. Nothing is
 /// printed before the last packet was heard. Where complete pages are asked for, what is printed is
 /// what is on its screen: a page comes onto it when a header of another page ends it. Else it has
 /// no screen.
-pub fn print_listening<N: FirstPacket<S>, R: Receiver + Drop, S: Source, K: Sink>(
+pub fn print_listening<N: FirstPacket<S>, S: Source, K: Sink>(
     pes: &mut S,
     listening: &Listening,
     out: &mut K,
@@ -31,6 +32,32 @@ pub fn print_listening<N: FirstPacket<S>, R: Receiver + Drop, S: Source, K: Sink
     // Where the source tells its bytes and does not fail, they are read as frames, and what is
     // printed is the state of a receiver that heard what it gets of them, or the refusal. A source
     // that fails is told at the PES packet within which it failed, after what was heard.
+    ensures exact { AnswersListen (left_by listening.now.receiver) listening.now
+        (source_call S.remaining S.failure_count pes.old pes.new) (N.number pes.old)
+        (sink_call K.contents K.failure_count out.old out.new) result }
+    ensures first_count { CountsFault S.failure_count pes.old result pes.new }
+    ensures out_count { CountsFault K.failure_count out.old result out.new }
+    ensures fault { result ≡ Status.Fault
+        → S.failure_count pes.old + K.failure_count out.old
+        < S.failure_count pes.new + K.failure_count out.new }
+{
+    match listening.receiver {
+        // One that drops rows hears none with a byte of even parity.
+        ReceiverKind::Keep | ReceiverKind::DropRow => {
+            print_state_of::<N, Keep, S, K>(pes, listening, out)
+        }
+        ReceiverKind::Blank => print_state_of::<N, Blank, S, K>(pes, listening, out),
+    }
+}
+
+// The same with a receiver of this type.
+fn print_state_of<N: FirstPacket<S>, R: Receiver + Drop, S: Source, K: Sink>(
+    pes: &mut S,
+    listening: &Listening,
+    out: &mut K,
+) -> Status
+    requires first { CanFail (S.failure_count pes.old) }
+    requires out { CanFail (K.failure_count out.old) }
     ensures exact { AnswersListen R.leaves listening.now
         (source_call S.remaining S.failure_count pes.old pes.new) (N.number pes.old)
         (sink_call K.contents K.failure_count out.old out.new) result }

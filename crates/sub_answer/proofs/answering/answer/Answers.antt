@@ -1,8 +1,4 @@
 -- What a command's body says of its answer, said of the request.
-use Rattle.std.proofs.Common.{◌≡◌, ap, inl, inr}
-use Rattle.sub_listen.specs.Reception.{left_by}
-use Rattle.sub_request.specs.declared.listening.ReceiverKind.TheVariants.{Keep}
-use Rattle.sub_answer.proofs.ListenListingLemmas.{answers_as}
 use Rattle.sub_answer.proofs.answering.answer.Goals as goal
 
 pub returns-in-Packets-clause-answers : goal.returns-in-Packets-clause-answers
@@ -15,19 +11,11 @@ pub returns-in-Normal-clause-answers : goal.returns-in-Normal-clause-answers
 returns-in-Normal-clause-answers g c = rw c.in-Normal.is c.write_normal.ensures.work
 
 pub returns-in-Schedule-clause-answers : goal.returns-in-Schedule-clause-answers
-returns-in-Schedule-clause-answers g c = rw c.in-Schedule.is c.write_schedule.ensures.work
+returns-in-Schedule-clause-answers g c =
+    rw c.in-Schedule.is (rw c.new-drawing.ensures at c.write_schedule.ensures.work)
 
-pub returns-in-Keep-clause-answers : goal.returns-in-Keep-clause-answers
-returns-in-Keep-clause-answers g c =
-    let l = c.in-Listen.listening in
-    let same : left_by l.receiver ≡ left_by Keep =
-    elim c.in-Keep.is [ inl e ↦ ap left_by e | inr e ↦ ap left_by e ] in
-    rw c.in-Listen.is (answers_as _ _ l _ _ _ _ same c.print_listening.ensures.exact)
-
-pub returns-in-Blank-clause-answers : goal.returns-in-Blank-clause-answers
-returns-in-Blank-clause-answers g c =
-    rw c.in-Listen.is
-    (answers_as _ _ _ _ _ _ _ (ap left_by c.in-Blank.is) c.print_listening-in-Blank.ensures.exact)
+pub returns-in-Listen-clause-answers : goal.returns-in-Listen-clause-answers
+returns-in-Listen-clause-answers g c = rw c.in-Listen.is c.print_listening.ensures.exact
 
 pub returns-in-Extract-clause-answers : goal.returns-in-Extract-clause-answers
 returns-in-Extract-clause-answers g c = rw c.in-Extract.is c.extract_packets.ensures.extract

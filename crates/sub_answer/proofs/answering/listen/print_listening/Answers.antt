@@ -1,35 +1,17 @@
--- What is heard once the first PES packet was found, and where the source failed before:
--- heard_kept, none_heard.
-use Rattle.std.proofs.Common.{◌≡◌, ◌+◌, arith, inl, inr}
-use Rattle.sub_listing.specs.DeviceCall.{source_call}
-use Rattle.sub_answer.proofs.ListenListingLemmas.{heard_kept, none_heard}
+-- The receiver that is asked for leaves what one of its type does.
+use Rattle.std.proofs.Common.{◌≡◌, ap, inl, inr}
+use Rattle.sub_listen.specs.Reception.{left_by}
+use Rattle.sub_request.specs.declared.listening.ReceiverKind.TheVariants.{Keep}
+use Rattle.sub_answer.proofs.ListenListingLemmas.{answers_as}
 use Rattle.sub_answer.proofs.answering.listen.print_listening.Goals as goal
 
-pub returns-in-Ok-clause-exact : goal.returns-in-Ok-clause-exact
-returns-in-Ok-clause-exact g c =
-    let counted = c.in-Ok.ensures.count in
-    let same : g.S.Source.failure_count c.find.new.source
-    ≡ g.S.Source.failure_count c.args.pes.now = omega (arith, counted) in
-    record {
-      number = c.in-Ok.first;
-      starts = λ n is. inl (c.in-Ok.ensures.first n is);
-      heard =
-          heard_kept _ _ c.in-Ok.first _ _ _ _ _ _ _ _ c.in-Ok.ensures.kept same
-          c.print_heard.ensures.exact;
-    }
+pub returns-in-Keep-clause-exact : goal.returns-in-Keep-clause-exact
+returns-in-Keep-clause-exact g c =
+    let l = c.args.listening.now in
+    let same : left_by l.receiver ≡ left_by Keep =
+    elim c.in-Keep.is [ inl e ↦ ap left_by e | inr e ↦ ap left_by e ] in
+    answers_as _ _ l _ _ _ _ same c.print_state_of.ensures.exact
 
-pub returns-in-Err-clause-exact : goal.returns-in-Err-clause-exact
-returns-in-Err-clause-exact g c =
-    let counted = c.in-Err.ensures.count in
-    let risen : g.S.Source.failure_count c.find.new.source
-    ≡ g.S.Source.failure_count c.args.pes.now + 1 = omega (arith, counted) in
-    record {
-      number = c.in-Err.at.pes;
-      starts = λ n is. inr (c.in-Err.ensures.before n is, (risen, c.in-Err.ensures.kept));
-      heard =
-          none_heard _ _ c.in-Err.at.pes
-          (source_call g.S.Source.remaining g.S.Source.failure_count c.args.pes.now
-          c.find.new.source)
-          _ _ c.in-Err.ensures.kept risen
-          (rw c.told_of_failed_read.ensures at c.print_told.ensures.printed);
-    }
+pub returns-in-Blank-clause-exact : goal.returns-in-Blank-clause-exact
+returns-in-Blank-clause-exact g c =
+    answers_as _ _ _ _ _ _ _ (ap left_by c.in-Blank.is) c.print_state_of-in-Blank.ensures.exact
