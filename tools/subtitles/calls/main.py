@@ -72,6 +72,7 @@ def parser_of(text: str) -> Words:
     # For the calls that other ones make.
     parser.add_argument("--name", help=argparse.SUPPRESS)
     parser.add_argument("--fitted", dest="is_fitted", action="store_true", help=argparse.SUPPRESS)
+    parser.add_argument("--cut", dest="is_cut", action="store_true", help=argparse.SUPPRESS)
     return parser
 
 

@@ -65,7 +65,7 @@ def judge(words: argparse.Namespace, called: str) -> int:
         files.prepare()
         verdict.found = found(asked)
         pair = Pair(verdict, typed, names, speech, files.are_any())
-        pair.stalled_after = words.stall
+        pair.stalled_after, pair.is_cut = words.stall, words.is_cut
         if out is not None:
             pair.draw = functools.partial(draw, pair)
         try:

@@ -15,7 +15,7 @@ from ..reading.cutting import cut_of
 from ..reading.finding import runs_line
 from ..reading.gaps import Place, what_of
 from ..reading.survey import HEADER, Range
-from ..reading.timeline import Span, timeline_near
+from ..reading.timeline import LEAST, Span, timeline_near
 from . import warned
 from .as_sent import BY_LAYOUT, otherwise, sent_in, told_of, why_none
 from .checking import Answer
@@ -70,7 +70,7 @@ class Pair:
         self.whole = Found(0, 0, NO_CLOCK)
         self.begun: Part | None = None  # that is being judged
         self.heard: Heard | None = None  # before the file was judged
-        self.is_shifted = False
+        self.is_shifted = self.is_cut = False
 
     def judge(self) -> None:
         """Judges the pair; `Unclear` where a step is not clear."""
@@ -175,7 +175,7 @@ class Pair:
         given = self.given()
         self.whole = Found(subtitles[0].begin, subtitles[-1].end, given or NO_CLOCK)
         recording = Recording(asked, self.typed, self.names, self.speech, self.stalled_after)
-        self.recording = recording
+        self.recording, recording.is_cut = recording, self.is_cut
         ending = Ending(asked, self.whole.begin, self.whole.end, lambda packets: origin_in(
             packets, self.steps.sought(recording, None)))
         recording.read(self.is_summed, ending)
@@ -209,6 +209,8 @@ class Pair:
 
     def found(self, recording: Recording, given: Clock | None) -> list[Found]:
         """The parts with their clocks; the first one has the one that was given."""
+        if self.is_cut and given:
+            self.steps.inside = self.near(recording, given.origin)
         origin = self.steps.fit(recording, given)
         if origin.runs and recording.is_feed:
             run = self.run_at(recording, given, origin.runs)
@@ -236,6 +238,16 @@ class Pair:
         own = cut_of(recording.packets, self.whole.begin, self.whole.end, given.origin, asked.every,
                      asked.within).range if given else None
         return next((run for run in runs if own and run[0] <= own[0] and own[1] <= run[1]), runs[0])
+
+    def near(self, recording: Recording, origin: int) -> Range | None:
+        """Of what was cut out of a feed the PES packets of about the time of the subtitles, the
+        last time that this comes."""
+        asked, packets = self.asked, recording.packets
+        more = max(LEAST, asked.every) + asked.within
+        cuts = (cut_of(packets, max(self.whole.begin - more, 0),
+                       min(self.whole.end + more, FRAMES_OF_A_DAY - 1), origin, None, asked.within,
+                       (base.start, base.stop - 1)).range for base in reversed(packets.bases()))
+        return next(filter(None, cuts), None)
 
     def by_start(self, recording: Recording) -> Clock | None:
         """The clock that the first picture tells, where it is asked."""

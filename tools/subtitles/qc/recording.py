@@ -41,6 +41,20 @@ def size_of(name: str) -> int | None:
     return about.st_size if stat.S_ISREG(about.st_mode) else None
 
 
+def refuse(survey: Survey, name: str) -> None:
+    """What is no recording of Teletext is told so."""
+    head = survey.head
+    if not head:
+        raise Stop(f"{name} is empty")
+    if head[3:6] == b"STL":
+        raise Stop(f"{name} is a subtitle file: the recording stands after the subtitle file")
+    if survey.size is None and head.startswith(START[:3]) and head[3:4] != START[3:]:
+        raise Stop(f"{name} has PES packets of another kind than Teletext's: stream_id "
+                   f"{head[3]:02X} instead of BD")
+    if survey.size is None:
+        raise Unclear(f"{name}: no transport stream: packets of 188 bytes that begin with 47")
+
+
 class Recording:
     """A recording that is read: `packets` are those of the PID with the page. What is judged of a
     file is a range of the recording itself; the PES packets of what comes through a pipe are kept
@@ -53,6 +67,7 @@ class Recording:
         self.name, self.stalled_after = asked.recording, stalled_after
         self.size = size_of(self.name)
         self.is_feed = self.size is None
+        self.is_cut = False  # of a feed, by who calls this tool: it is read to its end
         self.survey, self.packets = Survey(), Packets(PES)
         self.file: File | None = None
 
@@ -81,7 +96,7 @@ class Recording:
                 if self.speech.progress.is_due():
                     self.speech.show(self.name)
         self.survey.refuse(process.returncode)
-        self.refuse()
+        refuse(self.survey, self.name)
         self.packets = self.chosen()
         self.file = files.all()[0] if files else None
 
@@ -90,24 +105,12 @@ class Recording:
         feed = Feed(self.name, self.asked, self.typed.program_path, self.names.folder, is_summed)
         feed.survey = self.survey
         with feed:
-            feed.follow(ending if self.is_feed else None, self.speech, self.stalled_after)
-            self.refuse()
+            feed.follow(ending if self.is_feed and not self.is_cut else None, self.speech,
+                        self.stalled_after)
+            refuse(self.survey, self.name)
             self.packets = self.chosen()
             self.packets = feed.keep(self.packets, self.names.whole_path)
         self.file = feed.summed()
-
-    def refuse(self) -> None:
-        """What is no recording of Teletext is told so."""
-        head, name = self.survey.head, self.name
-        if not head:
-            raise Stop(f"{name} is empty")
-        if head[3:6] == b"STL":
-            raise Stop(f"{name} is a subtitle file: the recording stands after the subtitle file")
-        if self.survey.size is None and head.startswith(START[:3]) and head[3:4] != START[3:]:
-            raise Stop(f"{name} has PES packets of another kind than Teletext's: stream_id "
-                       f"{head[3]:02X} instead of BD")
-        if self.survey.size is None:
-            raise Unclear(f"{name}: no transport stream: packets of 188 bytes that begin with 47")
 
     def chosen(self) -> Packets:
         """The only PID that carries the page, or the one that was asked for."""

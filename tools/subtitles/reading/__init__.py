@@ -6,6 +6,7 @@ survey       what `survey` tells of a recording, as values
 timeline     what a receiver holds of a page when
 streams      the PES packets of a PID, for the tools that are told it
 gaps         where something is missing, and where the clock jumps
+moves        a page that goes to another PID
 timing       PTS against the PCR
 receiver     what a model receiver holds, and marks in its cells
 repeat       how often a page is repeated

@@ -6,7 +6,7 @@ from typing import Iterator, NamedTuple
 
 from ..core.times import TICKS, ticks_between, time_of, wrapped
 from ..core.words import counted, pid_name
-from .survey import Packets
+from .survey import Clocked, Packets
 
 SECOND = 90_000  # ticks
 TOLD = 20  # places that are told one by one
@@ -44,9 +44,15 @@ def places_of(packets: Packets) -> list[Place]:
         following[run.first] = pts
     known = [Place(one.before, following[one.number], one.lost, one.scrambled, mark=one.number)
              for one in packets.marks]
-    holes = [Place(one.before, one.after, missing=one.ticks - round(one.usual))
-             for one in packets.clocked if one.counters == "broken" and one.ticks > 0]
+    holes = filter(None, map(hole_of, packets.clocked))
     return known + [hole for hole in holes if not any(overlap(hole, one) for one in known)]
+
+
+def hole_of(one: Clocked) -> Place | None:
+    """The hole that a PCR tells which comes late, where the counters of other PIDs are broken."""
+    if one.counters != "broken" or one.ticks <= 0:
+        return None
+    return Place(one.before, one.after, missing=one.ticks - round(one.usual))
 
 
 def jumps_of(packets: Packets) -> Iterator[Jump]:

@@ -1,0 +1,64 @@
+"""What can be judged of a programme that did not come whole, and what is said of it then."""
+from __future__ import annotations
+
+from typing import NamedTuple, Sequence
+
+from ...core.times import Between, time_of
+from ...qc.status import ACCEPTED, NOT_JUDGED, WAIVED
+
+STOPPED, ENDED = "stopped", "the feed ended"
+
+
+class Came(NamedTuple):
+    """What came of a programme: the frame with which the feed began, where that is behind its first
+    TCI; and the last frame of the feed, where that is before its last TCO."""
+
+    first: int | None
+    last: int | None
+
+    @property
+    def is_whole(self) -> bool:
+        return self.first is None and self.last is None
+
+
+class Whole(NamedTuple):
+    """Its subtitles that came whole: those that come in some frames, and the last TCO of them."""
+
+    between: Between
+    last: int
+
+
+def whole_in(times: Sequence[tuple[int, int]], came: Came) -> Whole | None:
+    """The subtitles, each by its first frame and the one behind its last, that came whole, from one
+    on before which the page is blank up to one after which it is; `None` where there is none."""
+    rows = sorted(times)
+    ends = [max(end for _, end in rows[:count]) if count else -1 for count in range(len(rows) + 1)]
+    begins = [at for at in range(len(rows)) if ends[at] <= rows[at][0]
+              and (came.first is None or rows[at][0] >= came.first)]
+    stops = [at for at in range(1, len(rows) + 1) if (at == len(rows) or ends[at] < rows[at][0])
+             and (came.last is None or ends[at] <= came.last)]
+    if not begins or not stops or stops[-1] <= begins[0]:
+        return None
+    first, stop = begins[0], stops[-1]
+    return Whole(Between(rows[first][0], rows[stop][0] if stop < len(rows) else ends[stop]),
+                 ends[stop])
+
+
+def why_not(came: Came, why: str) -> str:
+    """Why a programme that did not come whole is not judged."""
+    said = [] if came.first is None else [
+        f"its beginning was missed: the feed was heard from {time_of(came.first)} on"]
+    said += [] if came.last is None else [f"{why} at {time_of(came.last)}, in mid-programme"]
+    return "; ".join(said)
+
+
+def reason_of(came: Came, why: str, whole: Whole | None, verdict: str, line: str) -> str:
+    """The same, with what is known of those of its subtitles that came whole."""
+    if whole is None:
+        return f"{why_not(came, why)}; no subtitle of it came whole"
+    begin = "" if came.first is None else f"from {time_of(whole.between.begin)} "
+    where = f"{begin}up to {time_of(whole.last)}"
+    if verdict in (ACCEPTED, WAIVED):
+        return f"{why_not(came, why)}; {where} it was as it is due"
+    told = line if verdict != NOT_JUDGED else f"{NOT_JUDGED}: {line}"
+    return f"{why_not(came, why)}; {where} it was {told}"
