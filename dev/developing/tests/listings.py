@@ -29,8 +29,8 @@ class Lines:
     def pes(self, pts: int, does: str = "hecb", count: int = 1, step: int = 0) -> str:
         """PES packets in a row."""
         control = CONTROL if "h" in does else ""
-        line = f"pes {self.pid} {self.number} {count} {pts % CLOCK} {step} {does or '-'}/{control} " \
-            "2 0"
+        line = f"pes {self.pid} {self.number} {count} {pts % CLOCK} {step} " \
+            f"{does or '-'}/{control} 2 0"
         self.number += count
         return line
 

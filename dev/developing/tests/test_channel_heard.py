@@ -11,7 +11,7 @@ from subtitles.calls.channel.spool import LEAST, PARTS, Spool
 from subtitles.core.pes import MARK, pes_packet
 from subtitles.core.times import CLOCK, TICKS
 from subtitles.core.words import Stop
-from subtitles.reading.moves import Moved, moved_by
+from subtitles.reading.moves import way_of
 from subtitles.reading.survey import Announced, Programme, Run
 from .bench import Case
 from .listings import SECOND, Lines
@@ -82,17 +82,20 @@ class Pids(Case):
                     found.pages[int(pid[1:])] = [Announced((0, int(page, 16)), "eng", 2)]
             return found
 
-        first = table(1, p1="88", p9="")
-        for name, tables, moved in (
-                ("moved", [first, table(1, p2="88")], Moved(1, 2)),
-                ("both", [first, table(1, p1="88", p2="88")], None),
-                ("still there", [first, table(1, p1="", p2="88")], None),
-                ("another programme", [first, table(2, p2="88")], None),
-                ("and back", [first, table(1, p2="88"), table(1, p1="88")], None),
-                ("another page", [first, table(1, p2="87")], None),
-                ("two", [first, table(1, p2="88", p3="88")], None),
-                ("never named", [table(1, p2="88")], None), ("none", [], None)):
-            self.must(name, moved_by(tables, PAGE, 1) == moved, moved_by(tables, PAGE, 1))
+        first, second = table(1, p1="88", p9=""), table(1, p2="88")
+        for name, tables, way in (
+                ("moved", [first, second], [1, 2]),
+                ("both", [first, table(1, p1="88", p2="88")], [1]),
+                ("still there", [first, table(1, p1="", p2="88")], [1]),
+                ("another programme", [first, table(2, p2="88")], [1]),
+                ("and back", [first, second, table(1, p1="88")], [1, 2, 1]),
+                ("and on", [first, second, second, table(1, p3="88")], [1, 2, 3]),
+                ("another page", [first, table(1, p2="87")], [1]),
+                ("two", [first, table(1, p2="88", p3="88")], [1]),
+                ("two, and then one", [first, table(1, p2="88", p3="88"), second], [1, 2]),
+                ("never named", [second], [1]), ("named later", [second, first], [1]),
+                ("none", [], [1])):
+            self.must(name, way_of(tables, PAGE, 1) == way, way_of(tables, PAGE, 1))
 
 
 class Missing(Case):

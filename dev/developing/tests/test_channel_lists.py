@@ -6,10 +6,11 @@ import os
 from typing import Sequence
 from unittest import mock
 
-from subtitles.calls.channel.partial import ENDED, Came, Whole, reason_of, whole_in
+from subtitles.calls.channel.partial import ENDED, reason_of
 from subtitles.calls.channel.planned import MISSING, Line, Planned, Programme, edits_of, lines_in
 from subtitles.core.times import Between
 from subtitles.qc.status import ACCEPTED, NOT_JUDGED, REFUSED, WAIVED
+from subtitles.qc.whole import Came, Whole, whole_in
 from .bench import Case
 from .test_channel_tables import defaults
 
@@ -36,8 +37,8 @@ class Edits(Case):
         """Of each line the number of the programme that it is, 0 where it is new; what is gone, and
         what has other options."""
         for before, after, rows, gone, changed in (
-                ("", "a", [0], "", ""), ("a", "", [], "1", ""), ("a\nb", "a\nb\nc", [1, 2, 0], "", ""),
-                ("a\nb", "b\na", [2, 1], "", ""), ("a\nb\nc", "a\nc", [1, 3], "2", ""),
+                ("", "a", [0], "", ""), ("a", "", [], "1", ""),
+                ("a\nb", "a\nb\nc", [1, 2, 0], "", ""), ("a\nb", "b\na", [2, 1], "", ""), ("a\nb\nc", "a\nc", [1, 3], "2", ""),
                 ("a\nb", "a\nx\nb", [1, 0, 2], "", ""), ("a\nb", "a\nx", [1, 0], "2", ""),
                 ("a\nb", "a\nb --every 5", [1, 2], "", "2"),
                 ("a --every 5", "a", [1], "", "1"), ("a\na", "a\na", [1, 2], "", ""),

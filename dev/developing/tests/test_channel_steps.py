@@ -9,14 +9,13 @@ from unittest import mock
 
 from subtitles.calls.channel import channel as channels
 from subtitles.calls.channel.channel import BEFORE_IT, LATER
-from subtitles.calls.channel.feed_clock import MINUTE
 from subtitles.calls.channel.partial import ENDED, STOPPED
 from subtitles.calls.channel.queue import AT_ONCE
 from subtitles.calls.objects import found, unjudged
 from subtitles.core.times import CLOCK, TICKS
 from subtitles.qc.clock import FITTED_SHORT
 from .bench import Case
-from .listings import EACH, FIRST, LAST, LASTS, SECOND, Judging, Lines, Told, files_of, texts_of
+from .listings import FIRST, LAST, SECOND, Judging, Lines, Told, files_of, texts_of
 from .parts import asked_for
 
 BEGIN = 900_000
@@ -239,8 +238,8 @@ class Steps(Case):
         refused: dict[str, Any] = {**Judging.left, "verdict": "refused", "status": 1,
                                    "line": "refused 72 X"}
         for is_stopped, why in ((False, ENDED), (True, STOPPED)):
-            for left, ended, what in ((Judging.left, 0, "as it is due"), (refused, 1,
-                                                                          "refused 72 X")):
+            for left, ended, what in ((Judging.left, 0, "as it is due"),
+                                      (refused, 1, "refused 72 X")):
                 channel = Told(self, self.listed("one"), self.path("out"))
                 told = list(Lines().sent(texts_of("one"), BEGIN))
                 channel.give(told[:12])  # the third subtitle is erased, and the fourth not there

@@ -3,13 +3,9 @@ from __future__ import annotations
 
 import os
 import unittest
-from types import SimpleNamespace
-from typing import Any, Callable
-from unittest import mock
 
 from subtitles.core.pes import pes_packet
 from subtitles.core.stl import gsi_block, tti_block
-from subtitles.core.words import Stop
 from subtitles.qc.hints import control_words
 from subtitles.qc.lettering import (
     ATTRIBUTES, attribute_words, code_words, is_moved, is_part, place_words, text_of, words_on)

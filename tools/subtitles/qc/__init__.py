@@ -13,7 +13,10 @@ ending        when a feed has all that is judged
 fitting       what is found of its origin: parts with their clocks
 start         the clock by the first picture
 clock         the clock of a part, and what is said of it
+missing       where something is missing of what is judged
 warned        what is strange of a recording
+ways          a page that goes from one PID to another
+whole         which subtitles came whole
 
 checking      `check --all`, and all that its list comes to: it is read here alone
 faults        faults with all that is known of them

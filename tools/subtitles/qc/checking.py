@@ -10,7 +10,7 @@ from typing import BinaryIO, Callable, Iterator, NamedTuple
 from ..core.files import naming
 from ..core.spans import Spans
 from ..core.told import (
-    ENDED, PASSED_OVER, REFUSED, Told, Trusted, accepted_of, count_of, frame_of_place, is_line,
+    ENDED, PASSED_OVER, REFUSED, Told, accepted_of, count_of, frame_of_place, is_line,
     told_of, trusted_of, words_of)
 from .status import NOT_JUDGED, UNSAID, Said, word_of
 from .unclear import Unclear
@@ -183,10 +183,6 @@ class Answer:
         """The faults in order, each with where it ended."""
         faults = (told for told in map(told_of, self.lines()) if told and told.is_fault)
         return ((told, self.ends.get(index, NO_END)) for index, told in enumerate(faults))
-
-    def trusted_lines(self) -> Iterator[Trusted]:
-        """The stretches that may be trusted, as they were told."""
-        return filter(None, map(trusted_of, self.lines()))
 
 
 def check(command: list[str], answer: Answer, hear: Callable[[str], None]) -> Answer:

@@ -8,14 +8,12 @@ from typing import Callable, NamedTuple, Sequence
 from ..core.layout import text_of
 from ..core.national import BY_WORD
 from ..core.programme import Subtitle
-from ..core.times import ALL_DAY, FRAMES_OF_A_DAY, TICKS, frame_in, ticks_between, time_of
+from ..core.times import ALL_DAY, time_of
 from ..core.told import CONTENT, EMPTY, LOST_PACKETS, WITH_CAUSE
 from ..core.words import counted, pid_name
-from ..reading.cutting import cut_of
 from ..reading.finding import runs_line
-from ..reading.gaps import Place, what_of
-from ..reading.survey import HEADER, Range
-from ..reading.timeline import LEAST, Span, timeline_near
+from ..reading.survey import HEADER
+from ..reading.timeline import Span, timeline_near
 from . import warned
 from .as_sent import BY_LAYOUT, otherwise, sent_in, told_of, why_none
 from .checking import Answer
@@ -27,6 +25,7 @@ from .fitting import Found, found_in, with_delay
 from .hints import words_of
 from .layouts import layout_of_sent
 from .midnight import title_words
+from .missing import gap_of, gaps_of, gaps_of_ways, is_in
 from .names import Names
 from .options import FROM, LAYOUT
 from .recording import STANDARD_INPUT, Recording, is_recording
@@ -39,7 +38,8 @@ from .sums import file_of
 from .typed import Typed
 from .unclear import Unclear
 from .verdict import Gap, Part, Verdict
-from .why import causes_of, tell
+from .why import causes_of, tell, unseen
+from .ways import stretches_of
 from .within import Trying
 
 NO_CLOCK = Clock(0, RECORDING)  # stands for one that is not found yet
@@ -188,16 +188,20 @@ class Pair:
         asked = self.asked
         recording, found, subtitles = self.heard or self.listen()
         self.warn(recording, found[0].origin)
-        stretches = self.stretches(found, subtitles)
-        for number, one in enumerate(stretches, 1):
-            part = self.begun = self.part_of(number, one, recording)
+        judged = self.judged(recording, found, subtitles)
+        for number, (own, one) in enumerate(judged, 1):
+            self.recording = own
+            part = self.begun = self.part_of(number, one, own)
             assert part.pes
-            self.steps.check(recording, one, part.pes, part.answer)
+            self.steps.check(own, one, part.pes, part.answer)
             self.verdict.parts.append(part)
-            self.end_part(part, one, recording, len(stretches), subtitles)
+            self.end_part(part, one, own, len(judged), subtitles)
+        self.recording = recording
         if not any(one.kind == "grew" for one in self.verdict.warnings):
             self.verdict.warnings += [one for one in recording.strange() if one.kind == "grew"]
-        self.note_gaps(recording.places())
+        self.verdict.gaps += gaps_of_ways(recording, judged, times_of(subtitles),
+                                          self.verdict.parts) if recording.ways else \
+            gaps_of(recording.places(), self.verdict.parts)
         if recording.is_feed and not asked.breaks and not self.is_shifted:
             self.note_unsent(self.verdict.parts[-1])
 
@@ -209,11 +213,11 @@ class Pair:
 
     def found(self, recording: Recording, given: Clock | None) -> list[Found]:
         """The parts with their clocks; the first one has the one that was given."""
-        if self.is_cut and given:
-            self.steps.inside = self.near(recording, given.origin)
+        if self.is_cut and given and not recording.ways:
+            self.steps.inside = self.steps.near(recording, self.whole, given.origin)
         origin = self.steps.fit(recording, given)
         if origin.runs and recording.is_feed:
-            run = self.run_at(recording, given, origin.runs)
+            run = self.steps.run_at(recording, self.whole, given, origin.runs)
             which = "first run" if run == origin.runs[0] else "run at the origin that was given"
             self.verdict.notes.append(f"{runs_line(len(origin.runs))}: of a feed the {which} is "
                                       "judged")
@@ -230,24 +234,6 @@ class Pair:
             self.verdict.notes[:0] = notes
             found[0] = found[0]._replace(clock=clock)
         return found
-
-    def run_at(self, recording: Recording, given: Clock | None, runs: Sequence[Range]) -> Range:
-        """The run that is at the origin that was given; without one, or where none is, the first.
-        """
-        asked = self.asked
-        own = cut_of(recording.packets, self.whole.begin, self.whole.end, given.origin, asked.every,
-                     asked.within).range if given else None
-        return next((run for run in runs if own and run[0] <= own[0] and own[1] <= run[1]), runs[0])
-
-    def near(self, recording: Recording, origin: int) -> Range | None:
-        """Of what was cut out of a feed the PES packets of about the time of the subtitles, the
-        last time that this comes."""
-        asked, packets = self.asked, recording.packets
-        more = max(LEAST, asked.every) + asked.within
-        cuts = (cut_of(packets, max(self.whole.begin - more, 0),
-                       min(self.whole.end + more, FRAMES_OF_A_DAY - 1), origin, None, asked.within,
-                       (base.start, base.stop - 1)).range for base in reversed(packets.bases()))
-        return next(filter(None, cuts), None)
 
     def by_start(self, recording: Recording) -> Clock | None:
         """The clock that the first picture tells, where it is asked."""
@@ -278,6 +264,18 @@ class Pair:
                       *warned.of_jumps(packets, origin, self.whole.begin, self.whole.end),
                       *warned.of_tables(survey, packets.pid, self.asked)]
         found += warned.of_character_sets(packets, self.asked)
+
+    def judged(self, recording: Recording, found: list[Found], subtitles: list[Subtitle]) \
+            -> list[tuple[Recording, Stretch]]:
+        """What is judged, one after another, each of its recording: of one whose page goes to
+        another PID, on each what came whole there."""
+        if not recording.ways:
+            return [(recording, one) for one in self.stretches(found, subtitles)]
+        judged = [*stretches_of(recording, found[0].clock, times_of(subtitles), self.steps)]
+        if len(found) > 1 or not judged:
+            raise Unclear(f"the page goes to another PID, and no subtitle of {self.asked.stl} came "
+                          "whole on one of them")
+        return judged
 
     def stretches(self, found: list[Found], subtitles: list[Subtitle]) -> list[Stretch]:
         """What is judged, one after another; each of the subtitles has to be in one, once and as it
@@ -311,6 +309,10 @@ class Pair:
                  subtitles: Sequence[Subtitle]) -> None:
         """Takes what `check` said of a part, and draws its report, with what is missing there."""
         asked, answer, origin = self.asked, part.answer, one.found.origin
+        # A hole without a mark is seen by who reads the PCR: of its frames nothing is known.
+        answer.trusted = answer.trusted.without(unseen([
+            place for place in recording.places() if place.mark is None and is_in(place, part)],
+            origin, asked.within, False))
         if answer.numbers & WITH_CAUSE:
             part.causes = causes_of(asked, part.due(), recording, one.found, answer)
         if part.causes:
@@ -323,7 +325,7 @@ class Pair:
         part.was_read = part.is_read()
         if answer.first:
             part.hint = words_of(answer.first, part, self.verdict)
-        times = [(subtitle.begin, subtitle.end) for subtitle in subtitles]
+        times = times_of(subtitles)
         for strange in (*warned.of_pauses(part.pts(), asked, origin),
                         *warned.of_repeat(part.pts(HEADER), asked, origin, times)):
             if strange not in self.verdict.warnings:
@@ -346,8 +348,6 @@ class Pair:
             part.accepted_within = Trying(self.steps, recording, one, part.number, count).least(
                 answer.numbers, part.causes)
 
-    # What is missing.
-
     def note_unsent(self, part: Part) -> None:
         """That the last subtitles of a feed did not come: it is not read long enough to tell a
         break."""
@@ -357,36 +357,7 @@ class Pair:
                 f"from {time_of(frame)} on no subtitle was sent while the feed was read; if the "
                 "programme has a break there, say --breaks 1")
 
-    def note_gaps(self, places: list[Place]) -> None:
-        """Between which times TS packets are missing."""
-        for place in places:
-            parts = [part for part in self.verdict.parts if is_in(place, part)]
-            origin = (parts or self.verdict.parts)[0].origin or 0
-            self.verdict.gaps.append(gap_of(place, origin, bool(parts)))
 
-
-def gap_of(place: Place, origin: int, is_judged: bool) -> Gap:
-    """A place at which TS packets are missing, with its times."""
-    times = time_at(place.before, origin), time_at(place.after, origin)
-    return Gap(*times, what_of(place), place, is_judged)
-
-
-def is_in(place: Place, part: Part) -> bool:
-    """Whether a mark is one of those that are judged with a part; or where none stands, whether
-    frames of the part may lack what is missing there."""
-    if part.begin is None or part.end is None or part.origin is None:
-        return False
-    if place.mark is not None and part.pes is not None:
-        return part.pes[0] <= place.mark <= part.pes[1]
-    first, last = (part.origin + TICKS * frame for frame in (part.begin, part.end))
-    is_before = place.after is not None and ticks_between(first, place.after) <= 0
-    is_after = place.before is not None and ticks_between(last, place.before) >= 0
-    return not is_before and not is_after
-
-
-def time_at(pts: int | None, origin: int) -> str | None:
-    """The time of a PTS, to the frame before it."""
-    if pts is None:
-        return None
-    frame = frame_in(pts, origin)
-    return time_of(frame) if frame < FRAMES_OF_A_DAY else None
+def times_of(subtitles: Sequence[Subtitle]) -> list[tuple[int, int]]:
+    """The first frame of each, and the one behind the last."""
+    return [(one.begin, one.end) for one in subtitles]

@@ -1,6 +1,7 @@
 """A recording: what `subttx survey` tells of it, and how the program reads it once more."""
 from __future__ import annotations
 
+import copy
 import functools
 import os
 import shutil
@@ -11,6 +12,7 @@ from ..core.pes import START
 from ..core.times import ticks_between
 from ..core.words import PACKET_SIZES, Stop, counted, shown, stream_words
 from ..reading.gaps import TOLD, Place, line_of, places_of, why_refused
+from ..reading.moves import joined, moves_in
 from ..reading.survey import PES, Packets, Survey, survey, words_of
 from ..reading.timing import reach_of
 from .asked import Asked
@@ -56,9 +58,9 @@ def refuse(survey: Survey, name: str) -> None:
 
 
 class Recording:
-    """A recording that is read: `packets` are those of the PID with the page. What is judged of a
-    file is a range of the recording itself; the PES packets of what comes through a pipe are kept
-    in a file."""
+    """A recording that is read: `packets` are those of the PID with the page, or of all between
+    which it goes. What is judged of a file is a range of the recording itself; the PES packets of
+    what comes through a pipe are kept in a file."""
 
     def __init__(self, asked: Asked, typed: Typed, names: Names, speech: Speech,
                  stalled_after: int) -> None:
@@ -70,6 +72,9 @@ class Recording:
         self.is_cut = False  # of a feed, by who calls this tool: it is read to its end
         self.survey, self.packets = Survey(), Packets(PES)
         self.file: File | None = None
+        # Where the page goes to another PID: the recording of each, one after another.
+        self.ways: list[Recording] = []
+        self.kept = names.whole_path, names.whole  # the PES packets of a pipe
 
     def read(self, is_summed: bool, ending: Ending) -> None:
         """Reads it: a file to its end, a feed up to the last subtitle at least."""
@@ -109,7 +114,10 @@ class Recording:
                         self.stalled_after)
             refuse(self.survey, self.name)
             self.packets = self.chosen()
-            self.packets = feed.keep(self.packets, self.names.whole_path)
+            for one in self.ways or [self]:
+                one.packets = feed.keep(one.packets, one.kept[0])
+            if self.ways:
+                self.packets = joined([one.packets for one in self.ways])
         self.file = feed.summed()
 
     def chosen(self) -> Packets:
@@ -125,11 +133,20 @@ class Recording:
         found = [by_pid[pid] for pid in sorted(by_pid) if by_pid[pid].has_page]
         if len(found) == 1:
             return found[0]
+        if moved := moves_in(self.survey, self.asked.page):
+            self.ways = [self.of(one) for one in moved]
+            return joined(moved)
         if not found:
             raise Unclear(self.said(f"{self.name} has no header of page {page}"),
                           *([self.again("--page", "P")] if by_pid else []))
         raise Unclear(self.said(f"page {page} is sent on {len(found)} PIDs of {self.name}"),
                       *(self.again("--pid", f"0x{one.pid:X}") for one in found))
+
+    def of(self, packets: Packets) -> Recording:
+        """The same of one of the PIDs between which the page goes."""
+        one, ending = copy.copy(self), f"{packets.pid:x}.recording.pes"
+        one.packets, one.kept = packets, (self.names.temporary(ending), self.names.typed(ending))
+        return one
 
     def say_read(self) -> list[str]:
         """What was read, and where something is missing."""
@@ -173,12 +190,16 @@ class Recording:
         """The file that is judged, as it is given to the program and as it is typed."""
         if self.is_file:
             return self.names.as_program(self.name), self.name
-        return self.names.whole_path, self.names.whole
+        return self.kept
 
     def keep(self, path: str) -> None:
         """Keeps the PES packets in a file, as `extract` gives them."""
+        for one in self.ways:
+            one.keep(self.names.place(f"{one.packets.pid:x}.recording.pes"))
+        if self.ways:
+            return
         if not self.is_file:
-            shutil.copyfile(self.names.whole_path, path)
+            shutil.copyfile(self.kept[0], path)
         elif stream := self.stream():
             subprocess.run([self.typed.program_path, "extract", *stream_words(*stream), "--",
                             self.names.as_program(self.name), path], stdin=subprocess.DEVNULL,

@@ -6,10 +6,12 @@ import os
 import subprocess
 from typing import NamedTuple, Sequence
 
+from ..core.times import FRAMES_OF_A_DAY
 from ..core.words import Stop, line_of
 from ..reading.cutting import Cut, cut_of
 from ..reading.finding import Origin, Sought, find
 from ..reading.survey import Packets, Range
+from ..reading.timeline import LEAST
 from .asked import MOST_TRIED, Asked
 from .checking import Answer, check
 from .clock import Clock
@@ -107,6 +109,24 @@ class Steps:
             raise Unclear("nothing of the page is in the recording at the time of the subtitles",
                           self.again("--origin", "T"), self.again("--page", "P"))
         return cut.range
+
+    def run_at(self, recording: Recording, whole: Found, given: Clock | None,
+               runs: Sequence[Range]) -> Range:
+        """The run that is at the origin that was given; without one, or where none is, the first.
+        """
+        own = self.taken(recording, whole._replace(clock=given), self.asked.within).range \
+            if given else None
+        return next((run for run in runs if own and run[0] <= own[0] and own[1] <= run[1]), runs[0])
+
+    def near(self, recording: Recording, whole: Found, origin: int) -> Range | None:
+        """Of what was cut out of a feed the PES packets of about the time of the subtitles, the
+        last time that this comes."""
+        asked, packets = self.asked, recording.packets
+        more = max(LEAST, asked.every) + asked.within
+        cuts = (cut_of(packets, max(whole.begin - more, 0),
+                       min(whole.end + more, FRAMES_OF_A_DAY - 1), origin, None, asked.within,
+                       (base.start, base.stop - 1)).range for base in reversed(packets.bases()))
+        return next(filter(None, cuts), None)
 
     def taken(self, recording: Recording, found: Found, within: int) -> Cut:
         """The same, within so many frames."""

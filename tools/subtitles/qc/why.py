@@ -37,13 +37,14 @@ def reach(recording: Recording, found: Found) -> Span | None:
     return Span(found.begin - -first // TICKS, found.begin + last // TICKS)
 
 
-def unseen(places: Sequence[Place], origin: int, within: int) -> Iterator[Span]:
-    """The frames of which something is lost."""
+def unseen(places: Sequence[Place], origin: int, within: int, is_with_next: bool = True) \
+        -> Iterator[Span]:
+    """The frames of which something is lost, with that of the next PES packet or without."""
     for place in places:
         first, last = (None if pts is None else frame_in(pts, origin, within)
                        for pts in (place.before, place.after))
         yield Span(0 if first is None or first >= FRAMES_OF_A_DAY else first,
-                   FRAMES_OF_A_DAY if last is None else last)
+                   FRAMES_OF_A_DAY if last is None else last - (not is_with_next))
 
 
 def tell(speech: Speech, causes: Causes, option: str) -> None:

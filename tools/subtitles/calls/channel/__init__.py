@@ -8,6 +8,7 @@ queue      those that are waited for, the first of the list
 awaited    a programme that is waited for
 running    the one that is sent, and the call that judges it
 partial    what is said of one that did not come whole
+results    the results of all, told as they come
 
 source     the bytes of the feed
 spool      those that came lately

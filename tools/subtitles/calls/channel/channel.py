@@ -19,21 +19,20 @@ from ...qc.clock import FITTED_SHORT
 from ...qc.ending import Ending
 from ...qc.feed import PATIENCE
 from ...qc.options import AUTO, LAYOUT
-from ...qc.progress import Progress
-from ...qc.status import NOT_JUDGED, of_all
+from ...qc.status import of_all
 from ...qc.typed import Typed
 from ...qc.unclear import Unclear
-from .. import collecting
+from ...qc.whole import Came, Whole, whole_in
 from ..batch import words_of
-from ..objects import (
-    ENDING, Row, has_had_its_turn, left_by_call, object_at, objects_in, put, row_of, unjudged)
+from ..objects import ENDING, has_had_its_turn, left_by_call, object_at, row_of, unjudged
 from ..single import ignore_signals
 from ...reading.finding import Origin
 from .feed_clock import MINUTE
 from .hearing import SOON, Hearing
-from .partial import ENDED, STOPPED, Came, Whole, reason_of, whole_in
+from .partial import ENDED, STOPPED, reason_of
 from .planned import Planned
 from .queue import Queue, Seen, Waiting
+from .results import Results
 from .running import Call, Running
 from .source import Source
 from .spool import Spool
@@ -45,25 +44,19 @@ CAUGHT_UP = 1 << 26  # bytes that came before, which a page that is new in the l
 BEFORE_IT = f"{ENDED} before it"
 
 
-class Channel:
+class Channel(Results):
     """What is known of the feed, the programmes that are waited for, and the one that is judged."""
 
     def __init__(self, words: argparse.Namespace, typed: Typed, folder: str) -> None:
-        self.words, self.typed, self.folder = words, typed, folder
+        super().__init__(words, folder)
+        self.typed = typed
         self.patience: int = words.patience * MINUTE
         self.queue = Queue(Planned(words.channel, words), self.patience)
         self.spool = Spool(folder, self.patience)
         self.hearing = Hearing(typed.program_path, words.pid, lambda: self.spool.lately(CAUGHT_UP))
         self.running: Running | None = None
-        self.rows: dict[str, Row] = {}
-        self.progress = Progress()
-        self.verdicts: list[str] = []  # of this call, and what it goes on with
         self.is_stalled = self.is_stopped = False
         self.lately: collections.deque[str] = collections.deque(maxlen=LATELY)  # of the feed
-        for path, known in objects_in(words.out) if words.out else []:
-            name = os.path.basename(path).removesuffix(ENDING)
-            if known is not None:
-                self.rows[name] = row_of(known, name)
 
     @property
     def now(self) -> int:
@@ -306,12 +299,6 @@ class Channel:
         self.unjudged(one.programme.name, reason)
         self.queue.wait_anew(self.queue.since if until is None else until)
 
-    def unjudged(self, name: str, reason: str, is_open: bool = False) -> None:
-        """A programme is not judged."""
-        known = unjudged(name, reason, is_open)
-        put(self.path(name), known)
-        self.tell_row(row_of(known, name), "")
-
     def stop(self, reason: str) -> None:
         """Nothing more comes: what is sent is judged up to here; at the feed's end also what is
         there of all that was kept, and nothing else."""
@@ -350,33 +337,11 @@ class Channel:
         if kept:
             self.say(f"{counted(kept, 'programme')} of an earlier call kept")
 
-    # ---- what is told
-
-    def path(self, name: str) -> str:
-        """The object of a programme."""
-        return os.path.join(self.words.out or self.folder, name + ENDING)
-
     def path_of_call(self, running: Running) -> str:
         """The object that its call writes."""
         name = running.programme.name
         is_whole = running.came is None or running.came.is_whole
         return self.path(name) if is_whole else os.path.join(self.folder, f"{name}.part{ENDING}")
-
-    def say(self, line: str) -> None:
-        """A line with the date and the time of day."""
-        self.progress.clear()
-        print(f"{time.strftime('%Y-%m-%d %H:%M:%S')}  {line}", flush=True)
-
-    def tell_row(self, row: Row, more: str) -> None:
-        """Tells a verdict, and writes the page over all of them."""
-        self.verdicts.append(row.verdict)
-        line = row.line.splitlines()[0] if row.line else row.verdict
-        self.say(f"{row.name}  " + (f"{NOT_JUDGED}: {line}" if not row.is_judged else
-                                    line + more))
-        self.rows[row.name] = row
-        if self.words.out:
-            collecting.write_index(self.words.out,
-                                   [self.rows[name] for name in sorted(self.rows)])
 
     def show(self, still: float = 0.0) -> None:
         """What is done, on a terminal."""

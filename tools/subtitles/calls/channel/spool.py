@@ -5,7 +5,7 @@ import collections
 import contextlib
 import dataclasses
 import os
-from typing import BinaryIO, Callable, Iterator
+from typing import BinaryIO, Iterator
 
 from ...core.pes import HEAD, START, begins_in
 from ...core.words import line_of
