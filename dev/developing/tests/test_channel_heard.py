@@ -62,11 +62,11 @@ class Pids(Case):
                      other.pes(21 * SECOND), other.rows("two"), *MOVED, other.pes(22 * SECOND),
                      other.rows("three")]
             if not is_early:
-                lines[-8:] = [*MOVED, other.pes(22 * SECOND), other.rows("three")]
+                lines[-8:-2] = MOVED
             heard = heard_of(lines)
             self.must(f"{is_early}: said", heard.said == [
-                "the PMT moves page 888 from PID 0x101 to PID 0x102, after PTS 1800000"],
-                heard.said)
+                f"the PMT moves page 888 from PID 0x101 to PID 0x102, before PTS "
+                f"{(21 if is_early else 22) * SECOND}"], heard.said)
             self.must(f"{is_early}: on", (heard.pid, heard.now) == (OTHER, 22 * SECOND))
             self.must(f"{is_early}: when", heard.moves == [20 * SECOND], heard.moves)
         stays = heard_of([*TABLE, Lines(PID).pes(0), *MOVED, *MOVED], PID)
@@ -130,7 +130,9 @@ class Missing(Case):
             for second, count in ((1, 0), (8, 0), (9, 1), (10, 1), (30, 1)):
                 heard.take(f"pcr {PCR} {begin - 18000 + SECOND * second}")
                 self.must(f"{turn}: {second}", len(heard.said) == count, heard.said)
-            self.must("the time", heard.now == begin + 28 * SECOND, heard.now)
+            self.must("the time", heard.now == begin - SECOND + 29 * SECOND, heard.now)
+            heard.take(own.pes(begin - SECOND // 2, "", 3, SECOND // 2))  # of before
+            self.must("not yet", len(heard.said) == 1, heard.said)
             heard.take(own.pes(begin + 40 * SECOND))
             self.must("told", heard.said == [
                 f"nothing of PID 0x101 for 9 seconds of the stream, after PTS {begin}",

@@ -47,8 +47,10 @@ class Heard(Survey):
         self.said: list[str] = []
         self.moves: list[int] = []
         self.anew = self.count = 0
-        self.is_new_table = self.is_silent = False
+        self.is_new_table = False
         self.alive: int | None = None  # the last PTS of which something is told
+        self.still = 0  # ticks for which the PID is silent
+        self.moved = ""  # what the PMT says, until something comes of the new PID
         self.found: int | None = None  # the PTS of the first header of the page
         self.waiting: list[Place] = []  # places behind which no PTS has come yet
         self.told: collections.deque[Place] = collections.deque(maxlen=KEPT)
@@ -60,8 +62,8 @@ class Heard(Survey):
 
     @property
     def now(self) -> int:
-        """The time of the feed."""
-        return self.clock.now
+        """The time of the feed; by the PCR where the PID is silent."""
+        return self.clock.now + self.still
 
     def take(self, line: str) -> None:
         """Takes a line of the listing."""
@@ -103,9 +105,12 @@ class Heard(Survey):
             before = self.clock.pts
             late = self.clock.take(pts)
             self.tell_jump(before, pts, late)
-        if run.pts is not None:
-            self.end_silence(run.pts)
-            self.alive = run.last
+        if run.pts is not None and run.last is not None:
+            if self.moved:
+                self.said.append(f"{self.moved}, before PTS {run.pts}")
+                self.moved = ""
+            self.hear_of(run.pts)
+            self.hear_of(run.last)
             for place in self.waiting:
                 place.after = run.pts
                 self.tell(place)
@@ -173,9 +178,7 @@ class Heard(Survey):
         if int(pid) == self.pid:
             pts, ahead = self.packets.samples[-1]
             self.ahead = ahead if self.ahead is None else self.ahead
-            if self.alive is None or ticks_between(self.alive, pts) > 0:
-                self.alive = pts
-            self.end_silence(pts)
+            self.hear_of(pts)
 
     def take_pcr(self, pid: str, pcr: str, *words: str) -> None:
         super().take_pcr(pid, pcr, *words)
@@ -187,18 +190,21 @@ class Heard(Survey):
         still = ticks_between(self.alive, wrapped(int(pcr) + ahead))
         if abs(ahead) > NEAR_PCR or not SILENT < still < 60 * MINUTE:
             return
-        if not self.is_silent:
-            self.is_silent = True
+        if not self.still:
             self.said.append(f"nothing of {pid_name(self.pid or 0)} for "
                              f"{counted(round(still / SECOND), 'second')} of the stream, after PTS "
                              f"{self.alive}")
-        self.clock.take(wrapped(int(pcr) + ahead - SECOND))
+        self.still = still - SECOND
 
-    def end_silence(self, pts: int) -> None:
-        """A PID that was silent goes on."""
-        if self.is_silent:
-            self.is_silent = False
+    def hear_of(self, pts: int) -> None:
+        """Takes a PTS of which something is told. A PID that was silent goes on with one that is
+        much later than the one before; what came before it fell silent may be told then."""
+        late = 0 if self.alive is None else ticks_between(self.alive, pts)
+        if self.still and abs(late) >= SILENT // 2:
+            self.still = 0
             self.said.append(f"{pid_name(self.pid or 0)} goes on at PTS {pts}")
+        if self.alive is None or late > 0 or not self.still and late < -SILENT:
+            self.alive = pts
 
     def take_programme(self, *words: str) -> None:
         super().take_programme(*words)
@@ -211,8 +217,7 @@ class Heard(Survey):
         before, self.pid = self.pid, moves.way_of(self.programmes, self.page, self.pid or 0)[-1]
         if self.pid == before:
             return
-        self.said.append(f"{moves.words_of(self.page, before or 0, self.pid)}, after PTS "
-                         f"{self.alive}")
+        self.moved = moves.words_of(self.page, before or 0, self.pid)
         self.moves.append(self.clock.now)
         for run in self.packets.runs:
             if self.alive is not None and run.pts is not None and \
