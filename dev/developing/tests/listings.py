@@ -8,6 +8,7 @@ from typing import Any, Iterable, Iterator
 
 from subtitles.calls.channel.channel import Channel
 from subtitles.calls.channel.hearing import Heard, Hearing
+from subtitles.calls.objects import found_at
 from subtitles.core.teletext import Page
 from subtitles.core.times import CLOCK, FRAMES_A_SECOND, TICKS
 from subtitles.qc.typed import Typed
@@ -82,8 +83,10 @@ class Judging:
         words = self.command
         path = words[words.index("--json") + 1] if "--json" in words else \
             os.path.join(words[words.index("-o") + 1], f"{self.name}.json")
+        stl = words[-2]
+        known = {**self.left, "asked": {"stl": stl}, "found": {"stl": found_at(stl)}}
         with open(path, "w", encoding="ascii") as file:
-            json.dump(self.left, file)
+            json.dump(known, file)
         return self.ended, ["qc: first", "qc: told: last"]
 
     def value(self, option: str) -> str | None:
@@ -104,15 +107,18 @@ class Told(Channel):
     """A channel of a list; what it says is kept, without the time."""
 
     def __init__(self, case: Case, lines: str, out: str | None = None, *more: str,
-                 is_kept: bool = False) -> None:
+                 is_kept: bool = False, is_resumed: bool = False, patience: int = 2) -> None:
         words = argparse.Namespace(**{
-            **vars(defaults(*more)), "channel": case.write("list", lines.encode()), "patience": 2,
-            "out": out, "is_kept": is_kept, "stall": 10})
+            **vars(defaults(*more)), "channel": case.write("list", lines.encode()),
+            "patience": patience, "out": out, "is_kept": is_kept, "stall": 10})
         Judging.made = []
         super().__init__(words, Typed("tools/qc", case.bench.program), case.folder)
         self.hearing = Pages("none", words.pid, lambda: ())
         self.said: list[str] = []
+        if is_resumed:
+            self.resume()
         self.go_on()
+        self.hearing.turn_to([self.words.page])
 
     def say(self, line: str) -> None:
         self.said.append(line)

@@ -38,7 +38,8 @@ class Edits(Case):
         what has other options."""
         for before, after, rows, gone, changed in (
                 ("", "a", [0], "", ""), ("a", "", [], "1", ""),
-                ("a\nb", "a\nb\nc", [1, 2, 0], "", ""), ("a\nb", "b\na", [2, 1], "", ""), ("a\nb\nc", "a\nc", [1, 3], "2", ""),
+                ("a\nb", "a\nb\nc", [1, 2, 0], "", ""), ("a\nb", "b\na", [2, 1], "", ""),
+                ("a\nb\nc", "a\nc", [1, 3], "2", ""),
                 ("a\nb", "a\nx\nb", [1, 0, 2], "", ""), ("a\nb", "a\nx", [1, 0], "2", ""),
                 ("a\nb", "a\nb --every 5", [1, 2], "", "2"),
                 ("a --every 5", "a", [1], "", "1"), ("a\na", "a\na", [1, 2], "", ""),

@@ -254,7 +254,8 @@ class Steps(Case):
                     f"it was {what}"], channel.said)
                 with open(self.path("out/one.json"), encoding="ascii") as file:
                     self.must("open", json.load(file)["open"] is True)
-        channel = Told(self, self.listed("one", options=f" --origin {(BEGIN - TICKS * FIRST) % CLOCK}"))
+        origin = (BEGIN - TICKS * FIRST) % CLOCK
+        channel = Told(self, self.listed("one", options=f" --origin {origin}"))
         channel.give([*Lines().sent(texts_of("one"), BEGIN)][:2])
         channel.stop(BEFORE_IT)
         self.must("nothing came whole", not Judging.made and channel.said == [
@@ -330,14 +331,14 @@ class Steps(Case):
                 known = {"format": 3, "verdict": "refused", "status": 1, "line": "refused 72 X",
                          "asked": {"stl": self.files[name]}, "found": found(asked)}
                 self.write(f"out/{name}.json", json.dumps(known).encode())
-            channel = Resumed(self, self.listed(*names).rstrip(), self.path("out"))
+            channel = Told(self, self.listed(*names).rstrip(), self.path("out"), is_resumed=True)
             self.must(f"{kept}", channel.verdicts == ["refused"] * kept and channel.said ==
                       [f"{kept} programme{'s' * (kept > 1)} of an earlier call kept"] * (kept > 0),
                       channel.said)
             self.must(f"{kept}: next", [one.programme.name for one in channel.queue.waiting] ==
                       names[kept:])
         self.write("out/one.json", json.dumps(unjudged("one", "why", True)).encode())
-        channel = Resumed(self, self.listed("one", "two"), self.path("out"))
+        channel = Told(self, self.listed("one", "two"), self.path("out"), is_resumed=True)
         self.must("open", [one.programme.name for one in channel.queue.waiting] == ["one"],
                   channel.said)
         self.must("rows", set(channel.rows) == {*names}, channel.rows)
@@ -392,12 +393,3 @@ class Steps(Case):
         self.must("lines", shown[0] == "waiting for a programme; 00:00:00:00 of the feed" and
                   shown[1] == "waiting for one; 00:01:01:00 of the feed; nothing for 3 s" and
                   shown[2].startswith("one is judged; 00:0"), shown)
-
-
-class Resumed(Told):
-    """A channel that goes on with an earlier one."""
-
-    def go_on(self, is_still: bool = False) -> None:
-        if not self.rows.keys() - self.queue.planned.names.taken or not self.queue.planned.taken:
-            self.resume()
-        super().go_on(is_still)

@@ -129,9 +129,9 @@ class Streams(Case):
             [lost] = known["lost"]
             self.must(f"{count}: lost", status == 1 and lost["judged"] and
                       lost["after"] == "10:00:10:09" and lost["before"].startswith(last), lost)
-            self.must(f"{count}: told", any("nothing came for 00:05:0" in line for line in lines) and
-                      any("TS packets of 300.16 s are missing" in line or "12 TS packets lost" in
-                          line for line in lines), lines)
+            said = "\n".join(lines)
+            self.must(f"{count}: told", "nothing came for 00:05:0" in said and (
+                "TS packets of 300.16 s are missing" in said or "12 TS packets lost" in said), said)
             self.must(f"{count}: trusted", known["trusted"] and not any(
                 one["from"] < lost["before"] and one["to"] >= first for one in known["trusted"]),
                 known["trusted"])
