@@ -83,18 +83,19 @@ class Pids(Case):
             return found
 
         first, second = table(1, p1="88", p9=""), table(1, p2="88")
-        for name, tables, way in (
-                ("moved", [first, second], [1, 2]),
-                ("both", [first, table(1, p1="88", p2="88")], [1]),
-                ("still there", [first, table(1, p1="", p2="88")], [1]),
-                ("another programme", [first, table(2, p2="88")], [1]),
-                ("and back", [first, second, table(1, p1="88")], [1, 2, 1]),
-                ("and on", [first, second, second, table(1, p3="88")], [1, 2, 3]),
-                ("another page", [first, table(1, p2="87")], [1]),
-                ("two", [first, table(1, p2="88", p3="88")], [1]),
-                ("two, and then one", [first, table(1, p2="88", p3="88"), second], [1, 2]),
-                ("never named", [second], [1]), ("named later", [second, first], [1]),
-                ("none", [], [1])):
+        rows: list[tuple[str, list[Programme], list[int]]] = [
+            ("moved", [first, second], [1, 2]),
+            ("both", [first, table(1, p1="88", p2="88")], [1]),
+            ("still there", [first, table(1, p1="", p2="88")], [1]),
+            ("another programme", [first, table(2, p2="88")], [1]),
+            ("and back", [first, second, table(1, p1="88")], [1, 2, 1]),
+            ("and on", [first, second, second, table(1, p3="88")], [1, 2, 3]),
+            ("another page", [first, table(1, p2="87")], [1]),
+            ("two", [first, table(1, p2="88", p3="88")], [1]),
+            ("two, and then one", [first, table(1, p2="88", p3="88"), second], [1, 2]),
+            ("never named", [second], [1]), ("named later", [second, first], [1]),
+            ("none", [], [1])]
+        for name, tables, way in rows:
             self.must(name, way_of(tables, PAGE, 1) == way, way_of(tables, PAGE, 1))
 
 

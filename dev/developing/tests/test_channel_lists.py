@@ -87,11 +87,12 @@ class Lists(Case):
     def test_list_that_grows(self) -> None:
         """Names that come twice and three times, a line without an end, lines that are wrong."""
         planned, text = self.planned(""), ""
-        for more, names in (
-                ("one.stl\n# none\n\ntwo.stl --every 50", ["one"]), ("", ["two"]), ("", []),
-                ("\none.stl\n", ["one-2"]), ("one.stl\nx/one.stl", ["one-3"]), ("", ["one-4"]),
-                ("\n--pid 5 two.stl\ntwo.stl --breaks 1\n\"\n", ["line-8", "line-9", "line-10"]),
-                ("two.stl\n", ["two-2"]), ("one-2.stl\nline-9.stl\n", ["one-2-2", "line-9-2"])):
+        rows: list[tuple[str, list[str]]] = [
+            ("one.stl\n# none\n\ntwo.stl --every 50", ["one"]), ("", ["two"]), ("", []),
+            ("\none.stl\n", ["one-2"]), ("one.stl\nx/one.stl", ["one-3"]), ("", ["one-4"]),
+            ("\n--pid 5 two.stl\ntwo.stl --breaks 1\n\"\n", ["line-8", "line-9", "line-10"]),
+            ("two.stl\n", ["two-2"]), ("one-2.stl\nline-9.stl\n", ["one-2-2", "line-9-2"])]
+        for more, names in rows:
             before, text = [one.name for one in planned.programmes], text + more
             found = self.look(planned, text)
             self.must(repr(more), found == [*before, *names], found)

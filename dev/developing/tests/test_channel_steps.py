@@ -15,8 +15,9 @@ from subtitles.calls.objects import found, unjudged
 from subtitles.core.times import CLOCK, TICKS
 from subtitles.qc.clock import FITTED_SHORT
 from .bench import Case
-from .listings import FIRST, LAST, SECOND, Judging, Lines, Told, files_of, texts_of
+from .listings import LAST, SECOND, Judging, Lines, Told, files_of, texts_of
 from .parts import asked_for
+from .test_channel_tables import FIRST
 
 BEGIN = 900_000
 

@@ -201,20 +201,21 @@ class Streams(Case):
 class Ends(Case):
     """Feeds that end, and channels that are ended, in mid-programme."""
 
-    def run_channel(self, data: bytes, *more: str) -> subprocess.Popen[bytes]:
-        """A channel to which bytes were handed, once they were heard."""
-        words = [tool_path("qc"), "--channel", "list", "-", "-o", "out", "--stall", "1", "-p",
-                 self.bench.program, *more]
+    def run_channel(self, data: bytes, *wanted: bytes) -> subprocess.Popen[bytes]:
+        """A channel to which bytes were handed, once they were heard, and it has said something."""
+        command = [tool_path("qc"), "--channel", "list", "-", "-o", "out", "--stall", "2", "-p",
+                   self.bench.program]
         log = open(self.path("log"), "wb")
         with log:
-            process = subprocess.Popen(words, cwd=self.folder, stdin=subprocess.PIPE, stdout=log,
+            process = subprocess.Popen(command, cwd=self.folder, stdin=subprocess.PIPE, stdout=log,
                                        stderr=log)
         assert process.stdin
         process.stdin.write(data)
         process.stdin.flush()
         end = time.monotonic() + SOON
-        while b"nothing has come" not in self.read("log") and time.monotonic() < end:
-            time.sleep(0.1)
+        for words in wanted:
+            while words not in self.read("log") and time.monotonic() < end:
+                time.sleep(0.1)
         return process
 
     def lines(self) -> list[str]:
@@ -265,9 +266,10 @@ class Ends(Case):
         first, rest = bytes_of(sent[:middle]), bytes_of(sent[middle:])
         self.write("list", b"one.stl\ntwo.stl\nthree.stl\n")
         self.write("three.stl", self.read("two.stl"))
+        heard = b"one  accepted", b"nothing has come for 2 seconds"
         accepted = f"one  accepted 577 frames 577 transmissions{FITTED}"
         for number in (signal.SIGTERM, signal.SIGINT, signal.SIGHUP):
-            with self.run_channel(first) as process:
+            with self.run_channel(first, *heard) as process:
                 process.send_signal(number)
                 self.must(f"{number}: status", process.wait(SOON) == 2, process.returncode)
             lines = self.lines()
@@ -280,7 +282,7 @@ class Ends(Case):
         for name in os.listdir(self.path("out")):
             with contextlib.suppress(OSError):
                 os.unlink(self.path(f"out/{name}"))
-        with self.run_channel(first) as process:
+        with self.run_channel(first, *heard) as process:
             process.kill()
         self.must("killed", self.lines() == [accepted] and
                   not os.path.exists(self.path("out/two.json")), self.lines())

@@ -92,6 +92,8 @@ class Channel(Results):
                     self.take()
             if source in ready and not told:
                 self.hand(source.read(min(call.room for call in calls)))
+            if not is_ready:
+                source.came = time.monotonic()  # nobody looks whether something has come
             still = 0.0 if source.is_over else time.monotonic() - source.came
             self.stall(still)
             self.take(is_still=is_ready and not ready and still >= PATIENCE)
