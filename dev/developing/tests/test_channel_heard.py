@@ -2,20 +2,24 @@
 """
 from __future__ import annotations
 
+import collections
 import os
 from typing import Iterable
 
 from subtitles.calls.channel.feed_clock import ANEW, BACK, GAP, MINUTE, jump_of, times_of
-from subtitles.calls.channel.hearing import Heard
+from subtitles.calls.channel.hearing import Heard, Hearing
 from subtitles.calls.channel.spool import LEAST, PARTS, Spool
 from subtitles.core.pes import MARK, pes_packet
+from subtitles.core.stl import gsi_block
+from subtitles.core.teletext import packet
 from subtitles.core.times import CLOCK, TICKS
 from subtitles.core.words import Stop
+from subtitles.qc.unclear import Unclear
 from subtitles.reading.moves import way_of
 from subtitles.reading.survey import Announced, Programme, Run
 from .bench import Case
 from .listings import SECOND, Lines
-from .parts import CLOSING, HEADER, PAGE
+from .parts import CLOSING, HEADER, PAGE, row
 
 PID, OTHER, PCR = 0x101, 0x102, 0x200
 TABLE = [f"programme 1 {PCR}", f"stream {PCR} 2", f"stream {PID} 6", f"announce {PID} 888 656e67 2"]
@@ -97,6 +101,64 @@ class Pids(Case):
             ("none", [], [1])]
         for name, tables, way in rows:
             self.must(name, way_of(tables, PAGE, 1) == way, way_of(tables, PAGE, 1))
+
+
+class Pages(Case):
+    """Pages that are heard by `survey`."""
+
+    def test_page_that_is_new(self) -> None:
+        """It is heard of what came before too, however much it is, at the times of the feed; nobody
+        is told of that again."""
+        other = packet(0, 0, [7, 8, 0, 8, 0, 8, 1, 0], b" " * 32)
+        sent = [pes_packet(SECOND * at, [HEADER, row(20, b"%d" % at), other, row(20, b"x%d" % at),
+                                         CLOSING]) for at in range(3000)]
+        sent.insert(5, pes_packet(99 * MINUTE, [CLOSING]))
+        before = b"".join(sent[:2001])
+        hearing = Hearing(self.bench.program, None, lambda: [before[:9], before[9:]])
+        try:
+            hearing.turn_to([PAGE])
+            hearing.turn_to([PAGE, (0, 0x87)])
+            for call in hearing.calls:
+                call.hand(b"".join(sent[2001:]))
+                call.hand(b"")
+                while not call.has_ended:
+                    collections.deque(call.lines(), 0)
+                call.refuse("-")
+            for page, letters in ((PAGE, b"%d"), ((0, 0x87), b"x%d")):
+                changes = hearing.by_page[page].changes[False]
+                self.must(f"{page}", changes.count == 2995 and changes.letters ==
+                          [letters % at for at in range(5, 3000)], changes.letters[:9])
+                self.must("times", changes.times[-1] - changes.times[0] == 2994 * SECOND)
+            times = [heard.changes[False].times[0] for heard in hearing.by_page.values()]
+            self.must("one time", times[0] == times[1], times)
+            self.must("told", not list(hearing.take_said()))
+            self.must("calls", hearing.open() == [] and len(hearing.calls) == 2)
+        finally:
+            hearing.close()
+
+    def test_feeds_that_are_none(self) -> None:
+        """Why a feed can't be read."""
+        for data, pid, why in (
+                (b"", None, "- is empty"), (b"x" * 2000, None, "no transport stream"),
+                (b"\0\0\1\xe0" + b"\0" * 99, None, "stream_id E0 instead of BD"),
+                (gsi_block(b"", 0, 0), None, "- is a subtitle file"),
+                (pes_packet(0, [HEADER]) + b"x" * 999, None, "PES packet 1 does not begin"),
+                (pes_packet(0, [HEADER]), PID, "it is PES packets, which have no PID")):
+            hearing = Hearing(self.bench.program, pid, lambda: ())
+            try:
+                hearing.turn_to([PAGE])
+                call = hearing.calls[0]
+                call.hand(data)
+                call.hand(b"")
+                while not call.has_ended:
+                    collections.deque(call.lines(), 0)
+                call.refuse("-")
+                said = ""
+            except (Stop, Unclear) as reason:
+                said = str(reason) or getattr(reason, "reason", "")
+            finally:
+                hearing.close()
+            self.must(why, why in said, said)
 
 
 class Missing(Case):

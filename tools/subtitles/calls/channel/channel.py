@@ -75,8 +75,9 @@ class Channel(Results):
                 self.follow(source)
                 self.hearing.calls[0].refuse(name)
             except (Stop, Unclear) as reason:
-                self.say(f"the feed can't be read any further: {line_of(reason)}")
-                return line_of(reason)
+                why = reason.reason if isinstance(reason, Unclear) else line_of(reason)
+                self.say(f"the feed can't be read any further: {why}")
+                return why
         return BEFORE_IT
 
     def follow(self, source: Source) -> None:

@@ -76,6 +76,11 @@ class Heard(Survey):
         if self.count % PRUNED == 0:
             self.prune()
 
+    def take_size(self, size: str, *words: str) -> None:
+        super().take_size(size, *words)
+        if self.size == PES and self.asked_pid is not None:
+            raise Stop("it is PES packets, which have no PID")
+
     # What comes of the page.
 
     def take_pes(self, pid: str, *words: str) -> None:
