@@ -16,7 +16,7 @@ use Rattle.mpeg_ts.specs.GoodPackets.{counts_on, is_repeat, is_same, linked, wit
 use Rattle.mpeg_ts.specs.Parts.{is_break, is_unlinked}
 use Rattle.mpeg_ts.specs.PacketsInStep.{lead_size}
 use Rattle.mpeg_ts.specs.TransportPacket.{announces_jump, begins, counter, payload}
-use Rattle.mpeg_ts_laws.specs.Losses.{Fated, any_wrong, are_few_gone, is_kept, is_there}
+use Rattle.mpeg_ts_laws.specs.Losses.{Fated, any_wrong, are_few_gone, is_as_sent, is_there}
 use Rattle.mpeg_ts_laws.specs.Losses.{sent_packet, units_before, units_behind}
 use Rattle.mpeg_ts_laws.specs.Multiplex.{Carrier, IsRecordedUnit, IsRepetition, announces, carries}
 use Rattle.mpeg_ts_laws.specs.Multiplex.{items_of_carrier, packet_in}
@@ -167,7 +167,7 @@ module _ (distance number : ℕ) where
   pub heard-copy : (first : Bool) (c : Carrier Fated)
       → IsLeftCarrier distance number first c
       → IsCopy (sent_packet distance c.packet) (heard_packet distance number c)
-  heard-copy first c h = elim (cases_Bool (is_kept c.packet.fate)) [
+  heard-copy first c h = elim (cases_Bool (is_as_sent c.packet.fate)) [
     | inl kept ↦
         rw kept (record { counter = refl; begins = refl; payload = refl; no_jump = none })
     | inr lost ↦ rw lost (copy-again p c.again none h.again h.is_carrier.again)

@@ -12,7 +12,7 @@ use Rattle.std.proofs.lemmas.List.{append-nil}
 use Rattle.std.proofs.lemmas.List.Folds.{list_any-append}
 use Rattle.mpeg_ts.specs.GoodPackets.{Note, Since, good_after, is_repeat, linked, with_good}
 use Rattle.mpeg_ts_laws.specs.Losses.{Fate, Fated, IsFate, any_kept}
-use Rattle.mpeg_ts_laws.specs.Losses.{any_wrong, is_kept, is_made_wrong, is_there, left_of}
+use Rattle.mpeg_ts_laws.specs.Losses.{any_wrong, is_as_sent, is_made_wrong, is_there, left_of}
 use Rattle.mpeg_ts_laws.specs.Losses.{sent_packet, units_before, units_behind}
 use Rattle.mpeg_ts_laws.specs.Multiplex.{Carrier, IsCarrier, IsRepetition, announces, is_quiet}
 use Rattle.mpeg_ts_laws.specs.Multiplex.{IsRecordedUnit, items_of_carrier, packet_in}
@@ -57,7 +57,7 @@ module _ (distance number : ℕ) where
   good-lost : (good : Option (List ℕ)) (again wrong : Bool) (unit : List ℕ) (fate : Fate)
       (ns : List Note)
       → IsFate distance number unit fate
-      → is_kept fate ≡ false
+      → is_as_sent fate ≡ false
       → good_after (since_loss good again wrong)
       (flat_map (λ u. noted number (packet_in distance u)) (left_of unit fate) ++ ns)
       ≡ good_after (since_loss good again (wrong || is_made_wrong fate)) ns
@@ -96,13 +96,13 @@ module _ (distance number : ℕ) where
 
   -- What is noted of a unit that is there as it was sent.
   heard-kept : (unit : List ℕ) (fate : Fate)
-      → is_kept fate ≡ true
+      → is_as_sent fate ≡ true
       → flat_map (λ u. noted number (packet_in distance u)) (left_of unit fate)
       ≡ noted number (packet_in distance unit)
   heard-kept unit fate h1 = grind (arith, nat_tests, append-nil, noted)
 
   -- It was not made wrong.
-  kept-not_wrong : (fate : Fate) → is_kept fate ≡ true → is_made_wrong fate ≡ false
+  kept-not_wrong : (fate : Fate) → is_as_sent fate ≡ true → is_made_wrong fate ≡ false
   kept-not_wrong fate h1 = grind (arith, nat_tests)
 
   -- The repeat of a packet that is there, if it has one.
@@ -137,12 +137,12 @@ module _ (distance number : ℕ) where
   -- The first copy of it that is there.
   abbrev pub heard_packet : Carrier Fated → List ℕ
   heard_packet c =
-      if is_kept c.packet.fate then sent_packet distance c.packet
+      if is_as_sent c.packet.fate then sent_packet distance c.packet
       else copy_of c.again (sent_packet distance c.packet)
 
   -- Its repeat came too.
   abbrev pub heard_again : Carrier Fated → Bool
-  heard_again c = is_kept c.packet.fate && any_kept (option_to_list c.again)
+  heard_again c = is_as_sent c.packet.fate && any_kept (option_to_list c.again)
 
   -- A carrier, and what may have become of its units.
   pub record IsLeftCarrier (first : Bool) (c : Carrier Fated) : Type 0 where
@@ -168,7 +168,7 @@ module _ (distance number : ℕ) where
   good-first : (good : Option (List ℕ)) (again wrong first : Bool) (c : Carrier Fated)
       (ns : List Note)
       → IsLeftCarrier first c
-      → is_kept c.packet.fate ≡ true
+      → is_as_sent c.packet.fate ≡ true
       → is_repeat (since_loss good again wrong) (sent_packet distance c.packet) ≡ false
       → good_after (since_loss good again wrong) (flat_map heard_left (items_of_carrier c) ++ ns)
       ≡ with_good (linked (since_loss good again wrong) (sent_packet distance c.packet))
@@ -191,7 +191,7 @@ module _ (distance number : ℕ) where
   good-no_first : (good : Option (List ℕ)) (again wrong first : Bool) (c : Carrier Fated)
       (ns : List Note)
       → IsLeftCarrier first c
-      → is_kept c.packet.fate ≡ false
+      → is_as_sent c.packet.fate ≡ false
       → good_after (since_loss good again wrong) (flat_map heard_left (items_of_carrier c) ++ ns)
       ≡ good_after (since_loss good again (wrong || any_wrong (c.packet ∷ c.before)))
       (flat_map heard_left (option_to_list c.again) ++ (flat_map heard_left c.after ++ ns))
@@ -238,18 +238,19 @@ module _ (distance number : ℕ) where
       (linked (since_loss good again (wrong || any_wrong (units_before c))) (heard_packet c))
       (good_after
       (since_loss (Some (heard_packet c)) (heard_again c) (any_wrong (units_behind c))) ns)
-  good-there good again wrong first c ns h there fresh = elim (cases_Bool (is_kept c.packet.fate)) [
-    | inl kept ↦
-        rw (kept, or-false wrong)
-        (good-first good again wrong first c ns h kept (rw kept at (fresh wrong)))
-    | inr lost ↦
-        rw lost
-        (good-no_first good again wrong first c ns h lost
-        ∙ good-second good again (wrong || any_wrong (c.packet ∷ c.before))
-        (sent_packet distance c.packet) c.again c.after ns h.is_carrier.again h.after
-        h.is_carrier.after (rw lost at there)
-        (rw lost at (fresh (wrong || any_wrong (c.packet ∷ c.before)))))
-  ]
+  good-there good again wrong first c ns h there fresh =
+      elim (cases_Bool (is_as_sent c.packet.fate)) [
+        | inl kept ↦
+            rw (kept, or-false wrong)
+            (good-first good again wrong first c ns h kept (rw kept at (fresh wrong)))
+        | inr lost ↦
+            rw lost
+            (good-no_first good again wrong first c ns h lost
+            ∙ good-second good again (wrong || any_wrong (c.packet ∷ c.before))
+            (sent_packet distance c.packet) c.again c.after ns h.is_carrier.again h.after
+            h.is_carrier.after (rw lost at there)
+            (rw lost at (fresh (wrong || any_wrong (c.packet ∷ c.before)))))
+      ]
 
   -- A carrier that is gone.
   pub good-gone : (good : Option (List ℕ)) (again wrong first : Bool) (c : Carrier Fated)
@@ -265,7 +266,7 @@ module _ (distance number : ℕ) where
       h.after h.is_carrier.after none
       ∙ ap (λ (w : Bool). good_after (since_loss good again w) ns) all
     where
-      lost : is_kept c.packet.fate ≡ false
+      lost : is_as_sent c.packet.fate ≡ false
       lost = grind (arith, nat_tests)
 
       none : any_kept (option_to_list c.again) ≡ false

@@ -26,9 +26,9 @@ abbrev pub sent_packet : ℕ → Fated → List ℕ
 sent_packet distance f = packet_in distance f.unit
 
 -- A unit is there as it was sent.
-abbrev pub is_kept : Fate → Bool
-is_kept Kept = true
-is_kept _ = false
+abbrev pub is_as_sent : Fate → Bool
+is_as_sent Kept = true
+is_as_sent _ = false
 
 -- A wrong packet is there.
 abbrev pub is_made_wrong : Fate → Bool
@@ -69,20 +69,20 @@ IsFate distance number unit (MadeWrong other) = IsSpoiled distance number unit o
 
 -- A unit that may be there, as its packet or its repeat.
 abbrev pub any_kept : List Fated → Bool
-any_kept units = list_any (λ f. is_kept f.fate) units
+any_kept units = list_any (λ f. is_as_sent f.fate) units
 
 -- The packet of a carrier is there, or its repeat.
 abbrev pub is_there : Carrier Fated → Bool
-is_there c = is_kept c.packet.fate || any_kept (option_to_list c.again)
+is_there c = is_as_sent c.packet.fate || any_kept (option_to_list c.again)
 
 -- The units of a carrier that is there before the first copy of its packet that is,
 abbrev pub units_before : Carrier Fated → List Fated
-units_before c = if is_kept c.packet.fate then [] else c.packet ∷ c.before
+units_before c = if is_as_sent c.packet.fate then [] else c.packet ∷ c.before
 
 -- and those behind that copy.
 abbrev pub units_behind : Carrier Fated → List Fated
 units_behind c =
-    if is_kept c.packet.fate then c.before ++ (option_to_list c.again ++ c.after) else c.after
+    if is_as_sent c.packet.fate then c.before ++ (option_to_list c.again ++ c.after) else c.after
 
 -- Fewer than 15 carriers in a row are gone, the packet and its repeat, where `gone` are gone before
 -- these.

@@ -1,6 +1,7 @@
 -- The GSI block as it is read, and with other counts; main lemmas: gsi_sound, gsi_complete,
 -- counted_is_gsi.
-use Rattle.std.proofs.Common.{◌≡◌, ℕ, Bool, List, ◌++◌, length, refl, sym, ap, ◌∙◌, append_assoc, arith}
+use Rattle.std.proofs.Common.{◌≡◌, ℕ, Bool, List, ◌++◌, length, refl, sym, ap, ◌∙◌, append_assoc}
+use Rattle.std.proofs.Common.{arith}
 use Rattle.std.proofs.Common.{length-append, take, drop, false, Ok, ◌+◌, ◌≤◌}
 use Rattle.std.specs.Prelude.{bytes_eq, not, ◌&&◌, ◌||◌, ◌==◌}
 use Rattle.std.proofs.lemmas.List.{drop-take, take-append-drop, length-drop, length-take}

@@ -62,8 +62,8 @@ fails_reading scope from block refused old mid new begun bytes h few lt c = reco
 
 module _ {scope : Scope} {from : ℕ} {refused : Option Begun} {old mid new : Option (List ℕ)}
     {n block : ℕ} {begun : Option Begun} {buffer : List ℕ}
-    (h : HasRead scope from refused old mid block begun) (f : Fills mid n new buffer) (size : length buffer ≡ 128) (next : Option Begun)
-    (s : SubtitleValue) where
+    (h : HasRead scope from refused old mid block begun) (f : Fills mid n new buffer)
+    (size : length buffer ≡ 128) (next : Option Begun) (s : SubtitleValue) where
   -- The bytes that came.
   length_front : length (take n buffer) ≡ n
   length_front = omega (arith, length-take n buffer)

@@ -17,7 +17,8 @@ use Rattle.stl_file.specs.Reading.{findings_at, kept_at, passed_at, step_at}
 use Rattle.stl_file.specs.Scope.{begins_outside}
 use Rattle.stl_file.specs.Subtitle.{SubtitleValue}
 use Rattle.stl_file.specs.SubtitleBlocks.{IsBlock}
-use Rattle.stl_file.specs.TakenOut.{LawOfDay, LawOfScope, all_day, is_read_whole, stays, taken_out}
+use Rattle.stl_file.specs.TakenOut.{LawOfScope, LawOfWholeDay, all_day, is_read_whole, stays}
+use Rattle.stl_file.specs.TakenOut.{taken_out}
 use Rattle.stl_file.specs.TakenOut.{unnumbered, within_after}
 use Rattle.stl_file.specs.Tti.{cf, ebn, is_passed_block, most_blocks, tci}
 use Rattle.stl_file.proofs.FindingsLemmas.{findings_block, findings_end, findings_full}
@@ -25,7 +26,7 @@ use Rattle.stl_file.proofs.StepLemmas.{step_kept, step_passed}
 use Rattle.stl_file.proofs.TimeCodeLemmas.{in_day}
 
 -- Nothing is outside the day.
-pub day_law : LawOfDay
+pub day_law : LawOfWholeDay
 unfolding begins_outside
 day_law scope b = grind (arith, nat_tests, in_day (tci b))
 

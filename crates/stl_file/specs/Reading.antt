@@ -1,5 +1,5 @@
--- Reading TTI blocks one after the other, past subtitles that are outside and also after one that is
--- refused; and what that is as far as the first fault.
+-- Reading TTI blocks one after the other, past subtitles that are outside and also after one that
+-- is refused; and what that is as far as the first fault.
 --
 -- The suffix `_at` means: as read at the front of these bytes, or the first fault in the order of
 -- the lines below.

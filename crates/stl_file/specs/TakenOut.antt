@@ -61,5 +61,5 @@ LawOfScope =
     ≡ unnumbered (findings_for (all_day scope) (gsi ++ concat (taken_out scope None blocks)))
 
 -- Nothing is outside the day.
-abbrev pub LawOfDay : Type 0
-LawOfDay = (scope : Scope) (b : List ℕ) → begins_outside (all_day scope) b ≡ false
+abbrev pub LawOfWholeDay : Type 0
+LawOfWholeDay = (scope : Scope) (b : List ℕ) → begins_outside (all_day scope) b ≡ false

@@ -15,8 +15,8 @@ pub enum StlFault {
     Format,
     /// 12: DFC is `STL30.01`: 30 frames a second are left out (own).
     Rate,
-    /// 13: DSC is not `1` or `2`, Teletext of level 1 or 2; nor, where open subtitles are taken, `0`
-    /// or a space.
+    /// 13: DSC is not `1` or `2`, Teletext of level 1 or 2; nor, where open subtitles are taken,
+    /// `0` or a space.
     Display,
     /// 14: CCT is not `00`, the Latin table.
     Alphabet,

@@ -2,7 +2,8 @@
 
 ghost use Rattle.std.specs.Prelude.{◌≡◌, ◌+◌, ◌<◌, ◌≤◌, IfErr, IfOk, length, true};
 ghost use Rattle.stl_file.specs.Fault.{is_format};
-ghost use Rattle.stl_file.specs.Gsi.{IsGsiFor, cct, dfc, dsc, field, five_digits, gsi_at, with_counts};
+ghost use Rattle.stl_file.specs.Gsi.{IsGsiFor, cct, dfc, dsc, field, five_digits, gsi_at};
+ghost use Rattle.stl_file.specs.Gsi.{with_counts};
 ghost use Rattle.stl_file.specs.GsiFields.{cd, co, cpn, dsn, ecd, en, lc, mnc, mnr, oet, opt};
 ghost use Rattle.stl_file.specs.GsiFields.{publisher, rd, rn, slr, spare, tcd, tcf, tcp, tcs};
 ghost use Rattle.stl_file.specs.GsiFields.{tet, tn, tnb, tnd, tng, tns, tpt, uda};

@@ -6,7 +6,7 @@ ghost use Rattle.stl_file.specs.NormalForm.{counted_gsi, normal_form, subtitles_
 ghost use Rattle.stl_file.specs.Reader.{findings_for};
 ghost use Rattle.stl_file.specs.Reading.{stopped};
 ghost use Rattle.stl_file.specs.Subtitle.{SubtitleValue};
-ghost use Rattle.stl_file.specs.TakenOut.{LawOfDay, LawOfScope};
+ghost use Rattle.stl_file.specs.TakenOut.{LawOfWholeDay, LawOfScope};
 ghost use Rattle.stl_file.specs.declared.scope.Scope.{Scope};
 
 /// Bytes are a file of which these subtitles are taken exactly where reading gives these subtitles
@@ -26,7 +26,7 @@ pub fn law_of_files()
 /// day.
 pub fn law_of_scope()
     ensures part { LawOfScope }
-    ensures day { LawOfDay }
+    ensures day { LawOfWholeDay }
 {}
 
 /// A file has one GSI block and one list of subtitles.

@@ -13,7 +13,7 @@ use Rattle.stl_rows.specs.declared.layout.LayoutItems.{LayoutItems}
 use Rattle.stl_rows.specs.declared.national.National.{National}
 use Rattle.stl_rows.specs.declared.text_code.TextCode.{TextCode}
 use Rattle.stl_rows.specs.DrawnPage.{drawn_by, first_depth}
-use Rattle.stl_rows.specs.DrawnPage.{page_of_placed, placed, placed_fault_kinds, placed_faults}
+use Rattle.stl_rows.specs.DrawnPage.{page_of_placed, placed_from, placed_fault_kinds, placed_faults}
 use Rattle.stl_rows.specs.DrawnPage.{LawOfDefaultLayout, drawn, placed_lines, rows_off, shown_row}
 use Rattle.stl_rows.specs.DrawnPage.{unstripped}
 use Rattle.stl_rows.specs.Layout.{attribute_code, default_items, default_layout}
@@ -64,7 +64,7 @@ kinds-default number row under line low = grind (arith, nat_tests)
 -- Those of lines one below the other.
 faults-default : (number row : ℕ) (under : Bool) (ls : List (List ℕ))
     → 1 ≤ row
-    → placed_faults default_items 0 (placed default_items number row under ls)
+    → placed_faults default_items 0 (placed_from default_items number row under ls)
     ≡ line_faults number row under ls
 unfolding default_items
 faults-default number row under [] low = refl
@@ -99,7 +99,7 @@ default-double = refl
 
 -- The row of a page on which lines are one below the other.
 shown-default : (jc number first row : ℕ) (under : Bool) (ls : List (List ℕ))
-    → shown_row default_items jc 0 (placed default_items number first under ls) row
+    → shown_row default_items jc 0 (placed_from default_items number first under ls) row
     ≡ row_of jc (line_on first ls row)
 shown-default jc number first row under [] = grind (arith, nat_tests, row_of-none)
 shown-default jc number first row under (l ∷ ls) =
@@ -116,7 +116,7 @@ shown-default jc number first row under (l ∷ ls) =
 
 -- The page.
 page-default : (jc vp : ℕ) (ls : List (List ℕ))
-    → page_of_placed default_items jc 0 (placed default_items 0 vp false ls)
+    → page_of_placed default_items jc 0 (placed_from default_items 0 vp false ls)
     ≡ page_of_lines jc vp ls
 unfolding page_of_placed page_of_lines
 page-default jc vp ls = λ i. map (λ row. shown-default jc 0 vp row false ls i) (range_with_len 1 24)
@@ -139,7 +139,7 @@ faults-all : (vp : ℕ) (ls : List (List ℕ))
     ≡ line_faults 0 vp false ls
 faults-all vp ls low =
     ap (λ off. placed_faults default_items off (placed_lines default_items vp ls)) (off-default ls)
-    ∙ ap (λ first. placed_faults default_items 0 (placed default_items 0 first false ls))
+    ∙ ap (λ first. placed_faults default_items 0 (placed_from default_items 0 first false ls))
     (first-default vp)
     ∙ faults-default 0 vp false ls low
 
@@ -150,7 +150,7 @@ page-all : (jc vp : ℕ) (ls : List (List ℕ))
 page-all jc vp ls =
     ap (λ off. page_of_placed default_items jc off (placed_lines default_items vp ls))
     (off-default ls)
-    ∙ ap (λ first. page_of_placed default_items jc 0 (placed default_items 0 first false ls))
+    ∙ ap (λ first. page_of_placed default_items jc 0 (placed_from default_items 0 first false ls))
     (first-default vp)
     ∙ page-default jc vp ls
 

@@ -152,13 +152,6 @@ pub drawn-page : (n : National) (t : SubtitleValue)
 unfolding plainly_drawn
 drawn-page n t ok = rw (no_faults n t ok) refl
 
--- What is drawn is the page of lines without a fault.
-pub drawn-lines : (n : National) (t : SubtitleValue) (page : Rows)
-    → plainly_drawn n t ≡ Ok page
-    → (line_faults 0 t.vp false (lines n t) ≡ [])
-    × (page ≡ page_of_lines t.jc t.vp (lines n t))
-drawn-lines n t page e = grind (arith, nat_tests, no_line_faults, drawn-page)
-
 -- The first of all faults is told. For `first_fault`.
 pub drawn-first : (n : National) (t : SubtitleValue)
     → MatchOption (first_of (subtitle_faults n t)) (IsOk (plainly_drawn n t))

@@ -15,7 +15,8 @@ use Rattle.stl_rows.specs.declared.layout.Drawing.{Drawing}
 use Rattle.stl_rows.specs.declared.times.Times.{Times}
 use Rattle.stl_rows.specs.DrawnPage.{drawn}
 use Rattle.stl_rows.specs.EveryFault.{faults, faults_behind, load_fault}
-use Rattle.stl_rows.specs.Judged.{AllJudged, Judged, LawOfDecided, LawOfJudged, is_followed_in_order}
+use Rattle.stl_rows.specs.Judged.{AllJudged, JudgedSubtitle, LawOfDecided, LawOfJudged}
+use Rattle.stl_rows.specs.Judged.{is_followed_in_order}
 use Rattle.stl_rows.specs.Judged.{is_undecided_from, judged_before, judged_behind, judged_of}
 use Rattle.stl_rows.specs.Loading.{records_of}
 use Rattle.stl_rows.specs.Programme.{follow_faults, order_faults, row_faults, times_of}
@@ -34,12 +35,13 @@ drawn_none (k ∷ ks) r none = absurd cc
 
 -- Each that can be relied on does.
 each_drawn : (drawing : Drawing) (before : Option Times) (other : Bool) (left : Findings)
-    → All (λ (j : Judged). IsOk (drawn drawing j.subtitle))
+    → All (λ (j : JudgedSubtitle). IsOk (drawn drawing j.subtitle))
     (judged_behind drawing before other left).judged
 unfolding judged_behind
-each_drawn drawing before other no_more = All-nil (λ (j : Judged). IsOk (drawn drawing j.subtitle))
+each_drawn drawing before other no_more =
+    All-nil (λ (j : JudgedSubtitle). IsOk (drawn drawing j.subtitle))
 each_drawn drawing before other (breaks f block) =
-    All-nil (λ (j : Judged). IsOk (drawn drawing j.subtitle))
+    All-nil (λ (j : JudgedSubtitle). IsOk (drawn drawing j.subtitle))
 each_drawn drawing before other (refuses f block left) = each_drawn drawing before true left
 each_drawn drawing before other (finds t block left) =
     elim (cases_Bool (is_none (first_of (follow_faults drawing before t)))) [
@@ -48,7 +50,7 @@ each_drawn drawing before other (finds t block left) =
         | inr early ↦ rw (none, early) (each_drawn drawing (Some (times_of t)) true left)
         | inl followed ↦
             rw (none, followed)
-            (All-cons (λ (j : Judged). IsOk (drawn drawing j.subtitle))
+            (All-cons (λ (j : JudgedSubtitle). IsOk (drawn drawing j.subtitle))
             (record { subtitle = t; is_behind_other = other })
             (judged_behind drawing (Some (times_of t)) false left).judged
             (drawn_none (order_faults before (times_of t)) (drawn drawing t) none)
@@ -99,7 +101,7 @@ followed drawing t (finds u block left) none =
 -- All subtitles can be relied on.
 all_behind : (drawing : Drawing) (before : Option Times) (left : Findings)
     → faults_behind drawing before left ≡ []
-    → (map (λ (j : Judged). j.subtitle) (judged_behind drawing before false left).judged
+    → (map (λ (j : JudgedSubtitle). j.subtitle) (judged_behind drawing before false left).judged
     ≡ records_of left)
     × AllDecided (judged_behind drawing before false left)
 unfolding faults_behind judged_behind

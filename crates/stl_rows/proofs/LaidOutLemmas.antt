@@ -17,7 +17,7 @@ use Rattle.stl_rows.specs.declared.laid_out.Place.{Place}
 use Rattle.stl_rows.specs.declared.layout.LayoutItems.{LayoutItems}
 use Rattle.stl_rows.specs.declared.national.National.{National}
 use Rattle.stl_rows.specs.DrawnPage.{PlacedLine, codes_by, drawn_by, is_on_row, lines_by}
-use Rattle.stl_rows.specs.DrawnPage.{page_of_placed, pitch, placed, placed_fault_kinds}
+use Rattle.stl_rows.specs.DrawnPage.{page_of_placed, pitch, placed_from, placed_fault_kinds}
 use Rattle.stl_rows.specs.DrawnPage.{placed_faults, placed_lines, rows_off, shown_row, takes_none}
 use Rattle.stl_rows.specs.Line.{has_cells, is_double}
 use Rattle.stl_rows.specs.LineByLayout.{drawn_from, fault_at, line_at, page_with, place_behind}
@@ -32,7 +32,7 @@ use Rattle.stl_rows.proofs.FaultlessLemmas.{empty_parts, map_empty}
 pub none_above : (items : LayoutItems) (off row number depth : ℕ) (under : Bool)
     (lines : List (List ℕ))
     → off + row < depth
-    → find (is_on_row off row) (placed items number depth under lines) ≡ None
+    → find (is_on_row off row) (placed_from items number depth under lines) ≡ None
 none_above items off row number depth under [] low = refl
 none_above items off row number depth under (line ∷ lines) low =
     grind (
@@ -139,7 +139,7 @@ module _ (items : LayoutItems) (jc off : ℕ) (place : Place) (line : List ℕ) 
 -- The lines from a place on that take rows.
 abbrev placed_at : LayoutItems → Place → List (List ℕ) → List PlacedLine
 placed_at items place lines =
-    placed items place.number place.depth place.is_under_double lines
+    placed_from items place.number place.depth place.is_under_double lines
 
 -- What is drawn over a page, or the first fault.
 abbrev drawn_over : LayoutItems → ℕ → ℕ → Rows → List PlacedLine → Result Rows RowFault

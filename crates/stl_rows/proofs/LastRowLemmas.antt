@@ -7,7 +7,7 @@ use Rattle.stl_rows.specs.declared.layout.Drawing.{Drawing}
 use Rattle.stl_rows.specs.declared.layout.LayoutItems.{LayoutItems}
 use Rattle.stl_rows.specs.DrawnPage.{PlacedLine, drawn, page_of_placed, placed_faults}
 use Rattle.stl_rows.specs.DuePage.{due}
-use Rattle.stl_rows.specs.Layout.{items_of}
+use Rattle.stl_rows.specs.Layout.{items_of_layout}
 use Rattle.stl_rows.specs.PreparedLine.{row_from, start_by}
 use Rattle.stl_rows.proofs.DuePageLemmas.{due_has}
 use Rattle.stl_rows.proofs.LaidOutLemmas.{drawn_by-lines, lines_of_subtitle, none_below}
@@ -34,7 +34,7 @@ drawn_free : (drawing : Drawing) (t : SubtitleValue) (page : Rows)
     → row_at page 24 ≡ blank_row
 unfolding drawn
 drawn_free drawing t page e =
-    let items = items_of drawing.layout in
+    let items = items_of_layout drawing.layout in
     let is = drawn_by-lines drawing.national items t page e in
     ap (λ p. row_at p 24) is.1
     ∙ row_free items t.jc (off_of_subtitle drawing.national items t)

@@ -16,9 +16,9 @@ use Rattle.stl_rows.specs.declared.text_code.TextCode.{TextCode}
 use Rattle.stl_rows.specs.declared.text_code.TextCode.TheVariants.{Cell, NewLine, NoCell, Refused}
 use Rattle.stl_rows.specs.DrawnPage.{PlacedLine, codes_by, drawn, drawn_by, first_depth, is_on_row}
 use Rattle.stl_rows.specs.DrawnPage.{lines_by}
-use Rattle.stl_rows.specs.DrawnPage.{page_of_placed, pitch, placed, placed_fault_kinds}
+use Rattle.stl_rows.specs.DrawnPage.{page_of_placed, pitch, placed_from, placed_fault_kinds}
 use Rattle.stl_rows.specs.DrawnPage.{placed_faults, shown_row, takes_none, unstripped}
-use Rattle.stl_rows.specs.Layout.{items_of, strips}
+use Rattle.stl_rows.specs.Layout.{items_of_layout, strips}
 use Rattle.stl_rows.specs.Letters.{LawOfLetters, letters, printed, printed_lines, prints}
 use Rattle.stl_rows.specs.Line.{has_cells, is_double}
 use Rattle.stl_rows.specs.PreparedLine.{prepared_by, row_from, start_by}
@@ -109,7 +109,7 @@ place_of number depth under line = record {
 
 abbrev behind : LayoutItems → ℕ → ℕ → List ℕ → List (List ℕ) → List PlacedLine
 behind items number depth line lines =
-    placed items (number + 1) (depth + pitch items) (is_double line) lines
+    placed_from items (number + 1) (depth + pitch items) (is_double line) lines
 
 -- Rows go on.
 pitch_some : (items : LayoutItems) → 0 < pitch items
@@ -128,10 +128,10 @@ none_empty items line is = grind (arith, nat_tests)
 by_test : (items : LayoutItems) (number depth : ℕ) (under : Bool) (line : List ℕ)
     (lines : List (List ℕ)) (P : List PlacedLine → Type 0) (b : Bool)
     → takes_none items line ≡ b
-    → (takes_none items line ≡ true → P (placed items (number + 1) depth under lines))
+    → (takes_none items line ≡ true → P (placed_from items (number + 1) depth under lines))
     → (takes_none items line ≡ false
     → P (place_of number depth under line ∷ behind items number depth line lines))
-    → P (placed items number depth under (line ∷ lines))
+    → P (placed_from items number depth under (line ∷ lines))
 by_test items number depth under line lines P true is none some = rw is (none is)
 by_test items number depth under line lines P false is none some = rw is (some is)
 
@@ -154,7 +154,7 @@ module _ (items : LayoutItems) (jc off : ℕ) where
 
   nothing_below : (number depth : ℕ) (under : Bool) (lines : List (List ℕ))
       → off + 24 ≤ depth
-      → HasNothing (placed items number depth under lines)
+      → HasNothing (placed_from items number depth under lines)
   nothing_below number depth under [] low = λ none. refl
   nothing_below number depth under (line ∷ lines) low =
       by_test items number depth under line lines HasNothing (takes_none items line) refl
@@ -220,14 +220,14 @@ module _ (items : LayoutItems) (jc off : ℕ) where
   rows_show : (lines : List (List ℕ)) (count number depth row : ℕ) (under : Bool)
       → row + count ≡ 25
       → off + row ≤ depth
-      → Show row count (placed items number depth under lines)
+      → Show row count (placed_from items number depth under lines)
   rows_show [] count number depth row under all low = λ none. rows-none items jc off row count
   rows_show (line ∷ lines) zero number depth row under all low = λ none.
       sym (nothing_below number depth under (line ∷ lines) (omega (arith, low, all)) none)
   rows_show (line ∷ lines) (suc count) number depth row under all low =
       elim (cases_lt (off + row) depth) [
         | inl above ↦
-            show-above (placed items number depth under (line ∷ lines)) row count
+            show-above (placed_from items number depth under (line ∷ lines)) row count
             (none_above items off row number depth under (line ∷ lines) above)
             (rows_show (line ∷ lines) count number depth (row + 1) under (omega (arith, all))
             (omega (arith, above)))
@@ -262,7 +262,7 @@ module _ (items : LayoutItems) (jc off : ℕ) where
       show-empty place rest 1 24 empty more sound
 
   page_shows : (lines : List (List ℕ)) (number depth : ℕ) (under : Bool)
-      → Show 1 24 (placed items number depth under lines)
+      → Show 1 24 (placed_from items number depth under lines)
   page_shows [] number depth under = λ none. rows-none items jc off 1 24
   page_shows (line ∷ lines) number depth under =
       elim (cases_lt off depth) [
@@ -280,7 +280,7 @@ module _ (items : LayoutItems) (jc off : ℕ) where
 
 -- The lines that take rows have what all have.
 printed-placed : (items : LayoutItems) (number depth : ℕ) (under : Bool) (lines : List (List ℕ))
-    → printed_lines (cells_of (placed items number depth under lines)) ≡ printed_lines lines
+    → printed_lines (cells_of (placed_from items number depth under lines)) ≡ printed_lines lines
 printed-placed items number depth under [] = refl
 printed-placed items number depth under (line ∷ lines) =
     by_test items number depth under line lines
@@ -433,7 +433,7 @@ printed-drawn national items t page e =
 pub letters_stay : LawOfLetters
 unfolding drawn
 letters_stay national layout t page e =
-    let items = items_of layout in
+    let items = items_of_layout layout in
     let lines = printed-drawn national items t page e in
     record {
       letters =

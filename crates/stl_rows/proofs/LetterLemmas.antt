@@ -9,7 +9,7 @@ use Rattle.std.specs.List.{AllByRecursion, filter, list_all}
 use Rattle.ttx_page.specs.Page.{space}
 use Rattle.stl_rows.specs.declared.layout.Attribute.{Attribute}
 use Rattle.stl_rows.specs.declared.layout.LayoutItems.{LayoutItems}
-use Rattle.stl_rows.specs.Layout.{attribute_code, codes_of}
+use Rattle.stl_rows.specs.Layout.{attribute_code, codes_of_places}
 use Rattle.stl_rows.specs.Letters.{before_left, from_first, letters, printed, printed_lines, prints}
 use Rattle.stl_rows.specs.Letters.{to_last}
 use Rattle.stl_rows.specs.PreparedLine.{ending, framed, headed, leading, leading_codes, prepared_by}
@@ -89,7 +89,7 @@ attribute-low : (a : Attribute) → attribute_code a ≤ space
 unfolding attribute_code
 attribute-low a = grind (arith, nat_tests)
 
-none-codes : (places : List (Option Attribute)) → NonePrints (codes_of places)
+none-codes : (places : List (Option Attribute)) → NonePrints (codes_of_places places)
 none-codes [] = tt
 none-codes (None ∷ places) = none-codes places
 none-codes (Some a ∷ places) = (attribute-low a, none-codes places)
@@ -155,10 +155,10 @@ unfolding headed
 printed-headed items cells =
     let leads = none-leading 0 0x1F cells (omega arith) in
     let q = take (leading_codes cells) cells in
-    printed-ahead (codes_of items.ahead ++ whitened items q ++ codes_of items.behind)
+    printed-ahead (codes_of_places items.ahead ++ whitened items q ++ codes_of_places items.behind)
     (drop (leading_codes cells) cells)
-    (none-append (codes_of items.ahead ++ whitened items q) (codes_of items.behind)
-    (none-append (codes_of items.ahead) (whitened items q) (none-codes items.ahead)
+    (none-append (codes_of_places items.ahead ++ whitened items q) (codes_of_places items.behind)
+    (none-append (codes_of_places items.ahead) (whitened items q) (none-codes items.ahead)
     (none-whitened items q leads)) (none-codes items.behind))
     ∙ printed-drop (leading_codes cells) cells leads
 

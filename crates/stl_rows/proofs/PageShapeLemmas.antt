@@ -14,9 +14,9 @@ use Rattle.stl_rows.specs.declared.layout.LayoutItems.{LayoutItems}
 use Rattle.stl_rows.specs.declared.national.National.{National}
 use Rattle.stl_rows.specs.declared.text_code.TextCode.{TextCode}
 use Rattle.stl_rows.specs.DrawnPage.{drawn, lines_by, page_of_placed, pitch}
-use Rattle.stl_rows.specs.DrawnPage.{placed, shown_row, unstripped}
+use Rattle.stl_rows.specs.DrawnPage.{placed_from, shown_row, unstripped}
 use Rattle.stl_rows.specs.DuePage.{due}
-use Rattle.stl_rows.specs.Layout.{attribute_code, codes_of, items_of}
+use Rattle.stl_rows.specs.Layout.{attribute_code, codes_of_places, items_of_layout}
 use Rattle.stl_rows.specs.Line.{is_double}
 use Rattle.stl_rows.specs.PreparedLine.{ending, framed, headed, leading_codes, prepared_by}
 use Rattle.stl_rows.specs.PreparedLine.{row_from, start_by}
@@ -71,7 +71,7 @@ unfolding attribute_code
 attribute_small a = grind (arith, nat_tests)
 
 -- So are those of a list.
-codes_small : (places : List (Option Attribute)) → Small (codes_of places)
+codes_small : (places : List (Option Attribute)) → Small (codes_of_places places)
 codes_small [] = tt
 codes_small (None ∷ places) = codes_small places
 codes_small (Some a ∷ places) = (attribute_small a, codes_small places)
@@ -90,10 +90,10 @@ headed_small : (items : LayoutItems) (cells : List ℕ) → Small cells → Smal
 unfolding headed
 headed_small items cells h =
     let q = take (leading_codes cells) cells in
-    append_small (codes_of items.ahead ++ whitened items q ++ codes_of items.behind)
+    append_small (codes_of_places items.ahead ++ whitened items q ++ codes_of_places items.behind)
     (drop (leading_codes cells) cells)
-    (append_small (codes_of items.ahead ++ whitened items q) (codes_of items.behind)
-    (append_small (codes_of items.ahead) (whitened items q) (codes_small items.ahead)
+    (append_small (codes_of_places items.ahead ++ whitened items q) (codes_of_places items.behind)
+    (append_small (codes_of_places items.ahead) (whitened items q) (codes_small items.ahead)
     (whitened_small items q (take_small _ cells h))) (codes_small items.behind))
     (drop_small (leading_codes cells) cells h)
 
@@ -146,7 +146,7 @@ row_is start line h = record { columns = row_length start line; small = row_smal
 shown_is : (items : LayoutItems) (jc off row number depth : ℕ) (under : Bool)
     (lines : List (List ℕ))
     → AllByRecursion Small lines
-    → IsRowOfCodes (shown_row items jc off (placed items number depth under lines) row)
+    → IsRowOfCodes (shown_row items jc off (placed_from items number depth under lines) row)
 shown_is items jc off row number depth under [] h = blank_is
 shown_is items jc off row number depth under (line ∷ lines) h =
     grind (
@@ -160,7 +160,7 @@ shown_is items jc off row number depth under (line ∷ lines) h =
 -- The page that shows lines of codes is a page.
 page_is : (items : LayoutItems) (jc off depth : ℕ) (ls : List (List ℕ))
     → AllByRecursion Small ls
-    → IsPage (page_of_placed items jc off (placed items 0 depth false ls))
+    → IsPage (page_of_placed items jc off (placed_from items 0 depth false ls))
 unfolding page_of_placed
 page_is items jc off depth ls h = record {
   rows = length-map-range_with_len shown 1 24;
@@ -173,7 +173,7 @@ page_is items jc off depth ls h = record {
 }
   where
     shown : ℕ → List ℕ
-    shown = shown_row items jc off (placed items 0 depth false ls)
+    shown = shown_row items jc off (placed_from items 0 depth false ls)
 
     each : (row : ℕ) → IsRowOfCodes (shown row)
     each row = shown_is items jc off row 0 depth false ls h
@@ -185,7 +185,7 @@ drawn_is_page : (drawing : Drawing) (t : SubtitleValue) (page : Rows)
 unfolding drawn
 drawn_is_page drawing t page e =
     let n = drawing.national in
-    let items = items_of drawing.layout in
+    let items = items_of_layout drawing.layout in
     rw ((drawn_by-lines n items t page e).1)
     (page_is items t.jc (off_of_subtitle n items t) _ (lines_by n items t.text)
     (all_prepared items _ (cells_small n 0 0 (unstripped items t.text))))

@@ -16,7 +16,8 @@ use Rattle.stl_rows.specs.Loading.{LawOfParts, of_day, kinds_of, records_of}
 use Rattle.stl_rows.specs.Programme.{follow_faults, times_of}
 
 -- What is wrong at one block.
-kinds_at : (block : ℕ) (kinds : List LoadFaultKind) → kinds_of (map (load_fault block) kinds) ≡ kinds
+kinds_at : (block : ℕ) (kinds : List LoadFaultKind)
+    → kinds_of (map (load_fault block) kinds) ≡ kinds
 kinds_at block [] = refl
 kinds_at block (k ∷ ks) = ap (λ (l : List LoadFaultKind). k ∷ l) (kinds_at block ks)
 

@@ -7,7 +7,7 @@ use Rattle.std.proofs.lemmas.Bool.Decides.{nat_tests}
 use Rattle.std.specs.List.{list_all}
 use Rattle.std.proofs.Math.Seq.{take-append-add}
 use Rattle.stl_rows.specs.declared.layout.LayoutItems.{LayoutItems}
-use Rattle.stl_rows.specs.Layout.{codes_of}
+use Rattle.stl_rows.specs.Layout.{codes_of_places}
 use Rattle.stl_rows.specs.PreparedLine.{framed, headed, trailing}
 use Rattle.stl_rows.specs.TextCode.{is_within}
 
@@ -70,18 +70,19 @@ take_fitting xs ys =
 pub framed-fits : (items : LayoutItems) (cells : List ℕ)
     → 0 < length cells
     → items.fit ≡ true
-    → take (max (length (headed items cells)) 40) (headed items cells ++ codes_of items.after)
+    → take (max (length (headed items cells)) 40)
+    (headed items cells ++ codes_of_places items.after)
     ≡ framed items cells
 unfolding framed
 framed-fits items [] some fit = absurd (omega (arith, some))
 framed-fits items (c ∷ cells) some fit =
-    take_fitting (headed items (c ∷ cells)) (codes_of items.after) ∙ rw fit refl
+    take_fitting (headed items (c ∷ cells)) (codes_of_places items.after) ∙ rw fit refl
 
 -- Else it gets all.
 pub framed-all : (items : LayoutItems) (cells : List ℕ)
     → 0 < length cells
     → items.fit ≡ false
-    → headed items cells ++ codes_of items.after ≡ framed items cells
+    → headed items cells ++ codes_of_places items.after ≡ framed items cells
 unfolding framed
 framed-all items [] some fit = absurd (omega (arith, some))
 framed-all items (c ∷ cells) some fit = rw fit refl

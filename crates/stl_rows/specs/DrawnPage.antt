@@ -14,7 +14,7 @@ use Rattle.stl_rows.specs.declared.fault.RowFault.{RowFault}
 use Rattle.stl_rows.specs.declared.fault.RowFaultKind.{RowFaultKind}
 use Rattle.stl_rows.specs.declared.fault.RowFaultKind.TheVariants.{RowTooLong, PastBottom}
 use Rattle.stl_rows.specs.declared.fault.RowFaultKind.TheVariants.{DoubleRow, Hidden}
-use Rattle.stl_rows.specs.Layout.{default_layout, drawing_by, items_of, strips}
+use Rattle.stl_rows.specs.Layout.{default_layout, drawing_by, items_of_layout, strips}
 use Rattle.stl_rows.specs.Line.{columns, has_cells, is_double}
 use Rattle.stl_rows.specs.PlainPage.{last_row, plainly_drawn, unless, when}
 use Rattle.stl_rows.specs.PreparedLine.{prepared_by, row_from, start_by}
@@ -54,17 +54,17 @@ abbrev pub takes_none : LayoutItems → List ℕ → Bool
 takes_none items line = items.pack && not (has_cells line)
 
 -- The lines that take rows, of those from a number on; the first that does has this depth.
-abbrev pub placed : LayoutItems → ℕ → ℕ → Bool → List (List ℕ) → List PlacedLine
-placed items number depth is_under_double [] = []
-placed items number depth is_under_double (line ∷ lines) =
+abbrev pub placed_from : LayoutItems → ℕ → ℕ → Bool → List (List ℕ) → List PlacedLine
+placed_from items number depth is_under_double [] = []
+placed_from items number depth is_under_double (line ∷ lines) =
     if takes_none items line
-    then placed items (number + 1) depth is_under_double lines
+    then placed_from items (number + 1) depth is_under_double lines
     else record {
       number = number;
       depth = depth;
       is_under_double = is_under_double;
       cells = line;
-    } ∷ placed items (number + 1) (depth + pitch items) (is_double line) lines
+    } ∷ placed_from items (number + 1) (depth + pitch items) (is_double line) lines
 
 -- The depth of the last line that is not empty, of those from a depth on; else another.
 abbrev pub last_depth : LayoutItems → ℕ → ℕ → List (List ℕ) → ℕ
@@ -85,7 +85,7 @@ rows_off items lines = items.higher + (if items.last then last_depth items 0 0 l
 
 -- The lines of a subtitle that take rows.
 abbrev pub placed_lines : LayoutItems → ℕ → List (List ℕ) → List PlacedLine
-placed_lines items vp lines = placed items 0 (first_depth items vp) false lines
+placed_lines items vp lines = placed_from items 0 (first_depth items vp) false lines
 
 -- ---- what is refused
 
@@ -135,7 +135,7 @@ drawn_by national items t =
 
 -- The drawn page of a subtitle, or its first fault.
 unfoldable pub drawn : Drawing → SubtitleValue → Result Rows RowFault
-drawn drawing t = drawn_by drawing.national (items_of drawing.layout) t
+drawn drawing t = drawn_by drawing.national (items_of_layout drawing.layout) t
 
 -- By the default layout a subtitle is drawn plainly: a layout with each item at its default changes
 -- nothing.

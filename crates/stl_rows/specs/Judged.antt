@@ -1,8 +1,8 @@
 -- What of a subtitle file can be judged beside what is refused in it, and at which frames it is not
 -- known what is due (own).
 --
--- No time of what is refused is asked: from the last subtitle before it that can be relied on to the
--- next one, every page may be due.
+-- No time of what is refused is asked: from the last subtitle before it that can be relied on to
+-- the next one, every page may be due.
 use Rattle.std.specs.Prelude.{◌≡◌, ℕ, Bool, false, true, ◌&&◌, ◌||◌, nat_le, nat_lt, List, [], ◌∷◌}
 use Rattle.std.specs.Prelude.{if◌then◌else◌, is_none, map, Option, Some, None, All, IsOk}
 use Rattle.stl_file.specs.Reader.{findings_for}
@@ -19,13 +19,13 @@ use Rattle.stl_rows.specs.TextCode.{first_of}
 
 -- A subtitle that can be relied on, and whether another one of the file, refused or not, stands
 -- between it and the one before it, or before the first.
-pub record Judged : Type 0 where
+pub record JudgedSubtitle : Type 0 where
   pub subtitle : SubtitleValue
   pub is_behind_other : Bool
 
 -- All of a file, and whether another one stands behind the last.
 pub record AllJudged : Type 0 where
-  pub judged : List Judged
+  pub judged : List JudgedSubtitle
   pub is_before_other : Bool
 
 -- The record whose times are compared next with these is neither early nor does it overlap.
@@ -37,7 +37,7 @@ is_followed_in_order times (finds t block more) =
     is_none (first_of (order_faults (Some times) (times_of t)))
 
 -- One more in front.
-abbrev pub judged_before : Judged → AllJudged → AllJudged
+abbrev pub judged_before : JudgedSubtitle → AllJudged → AllJudged
 judged_before j all =
     record { judged = j ∷ all.judged; is_before_other = all.is_before_other }
 
@@ -64,17 +64,17 @@ judged_of drawing file = judged_behind drawing None false (findings_for drawing.
 -- ---- whether a transmission is judged beside what is refused
 
 -- Each of these starts at this frame or later.
-abbrev pub start_from : ℕ → List Judged → Bool
+abbrev pub start_from : ℕ → List JudgedSubtitle → Bool
 start_from frame [] = true
 start_from frame (j ∷ js) = nat_le frame j.subtitle.tci && start_from frame js
 
 -- None starts before one before it has ended.
-abbrev pub are_in_order : List Judged → Bool
+abbrev pub are_in_order : List JudgedSubtitle → Bool
 are_in_order [] = true
 are_in_order (j ∷ js) = start_from j.subtitle.tco js && are_in_order js
 
 -- There is something to judge by.
-abbrev pub are_some : List Judged → Bool
+abbrev pub are_some : List JudgedSubtitle → Bool
 are_some [] = false
 are_some (j ∷ js) = true
 
@@ -88,7 +88,7 @@ judges drawing file =
 
 -- After the TCO of the one before, up to before the TCI of the next one, where another one stands
 -- between them; to the end of the day where it stands behind the last.
-abbrev pub is_undecided_from : ℕ → List Judged → Bool → ℕ → Bool
+abbrev pub is_undecided_from : ℕ → List JudgedSubtitle → Bool → ℕ → Bool
 is_undecided_from start [] other frame = nat_le start frame && other
 is_undecided_from start (j ∷ js) other frame =
     (nat_le start frame && nat_lt frame j.subtitle.tci && j.is_behind_other)
@@ -104,7 +104,7 @@ is_undecided all frame = is_undecided_from 0 all.judged all.is_before_other fram
 abbrev pub LawOfJudged : Type 0
 LawOfJudged =
     (drawing : Drawing) (file : List ℕ)
-    → All (λ (j : Judged). IsOk (drawn drawing j.subtitle)) (judged_of drawing file).judged
+    → All (λ (j : JudgedSubtitle). IsOk (drawn drawing j.subtitle)) (judged_of drawing file).judged
 
 -- Where nothing is told of a file all its subtitles can be, and at each frame it is known what is
 -- due.
@@ -112,6 +112,6 @@ abbrev pub LawOfDecided : Type 0
 LawOfDecided =
     (drawing : Drawing) (file : List ℕ)
     → faults drawing file ≡ []
-    → (map (λ (j : Judged). j.subtitle) (judged_of drawing file).judged
+    → (map (λ (j : JudgedSubtitle). j.subtitle) (judged_of drawing file).judged
     ≡ records_of (findings_for drawing.scope file))
     × ((frame : ℕ) → is_undecided (judged_of drawing file) frame ≡ false)

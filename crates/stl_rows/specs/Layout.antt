@@ -44,10 +44,10 @@ unfoldable pub attribute_of : ℕ → Option Attribute
 attribute_of code = find (λ a. attribute_code a == code) attributes
 
 -- The codes of a list's places, each of which has one or none.
-abbrev pub codes_of : List (Option Attribute) → List ℕ
-codes_of [] = []
-codes_of (None ∷ places) = codes_of places
-codes_of (Some a ∷ places) = attribute_code a ∷ codes_of places
+abbrev pub codes_of_places : List (Option Attribute) → List ℕ
+codes_of_places [] = []
+codes_of_places (None ∷ places) = codes_of_places places
+codes_of_places (Some a ∷ places) = attribute_code a ∷ codes_of_places places
 
 -- ---- items
 
@@ -83,8 +83,8 @@ abbrev pub default_layout : Layout
 default_layout = record { items = None }
 
 -- The items of a layout.
-abbrev pub items_of : Layout → LayoutItems
-items_of layout = unwrap_or layout.items default_items
+abbrev pub items_of_layout : Layout → LayoutItems
+items_of_layout layout = unwrap_or layout.items default_items
 
 -- `strip`: a byte of a text, 00 to 1F, gives no cell.
 abbrev pub strips : LayoutItems → ℕ → Bool

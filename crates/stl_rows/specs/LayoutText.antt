@@ -15,8 +15,8 @@ use Rattle.stl_rows.specs.TextCode.{is_within}
 -- ---- characters
 
 -- It parts items.
-abbrev pub comma : ℕ
-comma = 0x2C
+abbrev pub between_items : ℕ
+between_items = 0x2C
 
 -- It parts the name of an item from its value.
 abbrev pub equals_sign : ℕ
@@ -64,8 +64,8 @@ rows_of_text text =
 -- ---- codes
 
 -- A hexadecimal digit of either case.
-unfoldable pub hex_digit : ℕ → Option ℕ
-hex_digit c =
+unfoldable pub hex_digit_value : ℕ → Option ℕ
+hex_digit_value c =
     if is_within 0x30 0x39 c then Some (c - 0x30)
     else (if is_within 0x41 0x46 c then Some (c - 0x37)
     else (if is_within 0x61 0x66 c then Some (c - 0x57) else None))
@@ -73,8 +73,8 @@ hex_digit c =
 -- The number that two of them are.
 abbrev pub byte_of_digits : ℕ → ℕ → Option ℕ
 byte_of_digits high low = do
-  high ← hex_digit high
-  low ← hex_digit low
+  high ← hex_digit_value high
+  low ← hex_digit_value low
   Some (16 * high + low)
 
 -- HEX: the codes that pairs of digits give, at the front of these places; some have been filled.
@@ -111,6 +111,8 @@ before_of_parts ahead (Some behind) = do
   second ← codes_of_text 6 behind
   if nat_le (length ahead + length behind) 12 then Some (first, second) else None
 
+-- What a text means: the attributes up to an asterisk and those behind it, of which the cells
+-- before a text are taken.
 unfoldable pub before_of_text :
     List ℕ → Option (List (Option Attribute) × List (Option Attribute))
 before_of_text text =
@@ -165,6 +167,8 @@ abbrev pub item_set_of : LayoutItems → List ℕ → Option (List ℕ) → Opti
 item_set_of items name None = flag_set items name
 item_set_of items name (Some value) = value_set items name value
 
+-- The number of the item that a text gives, its name before a sign of equality and its value behind
+-- it, and the items with it.
 unfoldable pub item_set : LayoutItems → List ℕ → Option (ℕ × LayoutItems)
 item_set items text =
     let parts : List ℕ × Option (List ℕ) = cut_at equals_sign text in
@@ -184,4 +188,4 @@ items_set items came (text ∷ texts) = do
 unfoldable pub layout_of_text : List ℕ → Option Layout
 layout_of_text text =
     option_map (λ items. record { items = Some items })
-    (items_set default_items (replicate 15 false) (slice_split (λ c. c == comma) text))
+    (items_set default_items (replicate 15 false) (slice_split (λ c. c == between_items) text))

@@ -6,7 +6,7 @@ use Rattle.stl_file.specs.Subtitle.{SubtitleValue}
 use Rattle.stl_rows.specs.declared.layout.Layout.{Layout}
 use Rattle.stl_rows.specs.declared.national.National.{National}
 use Rattle.stl_rows.specs.DrawnPage.{codes_by, drawn}
-use Rattle.stl_rows.specs.Layout.{drawing_by, items_of}
+use Rattle.stl_rows.specs.Layout.{drawing_by, items_of_layout}
 use Rattle.stl_rows.specs.Line.{has_cells}
 use Rattle.stl_rows.specs.TextCode.{lines_of_codes, text_codes}
 
@@ -51,7 +51,7 @@ pub record HasLetters (national : National) (layout : Layout) (text : List ℕ) 
   -- row stand the cells that the text gives there, less those of bytes that `strip` names.
   pub lines :
       printed_lines page
-      ≡ printed_lines (lines_of_codes (codes_by national (items_of layout) text))
+      ≡ printed_lines (lines_of_codes (codes_by national (items_of_layout layout) text))
 
 -- No layout adds, changes, loses or moves past another any letter. So what a layout can make of a
 -- text is told by rows, columns and codes alone.

@@ -64,4 +64,5 @@ unless (e ∷ es) value = Err e
 
 -- The drawn page of a subtitle, or its first fault.
 unfoldable pub plainly_drawn : National → SubtitleValue → Result Rows RowFault
-plainly_drawn national t = unless (subtitle_faults national t) (page_of_lines t.jc t.vp (lines national t))
+plainly_drawn national t =
+    unless (subtitle_faults national t) (page_of_lines t.jc t.vp (lines national t))

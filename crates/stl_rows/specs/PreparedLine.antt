@@ -3,7 +3,7 @@ use Rattle.std.specs.Prelude.{ℕ, suc, ◌+◌, ◌-◌, ◌/◌, not, ◌&&◌
 use Rattle.std.specs.Prelude.{if◌then◌else◌, length, take, drop, map, min}
 use Rattle.std.specs.List.{list_all, list_any, range_with_len}
 use Rattle.stl_rows.specs.declared.layout.LayoutItems.{LayoutItems}
-use Rattle.stl_rows.specs.Layout.{codes_of}
+use Rattle.stl_rows.specs.Layout.{codes_of_places}
 use Rattle.stl_rows.specs.Line.{code_in_column, columns, is_boxed}
 use Rattle.stl_rows.specs.TextCode.{is_within}
 
@@ -27,6 +27,7 @@ trailing first last (c ∷ cells) =
 abbrev pub leading_codes : List ℕ → ℕ
 leading_codes cells = leading 0 0x1F cells
 
+-- How many codes 00 to 1F stand at its end.
 abbrev pub trailing_codes : List ℕ → ℕ
 trailing_codes cells = trailing 0 0x1F cells
 
@@ -52,15 +53,17 @@ whitened items codes =
 -- `before`: the codes ahead of a line's leading codes, these, the codes behind them, and the rest.
 unfoldable pub headed : LayoutItems → List ℕ → List ℕ
 headed items cells =
-    codes_of items.ahead
+    codes_of_places items.ahead
     ++ whitened items (take (leading_codes cells) cells)
-    ++ codes_of items.behind
+    ++ codes_of_places items.behind
     ++ drop (leading_codes cells) cells
 
 -- `after`: the codes at the end of a line. With `fit` as many as there is room for.
 abbrev pub ending : LayoutItems → ℕ → List ℕ
 ending items n =
-    if items.fit then take (columns - n) (codes_of items.after) else codes_of items.after
+    if items.fit
+    then take (columns - n) (codes_of_places items.after)
+    else codes_of_places items.after
 
 -- A line with the codes that a layout puts beside it. An empty one gets none.
 unfoldable pub framed : LayoutItems → List ℕ → List ℕ

@@ -1,7 +1,8 @@
 //! Layouts: how a house draws its texts.
 
 ghost use Rattle.std.specs.Prelude.{◌≡◌};
-ghost use Rattle.stl_rows.specs.Layout.{attribute_code, attribute_of, default_items, items_of};
+ghost use Rattle.stl_rows.specs.Layout.{attribute_code, attribute_of, default_items};
+ghost use Rattle.stl_rows.specs.Layout.{items_of_layout};
 ghost use Rattle.stl_rows.specs.Layout.{default_layout, strips};
 
 use crate::national::National;

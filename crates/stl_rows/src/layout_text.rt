@@ -7,7 +7,8 @@ ghost use Rattle.std.specs.List.{slice_split};
 ghost use Rattle.std.specs.Option.{option_map_or};
 ghost use Rattle.std.specs.Str.{IsUtf8};
 ghost use Rattle.stl_rows.specs.LayoutText.{before_of_text, byte_of_digits, codes_filled, cut_at};
-ghost use Rattle.stl_rows.specs.LayoutText.{codes_of_text, decimal_digit, flag_set, hex_digit};
+ghost use Rattle.stl_rows.specs.LayoutText.{codes_of_text, decimal_digit, flag_set};
+ghost use Rattle.stl_rows.specs.LayoutText.{hex_digit_value};
 ghost use Rattle.stl_rows.specs.LayoutText.{items_set};
 ghost use Rattle.stl_rows.specs.LayoutText.{item_set, layout_of_text, number_within, rows_of_text};
 ghost use Rattle.stl_rows.specs.LayoutText.{number_set, stripped_with, value_set};
@@ -74,9 +75,9 @@ fn rows_of_text(text: &[u8]) -> Option<(u8, u8)>
 }
 
 // A hexadecimal digit of either case.
-#[tactic(auto, unfolding(crate::specs::LayoutText::hex_digit))]
-fn hex_digit(byte: u8) -> Option<u8>
-    ensures value { result ≡ hex_digit byte }
+#[tactic(auto, unfolding(crate::specs::LayoutText::hex_digit_value))]
+fn hex_digit_value(byte: u8) -> Option<u8>
+    ensures value { result ≡ hex_digit_value byte }
     ensures small { IfSome result (λ n. n < 16) }
 {
     match byte {
@@ -91,8 +92,8 @@ fn hex_digit(byte: u8) -> Option<u8>
 fn byte_of_digits(high: u8, low: u8) -> Option<u8>
     ensures { result ≡ byte_of_digits high low }
 {
-    let high = hex_digit(high)?;
-    let low = hex_digit(low)?;
+    let high = hex_digit_value(high)?;
+    let low = hex_digit_value(low)?;
     Some(16 * high + low)
 }
 

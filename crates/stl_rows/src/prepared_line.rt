@@ -3,7 +3,7 @@
 ghost use Rattle.std.specs.Prelude.{◌≡◌, ◌+◌, ◌-◌, ◌<◌, ◌≤◌, ◌++◌, ◌∷◌, [], length};
 ghost use Rattle.std.specs.Prelude.{◌==◌};
 ghost use Rattle.std.specs.List.{list_any};
-ghost use Rattle.stl_rows.specs.Layout.{codes_of};
+ghost use Rattle.stl_rows.specs.Layout.{codes_of_places};
 ghost use Rattle.stl_rows.specs.Line.{is_double};
 ghost use Rattle.stl_rows.specs.PreparedLine.{framed, headed, leading, prepared_by, start_by};
 ghost use Rattle.stl_rows.specs.PreparedLine.{trailing, trimmed, uncounted, wanted_column};
@@ -91,7 +91,7 @@ fn push_cells(line: &mut LineCells, cells: &[u8])
 // Puts codes after the cells of a line.
 fn push_codes(line: &mut LineCells, codes: &[Option<Attribute>])
     requires { length line.old.items + length codes.now ≤ 1025 }
-    ensures value { line.new.items ≡ line.old.items ++ codes_of codes.now }
+    ensures value { line.new.items ≡ line.old.items ++ codes_of_places codes.now }
     ensures few { length line.new.items ≤ length line.old.items + length codes.now }
 {
     for code in codes {

@@ -1,5 +1,6 @@
 -- How far the check has come, as the checker keeps it. Private functions alone cite this.
-use Rattle.std.specs.Prelude.{◌≡◌, ℕ, ◌+◌, ◌-◌, ◌*◌, ◌<◌, ◌≤◌, ◌&&◌, ◌||◌, ◌==◌, List, [], ◌∷◌, ◌++◌}
+use Rattle.std.specs.Prelude.{◌≡◌, ℕ, ◌+◌, ◌-◌, ◌*◌, ◌<◌, ◌≤◌, ◌&&◌, ◌||◌, ◌==◌, List, [], ◌∷◌}
+use Rattle.std.specs.Prelude.{◌++◌}
 use Rattle.std.specs.Prelude.{Option, Some, None, max, map, nat_le, nat_lt, is_some, not}
 use Rattle.std.specs.Prelude.{Bool, false, true, if◌then◌else◌}
 use Rattle.stl_file.specs.TimeCode.{day}
@@ -50,10 +51,10 @@ sent_as sending units = record { frame = sending.frame; packets = packets_of_uni
 -- ---- what is kept
 
 -- The programme, the repeat bound, within how many frames the page has to be whole, how many frames
--- apart PES packets are at most, where that is asked, what is kept of the packets, the frame of the first PES packet, the greatest one of all, the frame that a page is
--- due at, that of the last end and what stood broken there, the first of the frames up to it at
--- whose ends the page was not whole, one more than the first frame at whose end a header is too
--- long ago, and what was counted.
+-- apart PES packets are at most, where that is asked, what is kept of the packets, the frame of the
+-- first PES packet, the greatest one of all, the frame that a page is due at, that of the last end
+-- and what stood broken there, the first of the frames up to it at whose ends the page was not
+-- whole, one more than the first frame at whose end a header is too long ago, and what was counted.
 pub record CheckerValue : Type 0 where
   pub programme : ProgrammeValue
   pub every : ℕ

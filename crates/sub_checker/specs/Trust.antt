@@ -32,9 +32,9 @@ run_begun (Some from) has_header f = Some from
 run_begun None has_header f = if has_header then Some f else None
 
 -- What is left of the run where a frame is doubted.
-abbrev pub kept : Option ℕ → Option ℕ → Option ℕ
-kept run None = run
-kept run (Some f) = None
+abbrev pub run_after : Option ℕ → Option ℕ → Option ℕ
+run_after run None = run
+run_after run (Some f) = None
 
 -- The first frame of the run at whose end the page was whole, where this frame is one of it: since
 -- which frame the ends up to its own are unfinished says whether it was whole here.
@@ -69,7 +69,7 @@ told_with mark t = []
 unfoldable pub after_mark : Mark → Trust → Trust
 after_mark (AtPes pes) t = record t { pes = pes }
 after_mark (Says e) t = record t {
-  run = kept t.run (doubted t.last (late_since t) e);
+  run = run_after t.run (doubted t.last (late_since t) e);
   rises = t.rises && not (is_order e);
   is_clean = t.is_clean && is_none (doubted t.last (late_since t) e);
   told = true;

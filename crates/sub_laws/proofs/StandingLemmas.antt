@@ -226,7 +226,8 @@ module _ (g : Task) (frames : Transmission) (n f : ℕ) where
       by zero None is =
           (λ e k asks. absurd (none-some k (sym is ∙ asks)), λ h. ap (λ o. not (is_some o)) is)
       by zero (Some pace) is =
-          (λ e. grind (arith, nat_tests), λ h. absurd (let near = h pace is in omega (arith, near.1)))
+          (λ e. grind (arith, nat_tests),
+          λ h. absurd (let near = h pace is in omega (arith, near.1)))
       by (suc m) None is = (
         λ e k asks. absurd (none-some k (sym is ∙ asks)),
         λ h. ap (λ o. not (silent_for o (latest frames (suc m)) f)) is,

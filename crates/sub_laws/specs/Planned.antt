@@ -19,10 +19,11 @@ planned_at due o national serial f =
 -- The schedule of a programme as a transmission.
 abbrev pub planned : ProgrammeValue → OptionsValue → Bool → Transmission
 planned programme o serial =
-    map (planned_at (due_in programme) o programme.drawing.national serial) (plan_frames programme o.every)
+    map (planned_at (due_in programme) o programme.drawing.national serial)
+    (plan_frames programme o.every)
 
--- The schedule of a programme that has a subtitle is a good transmission of it, in both modes, where
--- no pace is asked for that is less than the repeat bound.
+-- The schedule of a programme that has a subtitle is a good transmission of it, in both modes,
+-- where no pace is asked for that is less than the repeat bound.
 -- So a checker with the same options accepts it, and every receiver shows what is due.
 abbrev pub LawOfPlan : Type 0
 LawOfPlan =

@@ -232,8 +232,8 @@ pub fn law_of_plan_repeats()
     ensures { LawOfPlanRepeats }
 {}
 
-/// A stretch of which each packet may follow those that were sent before it, whatever these are, has
-/// what recovery needs of it, where repeats may keep the page too.
+/// A stretch of which each packet may follow those that were sent before it, whatever these are,
+/// has what recovery needs of it, where repeats may keep the page too.
 pub fn law_of_followed_stretch()
     ensures { LawOfFollowedStretch }
 {}

@@ -1,5 +1,5 @@
--- What is printed of a recording: whole, printed-done; cut off by the sink, printed-cut; and with the
--- line of a fault behind it, printed-told.
+-- What is printed of a recording: whole, printed-done; cut off by the sink, printed-cut; and with
+-- the line of a fault behind it, printed-told.
 use Rattle.std.proofs.Common.{◌≡◌, ℕ, ◌+◌, List, ◌++◌, Option, refl, ◌∙◌, ap, inl, inr}
 use Rattle.std.proofs.KnownBytes.{Appends-trans}
 use Rattle.sub_io.proofs.DeviceLemmas.{AppendsPrefix-second, AppendsPrefix-whole}

@@ -81,4 +81,5 @@ plan_frames programme every =
 -- The schedule of a programme in bytes: a PES packet for each of these frames.
 abbrev pub plan : ProgrammeValue → OptionsValue → Bool → List ℕ
 plan programme o serial =
-    sendings_at (due_in programme) o programme.drawing.national serial (plan_frames programme o.every)
+    sendings_at (due_in programme) o programme.drawing.national serial
+    (plan_frames programme o.every)

@@ -2,9 +2,10 @@
 //!
 //! A `Request` is a variant for each command, with the values of its words; it names the files that
 //! are read and written, each by a type that nothing else makes. Stands on `sub_plan` for the
-//! options of a schedule, on `stl_rows` for national options and layouts, on `mpeg_ts` and `ttx_pes`
-//! for which PES packets are read, and on `ts_survey` for what is asked of a survey. `sub_words` reads
-//! requests from words, `sub_listen` runs the receiver of a `Listening`, and `sub_answer` answers.
+//! options of a schedule, on `stl_rows` for national options and layouts, on `mpeg_ts` and
+//! `ttx_pes` for which PES packets are read, and on `ts_survey` for what is asked of a survey.
+//! `sub_words` reads requests from words, `sub_listen` runs the receiver of a `Listening`, and
+//! `sub_answer` answers.
 //!
 //! ```text
 //! let request = Request::Show { stl: "film.stl" };

@@ -37,8 +37,8 @@ between least most None = None
 between least most (Some n) = if nat_le least n && nat_le n most then Some n else None
 
 -- `[--page P] [--origin T] [--complete]`: the options of a repeat bound of 1 to 2,160,000 frames, a
--- day, with a PTS of 33 bits; the first fault where a number is missing or out of range. Of a command
--- that has no flag `complete` none is given.
+-- day, with a PTS of 33 bits; the first fault where a number is missing or out of range. Of a
+-- command that has no flag `complete` none is given.
 abbrev pub options_of : Option ℕ → List Row → Result OptionsValue UsageFault
 options_of every rows = do
   page ← ok_or (page_of_text (argument (codes "page") rows)) fault.BadPage

@@ -5,7 +5,8 @@ use fixtures::file_of_three;
 use stl_file::{Found, ResumingReader, Scope, StlFault, Subtitle};
 use sub_io::MemSource;
 
-// The blocks at which a subtitle, one of two blocks that is refused and the end are found in a file.
+// The blocks at which a subtitle, one of two blocks that is refused and the end are found in a
+// file.
 fn blocks_found(file: &[u8]) -> [u32; 3] {
     let mut source = MemSource::new(file);
     let mut subtitle = Subtitle::empty();

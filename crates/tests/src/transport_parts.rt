@@ -97,7 +97,6 @@ fn cuts_parts_at_an_announced_jump(rt: HostRuntime) {
 fn joins_the_payloads_of_a_pes_packet(rt: HostRuntime) {
     let both: [&[u8]; 2] = [&FIRST, &SECOND];
     let jumping_head: [u8; 6] = [0x47, 0x41, 0x01, 0x30, 83, 0x80];
-    let long_head: [u8; 6] = [0x47, 0x01, 0x01, 0x31, 83, 0x00];
     assert_gives(
         &rt,
         &[
@@ -130,6 +129,11 @@ fn joins_the_payloads_of_a_pes_packet(rt: HostRuntime) {
         ],
         &both,
     );
+}
+
+#[test]
+fn tells_a_gap_behind_a_pes_packet(rt: HostRuntime) {
+    let long_head: [u8; 6] = [0x47, 0x01, 0x01, 0x31, 83, 0x00];
     // Bytes behind the PES packet are a gap.
     assert_gives(
         &rt,
@@ -158,13 +162,17 @@ fn joins_the_payloads_of_a_pes_packet(rt: HostRuntime) {
         ],
         &[&FIRST],
     );
-    // A part that is not whole, before one that begins.
+}
+
+#[test]
+fn passes_over_a_part_that_is_not_whole(rt: HostRuntime) {
+    // Before one that begins.
     assert_gives(
         &rt,
         &[&FRONT_0, &FILL[..82], &FIRST[..100], &BEGINS_1, &SECOND],
         &[&SECOND],
     );
-    // The second packet begins no part, behind a whole one.
+    // It begins none, behind a whole one.
     assert_gives(
         &rt,
         &[&BEGINS_0, &FIRST, &[0x47, 0x01, 0x01, 0x11], &SECOND],

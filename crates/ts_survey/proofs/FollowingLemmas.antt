@@ -1,5 +1,5 @@
--- What is taken, piece after piece: for `give_ready` none-taken and first-taken; and that it is what
--- the packets of a PID carry, law_of_following.
+-- What is taken, piece after piece: for `give_ready` first-taken; and that it is what the packets
+-- of a PID carry, law_of_following.
 use Rattle.std.proofs.Common.{◌≡◌, ℕ, Bool, true, false, List, [], ◌∷◌, ◌++◌, length, take, drop}
 use Rattle.std.proofs.Common.{refl, sym, ap, ◌∙◌, subst, take-append-drop}
 use Rattle.std.proofs.lemmas.List.Folds.{concat-append}
@@ -18,13 +18,6 @@ abbrev pub Continues :
     {T : Type 0} → (T → List ℕ → T → Type 0) → T → List ℕ → T → List ℕ → Type 0
 Continues {T} IsTaken old whole now left =
     (new : T) → TakesBytes IsTaken now left new → TakesBytes IsTaken old whole new
-
--- No bytes.
-pub none-taken : {T : Type 0} (IsTaken : T → List ℕ → T → Type 0) (old : T) (bytes : List ℕ)
-    → bytes ≡ []
-    → TakesBytes IsTaken old bytes old
-none-taken IsTaken old bytes none =
-    record { pieces = []; joined = sym none; run = refl }
 
 -- One piece more.
 pub first-taken :

@@ -58,7 +58,8 @@ pub hears-next : (w v : PageIdValue) (old : State) (whole : List (List ℕ)) (no
     → size ≡ 2 + slice_index bytes 1
     → Hears v now heard mid
     → HearsOn w old whole mid (total - (counter + 1)) (drop size bytes)
-hears-next w v old whole now mid total counter size bytes heard so_far below long same is sized one =
+hears-next w v old whole now mid total counter size bytes heard so_far below long same is sized
+    one =
     let room = total - (counter + 1) in
     let more : total - counter ≡ suc room = omega (arith, below) in
     rw sized (hears-unit w old whole now mid room bytes (rw more at so_far) long

@@ -3,7 +3,8 @@
 --   4      adaptation_field_length
 --   5      discontinuity_indicator (1 bit), random_access_indicator (1),
 --          elementary_stream_priority_indicator (1), PCR_flag (1) and four more flags
---   6..11  program_clock_reference_base (33 bits), reserved (6), extension (9), where PCR_flag is set
+--   6..11  where PCR_flag is set: program_clock_reference_base (33 bits), reserved (6),
+--          extension (9)
 --
 -- And the PTS of a PES packet's header (ISO/IEC 13818-1, PES_packet):
 --

@@ -15,13 +15,13 @@ abbrev pub first_place : List ℕ → ℕ
 first_place pes = if nat_lt 9 (length pes) then 10 + slice_index pes 8 else length pes
 
 -- data_unit_id says that it is Teletext, and data_unit_length that it is a packet.
-abbrev pub is_teletext : List ℕ → Bool
-is_teletext unit =
+abbrev pub is_teletext_unit : List ℕ → Bool
+is_teletext_unit unit =
     (slice_index unit 1 == 0x2C) && ((slice_index unit 0 == 2) || (slice_index unit 0 == 3))
 
 -- The packet of a data unit, if it has one: its bits come in the other order.
 unfoldable pub unit_packets : List ℕ → List (List ℕ)
-unit_packets unit = if is_teletext unit then map mirror (drop 4 unit) ∷ [] else []
+unit_packets unit = if is_teletext_unit unit then map mirror (drop 4 unit) ∷ [] else []
 
 -- Those that begin these bytes, of so many data units at most.
 unfoldable pub packets_from : ℕ → List ℕ → List (List ℕ)

@@ -14,6 +14,7 @@ pub record Adds (old : Text) (bytes : List ℕ) (new : Text) : Type 0 where
 abbrev pub half_clock : ℕ
 half_clock = 0x1_0000_0000
 
+-- After so many ticks the clock of PTS comes round: 33 bits (ISO/IEC 13818-1).
 abbrev pub whole_clock : ℕ
 whole_clock = 0x2_0000_0000
 

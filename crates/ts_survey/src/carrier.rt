@@ -34,8 +34,8 @@ pub struct Carrier {
     has_jump: bool,
     packets: u64,
     scrambled: u64,
-    // PTS: of the last PES packet that began, of the last that was held against the clock, and of the
-    // one that had begun before the last PCR.
+    // PTS: of the last PES packet that began, of the last that was held against the clock, and of
+    // the one that had begun before the last PCR.
     begun: Option<u64>,
     sampled: Option<u64>,
     before_pcr: Option<u64>,

@@ -13,7 +13,8 @@ pub struct Given {
     lines: PesLines,
     // Whether a mark was due at any time since the last packet came.
     is_broken: bool,
-    // Since the last PES packet: whether a mark is due, and the packets that were lost or scrambled.
+    // Since the last PES packet: whether a mark is due, and the packets that were lost or
+    // scrambled.
     has_mark: bool,
     lost: u64,
     scrambled: u64,

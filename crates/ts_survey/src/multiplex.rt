@@ -374,8 +374,8 @@ fn is_unknown(state: &PidState) -> bool {
     state.carrier == NONE && state.table == NONE && !state.is_other
 }
 
-// Whether a payload begins with a PES packet of Teletext: private_stream_1, whose first data byte is
-// a data_identifier of EBU data, 10 to 1F (EN 300 472).
+// Whether a payload begins with a PES packet of Teletext: private_stream_1, whose first data byte
+// is a data_identifier of EBU data, 10 to 1F (EN 300 472).
 fn is_teletext(payload: &[u8]) -> bool {
     if payload.len() < 10 || payload[0] != 0 || payload[1] != 0 || payload[2] != 1 {
         return false;

@@ -6,8 +6,8 @@ use mpeg_ts::{PacketSize, SYNC_BYTE};
 /// Packets in a row that tell the distance.
 const IN_A_ROW: usize = 5;
 
-// Whether packets stand at a place and behind it at a distance, as many as tell it, or up to the end
-// of the recording.
+// Whether packets stand at a place and behind it at a distance, as many as tell it, or up to the
+// end of the recording.
 fn is_at(bytes: &[u8], place: usize, distance: usize, is_end: bool) -> bool {
     let mut at = place;
     for _ in 0..IN_A_ROW {

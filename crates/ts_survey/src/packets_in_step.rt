@@ -1,5 +1,5 @@
-//! The packets of a transport stream, found in bytes that come bit by bit; bytes that belong to none
-//! are skipped and counted.
+//! The packets of a transport stream, found in bytes that come bit by bit; bytes that belong to
+//! none are skipped and counted.
 ghost use Rattle.std.specs.Prelude.{◌≡◌, ◌≤◌, length};
 
 use crate::multiplex::Multiplex;

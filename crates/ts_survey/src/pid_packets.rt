@@ -70,8 +70,8 @@ impl<T: TakesPieces> PidPackets<T> {
         self.joining.note_hole();
     }
 
-    /// A packet came. What it makes ready is taken at once, piece after piece; behind what is no PES
-    /// packet nothing is.
+    /// A packet came. What it makes ready is taken at once, piece after piece; behind what is no
+    /// PES packet nothing is.
     pub fn take(&mut self, packet: &[u8; PACKET], text: &mut Text)
         ensures ended { has_ended self.old.joining.part ≡ true → self.new ≡ self.old }
         ensures joining { has_ended self.old.joining.part ≡ false → self.new.joining

@@ -78,16 +78,16 @@ class Ends(Case):
             self.must(f"{count}", said.count(place) == min(count, 20) and
                       (more in said if more else not any("more place" in one for one in said[1:])),
                       said)
-            self.must("allow", "! nobody saw what was sent there; --allow-lost accepts the "
+            self.must("allow", "! that part was not recorded; --allow-lost accepts the "
                       "recording without it" in said, said)
         said = self.said(self.verdict([part_with(0, 99, 0)], gaps=[gap(False)]))
         self.must("outside", said[1].endswith("3 TS packets lost, outside of what is judged") and
-                  not any("nobody saw" in one for one in said), said)
+                  not any("not recorded" in one for one in said), said)
         said = self.said(self.verdict([part_with(0, 99, 0)], "--allow-lost", gaps=[gap(True)]))
-        self.must("allowed", not any("nobody saw" in one for one in said) and
+        self.must("allowed", not any("not recorded" in one for one in said) and
                   said[-1].startswith("accepted"), said)
         said = self.said(self.verdict([part_with(0, 99, 0, answer(REFUSED))], gaps=[gap(True)]))
-        self.must("refused too", "! nobody saw what was sent there" in said, said)
+        self.must("refused too", "! that part was not recorded" in said, said)
 
     def test_refused(self) -> None:
         """The line of the first part that is refused; within how many frames it is accepted."""

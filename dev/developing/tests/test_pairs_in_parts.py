@@ -171,7 +171,7 @@ class Parts(Case):
                 time_of(self.sent[place - 1][0] // TICKS) for place in places[:len(own)]], lost)
             self.must(f"{at}: no least", found.result["accepted_within"] is None and
                       found.verdict.is_lost == bool(own) and
-                      ("nobody saw" in "".join(found.told)) == bool(own))
+                      ("not recorded" in "".join(found.told)) == bool(own))
             allowed = self.judge((1000, 3000), {}, *every, *clock, "--allow-lost", marks=places)
             self.must(f"{at}: allowed", allowed.word == ("waived" if own else "accepted"))
 

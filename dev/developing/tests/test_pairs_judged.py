@@ -79,7 +79,7 @@ class Unread(Case):
                                             found.result["lost"]] ==
                   [(time_of(self.frames[before]), time_of(self.frames[after]))
                    for before, after in ((21, 24), (60, 62))], found.result["lost"])
-        told = [line for line in found.told if "between" in line or "nobody" in line]
+        told = [line for line in found.told if "between" in line or "recorded" in line]
         self.must("told", len(told) == 3 and "--allow-lost accepts" in told[2], told)
         severity = self.write("severity", b"45 warning\n")
         others = self.write("others", b"others warning\n")
@@ -101,10 +101,10 @@ class Unread(Case):
                                         ("the first", first, None)):
             path = self.write("one.pes", b"".join(some))
             found = judged(self, self.stl, path, *EVERY, "--origin", str(ORIGIN))
-            told = [line for line in found.told if "nobody saw" in line]
+            told = [line for line in found.told if "not recorded" in line]
             more = "; --allow-lost accepts the recording without it" * bool(is_promised)
             self.must(name, told == ([] if is_promised is None else
-                                     [f"nobody saw what was sent there{more}"]), found.said)
+                                     [f"that part was not recorded{more}"]), found.said)
             again = judged(self, self.stl, path, *EVERY, "--origin", str(ORIGIN), "--allow-lost")
             self.must(f"{name}: allowed", (again.word != "refused") ==
                       (is_promised or name == "before the first"), again.said)

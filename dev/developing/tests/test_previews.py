@@ -42,14 +42,14 @@ class WhatFits(unittest.TestCase):
                  "this page transmission is 5 frames early: what is held is due from 00:00:01:05 "
                  "on"),
                 (changes((25, THREE), (30, TWO)), 25, (TWO, THREE),
-                 "no page transmission fits: the due page is never held"),
+                 "no page transmission fits: the right page never came"),
                 (changes((1, TWO), (3, ONE), (5, TWO), (8, ONE)), 20, (TWO, ONE),
                  "no later page transmission fits: the due page was held last at 00:00:00:07, "
                  "13 frames before"),
                 (changes((1, ONE)), 20, (TWO, ONE),
-                 "no page transmission fits: the due page is never held"),
+                 "no page transmission fits: the right page never came"),
                 (changes((1, ONE)), 20, (ONE, ONE),
-                 "no page transmission fits: the due page is never held")):
+                 "no page transmission fits: the right page never came")):
             with self.subTest(held=list(held.frames), frame=frame):
                 found = self.fits(due, held, frame, pages).words(frame)
                 self.assertEqual(found, wanted)

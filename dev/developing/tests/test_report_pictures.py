@@ -156,6 +156,19 @@ class Looks(unittest.TestCase):
                 self.assertEqual(self.figures(state, is_complete, is_after).kind_at(5), kind)
 
 
+    def test_folds_away(self) -> None:
+        """Below a picture what its rows are as ASCII, and what its header says; beside the caption
+        only what is seen in it."""
+        drawn = self.figures(State(True, False, self.HEADER, self.OTHER, None)).at(5)
+        self.assertIn("<br/><small><b>1 cell differs</b></small></figcaption>", drawn)
+        self.assertIn("<details><summary>codes as ASCII</summary><small>not open; C4 C6 C7, English"
+                      "</small><pre>row 20 |..some", drawn)
+        hit = self.OTHER[:20] + (bytes([0xA0]) * 40,) + self.OTHER[21:]
+        self.assertIn("<b>1 cell differs</b>, dashed: even parity</small>",
+                      self.figures(State(True, False, self.HEADER, hit, None)).at(5))
+        self.assertNotIn("<details>", self.figures(None).at(5).partition('class="held"')[2])
+
+
 class Pictured(unittest.TestCase):
     """The subtitles that have pictures."""
 

@@ -183,7 +183,7 @@ class Reports(Case):
                       'class="long">&lt;</code></dd><dt>PROVED</dt>' in text, text)
         text = page.document("a <line>", "b & c", ["one", "two"])
         self.must("document", "<title>a &lt;line&gt; &#8211; b &amp; c</title>" in text and
-                  text.endswith("<h1>Preview of b &amp; c</h1>\none\ntwo\n</body></html>\n"), text)
+                  text.endswith("<h1>Report on b &amp; c</h1>\none\ntwo\n</body></html>\n"), text)
 
     def test_end_of_what_is_known(self) -> None:
         """Where the file ends before the last subtitle does, or can't be followed."""

@@ -125,14 +125,14 @@ class Reports(unittest.TestCase):
     def pictures(self, page: tree.Element, beside: Beside) -> None:
         """Each large picture has its rows below it; a small one is of what is due and held."""
         for figure in list(page.iter(HTML + "figure"))[:MOST]:
-            kind, (caption, *_, rows) = figure.get("class"), list(figure)
-            found = TIME.search(text_of(caption))
+            kind, rows = figure.get("class"), "".join(map(text_of, figure.iter(HTML + "pre")))
+            found = TIME.search(text_of(figure[0]))
             assert found
             with self.subTest(kind=kind, time=found[0]):
                 if kind == "small":
                     self.assertEqual(beside.rows(kind, found[0]), beside.rows("held", found[0]))
                 else:
-                    self.assertEqual(text_of(rows).splitlines(), beside.rows(kind, found[0]))
+                    self.assertEqual(rows.splitlines(), beside.rows(kind, found[0]))
 
 
 def pages_from(first: int) -> Callable[[Reports], None]:

@@ -159,7 +159,7 @@ def end(verdict: Verdict, speech: Speech) -> None:
         speech.tell(f"and at {counted(len(verdict.gaps) - TOLD, 'more place')}")
     if verdict.is_lost and not verdict.asked.is_loss_allowed:
         would = "; --allow-lost accepts the recording without it" if verdict.is_lost_alone else ""
-        speech.tell(f"nobody saw what was sent there{would}")
+        speech.tell(f"that part was not recorded{would}")
     for line in verdict.notes:
         speech.tell(line)
     for warned in verdict.warnings:

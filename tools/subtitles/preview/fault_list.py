@@ -51,13 +51,12 @@ class FaultList:
         state = self.held.state_at(fault.frame)
         rows, header = self.figures.due_at(fault.frame)
         due = text_of_code(rows[fault.row - 1][fault.column], national_option(header))
-        words = f"due {due}, held "
         if state is None:
-            return words + NOT_READ
+            return f"should be {due}; {NOT_READ}"
         if state.header is None:
-            return words + "nothing: no header was heard yet"
-        option = national_option(state.header)
-        return words + text_of_code(state.rows[fault.row - 1][fault.column], option)
+            return f"should be {due}; no header was heard yet"
+        was = text_of_code(state.rows[fault.row - 1][fault.column], national_option(state.header))
+        return f"should be {due}, was {was}"
 
     def details(self, entry: Entry) -> str:
         """What is known of the first fault of an entry, beside its line."""

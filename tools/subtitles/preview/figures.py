@@ -105,26 +105,34 @@ def page_figure(kind: str, caption: str, told: str, due: Rows, page: tuple[Rows,
     count = len(different)
     cells = f"<b>{count} cells differ</b>" if count > 1 else \
         "<b>1 cell differs</b>" if count else "no cell differs"
-    words = f"{cells}; {told}; {header_words(header, rows)}"
+    words = ", ".join([cells, *marks_words(header, rows)])
     return figure(kind, caption, words, picture(rows, header, HIDDEN, cut, different, place),
-                  lines_of(rows))
+                  lines_of(rows), f"{told}; {header_words(header)}")
 
 
-def header_words(header: bytes, rows: Rows) -> str:
-    """The control bits and the letters of the page's last header, and marks in its cells."""
-    words = [" ".join(control_bits(header)) or "no control bit",
-             option_name(national_option(header))]
-    if not is_boxed(header):
-        words.append("no subtitle: all of the page is shown")
+def marks_words(header: bytes, rows: Rows) -> list[str]:
+    """What the picture of a page shows beside its letters."""
+    words = [] if is_boxed(header) else ["no subtitle: all of the page is shown"]
     marks = set(b"".join(rows))
     if OLD in marks:
         words.append("dotted: never sent")
     if HIT in marks:
         words.append("dashed: even parity")
-    return ", ".join(words)
+    return words
 
 
-def figure(kind: str, caption: str, words: str, drawn: str, lines: list[str]) -> str:
+def header_words(header: bytes) -> str:
+    """The control bits and the letters of the page's last header."""
+    return ", ".join([" ".join(control_bits(header)) or "no control bit",
+                      option_name(national_option(header))])
+
+
+def figure(kind: str, caption: str, words: str, drawn: str, lines: list[str],
+           folded: str = "") -> str:
+    """A picture with its caption; folded away, its rows as `listen` prints them and some words."""
     rows = html.escape("\n".join(lines), quote=False)
+    more = f"<small>{folded}</small>" if folded else ""
+    below = (f"<details><summary>codes as ASCII</summary>{more}<pre>{rows}</pre></details>"
+             if lines else "")
     return (f'<figure class="{kind}"><figcaption>{caption}<br/><small>{words}</small></figcaption>'
-            f"{drawn}<pre>{rows}</pre></figure>")
+            f"{drawn}{below}</figure>")

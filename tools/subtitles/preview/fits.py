@@ -55,4 +55,4 @@ class Fits:
         if before:
             return ("no later page transmission fits: the due page was held last at "
                     f"{time_of(before[-1])}, {frames_words(frame - before[-1])} before")
-        return "no page transmission fits: the due page is never held"
+        return "no page transmission fits: the right page never came"

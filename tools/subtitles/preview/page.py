@@ -44,7 +44,7 @@ MOST_LOST = 5  # places that are told in the box; more are unfolded
 SAYS = ("The verdict and the faults are lines that <code>subttx check --all</code> printed, and "
         "nothing else on this page accepts or refuses. The pictures are drawn by a script that is "
         "not proved; they show one receiver, tuned in before the first packet.")
-LOST_WORDS = "TS packets of the recording are lost: nobody saw what was sent there"
+LOST_WORDS = "TS packets of the recording are lost: that part was not recorded"
 ACCEPTED_WORDS = ("Frames are counted from the first PES packet's to the last one's, "
                   "transmissions by the headers of the page.")
 
@@ -64,8 +64,8 @@ receiver shows what stands in boxes alone, and what stands outside of them is fa
 letters are underlined with dots. Cells whose code differs from the due page's are framed in orange
 and black. Dotted cells are those of the receiver's old page which nobody sent or erased since it
 was tuned in; dashed ones came with even parity. Mosaics are drawn as &#9618;, and what is concealed
-is shown. Under each large picture stand its rows as <code>subttx listen --at</code> prints them:
-codes as ASCII, and spacing attributes as dots.</p>"""
+is shown. Under each large picture are folded away its rows, as <code>subttx listen --at</code>
+prints them (codes as ASCII, and spacing attributes as dots), and what its header says.</p>"""
 
 
 TRUSTED = ("<p><b>Trusted.</b> Green lines below the axis are the frames that <code>check --all"
@@ -106,7 +106,7 @@ def document(line: str, title: str, parts: Iterable[str]) -> str:
             '<html xmlns="http://www.w3.org/1999/xhtml" lang="en"><head><meta charset="UTF-8"/>'
             '<meta name="viewport" content="width=device-width, initial-scale=1"/>'
             f"<title>{shown(line)} &#8211; {shown(title)}</title>"
-            f"<style>\n{style}</style></head><body><h1>Preview of {shown(title)}</h1>")
+            f"<style>\n{style}</style></head><body><h1>Report on {shown(title)}</h1>")
     return "\n".join([head, *parts, "</body></html>\n"])
 
 

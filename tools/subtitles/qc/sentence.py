@@ -101,7 +101,7 @@ def of_fault(seen: Seen) -> str:
         return f"{counted(seen.faults, 'fault')}"
     if told.number == LOST_PACKETS and seen.lost:
         more = f", and in {counted(len(seen.lost) - 1, 'more place')}" if len(seen.lost) > 1 else ""
-        return f"{seen.lost[0]}{more}; nobody saw what was sent there"
+        return f"{seen.lost[0]}{more}; that part was not recorded"
     meaning = meanings().get(told.number)
     words = plain_words(meaning.means) if meaning else told.name
     place = told.time or (f"PES packet {told.pes}" if told.pes is not None else

@@ -3,7 +3,7 @@ use Rattle.std.proofs.Common.{◌≡◌, ◌==◌, false, length, replicate}
 use Rattle.std.specs.List.{slice_split}
 use Rattle.std.specs.Str.{IsUtf8}
 use Rattle.stl_rows.specs.Layout.{default_items}
-use Rattle.stl_rows.specs.LayoutText.{comma, items_set}
+use Rattle.stl_rows.specs.LayoutText.{between_items, items_set}
 use Rattle.stl_rows.proofs.layout_text.items_of_text.Given as goal
 
 abbrev pub invariant-texts : goal.invariant-texts
@@ -11,8 +11,8 @@ invariant-texts l = record {
   utf8 : IsUtf8 l.rest;
   came : length l.came ≡ 15;
   told :
-      items_set l.items l.came (slice_split (λ c. c == comma) l.rest)
-      ≡ items_set default_items (replicate 15 false) (slice_split (λ c. c == comma) l.text);
+      items_set l.items l.came (slice_split (λ c. c == between_items) l.rest)
+      ≡ items_set default_items (replicate 15 false) (slice_split (λ c. c == between_items) l.text);
 }
 
 abbrev pub decreases-texts : goal.decreases-texts

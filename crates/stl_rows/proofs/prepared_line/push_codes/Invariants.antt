@@ -1,12 +1,12 @@
 -- What was put and is left to be put is all.
 use Rattle.std.proofs.Common.{◌≡◌, ◌+◌, ◌≤◌, ◌++◌, length, drop}
-use Rattle.stl_rows.specs.Layout.{codes_of}
+use Rattle.stl_rows.specs.Layout.{codes_of_places}
 use Rattle.stl_rows.proofs.prepared_line.push_codes.Given as goal
 
 abbrev pub invariant-loop-code : goal.invariant-loop-code
 invariant-loop-code l = record {
   few : length l.line.items ≤ length l.fn.line.items + l.code-index;
   all :
-      l.line.items ++ codes_of (drop l.code-index l.codes)
-      ≡ l.fn.line.items ++ codes_of l.codes;
+      l.line.items ++ codes_of_places (drop l.code-index l.codes)
+      ≡ l.fn.line.items ++ codes_of_places l.codes;
 }

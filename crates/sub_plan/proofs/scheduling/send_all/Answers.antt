@@ -44,7 +44,9 @@ loop-frame-preserved g c =
       failures = search rules;
       part = rw e.number
           (part-more i.part _ (sendings-step (due_in p) o.every c.args.first _ _ _ s)
-          (rw (packets, stretch-bytes (due_in p) o p.drawing.national c.args.serial c.args.first _ _ _ s)
+          (rw
+          (packets,
+          stretch-bytes (due_in p) o p.drawing.national c.args.serial c.args.first _ _ _ s)
           at e.bytes));
     }
 

@@ -12,7 +12,8 @@ returns-clause-packet g c = λ ok.
     let v = c.args.self.now in
     let near : 188 ≤ v.distance =
     omega (arith, c.self.invariant.near, ap (λ (s : StreamValue). s.distance) c.self.view_is) in
-    omega (arith, c.fill_to.ensures.there ok, c.needed.ensures, needs_packet v.distance v.in_step near)
+    omega
+    (arith, c.fill_to.ensures.there ok, c.needed.ensures, needs_packet v.distance v.in_step near)
 
 pub returns-clause-asks : goal.returns-clause-asks
 returns-clause-asks g c =

@@ -63,8 +63,8 @@ returns-then-self-eq0-clause-moves g c =
     (Moves-begins g.A.Audience.is_told g.A.Audience.has_stopped c.reach.new.stage
     c.begin_frame.new.self _ c.begin_frame.ensures c.requires.day) c.in_ok-reach.ensures.stopped
     (Moves-trans g.A.Audience.is_told g.A.Audience.has_stopped c.begin_frame.new.self
-    c.hear.new.stage c.end_sent.new.stage c.in_ok-headers.ensures.moves c.in_ok-headers.ensures.stopped
-    c.end_sent.ensures.moves))
+    c.hear.new.stage c.end_sent.new.stage c.in_ok-headers.ensures.moves
+    c.in_ok-headers.ensures.stopped c.end_sent.ensures.moves))
 
 pub returns-then-self-eq0-clause-told : goal.returns-then-self-eq0-clause-told
 returns-then-self-eq0-clause-told g c = λ task frames n last follows long sent again.
