@@ -6,7 +6,10 @@ import unittest
 from concurrent.futures import ThreadPoolExecutor
 from functools import partial
 from random import Random
+from unittest import mock
 
+from developing.every_place import definitions
+from developing.every_place.beside import OF_KEEPING, OF_PARTS, OF_REFUSED
 from developing.every_place.calls import KnownCall, answer_to
 from developing.every_place.carried_laws import LAWS, random_packets
 from developing.every_place.mistakes import Mistake, told_apart
@@ -35,6 +38,11 @@ class Known(unittest.TestCase):
 
     def test_national_options(self) -> None:
         self.have_answers(OF_OPTIONS)
+
+    def test_beside_refused_subtitles(self) -> None:
+        """Whether the program judges beside them or not yet."""
+        with mock.patch.object(definitions, "JUDGES_BESIDE", True):
+            self.have_answers([*OF_REFUSED, *OF_KEEPING, *OF_PARTS])
 
 
 class Statuses(unittest.TestCase):
