@@ -51,6 +51,7 @@ class Fit(NamedTuple):
     texts: int
     exact: int
     among: int
+    first: int | None
     first_other: int | None
     start: int
     late: Sequence[int] = ()
@@ -146,7 +147,8 @@ class Base:
 
     @functools.cached_property
     def fits(self) -> list[Fit]:
-        """The best origins, falling: of two that are as good, the one with more texts."""
+        """The best origins, falling: of two that are as good, the one with more texts. Of several
+        that are the best, the one of the earliest text is the first."""
         if not self.edges or not self.changes:
             return []
         places = sorted(self.changes)
@@ -162,8 +164,11 @@ class Base:
         best = heapq.nlargest(TRIED + 4 * self.within, votes, key=lambda one: (votes[one], -one))
         # Where all subtitles are alike, the first and the last tell more than those between.
         starts = {*best, self.edges[0].frame, self.edges[-1].frame - places[-1]}
-        return sorted((fit for fit in map(self.fit, starts) if fit.agree),
-                      key=lambda fit: (-fit.points(), -fit.texts, fit.start))
+        fits = [fit for fit in map(self.fit, starts) if fit.agree]
+        first = min(fits, default=None, key=lambda fit: (
+            -fit.points(), -fit.texts, fit.first or 0, fit.start))
+        return sorted(fits, key=lambda fit: (
+            fit != first, -fit.points(), -fit.texts, fit.start))
 
     def alike(self) -> collections.Counter[int]:
         """How often each start is that of an edge and a change with the same letters."""
@@ -188,6 +193,7 @@ class Base:
         return Fit(wrapped(self.first + rest - TICKS * start), len(found), len(same),
                    sum(edge.letters != b"" for edge in same),
                    len(ticks) if self.within else ticks.count(rest), len(inside),
+                   min((edge.frame for edge in same if edge.letters), default=None),
                    next((edge.frame for edge in inside if edge.frame not in agree), None), start,
                    [change.late for _, change in found])
 
