@@ -11,8 +11,7 @@ from .as_houses import TAKES_KEEPING
 from .calls import ALL, Answer, Call, KnownCall, check_of
 from .definitions import JUDGES_BESIDE
 from .known import (
-    HELLO, HI, SENT, accepted, ended, poked, refused, refused_of_two, stands, told,
-    trusted, wrong)
+    HELLO, HI, SENT, accepted, ended, poked, refused, stands, told, trusted, wrong)
 from .one_file import CS, JC, TCO
 from .one_rule import FIRST
 from .within import pes_file
@@ -65,6 +64,9 @@ SENT_TWICE = "0 h r c, 50 h c, 80 h r c, 100 h c"
 OF_HIDDEN = [TWO_SECONDS, *undecided("02:00", "03:04"), trusted("03:05", "04:00")]
 BEFORE, BAD_BEFORE = (f"-900000 -899900 {text}, 0 50 Hi" for text in ("Ho", "Bad"))
 A250 = "0 h r c, 50 h c"
+# A subtitle of two blocks that ends where it begins, and the one of hello.stl.
+REFUSED_OF_TWO = HELLO[:GSI] + poked(
+    subtitle_blocks(0, FIRST, FIRST, 22, 2, HI) * 2, {3: 0}) + HELLO[GSI:]
 
 # What is told of a transmission beside a subtitle file of which something is told.
 OF_REFUSED = [
@@ -127,7 +129,7 @@ OF_REFUSED = [
     *of_pair("0 50 Hi, 200 250 Ho, 60 100 Hi", "0 h r c, 50 h c, 60 h r c, 100 h c",
              (ALL, "refused 56 OutOfOrder block 3", TWO_SECONDS, *undecided("02:00", "04:00"))),
     *of_pair(BAD_BEFORE, A250, (ALL, FIRST_IS_BAD, trusted("00:00", "02:00"))),
-    *of_files(refused_of_two(0), SENT,
+    *of_files(REFUSED_OF_TWO, SENT,
               (ALL, "refused 21 EmptyTime block 1", trusted("00:00", "02:00"))),
 ]
 
