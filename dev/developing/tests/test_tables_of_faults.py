@@ -15,8 +15,8 @@ from subtitles.core.programme import Subtitle
 from subtitles.core.teletext import packet
 from subtitles.core.times import CLOCK, TICKS
 from subtitles.qc.causes import (
-    ATTRIBUTE, EARLY, LATE, NEVER, NOT_ERASED, OTHER, TEXT, UNKNOWN, Cause, Faulty)
-from subtitles.qc.due_pages import asked_of
+    ATTRIBUTE, EARLY, LATE, NEVER, NOT_ERASED, OTHER, TEXT, UNKNOWN, Cause, Faulty, Namer)
+from subtitles.qc.due_pages import DuePages, asked_of
 from subtitles.reading.timeline import Span
 from subtitles.qc.hints import gap_words, hints_of
 from subtitles.qc.made_with import proved_line
@@ -29,7 +29,8 @@ from subtitles.qc.why import tell
 from subtitles.reading.receiver import OLD
 from .bench import Case, alone
 from .judged import Heard
-from .parts import CLOSING, HEADER, answer, asked_for, packets_told, part_with
+from .parts import (
+    CLOSING, HEADER, answer, asked_for, packets_told, part_with, row, timeline_of)
 from .test_helpers import script
 from .test_pairs_in_parts import ORIGIN
 from .test_parts_of_verdicts import verdict_of
@@ -101,6 +102,19 @@ class Words(Case):
                 faulty.add(Span(first, first + 1), one)
             self.must(f"{spans}", [part and part.first for part in (faulty.within, faulty.after)] ==
                       [within, after], spans)
+
+    def test_owners(self) -> None:
+        """Whose fault it is: of the one that is due or was last, before anything is held too, or
+        of the one that came at another time."""
+        pes = [pes_packet(TICKS * frame, [*[HEADER] * (frame > 5), *rows, CLOSING])
+               for frame, rows in ((0, []), (60, [row(20, b"two")]))]
+        held = timeline_of(self, b"".join(pes))
+        pages = [(b" " * 40,) * 19 + ((b"\x0b\x0b" + text).ljust(40),) + (b" " * 40,) * 4
+                 for text in (b"one", b"two")]
+        due = DuePages([Subtitle(1, 1, 10, 50, 20, 2, b""), Subtitle(2, 2, 100, 150, 20, 2, b"")],
+                       pages)
+        owners = {frame: Namer(due, held).owner(frame) for frame in (5, 20, 55, 60, 99, 100, 149)}
+        self.assertEqual(owners, {5: 0, 20: 0, 55: 0, 60: 1, 99: 1, 100: 1, 149: 1})
 
     def test_gaps(self) -> None:
         """The longest gap, the last among them; what accepts it, where nothing else is refused and
