@@ -14,8 +14,10 @@ from subtitles.core.pes import pes_packet
 from subtitles.core.programme import Subtitle
 from subtitles.core.teletext import packet
 from subtitles.core.times import CLOCK, TICKS
+from subtitles.core.told import told_of
 from subtitles.qc.causes import (
     ATTRIBUTE, EARLY, LATE, NEVER, NOT_ERASED, OTHER, TEXT, UNKNOWN, Cause, Faulty, Namer)
+from subtitles.qc.cells import place_of
 from subtitles.qc.due_pages import DuePages, asked_of
 from subtitles.reading.timeline import Span
 from subtitles.qc.hints import gap_words, hints_of
@@ -115,6 +117,25 @@ class Words(Case):
                        pages)
         owners = {frame: Namer(due, held).owner(frame) for frame in (5, 20, 55, 60, 99, 100, 149)}
         self.assertEqual(owners, {5: 0, 20: 0, 55: 0, 60: 1, 99: 1, 100: 1, 149: 1})
+
+    def test_places(self) -> None:
+        """Of a frame's end the last of its PES packets; of a gap the first, which it is told
+        before, but where several are one frame's."""
+        data = b"".join(pes_packet(ticks, [HEADER, CLOSING])
+                        for ticks in (0, 10 * TICKS, 10 * TICKS + 1800, 20 * TICKS))
+        for line, within, pes in (
+                ("refused 73 Gap frame 00:00:00:10", 0, 1),
+                ("refused 73 Gap frame 00:00:00:10", 1, 2),
+                ("refused 77 Incomplete frame 00:00:00:10", 0, 1),
+                ("refused 77 Incomplete frame 00:00:00:10", 1, 2),
+                ("refused 73 Gap frame 00:00:00:15", 1, None),
+                ("refused 68 Parity frame 00:00:00:10 packet 1", 1, 1),
+                ("refused 68 Parity frame 00:00:00:10 packet 2", 1, 2),
+                ("refused 38 UnitLength pes 3", 0, 3)):
+            packets, fault = packets_told(self, data), told_of(line)
+            assert fault
+            found = place_of(fault, packets, timeline_of(self, data, 0, within))
+            self.must(f"{line} {within}", found.pes == pes, found)
 
     def test_gaps(self) -> None:
         """The longest gap, the last among them; what accepts it, where nothing else is refused and
