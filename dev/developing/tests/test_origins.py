@@ -166,6 +166,15 @@ class Origins(Case):
         """Its subtitle file."""
         return self.stl(each(COUNT, 70, 40, begin=FIRST))
 
+    def test_a_part_that_is_not_clear(self) -> None:
+        """Neither is printed, where fewer than half of the edges of one agree: the first or the
+        last."""
+        late, other = [0] * 5, [1600, 1600, 1600, 1631, 1667, 1613, 1689]
+        for row in ([*late, *other], [*(one - 1600 for one in other), *(1700 for _ in late)]):
+            found = self.find(self.own(), self.sent(9 * 3600, row), "--breaks", "1")
+            self.must(f"{row}", (found.status, found.printed, found.parts) == (1, [], []) and
+                      found.told[0].startswith("2 parts: "), found)
+
     def test_runs(self) -> None:
         """Each time that it is there, with its PES packets, of which one is looked for then."""
         gap = TICKS * 70 * (COUNT + 20)
