@@ -231,6 +231,10 @@ class Origins(Case):
                 (pes[:10] + pes[11:], Agreement(count - 2, count, count - 3, count, False))):
             found = self.find(self.own(), some)
             self.must(f"{wanted}", found.agreement == wanted, found)
+            others = [line for line in found.told if line.startswith("the first edge that does")]
+            self.must(f"{wanted}: first", others == [
+                f"the first edge that does not agree is {time_of(FIRST + 350)}"] * (
+                    not wanted.are_all), others)
 
     def test_breaks(self) -> None:
         """As many as are said, each part with its frames; else how many there are."""

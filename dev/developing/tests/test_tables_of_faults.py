@@ -118,6 +118,35 @@ class Words(Case):
         owners = {frame: Namer(due, held).owner(frame) for frame in (5, 20, 55, 60, 99, 100, 149)}
         self.assertEqual(owners, {5: 0, 20: 0, 55: 0, 60: 1, 99: 1, 100: 1, 149: 1})
 
+    def test_what_is_sent_instead(self) -> None:
+        """Of a subtitle whose page never came a page of none that came after the one before it; of
+        the first one whose own page came later, none from before its TCI."""
+        pages = [(b" " * 40,) * 19 + ((b"\x0b\x0b" + text).ljust(40),) + (b" " * 40,) * 4
+                 for text in (b"one", b"two")]
+        due = DuePages([Subtitle(1, 1, 100, 150, 20, 2, b""), Subtitle(2, 2, 200, 250, 20, 2, b"")],
+                       pages)
+        for sent, wanted in (({50: b"x", 160: b""}, [b"x", None, None]),
+                             ({50: b"x", 110: b"y", 115: b"z", 260: b""}, [b"z", b"y", None]),
+                             ({160: b"x", 260: b""}, [None, None, b"x"])):
+            held = timeline_of(self, b"".join(pes_packet(TICKS * frame, [
+                HEADER, *[row(20, text)] * bool(text), CLOSING]) for frame, text in sent.items()))
+            namer = Namer(due, held)
+            numbers = [namer.strange(0, None), namer.strange(0, 112), namer.strange(1, None)]
+            found = [None if one is None else text_in(held.pages[one]) for one in numbers]
+            self.must(f"{sent}", found == wanted, found)
+
+    def test_what_is_seen(self) -> None:
+        """Nothing of frames of which something is lost, by whoever knows it, nor behind the end of
+        what can be followed."""
+        data = b"".join(pes_packet(TICKS * frame, [HEADER, CLOSING]) for frame in (0, 50, 100))
+        held = timeline_of(self, data)
+        held.lost, held.doubts = [Span(10, 20)], [Span(60, 70)]
+        for first, last, is_seen in ((0, 9, True), (0, 10, False), (20, 25, False), (21, 59, True),
+                                     (5, 30, False), (70, 90, False), (71, 100, True)):
+            self.assertEqual(held.is_seen(first, last), is_seen, (first, last))
+        held.halt = 9
+        self.assertEqual([held.is_seen(80, last) for last in (100, 101)], [True, False])
+
     def test_places(self) -> None:
         """Of a frame's end the last of its PES packets; of a gap the first, which it is told
         before, but where several are one frame's."""
