@@ -22,7 +22,7 @@ from subtitles.qc.clock import START, Clock
 from subtitles.qc.delays import frames_until
 from subtitles.qc.fitting import Found, refuse, with_delay
 from subtitles.reading.survey import Packets
-from subtitles.reading.timeline import Span, Timeline
+from subtitles.reading.timeline import FEW, Span, Timeline
 from subtitles.qc.names import Names
 from subtitles.qc.options import passed_words
 from subtitles.qc.pair import Pair
@@ -341,8 +341,8 @@ class Pages(Case):
                              (123, 1), (124, None)):
             self.must(f"{frame}", held.pause_at(frame) == (None if pause is None else
                                                            held.pauses[pause]))
-        held.heard = held.heard[:1]
-        self.must("not steady", held.pause_at(91) is None)
+        for held.count, is_steady in ((2 * FEW, True), (2 * FEW - 1, False)):
+            self.must(f"{is_steady}", (held.pause_at(91) is not None) == is_steady)
 
     def test_frames_that_go_back(self) -> None:
         """Before what is due all is forgotten; in it nothing more is heard."""

@@ -284,6 +284,18 @@ class Watched(Case):
             self.write("out/a.json", json.dumps({**have, **change}).encode())
             self.must(f"{change}", watch.is_new(item) == is_new)
 
+    def test_what_is_no_pair(self) -> None:
+        """It is told once, and again where its reason is another one."""
+        for name in ("in", "out"):
+            os.mkdir(self.path(name))
+        watch = Watch(self.words(), Typed("tools/qc", self.bench.program))
+        told = io.StringIO()
+        with contextlib.redirect_stderr(told):
+            for reason in ("first", "first", "second", "second", "first"):
+                self.must(reason, not watch.is_new(Item("a", None, reason)))
+        lines = [line.partition(": ")[2] for line in told.getvalue().splitlines()]
+        self.must("told", lines == ["first", "second", "first"], lines)
+
     def test_signals(self) -> None:
         """The first asks for the end, the second ends at once."""
         stopping = Stopping.__new__(Stopping)

@@ -10,7 +10,7 @@ from typing import Any
 
 from subtitles.core.manual import Meaning
 from subtitles.core.stl import gsi_block, tti_block
-from subtitles.core.times import FRAMES_OF_A_DAY
+from subtitles.core.times import ALL_DAY, FRAMES_OF_A_DAY
 from subtitles.preview import page
 from subtitles.preview.counts import (
     meaning_of_verdict, means_and_do, numbers_table, place_words)
@@ -18,13 +18,15 @@ from subtitles.core.spans import Spans
 from subtitles.core.told import told_of
 from subtitles.preview.page import lost_places, subtitles_words, verdict_box
 from subtitles.preview.program import Verdict, verdict_of
-from subtitles.preview.report import end_of_knowledge
+from subtitles.preview.report import Report, Subject, end_of_knowledge
 from subtitles.preview.scope import BETWEEN, DELAY, ROW_0, Scope
+from subtitles.qc.clock import GIVEN, START, Clock
 from subtitles.qc.made_with import Program
 from subtitles.qc.midnight import AT_MIDNIGHT
 from subtitles.qc.subtitle_file import SubtitleFile
 from subtitles.qc.sums import File
 from .bench import Case, example
+from .parts import asked_for
 from .test_report_faults import SUBTITLES
 
 
@@ -195,3 +197,28 @@ class Reports(Case):
         held = SimpleNamespace(last_frame=5, is_whole=lambda: True)
         made.subtitles = []
         self.must("no subtitle", end_of_knowledge(held, made) is None)
+
+    def test_what_it_is_of(self) -> None:
+        """The options as they hold, and what it speaks of."""
+        for words, more in (([], []), (["--within", "1"], ["--within 1"]),
+                            (["--within", "2", "--no-complete"], ["--within 2"])):
+            asked = asked_for("a.stl", "a.pes", "--every", "25", *words)
+            part = SimpleNamespace(origin=5, pes=(1, 2), pes_name="1-2", between=ALL_DAY)
+            made: Any = SimpleNamespace(judged=SimpleNamespace(asked=asked), part=part,
+                                        window=(0, 10))
+            complete = [] if "--no-complete" in words else ["--complete"]
+            self.must(f"{words}", Subject.options(made) == " ".join([
+                "--page 888 --every 25 --origin 5 --option english", *complete, *more,
+                "--pes 1-2 --from 00:00:00:00 --to 00:00:00:10"]), Subject.options(made))
+        file = File("a.ts", 9, "0" * 64)
+        for count, source, is_fitted, clock in ((3, GIVEN, True, None), (1, START, False, "words")):
+            subject = SimpleNamespace(parts=count, judged=SimpleNamespace(
+                recording=file, fitted=["1"] * is_fitted))
+            part = SimpleNamespace(clock=Clock(7, source), number=2, stl_path=example("story.stl"))
+            made = SimpleNamespace(is_refused_file=False, part=part, subject=subject, subtitles=[
+                SimpleNamespace(begin=25, end=30), SimpleNamespace(begin=40, end=50)])
+            found = Report.scope(made)
+            assert found
+            self.must(f"{count}", found[1:8] == (file, 25, 50, 2, (2, 3) if count > 1 else None,
+                                                 is_fitted, count > 1) and
+                      found.titles and bool(found.clock) == bool(clock), found)

@@ -62,9 +62,9 @@ class Agreement(NamedTuple):
 @dataclasses.dataclass
 class Origin:
     """What is found: the status, as the tool ends with it; `parts`, where they are clear; the PES
-    packets of each time that the programme is there, where that is more than once; how many breaks, where others were said; by how many ticks the first
-    part is later than the origin that is known; from when on subtitles are late, first, and in
-    words. `printed` and `told` are all lines."""
+    packets of each time that the programme is there, where that is more than once; how many breaks,
+    where others were said; by how many ticks the first part is later than the origin that is known;
+    from when on subtitles are late, first, and in words. `printed` and `told` are all lines."""
 
     status: int = 1
     parts: list[OfPart] = dataclasses.field(default_factory=list)

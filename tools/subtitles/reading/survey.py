@@ -112,13 +112,15 @@ class Programme:
 
 @dataclasses.dataclass
 class Video:
-    """The PTS of pictures from the first that can be shown to the next such one."""
+    """The PTS of pictures from the first that can be shown to the next such one, or up to the end
+    of the recording, where they are cut."""
 
     passed: int = 0
     pictures: list[int | None] = dataclasses.field(default_factory=list)
     lost: int = 0
     scrambled: int = 0
     is_over: bool = False
+    is_cut: bool = False
 
 
 @dataclasses.dataclass
@@ -330,10 +332,11 @@ class Survey:
     def take_picture(self, pid: str, pts: str, *_: str) -> None:
         self.videos[int(pid)].pictures.append(number_of(pts))
 
-    def take_pictures(self, pid: str, lost: str, scrambled: str, passed: str = "0",
+    def take_pictures(self, pid: str, lost: str, scrambled: str, passed: str = "",
                       *_: str) -> None:
-        one = self.videos.setdefault(int(pid), Video(int(passed)))
+        one = self.videos.setdefault(int(pid), Video(int(passed or 0)))
         one.lost, one.scrambled, one.is_over = int(lost), int(scrambled), True
+        one.is_cut = passed != ""
 
     def take_damaged(self, pid: str, number: str, why: str, *_: str) -> None:
         self.of(pid).damage = f"PES packet {number} " + {
