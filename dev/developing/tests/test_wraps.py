@@ -16,7 +16,7 @@ from subtitles.preview.places import place_of_pts
 from subtitles.qc.clock import RECORDING, Clock
 from subtitles.qc.fitting import Found
 from subtitles.reading.timeline import Span
-from subtitles.qc.pair import is_in, time_at
+from subtitles.qc.missing import is_in, time_at
 from subtitles.qc.why import reach, unseen
 from subtitles.reading.gaps import Place
 from developing.multiplex import TENTH, Multiplex

@@ -7,9 +7,9 @@ from ..core.national import BY_BITS, BY_WORD, RESERVED
 from ..core.teletext import ERASE, INHIBIT, NEWSFLASH, SUBTITLE, SUPPRESS, has_bit
 from ..core.times import frame_at
 from ..core.told import (
-    CHARACTER, CONTENT, CONTROL, DISPLAY, EMPTY_TIME, GAP, OFF_FRAME, OUT_OF_ORDER, PASSED_OVER,
-    Told)
-from ..core.words import MOST_EVERY, counted
+    BEGIN, CHARACTER, CONTENT, CONTROL, DISPLAY, EMPTY_TIME, END, GAP, OFF_FRAME, OUT_OF_ORDER,
+    PASSED_OVER, Told)
+from ..core.words import MOST_EVERY, counted, pid_name
 from ..reading.receiver import national_option
 from ..reading.repeat import longest_gap
 from ..reading.survey import HEADER
@@ -23,6 +23,7 @@ from .verdict import Part, Verdict
 
 HINTED = {EMPTY_TIME, CHARACTER, OUT_OF_ORDER, OFF_FRAME, CONTROL, GAP}
 NAMED = {DISPLAY, CONTENT}  # for which an option is named, where one helps
+OF_MOVES = {BEGIN, END}  # where the page moves to another PID
 DSC = slice(11, 12)  # the field in the GSI block
 # The control bits that a header of subtitles has set, or clear, and what it is where they are not.
 ASKED = (
@@ -49,14 +50,14 @@ def control_words(header: bytes, option: str) -> list[str]:
 def hints_of(verdict: Verdict) -> Iterator[str]:
     """The lines for the first fault of each of these numbers, in the order of the list."""
     for part in verdict.parts:
-        if part.answer.numbers & (HINTED | NAMED):
+        if part.answer.numbers & (HINTED | NAMED | OF_MOVES):
             yield from hints_of_part(part, verdict)
 
 
 def hints_of_part(part: Part, verdict: Verdict) -> Iterator[str]:
     """The same of a part."""
     for number, told in part.answer.firsts.items():
-        words = words_of(told, part, verdict) if number in HINTED | NAMED else ""
+        words = words_of(told, part, verdict) if number in HINTED | NAMED | OF_MOVES else ""
         if words:
             yield f"{number}: {words}"
 
@@ -70,6 +71,8 @@ def words_of(told: Told, part: Part, verdict: Verdict) -> str:
         return OptionAdvice(part.subtitle_file(), asked.option).of(told.block, told.at)
     if told.number == DISPLAY:
         return open_words(part.subtitle_file())
+    if told.number in OF_MOVES:
+        return move_words(told.number, part, asked.page_name)
     if told.number == CONTENT:
         return part.otherwise
     if told.number in (EMPTY_TIME, OUT_OF_ORDER):
@@ -82,6 +85,17 @@ def words_of(told: Told, part: Part, verdict: Verdict) -> str:
     if told.number == GAP:
         return gap_words(part.pts(HEADER), part.origin, asked, part.answer.numbers)
     return header_words(place_of(told, part.packets, part.held).headers, asked.option)
+
+
+def move_words(number: int, part: Part, page: str) -> str:
+    """That the page comes from another PID, or goes to one, where that is why a subtitle is not
+    whole."""
+    came, goes = (part.piece.came, part.piece.goes) if part.piece else (None, None)
+    if number == BEGIN and came is not None:
+        return f"page {page} was on {pid_name(came)} before"
+    if number == END and goes is not None:
+        return f"page {page} moves to {pid_name(goes)} then"
+    return ""
 
 
 def open_words(subtitles: SubtitleFile) -> str:

@@ -3,17 +3,16 @@ from __future__ import annotations
 
 import functools
 import os
-from typing import Callable, NamedTuple, Sequence
+from typing import Callable, Iterable, NamedTuple, Sequence
 
 from ..core.layout import text_of
 from ..core.national import BY_WORD
 from ..core.programme import Subtitle
-from ..core.times import ALL_DAY, FRAMES_OF_A_DAY, TICKS, frame_in, ticks_between, time_of
+from ..core.times import ALL_DAY, time_of
 from ..core.told import CONTENT, EMPTY, LOST_PACKETS, WITH_CAUSE
 from ..core.words import counted, pid_name
 from ..reading.cutting import cut_of
 from ..reading.finding import runs_line
-from ..reading.gaps import Place, what_of
 from ..reading.survey import HEADER, Range
 from ..reading.timeline import Span, timeline_near
 from . import warned
@@ -27,6 +26,8 @@ from .fitting import Found, found_in, with_delay
 from .hints import words_of
 from .layouts import layout_of_sent
 from .midnight import title_words
+from .missing import gap_of, gaps_in, is_in
+from .moved import moves_told
 from .names import Names
 from .options import FROM, LAYOUT
 from .recording import STANDARD_INPUT, Recording, is_recording
@@ -39,6 +40,7 @@ from .sums import file_of
 from .typed import Typed
 from .unclear import Unclear
 from .verdict import Gap, Part, Verdict
+from .warned import Warned
 from .why import causes_of, tell
 from .within import Trying
 
@@ -187,17 +189,22 @@ class Pair:
         """Judges what was recorded, part by part."""
         asked = self.asked
         recording, found, subtitles = self.heard or self.listen()
-        self.warn(recording, found[0].origin)
-        stretches = self.stretches(found, subtitles)
+        if not recording.stages:
+            self.warn(recording, found[0].origin, self.whole)
+        stretches = self.stretches(found, subtitles, recording)
+        for one in stretches if recording.stages else ():
+            self.warn(one.recording, one.found.origin, one.found)
+        pieces = [one.piece for one in stretches if one.piece]
+        self.add_warnings(moves_told(pieces, asked.page_name))
         for number, one in enumerate(stretches, 1):
-            part = self.begun = self.part_of(number, one, recording)
+            part = self.begun = self.part_of(number, one)
             assert part.pes
-            self.steps.check(recording, one, part.pes, part.answer)
+            self.steps.check(one.recording, one, part.pes, part.answer)
             self.verdict.parts.append(part)
-            self.end_part(part, one, recording, len(stretches), subtitles)
+            self.end_part(part, one, len(stretches), subtitles)
         if not any(one.kind == "grew" for one in self.verdict.warnings):
             self.verdict.warnings += [one for one in recording.strange() if one.kind == "grew"]
-        self.note_gaps(recording.places())
+        self.verdict.gaps += gaps_in(recording, stretches, self.verdict.parts)
         if recording.is_feed and not asked.breaks and not self.is_shifted:
             self.note_unsent(self.verdict.parts[-1])
 
@@ -253,9 +260,14 @@ class Pair:
             refuse_outside(self.asked, one, self.whole.begin, self.whole.end, recording.last())
         return one.clock
 
-    def warn(self, recording: Recording, origin: int) -> None:
-        """Takes what is strange of a recording."""
-        found, packets, survey = self.verdict.warnings, recording.packets, recording.survey
+    def add_warnings(self, found: Iterable[Warned]) -> None:
+        """Takes warnings that are not known yet."""
+        known = self.verdict.warnings
+        known += [one for one in dict.fromkeys(found) if one not in known]
+
+    def warn(self, recording: Recording, origin: int, part: Found) -> None:
+        """Takes what is strange of a recording, or of what is on a PID."""
+        found, packets, survey = list[Warned](), recording.packets, recording.survey
         found += recording.strange()
         if recording.is_stream:
             if survey.clock_of(packets.pid) is None:
@@ -263,19 +275,27 @@ class Pair:
                     f"there is no PCR of the programme of {pid_name(packets.pid)}: a hole that its "
                     "counter does not show, as one of 16 TS packets, can't be seen")
             found += [*warned.of_timing(packets, origin),
-                      *warned.of_jumps(packets, origin, self.whole.begin, self.whole.end),
+                      *warned.of_jumps(packets, origin, part.begin, part.end),
                       *warned.of_tables(survey, packets.pid, self.asked)]
-        found += warned.of_character_sets(packets, self.asked)
+        self.add_warnings([*found, *warned.of_character_sets(packets, self.asked)])
 
-    def stretches(self, found: list[Found], subtitles: list[Subtitle]) -> list[Stretch]:
+    def stretches(self, found: list[Found], subtitles: list[Subtitle], recording: Recording) \
+            -> list[Stretch]:
         """What is judged, one after another; each of the subtitles has to be in one, once and as it
-        is in the file."""
+        is in the file; in two, where the page moves to another PID while it is due."""
         if len(found) == 1:
-            whole = self.whole._replace(clock=found[0].clock, packets=found[0].packets)
-            return [Stretch(self.asked, self.names, whole)]
-        stretches = [self.steps.part(number, one) for number, one in enumerate(found, 1)]
+            found = [self.whole._replace(clock=found[0].clock, packets=found[0].packets)]
+        if recording.stages:
+            stretches = self.steps.pieces(found, recording, subtitles)
+        elif len(found) == 1:
+            return [Stretch(self.asked, self.names, found[0], recording)]
+        else:
+            stretches = [self.steps.part(number, one, recording)
+                         for number, one in enumerate(found, 1)]
         parted = [one for part in stretches for one in subtitles
                   if part.asked.between.has(one.begin)]
+        if recording.stages:
+            parted = [*dict.fromkeys(parted)]
         left = len(subtitles) - len(parted)
         if left > 0:
             raise Unclear(f"{counted(left, 'subtitle')} of {self.asked.stl} would be in no part, "
@@ -284,21 +304,22 @@ class Pair:
             raise Unclear(f"the parts of {self.asked.stl} would hold other subtitles than it has")
         return stretches
 
-    def part_of(self, number: int, one: Stretch, recording: Recording) -> Part:
+    def part_of(self, number: int, one: Stretch) -> Part:
         """A part that begins to be judged: the PES packets of its time."""
-        found, pes = one.found, self.steps.cut(recording, one)
+        recording, found = one.recording, one.found
+        pes = self.steps.cut(recording, one)
         judged = file_of(*recording.judged()) if self.is_summed and not recording.is_file else None
         due = functools.cache(lambda: due_pages_of(
             self.typed.program_path, self.names.given, one.asked.page, one.asked.option,
             one.asked.between, one.asked.words_of_pages(), one.asked.is_open))
         return Part(number, one.asked.stl, self.names.given, pes, found.origin, found.begin,
                     found.end, judged, Answer(one.names.list_path), found.clock,
-                    recording.stream(), packets=recording.packets, asked=one.asked, due=due)
+                    recording.stream(), packets=recording.packets, asked=one.asked, due=due,
+                    piece=one.piece)
 
-    def end_part(self, part: Part, one: Stretch, recording: Recording, count: int,
-                 subtitles: Sequence[Subtitle]) -> None:
+    def end_part(self, part: Part, one: Stretch, count: int, subtitles: Sequence[Subtitle]) -> None:
         """Takes what `check` said of a part, and draws its report, with what is missing there."""
-        asked, answer, origin = self.asked, part.answer, one.found.origin
+        asked, answer, origin, recording = self.asked, part.answer, one.found.origin, one.recording
         if answer.numbers & WITH_CAUSE:
             part.causes = causes_of(asked, part.due(), recording, one.found, answer)
         if part.causes:
@@ -312,10 +333,8 @@ class Pair:
         if answer.first:
             part.hint = words_of(answer.first, part, self.verdict)
         times = [(subtitle.begin, subtitle.end) for subtitle in subtitles]
-        for strange in (*warned.of_pauses(part.pts(), asked, origin),
-                        *warned.of_repeat(part.pts(HEADER), asked, origin, times)):
-            if strange not in self.verdict.warnings:
-                self.verdict.warnings.append(strange)
+        self.add_warnings([*warned.of_pauses(part.pts(), asked, origin),
+                     *warned.of_repeat(part.pts(HEADER), asked, origin, times)])
         self.draw(part, one.names, [gap_of(place, origin, True) for place in recording.places()
                                     if is_in(place, part)], count)
 
@@ -330,7 +349,7 @@ class Pair:
                                     asked.is_complete)
         is_lost = LOST_PACKETS in answer.numbers or \
             any(is_in(place, part) for place in recording.places())
-        if part.is_refused and not (recording.is_feed or is_lost):
+        if part.is_refused and not (recording.is_feed or is_lost or one.piece):
             part.accepted_within = Trying(self.steps, recording, one, part.number, count).least(
                 answer.numbers, part.causes)
 
@@ -344,37 +363,3 @@ class Pair:
             self.verdict.notes.append(
                 f"from {time_of(frame)} on no subtitle was sent while the feed was read; if the "
                 "programme has a break there, say --breaks 1")
-
-    def note_gaps(self, places: list[Place]) -> None:
-        """Between which times TS packets are missing."""
-        for place in places:
-            parts = [part for part in self.verdict.parts if is_in(place, part)]
-            origin = (parts or self.verdict.parts)[0].origin or 0
-            self.verdict.gaps.append(gap_of(place, origin, bool(parts)))
-
-
-def gap_of(place: Place, origin: int, is_judged: bool) -> Gap:
-    """A place at which TS packets are missing, with its times."""
-    times = time_at(place.before, origin), time_at(place.after, origin)
-    return Gap(*times, what_of(place), place, is_judged)
-
-
-def is_in(place: Place, part: Part) -> bool:
-    """Whether a mark is one of those that are judged with a part; or where none stands, whether
-    frames of the part may lack what is missing there."""
-    if part.begin is None or part.end is None or part.origin is None:
-        return False
-    if place.mark is not None and part.pes is not None:
-        return part.pes[0] <= place.mark <= part.pes[1]
-    first, last = (part.origin + TICKS * frame for frame in (part.begin, part.end))
-    is_before = place.after is not None and ticks_between(first, place.after) <= 0
-    is_after = place.before is not None and ticks_between(last, place.before) >= 0
-    return not is_before and not is_after
-
-
-def time_at(pts: int | None, origin: int) -> str | None:
-    """The time of a PTS, to the frame before it."""
-    if pts is None:
-        return None
-    frame = frame_in(pts, origin)
-    return time_of(frame) if frame < FRAMES_OF_A_DAY else None

@@ -1,6 +1,7 @@
 """A recording: what `subttx survey` tells of it, and how the program reads it once more."""
 from __future__ import annotations
 
+import copy
 import functools
 import os
 import shutil
@@ -11,6 +12,7 @@ from ..core.pes import START
 from ..core.times import ticks_between
 from ..core.words import PACKET_SIZES, Stop, counted, shown, stream_words
 from ..reading.gaps import TOLD, Place, line_of, places_of, why_refused
+from ..reading.moving import Stage, joined, stages_of
 from ..reading.survey import PES, Packets, Survey, survey, words_of
 from ..reading.timing import reach_of
 from .asked import Asked
@@ -42,7 +44,8 @@ def size_of(name: str) -> int | None:
 
 
 class Recording:
-    """A recording that is read: `packets` are those of the PID with the page. What is judged of a
+    """A recording that is read: `packets` are those of the PID with the page; `stages` are the PIDs
+    where it moves to another one, and `packets` then stand for all of them. What is judged of a
     file is a range of the recording itself; the PES packets of what comes through a pipe are kept
     in a file."""
 
@@ -54,6 +57,7 @@ class Recording:
         self.size = size_of(self.name)
         self.is_feed = self.size is None
         self.survey, self.packets = Survey(), Packets(PES)
+        self.stages: list[Stage] = []
         self.file: File | None = None
 
     def read(self, is_summed: bool, ending: Ending) -> None:
@@ -125,6 +129,10 @@ class Recording:
         if not found:
             raise Unclear(self.said(f"{self.name} has no header of page {page}"),
                           *([self.again("--page", "P")] if by_pid else []))
+        if self.is_file and self.asked.pes is None:
+            self.stages = stages_of(self.survey, self.asked.page)
+        if self.stages:
+            return joined(self.stages)
         raise Unclear(self.said(f"page {page} is sent on {len(found)} PIDs of {self.name}"),
                       *(self.again("--pid", f"0x{one.pid:X}") for one in found))
 
@@ -166,6 +174,12 @@ class Recording:
         stream = self.stream() if self.is_file else None
         return stream_words(*stream) if stream else []
 
+    def of(self, stage: Stage) -> Recording:
+        """The same of one PID, where the page moves to another one."""
+        one = copy.copy(self)
+        one.packets = stage.packets
+        return one
+
     def judged(self) -> tuple[str, str]:
         """The file that is judged, as it is given to the program and as it is typed."""
         if self.is_file:
@@ -173,13 +187,26 @@ class Recording:
         return self.names.whole_path, self.names.whole
 
     def keep(self, path: str) -> None:
-        """Keeps the PES packets in a file, as `extract` gives them."""
+        """Keeps the PES packets in a file, as `extract` gives them; those of several PIDs one PID
+        after another."""
         if not self.is_file:
             shutil.copyfile(self.names.whole_path, path)
-        elif stream := self.stream():
-            subprocess.run([self.typed.program_path, "extract", *stream_words(*stream), "--",
-                            self.names.as_program(self.name), path], stdin=subprocess.DEVNULL,
-                           stdout=subprocess.DEVNULL, check=True)
+        elif len(pids := dict.fromkeys(one.pid for one in self.stages)) > 1:
+            with open(path, "wb") as kept:
+                for pid in pids:
+                    own = self.names.temporary(f"{pid}.pes")
+                    self.extract(pid, own)
+                    with open(own, "rb") as file:
+                        shutil.copyfileobj(file, kept)
+        elif self.is_stream:
+            self.extract(self.packets.pid, path)
+
+    def extract(self, pid: int, path: str) -> None:
+        """Writes the PES packets of a PID."""
+        subprocess.run([self.typed.program_path, "extract",
+                        *stream_words(pid, self.survey.size or 0), "--",
+                        self.names.as_program(self.name), path], stdin=subprocess.DEVNULL,
+                       stdout=subprocess.DEVNULL, check=True)
 
     def places(self) -> list[Place]:
         """Where something is missing."""

@@ -6,6 +6,7 @@ import os
 import subprocess
 from typing import NamedTuple, Sequence
 
+from ..core.programme import Subtitle
 from ..core.words import Stop, line_of
 from ..reading.cutting import Cut, cut_of
 from ..reading.finding import Origin, Sought, find
@@ -14,6 +15,7 @@ from .asked import MOST_TRIED, Asked
 from .checking import Answer, check
 from .clock import Clock
 from .fitting import Found, found_in, refuse
+from .moved import Piece, pieces_of
 from .names import Names, again
 from .options import passed_words
 from .recording import Recording
@@ -25,12 +27,14 @@ NO_PES = os.devnull
 
 
 class Stretch(NamedTuple):
-    """What is judged by itself: what is asked, the files that are made of it, and its frames with
-    their clock."""
+    """What is judged by itself: what is asked, the files that are made of it, its frames with their
+    clock, and the recording; where the page moves to another PID, what of it is on one."""
 
     asked: Asked
     names: Names
     found: Found
+    recording: Recording
+    piece: Piece | None = None
 
 
 class Steps:
@@ -91,11 +95,22 @@ class Steps:
         origin = origin_in(recording.packets, self.sought(recording, None)._replace(within=MOST_TRIED))
         return [self.again("--within", str(MOST_TRIED))] if found_in(origin, whole) else []
 
-    def part(self, number: int, found: Found) -> Stretch:
+    def part(self, number: int, found: Found, recording: Recording) -> Stretch:
         """A part: of its subtitles alone the first comes at its first frame or later, and the last
         goes at its end."""
         return Stretch(self.asked.of_part(found.begin, found.end), self.names.of_part(number),
-                       found)
+                       found, recording)
+
+    def pieces(self, found: Sequence[Found], recording: Recording,
+               subtitles: Sequence[Subtitle]) -> list[Stretch]:
+        """The parts of a recording whose page moves to another PID; the only one is as a whole."""
+        pieces = [piece for one in found
+                  for piece in pieces_of(one, recording.stages, subtitles, self.asked.within)]
+        if len(pieces) == 1:
+            return [Stretch(self.asked, self.names, pieces[0].found,
+                            recording.of(pieces[0].stage), pieces[0])]
+        return [Stretch(self.asked.of_part(*piece.between), self.names.of_part(number), piece.found,
+                        recording.of(piece.stage), piece) for number, piece in enumerate(pieces, 1)]
 
     def cut(self, recording: Recording, one: Stretch) -> Range:
         """The PES packets of the time of the subtitles in the recording, by their numbers."""

@@ -17,6 +17,7 @@ from .clock import FITTED, FITTED_LATER, Clock
 from .delays import Spread, spread_of
 from .due_pages import DuePages
 from .layouts import Choice
+from .moved import Piece
 from .naming import Causes
 from .severity import Severity
 from .status import LOST, NOT_JUDGED, REFUSED, WAIVED, WARNED, Decision, Said, Seen, decide
@@ -63,6 +64,7 @@ class Part:
     packets: Packets = dataclasses.field(default_factory=lambda: Packets(PES))
     asked: Asked | None = None
     due: Callable[[], DuePages] = no_pages
+    piece: Piece | None = None  # of one PID, where the page moves to another one
 
     @functools.cached_property
     def held(self) -> Timeline | None:
