@@ -1,7 +1,7 @@
 """What a person should know of the first fault of some numbers, beside its place."""
 from __future__ import annotations
 
-from typing import Iterator, Sequence
+from typing import Collection, Iterator, Sequence
 
 from ..core.national import BY_BITS, BY_WORD, RESERVED
 from ..core.teletext import ERASE, INHIBIT, NEWSFLASH, SUBTITLE, SUPPRESS, has_bit
@@ -23,7 +23,9 @@ from .verdict import Part, Verdict
 
 HINTED = {EMPTY_TIME, CHARACTER, OUT_OF_ORDER, OFF_FRAME, CONTROL, GAP}
 NAMED = {DISPLAY, CONTENT}  # for which an option is named, where one helps
+OF_HEADERS = {32, 35}  # of PES packets: their length, and that of their headers
 OF_MOVES = {BEGIN, END}  # where the page moves to another PID
+HINTS = HINTED | NAMED | OF_HEADERS | OF_MOVES
 DSC = slice(11, 12)  # the field in the GSI block
 # The control bits that a header of subtitles has set, or clear, and what it is where they are not.
 ASKED = (
@@ -35,29 +37,31 @@ ASKED = (
 )
 
 
-def control_words(header: bytes, option: str) -> list[str]:
-    """What is wrong with the control bits of a header of the page, with its national option."""
+def control_words(header: bytes, option: str, better: Collection[str] = ()) -> list[str]:
+    """What is wrong with the control bits of a header of the page, with its national option; that
+    is advised where it is one by which less is refused."""
     found = [words for bit, is_set, words in ASKED if has_bit(header, bit) != is_set]
     bits = national_option(header)
     if bits == RESERVED:
         found.append("C12, C13 and C14 are set, which is reserved")
     elif bits != BY_WORD[option].bits:
         one = BY_BITS[bits]
-        found.append(f"the header is {one.name}: --option {one.word}")
+        advice = f": --option {one.word}" if one.word in better else ""
+        found.append(f"the header is {one.name}{advice}")
     return found
 
 
 def hints_of(verdict: Verdict) -> Iterator[str]:
     """The lines for the first fault of each of these numbers, in the order of the list."""
     for part in verdict.parts:
-        if part.answer.numbers & (HINTED | NAMED | OF_MOVES):
+        if part.answer.numbers & HINTS:
             yield from hints_of_part(part, verdict)
 
 
 def hints_of_part(part: Part, verdict: Verdict) -> Iterator[str]:
     """The same of a part."""
     for number, told in part.answer.firsts.items():
-        words = words_of(told, part, verdict) if number in HINTED | NAMED | OF_MOVES else ""
+        words = words_of(told, part, verdict) if number in HINTS else ""
         if words:
             yield f"{number}: {words}"
 
@@ -71,6 +75,8 @@ def words_of(told: Told, part: Part, verdict: Verdict) -> str:
         return OptionAdvice(part.subtitle_file(), asked.option).of(told.block, told.at)
     if told.number == DISPLAY:
         return open_words(part.subtitle_file())
+    if told.number in OF_HEADERS:
+        return part.of_header
     if told.number in OF_MOVES:
         return move_words(told.number, part, asked.page_name)
     if told.number == CONTENT:
@@ -84,7 +90,8 @@ def words_of(told: Told, part: Part, verdict: Verdict) -> str:
         return off.words(part.accepted_within) if off else ""
     if told.number == GAP:
         return gap_words(part.pts(HEADER), part.origin, asked, part.answer.numbers)
-    return header_words(place_of(told, part.packets, part.held).headers, asked.option)
+    headers = place_of(told, part.packets, part.held).headers
+    return header_words(headers, asked.option, part.better)
 
 
 def move_words(number: int, part: Part, page: str) -> str:
@@ -104,9 +111,9 @@ def open_words(subtitles: SubtitleFile) -> str:
     return f"its DSC is {kind}: --open takes it" if kind else ""
 
 
-def header_words(headers: Sequence[bytes], option: str) -> str:
+def header_words(headers: Sequence[bytes], option: str, better: Collection[str]) -> str:
     """What is wrong with the control bits of the first header of some of which something is."""
-    wrong = (control_words(one, option) for one in headers)
+    wrong = (control_words(one, option, better) for one in headers)
     return "; ".join(next(filter(None, wrong), []))
 
 

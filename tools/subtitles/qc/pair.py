@@ -9,7 +9,7 @@ from ..core.layout import text_of
 from ..core.national import BY_WORD
 from ..core.programme import Subtitle
 from ..core.times import ALL_DAY, time_of
-from ..core.told import CONTENT, EMPTY, LOST_PACKETS, WITH_CAUSE
+from ..core.told import CONTENT, CONTROL, EMPTY, LOST_PACKETS, WITH_CAUSE
 from ..core.words import counted, pid_name
 from ..reading.cutting import cut_of
 from ..reading.finding import runs_line
@@ -23,7 +23,7 @@ from .delays import MOVED, frames_in
 from .due_pages import due_pages_of, subtitles_in
 from .ending import Ending
 from .fitting import Found, found_in, with_delay
-from .hints import words_of
+from .hints import OF_HEADERS, words_of
 from .layouts import layout_of_sent
 from .midnight import title_words
 from .missing import gap_of, gaps_in, is_in
@@ -330,6 +330,12 @@ class Pair:
                                            option)
         self.measure(part, one, recording, count)
         part.was_read = part.is_read()
+        if CONTROL in answer.numbers and part.pes:
+            others = sorted(part.options_sent() - {asked.option})
+            part.better = [option for option in others if self.steps.has_fewer_by(
+                option, recording, one, part.pes, answer.count)]
+        if OF_HEADERS & answer.numbers:
+            part.of_header = recording.header_words(recording.packets)
         if answer.first:
             part.hint = words_of(answer.first, part, self.verdict)
         times = [(subtitle.begin, subtitle.end) for subtitle in subtitles]

@@ -12,6 +12,7 @@ from ..core.pes import START
 from ..core.times import ticks_between
 from ..core.words import PACKET_SIZES, Stop, counted, shown, stream_words
 from ..reading.gaps import TOLD, Place, line_of, places_of, why_refused
+from ..reading.headers import header_length, header_words
 from ..reading.moving import Stage, joined, stages_of
 from ..reading.survey import PES, Packets, Survey, survey, words_of
 from ..reading.timing import reach_of
@@ -122,19 +123,37 @@ class Recording:
             one = by_pid.setdefault(self.asked.pid, Packets(self.asked.pid))
             if one.count:
                 return one
-            raise Unclear(self.said(f"{self.name}: {why_refused(one)}"), *self.other_pids())
+            why = "; ".join([f"{self.name}: {why_refused(one)}", *filter(None, [
+                self.header_words(one)])])
+            raise Unclear(self.said(why), *self.other_pids())
         found = [by_pid[pid] for pid in sorted(by_pid) if by_pid[pid].has_page]
         if len(found) == 1:
             return found[0]
         if not found:
-            raise Unclear(self.said(f"{self.name} has no header of page {page}"),
-                          *([self.again("--page", "P")] if by_pid else []))
+            why = "; ".join([f"{self.name} has no header of page {page}", *self.why_nothing()])
+            is_other = any(one.sent for one in by_pid.values())
+            raise Unclear(self.said(why), *([self.again("--page", "P")] if is_other else []))
         if self.is_file and self.asked.pes is None:
             self.stages = stages_of(self.survey, self.asked.page)
         if self.stages:
             return joined(self.stages)
         raise Unclear(self.said(f"page {page} is sent on {len(found)} PIDs of {self.name}"),
                       *(self.again("--pid", f"0x{one.pid:X}") for one in found))
+
+    def why_nothing(self) -> list[str]:
+        """Why nothing is given of each PID that should carry Teletext: scrambled, or not as it is.
+        """
+        silent = [one for pid, one in sorted(self.survey.by_pid.items())
+                  if not one.count and one.packets]
+        return [words for one in silent for words in (why_refused(one), self.header_words(one))
+                if words]
+
+    def header_words(self, packets: Packets) -> str:
+        """What is wrong with the PES header of a PID, where the file can be read once more."""
+        if not self.is_file or packets.pid != PES and not packets.packets:
+            return ""
+        return header_words(header_length(self.name, packets.pid, self.survey.size or 0),
+                            packets.pid)
 
     def say_read(self) -> list[str]:
         """What was read, and where something is missing."""

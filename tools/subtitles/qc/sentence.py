@@ -4,7 +4,6 @@ from __future__ import annotations
 import collections
 from typing import NamedTuple, Sequence
 
-from ..core.manual import meanings, plain
 from ..core.national import BY_WORD
 from ..core.programme import Subtitle
 from ..core.times import time_of
@@ -12,6 +11,7 @@ from ..core.told import CONTROL, GAP, LOST_PACKETS, OFF_FRAME, WITH_CAUSE, Told
 from ..core.words import counted, range_words
 from .causes import (
     ATTRIBUTE, EARLY, LATE, NEVER, NOT_ERASED, OTHER, PLACE, TEXT, UNKNOWN, Cause)
+from .fault_words import WORDS
 from .lettering import text_of
 from .naming import Causes
 from .status import ACCEPTED, LOST, NOT_JUDGED, REFUSED, WAIVED, WARNED
@@ -102,8 +102,7 @@ def of_fault(seen: Seen) -> str:
     if told.number == LOST_PACKETS and seen.lost:
         more = f", and in {counted(len(seen.lost) - 1, 'more place')}" if len(seen.lost) > 1 else ""
         return f"{seen.lost[0]}{more}; nobody saw what was sent there"
-    meaning = meanings().get(told.number)
-    words = plain_words(meaning.means) if meaning else told.name
+    words = WORDS.get(told.number, told.name)
     place = told.time or (f"PES packet {told.pes}" if told.pes is not None else
                           f"block {told.block}" if told.block is not None else "")
     if seen.hint and told.number in OF_ALL:
@@ -113,11 +112,6 @@ def of_fault(seen: Seen) -> str:
     place = place and f"{'at' if told.time else 'in'} {place} "
     more = f"; in all {counted(seen.faults, 'fault')}" if seen.faults > 1 else ""
     return f"{place}{words}{more}"
-
-
-def plain_words(text: str) -> str:
-    """A cell of the manual up to where it says more."""
-    return plain(text).partition(";")[0].partition(": ")[0]
 
 
 def of_causes(causes: Causes, option: str) -> str:

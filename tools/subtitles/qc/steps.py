@@ -7,6 +7,7 @@ import subprocess
 from typing import NamedTuple, Sequence
 
 from ..core.programme import Subtitle
+from ..core.told import STL_FAULTS, number_of
 from ..core.words import Stop, line_of
 from ..reading.cutting import Cut, cut_of
 from ..reading.finding import Origin, Sought, find
@@ -137,6 +138,26 @@ class Steps:
         check([self.typed.program_path, "check", *words, "--", self.names.given, path], answer,
               self.speech.of_list)
         self.speech.end_list(answer.last)
+
+    def has_fewer_by(self, option: str, recording: Recording, one: Stretch, pes: Range,
+                     most: int) -> bool:
+        """Whether `check` tells fewer faults than so many by another national option, and none of
+        the subtitle file."""
+        asked = dataclasses.replace(one.asked, option=option)
+        words = [*recording.words(), *pes_words(pes), *asked.check_words(),
+                 *origin_words(one.found.origin), "--all"]
+        count = 0
+        with subprocess.Popen([self.typed.program_path, "check", *words, "--", self.names.given,
+                               recording.judged()[0]], stdin=subprocess.DEVNULL,
+                              stdout=subprocess.PIPE, encoding="utf-8", errors="replace") as call:
+            assert call.stdout
+            for line in call.stdout:
+                number = number_of(line)
+                count += number is not None
+                if count >= most or number in STL_FAULTS:
+                    call.kill()
+                    return False
+        return call.returncode == (1 if count else 0)
 
     def line_within(self, recording: Recording, one: Stretch, pes: Range, origin: int,
                     within: int) -> tuple[str, int]:

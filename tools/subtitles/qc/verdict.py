@@ -3,15 +3,18 @@ from __future__ import annotations
 
 import dataclasses
 import functools
-from typing import Callable, Sequence
+from typing import Callable, Collection, Sequence
 
+from ..core.national import BY_BITS, RESERVED
 from ..core.times import ALL_DAY, Between, time_of
 from ..core.told import EMPTY, LOST_PACKETS, PASSED_OVER
 from ..reading.gaps import Place
+from ..reading.receiver import national_option
 from ..reading.survey import PES, Packets, Range
 from ..reading.timeline import Timeline
 from . import sentence
 from .asked import Asked
+from .cells import headers_of
 from .checking import Answer
 from .clock import FITTED, FITTED_LATER, Clock
 from .delays import Spread, spread_of
@@ -60,7 +63,9 @@ class Part:
     accepted_within: int | None = None  # the least number of frames, of one that is refused
     was_read: bool = False  # something of its recording, or it has none
     hint: str = ""  # what to know of its first fault
+    of_header: str = ""  # what is wrong with its PES headers, where that is refused
     otherwise: str = ""  # how the house draws, where its content is refused for that
+    better: Collection[str] = ()  # national options that were tried, by which less is refused
     packets: Packets = dataclasses.field(default_factory=lambda: Packets(PES))
     asked: Asked | None = None
     due: Callable[[], DuePages] = no_pages
@@ -103,6 +108,12 @@ class Part:
     def pts(self, does: str = "") -> list[int]:
         """The PTS of its PES packets, of those that do something."""
         return [*self.packets.pts(self.pes, does)] if self.pes else []
+
+    def options_sent(self) -> set[str]:
+        """The national options of its headers of the page."""
+        bits = {national_option(header) for run in self.packets.inside(*self.pes or (0, -1))
+                for header in headers_of(run)}
+        return {BY_BITS[one].word for one in bits if one != RESERVED}
 
     @property
     def pes_name(self) -> str | None:

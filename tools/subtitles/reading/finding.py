@@ -13,7 +13,8 @@ from ..core.times import (
 from ..core.words import Stop, counted, range_words
 from .alignment import MOST_APART, Base, Fit, Shown, bases_of
 from .stretches import IN_A_ROW, Part, Run, Stretch, by_breaks, find_row, parts_of, runs_of
-from .survey import Packets, Range
+from .subcodes import subcode_words, turns_of
+from .survey import STRAY, Packets, Range
 
 NEAR = 10 * FRAMES_A_SECOND  # to the origin 0
 NAMED = 5  # origins that are as good, or other pages
@@ -99,7 +100,7 @@ def find(asked: Sought, packets: Packets) -> Origin:
         return origin
     bases = bases_of(subtitles, packets, asked.within, asked.inside)
     if not bases:
-        origin.told.append("no edge agrees with any origin")
+        origin.told += [*other_words(packets, asked.page), "no edge agrees with any origin"]
         return origin
     runs = runs_of(bases)
     if len(runs) > 1:
@@ -111,6 +112,8 @@ def find(asked: Sought, packets: Packets) -> Origin:
         take_parts(origin, asked, bases, parts_of(subtitles, bases, by_breaks(row)))
     else:
         take_one(origin, asked, bases, row, parts_of(subtitles, bases, row))
+    if origin.status:
+        origin.told[:0] = other_words(packets, asked.page)
     return origin
 
 
@@ -214,6 +217,17 @@ def measure(origin: Origin, known: int | None, part: Part) -> None:
 
 
 # ---- words
+
+def other_words(packets: Packets, page: Page) -> Iterator[str]:
+    """What may be why edges do not agree: rows that no receiver of the page takes, or sub-pages."""
+    name = page_name(*page)
+    if packets.strays:
+        count = sum(run.length for run in packets.runs if STRAY in run.does)
+        yield f"rows came while {name} was not open, in {counted(count, 'PES packet')}"
+    subcodes = turns_of(packets)
+    if subcodes:
+        yield subcode_words(subcodes, name)
+
 
 def time_at(pts: int, origin: int) -> str:
     """The time of the day of a PTS, or that it is of none."""
