@@ -233,6 +233,10 @@ class Objects(Case):
         for data, wanted in ((b"{", True), (b"", True), (b"GSI", False), (b" {", False),
                              (b'{"a', True)):
             self.must(f"{data!r}", may_take(self.write("x", data)) == wanted)
+        for data, wanted in ((b"stl,recording,part", True), (b"", True), (b"stl", False),
+                             (b"{", False)):
+            self.must(f"{data!r}: a table", may_take(self.write("x", data), b"stl,recording,") ==
+                      wanted)
         self.must("not there", may_take(self.path("none")) and may_take("/dev/zero"))
 
 

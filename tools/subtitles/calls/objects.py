@@ -56,13 +56,13 @@ def has_had_its_turn(known: dict[str, Any], asked: Asked | None) -> bool:
         found_then.get("stl") == found_at(asked.stl)
 
 
-def may_take(path: str) -> bool:
-    """Whether an object may take the place of a file, whatever words are wrong: one that holds
-    something else may be an input."""
+def may_take(path: str, begins: bytes = b"{") -> bool:
+    """Whether an object, or what begins otherwise, may take the place of a file, whatever words are
+    wrong: one that holds something else may be an input."""
     if not is_replaced(path) or not os.path.exists(path):
         return True
     with open(path, "rb") as file:
-        return file.read(1) in (b"{", b"")
+        return file.read(len(begins)) in (begins, b"")
 
 
 def put(path: str, known: dict[str, Any]) -> None:
