@@ -77,15 +77,15 @@ class Pair:
     def judge(self) -> None:
         """Judges the pair; `Unclear` where a step is not clear."""
         asked = self.asked
-        if not os.path.isfile(asked.stl):
+        if not os.path.isfile(asked.stl_path):
             name = asked.stl.removeprefix("./") if asked.stl.startswith("./-") else asked.stl
             raise Unclear(f"{name or 'an empty name'} is no file, or is not there")
-        if is_recording(asked.stl):
+        if is_recording(asked.stl_path):
             raise Unclear(f"{asked.stl} is a recording: the subtitle file stands before it")
         if asked.recording is not None and asked.recording != STANDARD_INPUT:
             os.stat(asked.recording)  # a name that is wrong is told before anything is judged
         if self.is_summed:
-            self.verdict.stl = file_of(asked.stl, asked.stl)
+            self.verdict.stl = file_of(asked.stl_path, asked.stl)
         answer = self.check_alone()
         if asked.is_layout_sought and not answer.numbers - {EMPTY} - BY_LAYOUT:
             self.find_layout()

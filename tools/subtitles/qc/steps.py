@@ -65,7 +65,7 @@ class Steps:
     def sought(self, recording: Recording, clock: Clock | None) -> Sought:
         """What is looked for in a recording."""
         asked = self.asked
-        return Sought(asked.stl, recording.judged()[1], asked.page, asked.option,
+        return Sought(asked.stl_path, recording.judged()[1], asked.page, asked.option,
                       None if clock is None else clock.origin, asked.within, asked.breaks,
                       self.inside, asked.between)
 
