@@ -19,12 +19,13 @@ class Pipes(Case):
     def test_as_a_file(self) -> None:
         """Accepted, refused, of the option that its GSI block names; and by -o too."""
         french = example_bytes("story.stl")[:14] + b"0F" + example_bytes("story.stl")[16:]
-        for data, words in (
-                (example_bytes("story.stl"), [PES, "--origin", "0"]),
-                (example_bytes("story.stl"), [PES, "--start", "tcp"]),
-                (example_bytes("story.stl"), []), (example_bytes("accent.stl"), [PES]),
-                (french, [PES, "--origin", "0", "--option", "auto"]),
-                (b"", [PES]), (example_bytes("story.pes"), [PES]), (b"x" * 2000, [PES])):
+        rows: list[tuple[bytes, list[str]]] = [
+            (example_bytes("story.stl"), [PES, "--origin", "0"]),
+            (example_bytes("story.stl"), [PES, "--start", "tcp"]),
+            (example_bytes("story.stl"), []), (example_bytes("accent.stl"), [PES]),
+            (french, [PES, "--origin", "0", "--option", "auto"]),
+            (b"", [PES]), (example_bytes("story.pes"), [PES]), (b"x" * 2000, [PES])]
+        for data, words in rows:
             name = self.write("one.stl", data)
             of_file = self.qc(name, *words, "-o", self.path("file"))
             known = json.loads(self.read("x.json"))

@@ -10,6 +10,7 @@ from ..core.told import (
     BEGIN, CHARACTER, CONTENT, CONTROL, DISPLAY, EMPTY_TIME, END, GAP, OFF_FRAME, OUT_OF_ORDER,
     PASSED_OVER, Told)
 from ..core.words import MOST_EVERY, counted, pid_name
+from ..reading.gaps import why_refused
 from ..reading.receiver import national_option
 from ..reading.repeat import longest_gap
 from ..reading.survey import HEADER
@@ -24,8 +25,8 @@ from .verdict import Part, Verdict
 HINTED = {EMPTY_TIME, CHARACTER, OUT_OF_ORDER, OFF_FRAME, CONTROL, GAP}
 NAMED = {DISPLAY, CONTENT}  # for which an option is named, where one helps
 OF_HEADERS = {32, 35}  # of PES packets: their length, and that of their headers
-OF_MOVES = {BEGIN, END}  # where the page moves to another PID
-HINTS = HINTED | NAMED | OF_HEADERS | OF_MOVES
+OF_ENDS = {BEGIN, END}  # where the page moves to another PID, or that has no more Teletext
+HINTS = HINTED | NAMED | OF_HEADERS | OF_ENDS
 DSC = slice(11, 12)  # the field in the GSI block
 # The control bits that a header of subtitles has set, or clear, and what it is where they are not.
 ASKED = (
@@ -77,8 +78,8 @@ def words_of(told: Told, part: Part, verdict: Verdict) -> str:
         return open_words(part.subtitle_file())
     if told.number in OF_HEADERS:
         return part.of_header
-    if told.number in OF_MOVES:
-        return move_words(told.number, part, asked.page_name)
+    if told.number in OF_ENDS:
+        return end_words(told.number, part, asked.page_name)
     if told.number == CONTENT:
         return part.otherwise
     if told.number in (EMPTY_TIME, OUT_OF_ORDER):
@@ -94,15 +95,17 @@ def words_of(told: Told, part: Part, verdict: Verdict) -> str:
     return header_words(headers, asked.option, part.better)
 
 
-def move_words(number: int, part: Part, page: str) -> str:
-    """That the page comes from another PID, or goes to one, where that is why a subtitle is not
-    whole."""
+def end_words(number: int, part: Part, page: str) -> str:
+    """That the page comes from another PID, or goes to one, or that its PID goes on with what is
+    no Teletext, where that is why a subtitle is not whole."""
     came, goes = (part.piece.came, part.piece.goes) if part.piece else (None, None)
     if number == BEGIN and came is not None:
         return f"page {page} was on {pid_name(came)} before"
     if number == END and goes is not None:
         return f"page {page} moves to {pid_name(goes)} then"
-    return ""
+    is_last = part.pes is not None and part.pes[1] == part.packets.count - 1
+    return (why_refused(part.packets) or "") if number == END and is_last and \
+        part.packets.refusal else ""
 
 
 def open_words(subtitles: SubtitleFile) -> str:

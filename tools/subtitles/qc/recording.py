@@ -250,7 +250,8 @@ class Recording:
             found.append(Warned("grew", f"{shown(self.name)} {word} while it was read, from "
                                 f"{self.size:,} bytes to {now:,}: judge it again when it is "
                                 "complete"))
-        if self.is_stream and self.packets.is_cut and not self.is_feed:
+        is_cut = self.packets.is_cut and not self.packets.refusal
+        if self.is_stream and is_cut and not self.is_feed:
             found.append(Warned("cut", f"{shown(self.name)} ends within a PES packet of the page's "
                                 "PID, which is left out"))
         if self.packets.damage and not self.is_feed:
