@@ -107,7 +107,8 @@ def write_table(path: str, known: dict[str, Any]) -> None:
 
 def write_testcase(path: str, known: dict[str, Any]) -> None:
     """The file for a CI of a pair that is not judged."""
-    case = junit.TestCase(known["name"], known["verdict"], known["status"], known["reason"], [], 0.0)
+    case = junit.TestCase(known["name"], known["verdict"], known["status"], known["reason"], [],
+                          0.0)
     with whole_file(path, []) as file:
         file.write(junit.text_of([case], single.now()))
 

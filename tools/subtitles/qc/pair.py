@@ -5,7 +5,7 @@ import functools
 import os
 from typing import Callable, Iterable, NamedTuple, Sequence
 
-from ..core.layout import text_of
+from ..core.layout import PLAIN, layout_of, text_of
 from ..core.national import BY_WORD
 from ..core.programme import Subtitle
 from ..core.times import ALL_DAY, time_of
@@ -16,11 +16,13 @@ from ..reading.finding import runs_line
 from ..reading.survey import HEADER, Range
 from ..reading.timeline import Span, timeline_near
 from . import warned
+from .asked import Asked
 from .as_sent import BY_LAYOUT, otherwise, sent_in, told_of, why_none
+from .beside import beside_of, due_beside, is_judged_beside
 from .checking import Answer
 from .clock import GIVEN, RECORDING, TCP, Clock
 from .delays import MOVED, frames_in
-from .due_pages import due_pages_of, subtitles_in
+from .due_pages import DuePages, due_pages_of, subtitles_in
 from .ending import Ending
 from .fitting import Found, found_in, with_delay
 from .hints import OF_HEADERS, words_of
@@ -90,12 +92,14 @@ class Pair:
         if asked.is_layout_sought and not answer.numbers - {EMPTY} - BY_LAYOUT:
             self.find_layout()
             answer = self.check_alone()
-        subtitles = SubtitleFile(self.names.given)
+        subtitles = SubtitleFile(self.names.given, asked.between)
+        if is_judged_beside(answer.numbers):
+            answer = self.take_beside(answer, subtitles)
         self.verdict.warnings += warned.of_counts(subtitles)
         if FROM not in asked.passed_on and (title := title_words(subtitles)):
             self.verdict.notes.append(title)
         is_refused = answer.numbers != {EMPTY}
-        if is_refused or asked.recording is None:
+        if asked.recording is None or is_refused and not self.verdict.beside:
             self.judge_alone(answer, is_refused)
         else:
             self.judge_transmission()
@@ -108,6 +112,15 @@ class Pair:
         if answer.verdict != REFUSED:
             raise Unclear(f"{UNSAID}: {answer.last}, where there is no PES packet")
         return answer
+
+    def take_beside(self, answer: Answer, subtitles: SubtitleFile) -> Answer:
+        """Takes what is judged beside the subtitles that are refused; answers what is told of the
+        file alone."""
+        if self.asked.recording is not None:
+            faults = (told for told, _ in answer.told())
+            beside = self.verdict.beside = beside_of(subtitles, faults, self.asked.option)
+            self.steps.left_out = beside.left_out
+        return answer.without(EMPTY, self.names.temporary("refused.txt"))
 
     def stop(self, now: str) -> str:
         """Takes what was told before a signal came; at which time that was, and up to where the
@@ -143,6 +156,8 @@ class Pair:
     def subtitles(self) -> list[Subtitle]:
         """The subtitles that are judged."""
         between = self.asked.between
+        if self.verdict.beside:
+            return self.verdict.beside.judged
         found = subtitles_in(self.typed.program_path, self.names.given, between,
                              self.asked.is_open)
         if not found and between != ALL_DAY:
@@ -189,6 +204,11 @@ class Pair:
         """Judges what was recorded, part by part."""
         asked = self.asked
         recording, found, subtitles = self.heard or self.listen()
+        if self.verdict.beside:
+            subtitles = self.verdict.beside.judged
+            self.verdict.count = len(subtitles) + len(self.verdict.beside.left_out)
+            for line in self.verdict.beside.lines():
+                self.speech.say(line)
         if not recording.stages:
             self.warn(recording, found[0].origin, self.whole)
         stretches = self.stretches(found, subtitles, recording)
@@ -309,13 +329,21 @@ class Pair:
         recording, found = one.recording, one.found
         pes = self.steps.cut(recording, one)
         judged = file_of(*recording.judged()) if self.is_summed and not recording.is_file else None
-        due = functools.cache(lambda: due_pages_of(
-            self.typed.program_path, self.names.given, one.asked.page, one.asked.option,
-            one.asked.between, one.asked.words_of_pages(), one.asked.is_open))
         return Part(number, one.asked.stl, self.names.given, pes, found.origin, found.begin,
                     found.end, judged, Answer(one.names.list_path), found.clock,
-                    recording.stream(), packets=recording.packets, asked=one.asked, due=due,
-                    piece=one.piece)
+                    recording.stream(), packets=recording.packets, asked=one.asked,
+                    due=functools.cache(lambda: self.due_of(one.asked)), piece=one.piece,
+                    left_out=self.steps.left_out)
+
+    def due_of(self, asked: Asked) -> DuePages:
+        """The pages that are due of a part; beside subtitles that are refused those of the others.
+        """
+        if self.verdict.beside:
+            found = [one for one in self.verdict.beside.judged if asked.between.has(one.begin)]
+            layout = layout_of(asked.handed_on.get(LAYOUT, "")) or PLAIN
+            return due_beside(found, asked.page, asked.option, layout)
+        return due_pages_of(self.typed.program_path, self.names.given, asked.page, asked.option,
+                            asked.between, asked.words_of_pages(), asked.is_open)
 
     def end_part(self, part: Part, one: Stretch, count: int, subtitles: Sequence[Subtitle]) -> None:
         """Takes what `check` said of a part, and draws its report, with what is missing there."""
@@ -338,6 +366,8 @@ class Pair:
             part.of_header = recording.header_words(recording.packets)
         if answer.first:
             part.hint = words_of(answer.first, part, self.verdict)
+        if answer.first_sent:
+            part.sent_hint = words_of(answer.first_sent, part, self.verdict)
         times = [(subtitle.begin, subtitle.end) for subtitle in subtitles]
         self.add_warnings([*warned.of_pauses(part.pts(), asked, origin),
                      *warned.of_repeat(part.pts(HEADER), asked, origin, times)])

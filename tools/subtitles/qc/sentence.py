@@ -44,6 +44,7 @@ class Seen(NamedTuple):
     warnings: Sequence[str] = ()
     reason: str | None = None
     is_file: bool = False  # a subtitle file alone
+    refused: str = ""  # which subtitles are refused, beside which the others are judged
     within: int = 0
     accepted_within: int | None = None
 
@@ -74,13 +75,33 @@ def what_is_good(seen: Seen) -> str:
     subtitles = counted(seen.subtitles, "subtitle")
     if seen.is_file:
         return f"nothing is wrong with {subtitles}"
-    when = f"within {counted(seen.within, 'frame')}" if seen.within else "from the first frame on"
-    return f"{subtitles}, {'each of them ' if seen.subtitles > 1 else ''}as it is due {when}"
+    each = "each of them " if seen.subtitles > 1 else ""
+    return f"{subtitles}, {each}as it is due {since(seen)}"
+
+
+def beside_refused(seen: Seen) -> str:
+    """Which subtitles are refused, and how the others stand, which are judged."""
+    others = f"{counted(seen.subtitles, 'other subtitle')} " \
+        f"{'was' if seen.subtitles == 1 else 'were'} judged"
+    sent = seen._replace(refused="")
+    if seen.first is None:
+        is_one = seen.subtitles == 1
+        how = f"{'it is' if is_one else 'each of them is'} as it is due {since(seen)}"
+    else:
+        how = what_is_wrong(sent)
+    return f"{seen.refused}; {others}: {how}"
+
+
+def since(seen: Seen) -> str:
+    """From when on a subtitle has to be as it is due."""
+    return f"within {counted(seen.within, 'frame')}" if seen.within else "from the first frame on"
 
 
 def what_is_wrong(seen: Seen) -> str:
     """What is wrong: the cause that most subtitles have, else the first fault; and what accepts
     it."""
+    if seen.refused:
+        return beside_refused(seen)
     told, causes = seen.first, seen.causes
     if causes and causes.named:
         words = of_causes(causes, seen.option)

@@ -4,7 +4,7 @@ from __future__ import annotations
 import dataclasses
 import os
 import subprocess
-from typing import NamedTuple, Sequence
+from typing import Collection, NamedTuple, Sequence
 
 from ..core.programme import Subtitle
 from ..core.told import STL_FAULTS, number_of
@@ -44,6 +44,7 @@ class Steps:
     def __init__(self, asked: Asked, typed: Typed, names: Names, speech: Speech) -> None:
         self.asked, self.typed, self.names, self.speech = asked, typed, names, speech
         self.inside = asked.pes  # the PES packets that may be judged
+        self.left_out: Collection[int] = ()  # subtitles that are not judged, by their places
 
     def again(self, *more: str) -> str:
         """The call of this tool, with more words."""
@@ -67,7 +68,7 @@ class Steps:
         asked = self.asked
         return Sought(asked.stl_path, recording.judged()[1], asked.page, asked.option,
                       None if clock is None else clock.origin, asked.within, asked.breaks,
-                      self.inside, asked.between)
+                      self.inside, asked.between, self.left_out)
 
     def fit(self, recording: Recording, clock: Clock | None) -> Origin:
         """What is found of the clock, also compared with one that is known; said as tools/origin

@@ -7,13 +7,14 @@ from typing import Callable, Collection, Sequence
 
 from ..core.national import BY_BITS, RESERVED
 from ..core.times import ALL_DAY, Between, time_of
-from ..core.told import EMPTY, LOST_PACKETS, PASSED_OVER
+from ..core.told import EMPTY, LOST_PACKETS, PASSED_OVER, STL_FAULTS
 from ..reading.gaps import Place
 from ..reading.receiver import national_option
 from ..reading.survey import PES, Packets, Range
 from ..reading.timeline import Timeline
 from . import sentence
 from .asked import Asked
+from .beside import Beside, Counts
 from .cells import headers_of
 from .checking import Answer
 from .clock import FITTED, FITTED_LATER, Clock
@@ -70,6 +71,8 @@ class Part:
     asked: Asked | None = None
     due: Callable[[], DuePages] = no_pages
     piece: Piece | None = None  # of one PID, where the page moves to another one
+    left_out: Collection[int] = ()  # subtitles that are not judged, by their places in the file
+    sent_hint: str = ""  # what to know of the first fault of its transmission
 
     @functools.cached_property
     def held(self) -> Timeline | None:
@@ -85,7 +88,7 @@ class Part:
 
     def subtitle_file(self) -> SubtitleFile:
         """Its subtitles by their blocks and frames."""
-        return SubtitleFile(self.stl_path, self.between)
+        return SubtitleFile(self.stl_path, self.between, self.left_out)
 
     def said(self) -> Said:
         """What the program said of it."""
@@ -100,7 +103,8 @@ class Part:
         """Whether one of its PES packets at least could be read."""
         if self.pes is None:
             return False
-        if not self.answer.numbers or self.answer.numbers - PASSED_OVER - {EMPTY}:
+        numbers = self.answer.numbers - STL_FAULTS
+        if not numbers or numbers - PASSED_OVER - {EMPTY}:
             return True
         count = min(self.pes[1] + 1, self.packets.count) - self.pes[0]
         return count > self.answer.passed.total()
@@ -172,6 +176,7 @@ class Verdict:
     was_fitted: bool = False
     count: int = 0  # of the subtitles
     layout: Choice | None = None  # that was found
+    beside: Beside | None = None  # where some subtitles are refused, and others are judged
 
     @property
     def is_lost(self) -> bool:
@@ -229,10 +234,33 @@ class Verdict:
             lost=[gap.line() for gap in self.gaps if gap.is_judged], warnings=self.seen().warnings,
             reason=self.why_not, is_file=self.asked.recording is None, within=self.asked.within,
             accepted_within=self.accepted_within)
-        if refused:
+        if refused and self.beside:
+            said = self.sent_beside(said, self.beside)
+        elif refused:
             said = said._replace(first=refused.answer.first, hint=refused.hint,
                                  causes=refused.causes)
         return sentence.sentence_of(said)
+
+    def sent_beside(self, said: sentence.Seen, beside: Beside) -> sentence.Seen:
+        """What the sentence is made of where subtitles are refused: that of the transmission, of
+        the first part of which something is."""
+        answers = [part.answer for part in self.parts]
+        part = next((part for part in self.parts if part.answer.first_sent), None)
+        said = said._replace(refused=beside.words(), subtitles=len(beside.judged), is_file=False,
+                             faults=sum(answer.count_sent for answer in answers))
+        return said._replace(first=part.answer.first_sent, hint=part.sent_hint,
+                             causes=part.causes) if part else said
+
+    @property
+    def counts(self) -> Counts | None:
+        """How many subtitles were judged, and how many are refused; `None` where neither is known.
+        """
+        if self.word == NOT_JUDGED:
+            return None
+        if self.beside:
+            return Counts(len(self.beside.judged), len(self.beside.left_out))
+        is_refused = any(part.answer.numbers & STL_FAULTS for part in self.parts)
+        return None if is_refused else Counts(self.count, 0)
 
     def of_part(self, part: Part, gaps: list[Gap]) -> Verdict:
         """The verdict on a part alone, with what is missing of it."""

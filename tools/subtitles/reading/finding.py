@@ -2,7 +2,7 @@
 from __future__ import annotations
 
 import dataclasses
-from typing import Iterator, NamedTuple, Sequence
+from typing import Collection, Iterator, NamedTuple, Sequence
 
 from ..core.files import whole_bytes
 from ..core.stl import letters_on_page, readable, times_of
@@ -26,7 +26,7 @@ class Sought(NamedTuple):
     """What is looked for: the subtitle file, and the page with its national option, in a recording
     by its name; the origin that is known, the frames within which a page has to be whole, and how
     many breaks there are; of the PES packets with some numbers alone, and of the subtitles that come
-    in some frames."""
+    in some frames, but for those that are left out, by their places in the file."""
 
     stl: str
     name: str
@@ -37,6 +37,7 @@ class Sought(NamedTuple):
     breaks: int = 0
     inside: Range | None = None
     between: Between = ALL_DAY
+    left_out: Collection[int] = ()
 
 
 class OfPart(NamedTuple):
@@ -79,12 +80,14 @@ class Origin:
     told: list[str] = dataclasses.field(default_factory=list)
 
 
-def subtitles_of(path: str, option: str, between: Between) -> list[Shown]:
+def subtitles_of(path: str, option: str, between: Between,
+                 left_out: Collection[int] = ()) -> list[Shown]:
     """The subtitles of a file that come in some frames, and go within the day."""
     found = []
-    for one in readable(path, whole_bytes(path)):
+    for place, one in enumerate(readable(path, whole_bytes(path)), 1):
         begin, end = times_of(one)
-        if begin is not None and end is not None and begin < end and between.has(begin):
+        is_one = begin is not None and between.has(begin) and place not in left_out
+        if is_one and begin is not None and end is not None and begin < end:
             found.append(Shown(begin, end, (one.row, one.justify, one.text),
                                letters_on_page(one.text, option)))
     if not found:
@@ -95,7 +98,7 @@ def subtitles_of(path: str, option: str, between: Between) -> list[Shown]:
 def find(asked: Sought, packets: Packets) -> Origin:
     """The origin of a recording, or why it is not clear."""
     origin = Origin()
-    subtitles = subtitles_of(asked.stl, asked.option, asked.between)
+    subtitles = subtitles_of(asked.stl, asked.option, asked.between, asked.left_out)
     if not is_sent(packets, asked, origin.told):
         return origin
     bases = bases_of(subtitles, packets, asked.within, asked.inside)
