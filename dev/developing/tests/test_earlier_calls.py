@@ -66,7 +66,7 @@ class EarlierCalls(Case):
         self.must("no severity", not is_current(known, none, PROGRAM))
         names = {field.name for field in dataclasses.fields(asked)}
         self.must("all words", names == {*OTHERS, "stl", "recording", "severity", "passed_on",
-                                             "found_layout"},
+                                             "found_layout", "kept_stl"},
                   names)  # those that are passed on: test_passed_on
 
     def test_object_of_another_program(self) -> None:

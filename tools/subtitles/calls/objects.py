@@ -139,8 +139,8 @@ def counts_in(known: dict[str, Any]) -> str:
     """How many subtitles were judged, and how many are refused, where some are."""
     counts = known.get("subtitle_counts") or {}
     judged, refused = counts.get("judged"), counts.get("refused")
-    are_known = isinstance(judged, int) and isinstance(refused, int)
-    return Counts(judged, refused).words() if are_known else ""
+    return Counts(judged, refused).words() if isinstance(judged, int) and isinstance(
+        refused, int) else ""
 
 
 def causes_in(known: dict[str, Any]) -> dict[str, int]:

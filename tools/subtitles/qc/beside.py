@@ -10,6 +10,7 @@ from __future__ import annotations
 from typing import Iterable, Iterator, NamedTuple, Sequence
 
 from ..core.layout import PLAIN, Layout, Refused, drawn, page_of
+from ..core.manual import Meaning, meanings, plain
 from ..core.national import BY_WORD
 from ..core.programme import Subtitle, name_of, subtitles_read
 from ..core.teletext import Page
@@ -20,6 +21,8 @@ from ..reading.receiver import BLANK_PAGE, Rows
 from ..reading.survey import PES, Packets, Run
 from ..reading.timeline import Timeline
 from .due_pages import DuePages
+from .fault_words import WORDS
+from .midnight import midnight_words
 from .option_advice import OptionAdvice
 from .speech import MOST_LINES
 from .subtitle_file import NamedSubtitle, SubtitleFile
@@ -58,10 +61,10 @@ class RefusedSubtitle(NamedTuple):
         return f"{name_of(one.position, one.number)} at {one.begin}"
 
     def why(self) -> str:
-        """The number and the name of its fault, its letter, and what to do."""
-        words = f"{self.told.number} {self.told.name}"
-        words += f", {self.letter}" if self.letter else ""
-        return words + (f": {self.do}" if self.do else "")
+        """The number and the name of its fault, its letter, or what that means, and what to do."""
+        more = self.letter or WORDS.get(self.told.number, "")
+        do = f": {self.do}" if self.do else ""
+        return f"{self.told.number} {self.told.name}, {more}{do}"
 
     def line(self) -> str:
         """All that, and up to when it would be due."""
@@ -86,9 +89,10 @@ class Beside(NamedTuple):
         if len(self.refused) == 1:
             return f"{self.refused[0].name()} is refused by {self.refused[0].why()}"
         named = [f"{one.name()} by {one.why()}" for one in self.refused[:MOST_NAMED]]
-        more = len(self.refused) - len(named)
+        more, total = len(self.refused) - len(named), len(self.judged) + len(self.left_out)
         last = f"{more:,} more" if more else named.pop()
-        return f"{len(self.refused):,} subtitles are refused, {', '.join(named)} and {last}"
+        return f"{len(self.refused):,} of {total:,} subtitles are refused, " \
+            f"{', '.join(named)} and {last}"
 
 
 def is_judged_beside(numbers: set[int]) -> bool:
@@ -110,8 +114,8 @@ def beside_of(file: SubtitleFile, faults: Iterable[Told], option: str) -> Beside
     judged = {place for place, after in zip(records, [*records[1:], None])
               if place not in told and not (after is not None and {
                   one.number for one in told.get(after, ())} & COMPARED)}
-    advice = OptionAdvice(file, option)
-    refused = [refused_of(file, told[place][0], advice) for place in sorted(told)]
+    advice, known = OptionAdvice(file, option), meanings()
+    refused = [refused_of(file, told[place][0], advice, known) for place in sorted(told)]
     return Beside([one for one in subtitles_read(file.data) if one.index in judged], refused,
                   frozenset(asked_for) - judged)
 
@@ -124,14 +128,18 @@ def positions_in(file: SubtitleFile) -> Iterator[int]:
             yield place
 
 
-def refused_of(file: SubtitleFile, told: Told, advice: OptionAdvice) -> RefusedSubtitle:
+def refused_of(file: SubtitleFile, told: Told, advice: OptionAdvice, known: dict[int, Meaning]) \
+        -> RefusedSubtitle:
     """A subtitle by the first line that names it."""
     assert told.block is not None
     subtitle = file.at_block(told.block)
     assert subtitle
     byte, character = file.letter(told.block, told.at) \
         if told.number in LETTERS and told.at is not None else (None, None)
-    do = advice.of(told.block, told.at) if told.number == CHARACTER and told.at is not None else ""
+    of_letter = advice.of(told.block, told.at) \
+        if told.number == CHARACTER and told.at is not None else ""
+    of_manual = plain(known[told.number].do) if told.number in known else ""
+    do = of_letter or midnight_words(told, file) or of_manual
     return RefusedSubtitle(subtitle, told, character or (f"byte {byte}" if byte else ""), do)
 
 

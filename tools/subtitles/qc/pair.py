@@ -92,9 +92,9 @@ class Pair:
         if asked.is_layout_sought and not answer.numbers - {EMPTY} - BY_LAYOUT:
             self.find_layout()
             answer = self.check_alone()
-        subtitles = SubtitleFile(self.names.given, asked.between)
         if is_judged_beside(answer.numbers):
-            answer = self.take_beside(answer, subtitles)
+            answer = self.take_beside(answer)
+        subtitles = SubtitleFile(self.names.given)
         self.verdict.warnings += warned.of_counts(subtitles)
         if FROM not in asked.passed_on and (title := title_words(subtitles)):
             self.verdict.notes.append(title)
@@ -113,12 +113,13 @@ class Pair:
             raise Unclear(f"{UNSAID}: {answer.last}, where there is no PES packet")
         return answer
 
-    def take_beside(self, answer: Answer, subtitles: SubtitleFile) -> Answer:
+    def take_beside(self, answer: Answer) -> Answer:
         """Takes what is judged beside the subtitles that are refused; answers what is told of the
         file alone."""
         if self.asked.recording is not None:
+            file = SubtitleFile(self.names.given, self.asked.between)
             faults = (told for told, _ in answer.told())
-            beside = self.verdict.beside = beside_of(subtitles, faults, self.asked.option)
+            beside = self.verdict.beside = beside_of(file, faults, self.asked.option)
             self.steps.left_out = beside.left_out
         return answer.without(EMPTY, self.names.temporary("refused.txt"))
 

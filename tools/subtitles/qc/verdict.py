@@ -23,6 +23,7 @@ from .due_pages import DuePages
 from .layouts import Choice
 from .moved import Piece
 from .naming import Causes
+from .sentence import Seen as Spoken
 from .severity import Severity
 from .status import LOST, NOT_JUDGED, REFUSED, WAIVED, WARNED, Decision, Said, Seen, decide
 from .subtitle_file import SubtitleFile
@@ -241,7 +242,7 @@ class Verdict:
                                  causes=refused.causes)
         return sentence.sentence_of(said)
 
-    def sent_beside(self, said: sentence.Seen, beside: Beside) -> sentence.Seen:
+    def sent_beside(self, said: Spoken, beside: Beside) -> Spoken:
         """What the sentence is made of where subtitles are refused: that of the transmission, of
         the first part of which something is."""
         answers = [part.answer for part in self.parts]
