@@ -4,7 +4,7 @@ from __future__ import annotations
 from subtitles.core.pes import pts_in
 from subtitles.core.teletext import CODE_WORDS, address_of, header_of, packet
 from subtitles.core.times import TICKS
-from subtitles.qc.causes import EVEN, IN_PARTS, UNERASED, Namer
+from subtitles.qc.causes import EVEN, IN_PARTS, UNERASED, UNSEEN, Namer
 from subtitles.qc.due_pages import DuePages
 from subtitles.reading.finding import other_words
 from subtitles.reading.gaps import Place, places_of, what_of
@@ -77,6 +77,10 @@ class Reasons(Case):
             held = timeline_of(self, joined(sent), within=1)
             found = Namer(DuePages([], []), held).hidden_words(0)
             self.must(name, found == words, found)
+        back = [(7200, [HEADER, text, CLOSING]), (3600, [HEADER, text, CLOSING])]
+        held = timeline_of(self, joined(back))
+        found = Namer(DuePages([], []), held).hidden_words(5)
+        self.must("behind one that goes back", found == UNSEEN, found)
 
     def test_options_that_are_advised(self) -> None:
         """A national option is advised where less is refused by it: some headers are of another

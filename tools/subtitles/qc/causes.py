@@ -334,6 +334,8 @@ class Namer:
         """Why `check` tells another page at a frame than the one that is held after it."""
         if len(self.held.members(frame)) > 1:
             return IN_PARTS
+        if not self.held.is_seen(frame, frame):
+            return UNSEEN
         cells = b"".join(self.held.state_at(frame).rows)
         return UNERASED if OLD in cells else EVEN if HIT in cells else ""
 
