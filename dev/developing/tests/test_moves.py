@@ -11,7 +11,7 @@ from subtitles.qc.fitting import Found
 from subtitles.qc.moved import pieces_of
 from subtitles.reading.moving import Stage, joined, part_inside, stages_of
 from subtitles.reading.survey import Packets, Run, survey
-from .bench import Case, packets
+from .bench import Case, moved, packets
 from .judged import judged, programme
 from .muxed import MPEG_2, PRIVATE, TELETEXT_PID, VIDEO_PID, Maker, teletext_descriptor
 from .test_holes import Sent as Packet, Shape, sent_of
@@ -86,7 +86,12 @@ class Moves(Case):
         self.must("not announced", found == [(OLD, (0, 19)), (NEW, (0, 28))], found)
         found = self.stages(in_turn(self.pes, [(0, OLD), (20, NEW)], on(OLD, NEW),
                                     is_clocked=False))
-        self.must("no clock", found == [(OLD, (0, 48)), (NEW, (0, 48))], found)
+        self.must("no clock", found == [], found)
+        elsewhere = [*self.pes[:20], *packets(moved(b"".join(self.pes[20:]), lambda _, pts: pts
+                                                    + 7200 * 90_000))]
+        for name, pes in (("on elsewhere", elsewhere), ("back", self.pes[20:] + self.pes[:20])):
+            found = self.stages(in_turn(pes, [(0, OLD), (20 if name[0] == "o" else 29, NEW)]))
+            self.must(name, found == [], found)
 
     def test_in_a_pause(self) -> None:
         """Accepted where each PID has what is due: two calls, and what is said of the move."""

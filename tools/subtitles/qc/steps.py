@@ -82,6 +82,8 @@ class Steps:
         """The parts that are found; else `Unclear`."""
         found = found_in(origin, whole)
         if not found:
+            if origin.runs and recording.stages:  # they are numbered on no PID
+                refuse(origin, [self.again("--pid", f"0x{one.pid:X}") for one in recording.stages])
             if origin.runs:
                 refuse(origin, [self.again("--pes", f"{first}-{last}")
                                 for first, last in origin.runs])

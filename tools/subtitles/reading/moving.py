@@ -11,6 +11,9 @@ from .gaps import SECOND
 from .survey import HEADER, Packets, Programme, Range, Survey
 
 
+MOST_OVERLAP, MOST_PAUSE = 10 * SECOND, 3600 * SECOND  # ticks between two of them
+
+
 class Stage(NamedTuple):
     """A PID for as long as the PMT names it for the page, with the numbers of the first and the
     last of its PES packets that may have come in that time."""
@@ -33,18 +36,27 @@ class Stage(NamedTuple):
 
 
 def stages_of(survey: Survey, page: Page) -> list[Stage]:
-    """The PIDs that carry a page one after another; none where it stays on one, or where a PID
-    carries it that the PMT of the others does not name. The times of a PMT are those of the PCR
-    before it, which is told once a second: so stages may overlap by what came in that time."""
+    """The PIDs that carry a page one after another; none where it stays on one, where a PID carries
+    it that the PMT of the others does not name, or where the time does not go on from one to the
+    next. The times of a PMT are those of the PCR before it, which is told once a second: so stages
+    may overlap by what came in that time."""
     carriers = {pid for pid, one in survey.by_pid.items() if one.has_page}
     for number in dict.fromkeys(one.number for one in survey.programmes):
         records = [one for one in survey.programmes if one.number == number]
         named = [*named_in_turn(records, page, carriers)]
         if len(named) > 1 and {pid for pid, _ in named} == carriers:
             begins = [at for _, at in named]
-            return [stage_of(survey.by_pid[pid], begin if place else None, end)
-                    for place, ((pid, begin), end) in enumerate(zip(named, [*begins[1:], None]))]
+            stages = [stage_of(survey.by_pid[pid], begin if place else None, end)
+                      for place, ((pid, begin), end) in enumerate(zip(named, [*begins[1:], None]))]
+            return stages if all(map(goes_on, stages, stages[1:])) else []
     return []
+
+
+def goes_on(one: Stage, other: Stage) -> bool:
+    """Whether the time goes on from a stage to the next one."""
+    last, first = one.last(), next(other.packets.pts(other.inside, HEADER), None)
+    return last is not None and first is not None and \
+        -MOST_OVERLAP <= ticks_between(last, first) <= MOST_PAUSE
 
 
 def named_in_turn(records: Sequence[Programme], page: Page, carriers: set[int]) \
