@@ -21,10 +21,11 @@ from subtitles.core.times import ALL_DAY, Between
 from subtitles.core.told import told_of
 from subtitles.qc.beside import Counts, beside_of, due_beside, is_judged_beside
 from subtitles.qc.subtitle_file import SubtitleFile
-from .bench import Case
+from .bench import Case, packets
 from .judged import Judged, joined, judged, late, sendings
 from .stand_in import stand_in
 from .test_pairs_in_parts import times
+from .test_pairs_judged import UNREAD, broken
 
 BAD = b"no letter: \xe6"
 CURE = "it needs another region, or packets X/26, which are refused (70): write it otherwise"
@@ -133,10 +134,12 @@ class Beside(Case):
             self.must(f"{text!r} {pes}: said", pes == slow or found.verdict.sentence.endswith(
                 "9 other subtitles were judged: each of them is as it is due from the first frame "
                 "on."), found.verdict.sentence)
-        empty = self.write("empty.pes", b"")
-        found = self.judge(self.file(3), empty, "--severity", self.write("severity",
-                                                                         b"others warning\n"))
-        self.must("nothing was sent", found.word == "not judged", found.said)
+        unread = self.write("unread.pes", b"".join(
+            broken(one, 33) for one in packets(self.read("one.pes"))))
+        found = self.judge(self.file(3), unread, "--severity",
+                           self.write("severity", b"others warning\n"))
+        self.must("nothing was read", found.word == "not judged" and
+                  found.verdict.why_not == UNREAD, found.said)
 
     def test_ranges(self) -> None:
         """What is refused outside of a range is not told; where nothing is left, that is."""

@@ -6,9 +6,9 @@ from subtitles.core.teletext import CODE_WORDS, address_of, header_of, packet
 from subtitles.core.times import TICKS
 from subtitles.qc.causes import EVEN, IN_PARTS, UNERASED, UNSEEN, Namer
 from subtitles.qc.due_pages import DuePages
+from subtitles.qc.pes_header import header_length, header_words
 from subtitles.reading.finding import other_words
 from subtitles.reading.gaps import Place, places_of, what_of
-from subtitles.reading.headers import header_length, header_words
 from subtitles.reading.subcodes import subcode_of, turns_of
 from subtitles.reading.survey import Clocked, Mark, Packets, Run
 from .bench import Case, packets
@@ -203,13 +203,16 @@ class Reasons(Case):
             found = judged(self, stl, path, "--origin", "0")
             self.must(f"{count}", [one["ts_packets"] for one in found.result["lost"]] == [lost] and
                       any(line.endswith(f": {words}") for line in found.told), found.said)
+        far = 200_000
         one = Packets(1, [Run(0, 4, 0, 10, "h", ""), Run(4, 1, None, 0, "m", ""),
-                          Run(5, 4, 100, 10, "h", "")], marks=[Mark(4, 30, 3, 0)])
+                          Run(5, 4, far, 10, "h", "")], marks=[Mark(4, 30, 3, 0)])
         rows: list[tuple[list[Clocked], Place]] = [
-            ([], Place(30, 100, 3, mark=4)),
-            ([Clocked(30, 100, 99_000, 9, 9000, 9, "broken")], Place(30, 100, 3, 0, 90_000, 4)),
-            ([Clocked(30, 100, 99_000, 9, 9000, 9, "whole")], Place(30, 100, 3, mark=4)),
-            ([Clocked(110, 130, 99_000, 9, 9000, 9, "whole")], Place(30, 100, 3, mark=4))]
+            ([], Place(30, far, 3, mark=4)),
+            ([Clocked(30, far, 99_000, 9, 9000, 9, "broken")], Place(30, far, 3, 0, 90_000, 4)),
+            ([Clocked(30, far, 299_000, 9, 9000, 9, "broken")], Place(30, far, 3, mark=4)),
+            ([Clocked(30, far, 99_000, 9, 9000, 9, "whole")], Place(30, far, 3, mark=4)),
+            ([Clocked(far + 10, far + 30, 99_000, 9, 9000, 9, "whole")],
+             Place(30, far, 3, mark=4))]
         for clocked, wanted in rows:
             one.clocked = clocked
             self.assertEqual(places_of(one), [wanted], clocked)

@@ -83,6 +83,9 @@ class WrongWords(Case):
         for words in ([STL, PES, "--page", "8FF"], [STL, PES, "--colour"], [STL, PES, "--jobs", "2"],
                       ["none.stl", PES], [STL, PES, PES]) * 2:
             done = self.tool("qc", *words, *files)
+            there = [os.path.exists(self.path(name)) for name in names.values()]
+            if not self.must(f"{words}: files", all(there), there):
+                return
             known = json.loads(self.read("one.json"))
             head, row, *more = csv.reader(self.read("one.csv").decode().splitlines())
             suite = tree.fromstring(self.read("one.xml"))

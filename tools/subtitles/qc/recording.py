@@ -12,7 +12,6 @@ from ..core.pes import START
 from ..core.times import ticks_between
 from ..core.words import PACKET_SIZES, Stop, counted, shown, stream_words
 from ..reading.gaps import TOLD, Place, line_of, places_of, why_refused
-from ..reading.headers import header_length, header_words
 from ..reading.moving import Stage, joined, stages_of
 from ..reading.survey import PES, Packets, Survey, survey, words_of
 from ..reading.timing import reach_of
@@ -20,6 +19,7 @@ from .asked import Asked
 from .ending import Ending
 from .feed import Feed
 from .names import Names, again
+from .pes_header import header_length, header_words
 from .speech import Speech
 from .start import NoFirst
 from .sums import File, Files

@@ -49,7 +49,7 @@ def places_of(packets: Packets) -> list[Place]:
              for one in packets.clocked if one.counters == "broken" and one.ticks > 0]
     for hole in holes:
         for one in known:
-            if overlap(hole, one):
+            if overlap(hole, one) and is_within(hole.missing, one):
                 one.missing = max(one.missing, hole.missing)
     return known + [hole for hole in holes if not any(overlap(hole, one) for one in known)]
 
@@ -60,6 +60,12 @@ def jumps_of(packets: Packets) -> Iterator[Jump]:
         if one.counters == "whole" and one.packets * PAUSE * one.usual < \
                 one.usual_packets * abs(one.ticks):
             yield Jump(one.before, one.ticks - round(one.usual))
+
+
+def is_within(ticks: int, place: Place) -> bool:
+    """Whether so much may be missing at a place: of more the clock went on elsewhere."""
+    return place.before is None or place.after is None or \
+        ticks <= ticks_between(place.before, place.after)
 
 
 def overlap(one: Place, other: Place) -> bool:
