@@ -452,7 +452,7 @@ class Here:
     """What steps call in the place of `subprocess`."""
 
     run = staticmethod(tool_here)
-    PIPE, DEVNULL = subprocess.PIPE, subprocess.DEVNULL
+    PIPE, DEVNULL, Popen = subprocess.PIPE, subprocess.DEVNULL, subprocess.Popen
 
 
 def sum_of(text: str) -> str:

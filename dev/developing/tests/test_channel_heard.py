@@ -15,7 +15,7 @@ from subtitles.core.teletext import packet
 from subtitles.core.times import CLOCK, TICKS
 from subtitles.core.words import Stop
 from subtitles.qc.unclear import Unclear
-from subtitles.reading.moves import way_of
+from subtitles.reading.moving import way_of
 from subtitles.reading.survey import Announced, Programme, Run
 from .bench import Case
 from .listings import SECOND, Lines

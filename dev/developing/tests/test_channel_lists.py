@@ -10,7 +10,7 @@ from subtitles.calls.channel.partial import ENDED, reason_of
 from subtitles.calls.channel.planned import MISSING, Line, Planned, Programme, edits_of, lines_in
 from subtitles.core.times import Between
 from subtitles.qc.status import ACCEPTED, NOT_JUDGED, REFUSED, WAIVED
-from subtitles.qc.whole import Came, Whole, whole_in
+from subtitles.calls.channel.whole import Came, Whole, whole_in
 from .bench import Case
 from .test_channel_tables import defaults
 

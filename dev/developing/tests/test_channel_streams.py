@@ -137,35 +137,45 @@ class Streams(Case):
                 known["trusted"])
 
     def test_page_that_moves(self) -> None:
-        """To another PID, by the PMT: between two subtitles, and within one, in a recording, a pipe
-        and a feed. Both parts are judged by calls of their own; what is in neither nobody saw."""
+        """To another PID, by the PMT: between two subtitles, and within one, which is whole on
+        neither; in a recording, a pipe and a feed. Both parts are judged by calls of their own."""
         feed = Feed(self)
-        for frame, gap, word, parts in (
-                (EACH * 7 + 60, 0, "accepted", 2), (EACH * 7 + 60, 9, "accepted", 2),
-                (EACH * 7 + 20, 0, "lost", 2), (EACH * 7 + 20, 25, "lost", 2)):
+        for frame, gap, word in (
+                (EACH * 7 + 60, 0, "accepted"), (EACH * 7 + 60, 9, "accepted"),
+                (EACH * 7 + 20, 0, "refused"), (EACH * 7 + 20, 25, "refused")):
             data = bytes_of(feed.moved(frame, gap))
             name = f"{frame} {gap}"
             status, pair, out = self.pair(data)
             calls = [line for line in out.decode().splitlines() if line.startswith("+ ")]
-            self.must(f"{name}: calls", len(calls) == parts and all(
+            self.must(f"{name}: calls", len(calls) == 2 and all(
                 f"--pid 0x{pid:x} --pes " in call and " --from 10:00:" in call and " --to 10:00:"
                 in call for call, pid in zip(calls, (TELETEXT_PID, OTHER_PID))), calls)
-            self.must(f"{name}: verdict", (pair["verdict"], status) == (word, int(word == "lost")),
-                      pair["line"])
-            [lost] = pair["lost"]
-            self.must(f"{name}: the change", lost["judged"] == (word == "lost") and
-                      "the PMT moves page 888 from PID 0x101 to PID 0x102" in pair["sentence"]
-                      + self.tool("qc", "one.stl", "one.ts", "-p",
-                                  self.bench.program).told[0], lost)
-            piped = self.tool("qc", "one.stl", "-", "-p", self.bench.program, data=data)
+            self.must(f"{name}: verdict", (pair["verdict"], status) == (
+                word, int(word == "refused")) and not pair["lost"], pair["line"])
+            moved = [one["line"] for one in pair["warnings"] if one["kind"] == "pid"]
+            self.must(f"{name}: the change", len(moved) == 1 and moved[0].startswith(
+                "the PMT moves page 888 from PID 0x101 to PID 0x102 between 10:00:2"), moved)
+            self.must(f"{name}: trusted", word == "accepted" or [
+                one["from"] in moved[0] for one in pair["trusted"]] == [False, True] and
+                f"between {pair['trusted'][0]['to']} and " in moved[0], pair["trusted"])
+            piped = self.tool("qc", "one.stl", "-", "-o", "piped", "--keep", "-p",
+                              self.bench.program, data=data)
             self.must(f"{name}: through a pipe", piped.status == status and
                       piped.out.splitlines()[-1].decode() == pair["line"], piped)
+            kept, came = (packets(self.read(f"piped/one.{pid:x}.recording.pes"))
+                          for pid in (TELETEXT_PID, OTHER_PID))
+            at = len(kept)
+            self.must(f"{name}: kept of the pipe", at == BEFORE * FRAMES_A_SECOND + frame and
+                      kept + came == feed.pes[:at] + feed.pes[at + gap:at + gap + len(came)],
+                      (at, len(came), len(feed.pes)))
             status, lines, [known] = self.channel(data)
+            hint = "; page 888 moves to PID 0x102 then" * (word == "refused")
             self.must(f"{name}: a feed", known["verdict"] == word and lines == [
                 f"the PMT moves page 888 from PID 0x101 to PID 0x102, before PTS "
-                f"{feed.at(frame + gap)}", f"one  {known['line']}{FITTED}"], lines)
+                f"{feed.at(frame + gap)}", f"one  {known['line']}{hint}{FITTED}"], lines)
             self.must(f"{name}: as of the recording", [known[name] for name in (
-                "line", "lost")] == [pair[name] for name in ("line", "lost")], known["lost"])
+                "line", "lost", "trusted", "warnings")] == [pair[name] for name in (
+                    "line", "lost", "trusted", "warnings")], known["warnings"])
             self.must(f"{name}: its PIDs", [part["pid"] for part in pair["parts"]] == [
                 TELETEXT_PID, OTHER_PID], pair["parts"])
 

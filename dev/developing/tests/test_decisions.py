@@ -6,6 +6,8 @@ import contextlib
 import io
 import os
 from dataclasses import replace
+from types import SimpleNamespace
+from typing import Any
 
 from subtitles.calls.batch import words_of
 from subtitles.calls.machine import asked_words, total
@@ -382,8 +384,9 @@ class Parting(Case):
             pair = Pair(Verdict(asked, Severity(None), "now"), typed, names, Speech(Progress()),
                         False)
             found = [self.FOUND._replace(begin=begin, end=end) for begin, end in parts]
+            recording: Any = SimpleNamespace(stages=[])
             try:
-                made = pair.stretches(found, subtitles)
+                made = pair.stretches(found, subtitles, recording)
                 said = [(one.names.name, one.found) for one in made]
                 words = [passed_words(one.asked.passed_on) for one in made]
                 self.must(f"{name}: words", words == [

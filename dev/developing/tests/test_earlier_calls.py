@@ -66,7 +66,7 @@ class EarlierCalls(Case):
         self.must("no severity", not is_current(known, none, PROGRAM))
         names = {field.name for field in dataclasses.fields(asked)}
         self.must("all words", names == {*OTHERS, "stl", "recording", "severity", "passed_on",
-                                             "found_layout"},
+                                             "found_layout", "kept_stl"},
                   names)  # those that are passed on: test_passed_on
 
     def test_object_of_another_program(self) -> None:
@@ -233,6 +233,10 @@ class Objects(Case):
         for data, wanted in ((b"{", True), (b"", True), (b"GSI", False), (b" {", False),
                              (b'{"a', True)):
             self.must(f"{data!r}", may_take(self.write("x", data)) == wanted)
+        for data, wanted in ((b"stl,recording,part", True), (b"", True), (b"stl", False),
+                             (b"{", False)):
+            self.must(f"{data!r}: a table", may_take(self.write("x", data), b"stl,recording,") ==
+                      wanted)
         self.must("not there", may_take(self.path("none")) and may_take("/dev/zero"))
 
 

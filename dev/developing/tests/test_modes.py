@@ -12,7 +12,7 @@ from subtitles.calls import (
 from subtitles.calls.channel import (
     awaited, channel, feed_clock, hearing, planned, queue, source, spool)
 from subtitles.calls.main import (
-    jobs_word, json_in, minutes_word, name_in, parser_of, seconds_word)
+    jobs_word, file_in, minutes_word, name_in, parser_of, seconds_word)
 from subtitles.calls.modes import (
     ALONE, BATCH, CHANNEL, CHANNEL_LINE, COLLECT, LINE, MODES, PAIR, TAKEN_BY, WATCH, Mode,
     mode_of, refuse_options)
@@ -194,12 +194,14 @@ class Words(unittest.TestCase):
     def test_json(self) -> None:
         paths: list[tuple[list[str], str | None]] = [
                            (["--json", "x"], "x"), (["--json=x"], "x"), (["--json", "-"], "-"),
-                           (["--json", "--csv"], None), (["--json"], None), (["--json="], None),
+                           (["--json", "--page"], None), (["--json"], None), (["--json="], None),
                            (["--", "--json", "x"], None), (["a", "--json", "x", "--", "b"], "x"),
                            (["--json", "a", "--json", "b"], "b"), (["--jsonx", "a"], None),
                            (["--json=a", "--json", "b"], "b"), ([], None)]
         for line, path in paths:
-            self.assertEqual(json_in(line), path, line)
+            self.assertEqual(file_in(line, "--json"), path, line)
+            others = [word.replace("json", "junit") for word in line]
+            self.assertEqual(file_in(others, "--junit"), path, others)
         names: list[tuple[list[str], str]] = [
             (["a.STL", "b.ts"], "a"), (["--x", "dir/one.stl"], "one"), ([], ""), (["b.ts"], ""),
             (["one.stl", "two.stl"], "one")]

@@ -126,7 +126,7 @@ class Verdicts(Case):
                              (2350, ("00:00:14:00", "00:00:14:01")),
                              (2500, ("00:01:40:00", "00:01:40:01"))):
             parts = [part_with(100, 199, 0), part_with(300, 399, TICKS * 2000, number=2)]
-            [gap] = gaps_of([Place(TICKS * frame, TICKS * (frame + 1), 1)], parts)
+            gap, = gaps_of([Place(TICKS * frame, TICKS * (frame + 1), 1)], parts)
             self.must(f"{frame}", (gap.after, gap.before) == times, gap)
 
     def test_times_of_losses(self) -> None:
@@ -149,7 +149,7 @@ class Verdicts(Case):
     def test_promises_nothing_of_what_is_lost(self) -> None:
         """Where a part lacks something, at a first place or a second, nothing is tried."""
         pair = self.pair()
-        one: Any = SimpleNamespace(found=SimpleNamespace(origin=0), stl_path="one.stl")
+        one: Any = SimpleNamespace(found=SimpleNamespace(origin=0), stl_path="one.stl", piece=None)
         inside, outside = (Place(TICKS * at, TICKS * (at + 1), missing=9) for at in (150, 250))
         tried: Any = SimpleNamespace(least=lambda numbers, causes: 2)
         for places, wanted in (([], 2), ([inside], None), ([outside], 2),

@@ -50,7 +50,7 @@ class Box(unittest.TestCase):
             "asked": SimpleNamespace(**asked), "looks": None, "seen": None, "lost": [],
             "notes": [], "subject": SimpleNamespace(judged=SimpleNamespace(**judged)),
             "part": part_of(example("story.stl")),
-            "is_refused_file": False}
+            "is_refused_file": False, "is_beside": False}
         return SimpleNamespace(**{**known, **more})
 
     def refused(self, count: int, **more: Any) -> Any:

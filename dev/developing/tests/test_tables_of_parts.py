@@ -168,7 +168,7 @@ class Pages(Case):
             self.assertEqual(len(found), len(words), (place, value, found))
             self.assertTrue(all(one.startswith(word) for one, word in zip(found, words)), found)
         self.assertEqual(control_words(bytes([*good[:7], 8]), "german"), [])
-        self.assertEqual(control_words(bytes(good), "german"),
+        self.assertEqual(control_words(bytes(good), "german", ["english"]),
                          ["the header is English: --option english"])
 
     def test_letters_of_a_file(self) -> None:

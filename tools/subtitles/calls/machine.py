@@ -81,6 +81,7 @@ def head_of(verdict: Verdict, program: Program) -> dict[str, Value]:
         "frames": total([part.answer.frames for part in parts]),
         "transmissions": total([part.answer.transmissions for part in parts]),
         "fault_count": verdict.faults,
+        "subtitle_counts": verdict.counts and verdict.counts._asdict(),
         "asked": asked_words(verdict.asked),
         "found": verdict.found,
         "parts": [part_words(part, verdict.is_kept) for part in parts],

@@ -6,13 +6,15 @@ before the subtitle to the TCI after it, and 250 frames before and after its own
 from __future__ import annotations
 
 import bisect
+import functools
 from typing import NamedTuple
 
 from ..core.programme import Subtitle
 from ..core.teletext import page_name
 from ..core.times import time_of
 from ..core.words import counted
-from ..reading.receiver import BLANK_PAGE, Rows
+from ..reading.receiver import BLANK_PAGE, HIT, OLD, Rows
+from ..reading.subcodes import subcode_words, turns_of
 from ..reading.timeline import LEAST, Span, Timeline
 from .due_pages import DuePages
 from .lettering import attribute_words, is_moved, is_part, place_words, words_on
@@ -24,6 +26,8 @@ NAMES = (LATE, EARLY, NEVER, OTHER, TEXT, PLACE, ATTRIBUTE, NOT_ERASED, UNKNOWN)
 UNSEEN = "not all that was sent then can be read"
 NEXT = "the page that comes at the last TCO is the next programme's"
 IN_PARTS = "as it is due only after another PES packet of the same frame"
+UNERASED = "C4 (erase page) is clear in each header: cells that nobody sent are not erased"
+EVEN = "a byte of its rows has even parity"
 
 
 class Cause(NamedTuple):
@@ -273,7 +277,8 @@ class Namer:
                 return Cause(place, TEXT, None, page, None, "rows are missing", window.last)
         sent = self.held.page_at(one.begin)
         is_all = self.held.last >= min(window.last, one.begin + LEAST)
-        words = "" if is_all else f"the recording was read up to {time_of(self.held.last)}"
+        words = self.subcode_words if is_all else \
+            f"the recording was read up to {time_of(self.held.last)}"
         return Cause(place, NEVER, None, None if sent == BLANK_PAGE else sent, None, words,
                      window.last)
 
@@ -297,7 +302,7 @@ class Namer:
             if places and words:
                 other = self.programme.nearest(places, one.begin)
                 return self.of_other(place, other, one.end)._replace(sent=sent)
-            return Cause(place, TEXT, None, sent, None, "", one.end)
+            return Cause(place, TEXT, None, sent, None, self.subcode_words, one.end)
         if is_moved(due, sent):
             return Cause(place, PLACE, None, sent, None, place_words(due, sent), one.end)
         return Cause(place, ATTRIBUTE, None, sent, None, attribute_words(due, sent), one.end)
@@ -310,7 +315,7 @@ class Namer:
         one = self.subtitles[place]
         span = faulty.within or faulty.after
         if span and self.is_due(span.first):
-            return self.unknown(place, span.first, one.end, IN_PARTS)
+            return self.unknown(place, span.first, one.end, self.hidden_words(span.first))
         if faulty.within:
             return self.broken(place, faulty.within)
         if faulty.after is None:
@@ -324,6 +329,21 @@ class Namer:
             return self.unknown(place, one.end, one.end, UNSEEN)
         return Cause(place, NOT_ERASED, None, self.held.pages[number], None,
                      self.gone_words(place, number), one.end)
+
+    def hidden_words(self, frame: int) -> str:
+        """Why `check` tells another page at a frame than the one that is held after it."""
+        if len(self.held.members(frame)) > 1:
+            return IN_PARTS
+        if not self.held.is_seen(frame, frame):
+            return UNSEEN
+        cells = b"".join(self.held.state_at(frame).rows)
+        return UNERASED if OLD in cells else EVEN if HIT in cells else ""
+
+    @functools.cached_property
+    def subcode_words(self) -> str:
+        """That sub-pages alternate, where they do."""
+        subcodes = turns_of(self.held.packets, self.held.inside)
+        return subcode_words(subcodes, page_name(*self.held.page)) if subcodes else ""
 
     def after_words(self, place: int, number: int, frame: int) -> str:
         """What a page is that is held after a TCO, and came not before that. One of no subtitle

@@ -16,7 +16,7 @@ from typing import BinaryIO, Iterator
 
 from ..core.files import STANDARD
 from ..core.words import counted, stream_words
-from ..reading.moves import joined, moves_in
+from ..reading.moving import joined, stages_of
 from ..reading.survey import PES, Mark, Packets, Survey, survey, words_of
 from .asked import Asked
 from .ending import Ending
@@ -192,11 +192,10 @@ class Feed:
         """Whether nothing more of it is needed: also where a second PID carries the page, unless it
         goes there."""
         found = [one for one in self.survey.by_pid.values() if one.has_page]
-        several = found if len(found) < 2 else moves_in(self.survey, self.asked.page)
-        if len(found) > 1 and not several:
-            return True
-        return bool(several) and ending.is_over(
-            self.survey, several[0] if len(several) == 1 else joined(several), is_still)
+        if len(found) < 2:
+            return bool(found) and ending.is_over(self.survey, found[0], is_still)
+        stages = stages_of(self.survey, self.asked.page)
+        return not stages or ending.is_over(self.survey, joined(stages), is_still)
 
     def keep(self, packets: Packets, path: str) -> Packets:
         """Gives what is kept of a PID its name; the PES packets by their numbers there, with what

@@ -12,13 +12,14 @@ from ..core.pes import START
 from ..core.times import ticks_between
 from ..core.words import PACKET_SIZES, Stop, counted, shown, stream_words
 from ..reading.gaps import TOLD, Place, line_of, places_of, why_refused
-from ..reading.moves import joined, moves_in
+from ..reading.moving import Stage, joined, stages_of
 from ..reading.survey import PES, Packets, Survey, survey, words_of
 from ..reading.timing import reach_of
 from .asked import Asked
 from .ending import Ending
 from .feed import Feed
 from .names import Names, again
+from .pes_header import header_length, header_words
 from .speech import Speech
 from .start import NoFirst
 from .sums import File, Files
@@ -43,6 +44,11 @@ def size_of(name: str) -> int | None:
     return about.st_size if stat.S_ISREG(about.st_mode) else None
 
 
+def ending_of(pid: int) -> str:
+    """What the name of the file with the PES packets of a PID ends with."""
+    return f"{pid:x}.recording.pes"
+
+
 def refuse(survey: Survey, name: str) -> None:
     """What is no recording of Teletext is told so."""
     head = survey.head
@@ -58,9 +64,10 @@ def refuse(survey: Survey, name: str) -> None:
 
 
 class Recording:
-    """A recording that is read: `packets` are those of the PID with the page, or of all between
-    which it goes. What is judged of a file is a range of the recording itself; the PES packets of
-    what comes through a pipe are kept in a file."""
+    """A recording that is read: `packets` are those of the PID with the page; `stages` are the PIDs
+    where it moves to another one, and `packets` then stand for all of them. What is judged of a
+    file is a range of the recording itself; the PES packets of what comes through a pipe are kept
+    in a file."""
 
     def __init__(self, asked: Asked, typed: Typed, names: Names, speech: Speech,
                  stalled_after: int) -> None:
@@ -71,9 +78,8 @@ class Recording:
         self.is_feed = self.size is None
         self.is_cut = False  # of a feed, by who calls this tool: it is read to its end
         self.survey, self.packets = Survey(), Packets(PES)
+        self.stages: list[Stage] = []
         self.file: File | None = None
-        # Where the page goes to another PID: the recording of each, one after another.
-        self.ways: list[Recording] = []
         self.kept = names.whole_path, names.whole  # the PES packets of a pipe
 
     def read(self, is_summed: bool, ending: Ending) -> None:
@@ -114,10 +120,13 @@ class Recording:
                         self.stalled_after)
             refuse(self.survey, self.name)
             self.packets = self.chosen()
-            for one in self.ways or [self]:
-                one.packets = feed.keep(one.packets, one.kept[0])
-            if self.ways:
-                self.packets = joined([one.packets for one in self.ways])
+            if not self.stages:
+                self.packets = feed.keep(self.packets, self.names.whole_path)
+            for pid in self.pids():
+                self.survey.by_pid[pid] = feed.keep(
+                    self.survey.by_pid[pid], self.names.temporary(ending_of(pid)))
+            if self.stages:  # by the numbers of what is kept
+                self.packets = self.chosen()
         self.file = feed.summed()
 
     def chosen(self) -> Packets:
@@ -129,24 +138,37 @@ class Recording:
             one = by_pid.setdefault(self.asked.pid, Packets(self.asked.pid))
             if one.count:
                 return one
-            raise Unclear(self.said(f"{self.name}: {why_refused(one)}"), *self.other_pids())
+            why = "; ".join([f"{self.name}: {why_refused(one)}", *filter(None, [
+                self.header_words(one)])])
+            raise Unclear(self.said(why), *self.other_pids())
         found = [by_pid[pid] for pid in sorted(by_pid) if by_pid[pid].has_page]
         if len(found) == 1:
             return found[0]
-        if moved := moves_in(self.survey, self.asked.page):
-            self.ways = [self.of(one) for one in moved]
-            return joined(moved)
         if not found:
-            raise Unclear(self.said(f"{self.name} has no header of page {page}"),
-                          *([self.again("--page", "P")] if by_pid else []))
+            why = "; ".join([f"{self.name} has no header of page {page}", *self.why_nothing()])
+            is_other = any(one.sent for one in by_pid.values())
+            raise Unclear(self.said(why), *([self.again("--page", "P")] if is_other else []))
+        if self.asked.pes is None:
+            self.stages = stages_of(self.survey, self.asked.page)
+        if self.stages:
+            return joined(self.stages)
         raise Unclear(self.said(f"page {page} is sent on {len(found)} PIDs of {self.name}"),
                       *(self.again("--pid", f"0x{one.pid:X}") for one in found))
 
-    def of(self, packets: Packets) -> Recording:
-        """The same of one of the PIDs between which the page goes."""
-        one, ending = copy.copy(self), f"{packets.pid:x}.recording.pes"
-        one.packets, one.kept = packets, (self.names.temporary(ending), self.names.typed(ending))
-        return one
+    def why_nothing(self) -> list[str]:
+        """Why nothing is given of each PID that should carry Teletext: scrambled, or not as it is.
+        """
+        silent = [one for pid, one in sorted(self.survey.by_pid.items())
+                  if not one.count and one.packets]
+        return [words for one in silent for words in (why_refused(one), self.header_words(one))
+                if words]
+
+    def header_words(self, packets: Packets) -> str:
+        """What is wrong with the PES header of a PID, where the file can be read once more."""
+        if not self.is_file or packets.pid != PES and not packets.packets:
+            return ""
+        return header_words(header_length(self.name, packets.pid, self.survey.size or 0),
+                            packets.pid)
 
     def say_read(self) -> list[str]:
         """What was read, and where something is missing."""
@@ -186,6 +208,17 @@ class Recording:
         stream = self.stream() if self.is_file else None
         return stream_words(*stream) if stream else []
 
+    def of(self, stage: Stage) -> Recording:
+        """The same of one PID, where the page moves to another one."""
+        one, ending = copy.copy(self), ending_of(stage.pid)
+        one.packets = stage.packets
+        one.kept = self.names.temporary(ending), self.names.typed(ending)
+        return one
+
+    def pids(self) -> list[int]:
+        """The PIDs between which the page moves."""
+        return [*dict.fromkeys(one.pid for one in self.stages)]
+
     def judged(self) -> tuple[str, str]:
         """The file that is judged, as it is given to the program and as it is typed."""
         if self.is_file:
@@ -193,17 +226,31 @@ class Recording:
         return self.kept
 
     def keep(self, path: str) -> None:
-        """Keeps the PES packets in a file, as `extract` gives them."""
-        for one in self.ways:
-            one.keep(self.names.place(f"{one.packets.pid:x}.recording.pes"))
-        if self.ways:
-            return
+        """Keeps the PES packets in a file, as `extract` gives them: of a file those of several PIDs
+        one PID after another, of a pipe each of them in a file of its own, as it is judged."""
+        pids = self.pids()
         if not self.is_file:
-            shutil.copyfile(self.kept[0], path)
-        elif stream := self.stream():
-            subprocess.run([self.typed.program_path, "extract", *stream_words(*stream), "--",
-                            self.names.as_program(self.name), path], stdin=subprocess.DEVNULL,
-                           stdout=subprocess.DEVNULL, check=True)
+            for pid in pids:
+                ending = ending_of(pid)
+                shutil.copyfile(self.names.temporary(ending), self.names.place(ending))
+            if not pids:
+                shutil.copyfile(self.names.whole_path, path)
+        elif len(pids) > 1:
+            with open(path, "wb") as kept:
+                for pid in pids:
+                    own = self.names.temporary(f"{pid}.pes")
+                    self.extract(pid, own)
+                    with open(own, "rb") as file:
+                        shutil.copyfileobj(file, kept)
+        elif self.is_stream:
+            self.extract(self.packets.pid, path)
+
+    def extract(self, pid: int, path: str) -> None:
+        """Writes the PES packets of a PID."""
+        subprocess.run([self.typed.program_path, "extract",
+                        *stream_words(pid, self.survey.size or 0), "--",
+                        self.names.as_program(self.name), path], stdin=subprocess.DEVNULL,
+                       stdout=subprocess.DEVNULL, check=True)
 
     def places(self) -> list[Place]:
         """Where something is missing."""
@@ -228,7 +275,8 @@ class Recording:
             found.append(Warned("grew", f"{shown(self.name)} {word} while it was read, from "
                                 f"{self.size:,} bytes to {now:,}: judge it again when it is "
                                 "complete"))
-        if self.is_stream and self.packets.is_cut and not self.is_feed:
+        is_cut = self.packets.is_cut and not self.packets.refusal
+        if self.is_stream and is_cut and not self.is_feed:
             found.append(Warned("cut", f"{shown(self.name)} ends within a PES packet of the page's "
                                 "PID, which is left out"))
         if self.packets.damage and not self.is_feed:

@@ -29,8 +29,9 @@ def causes_of(asked: Asked, programme: DuePages, recording: Recording, found: Fo
 
 
 def reach(recording: Recording, found: Found) -> Span | None:
-    """The frames of which the recording is, by its PCR, where PTS do not go back."""
-    pts = recording.reach() if not found.packets else None
+    """The frames of which the recording is, by its PCR, where PTS do not go back, and the PID
+    carries Teletext to its end."""
+    pts = None if found.packets or recording.packets.refusal else recording.reach()
     if pts is None:
         return None
     first, last = (ticks_between(pts_of(found.begin, found.origin), one) for one in pts)

@@ -102,12 +102,14 @@ class Announced(NamedTuple):
 
 @dataclasses.dataclass
 class Programme:
-    """What a PMT says: the stream_type of each PID, and its pages."""
+    """What a PMT says: the stream_type of each PID, and its pages. `after` is the PCR of the
+    programme that was told before it."""
 
     number: int
     pcr_pid: int
     kinds: dict[int, int] = dataclasses.field(default_factory=dict)
     pages: dict[int, list[Announced]] = dataclasses.field(default_factory=dict)
+    after: int | None = None
 
 
 @dataclasses.dataclass
@@ -264,7 +266,10 @@ class Survey:
         self.size = int(size)
 
     def take_programme(self, number: str, clock: str, *_: str) -> None:
-        self.programmes.append(Programme(int(number), int(clock)))
+        pids = [int(clock), *(one.pcr_pid for one in reversed(self.programmes)
+                              if one.number == int(number))]
+        known = [self.clocks[pid][1] for pid in pids if pid in self.clocks]
+        self.programmes.append(Programme(int(number), int(clock), after=next(iter(known), None)))
 
     def take_stream(self, pid: str, kind: str, *_: str) -> None:
         self.programmes[-1].kinds[int(pid)] = int(kind)

@@ -7,6 +7,7 @@ planned    its list, by entries
 queue      those that are waited for, the first of the list
 awaited    a programme that is waited for
 running    the one that is sent, and the call that judges it
+whole      which of its subtitles came whole, where not all of it did
 partial    what is said of one that did not come whole
 results    the results of all, told as they come
 

@@ -22,7 +22,7 @@ from ...qc.options import AUTO, LAYOUT
 from ...qc.status import of_all
 from ...qc.typed import Typed
 from ...qc.unclear import Unclear
-from ...qc.whole import Came, Whole, whole_in
+from .whole import Came, Whole, whole_in
 from ..batch import words_of
 from ..objects import ENDING, has_had_its_turn, left_by_call, object_at, row_of, unjudged
 from ..single import ignore_signals

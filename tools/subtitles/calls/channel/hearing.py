@@ -14,7 +14,7 @@ from ...core.words import Stop, counted, pid_name
 from ...qc.asked import Asked
 from ...qc.recording import refuse
 from ...reading.gaps import Place, hole_of, overlap, what_of, why_refused
-from ...reading import moves
+from ...reading import moving
 from ...reading.survey import HEADER, PES, Packets, Run, Survey, words_of
 from .awaited import Changes
 from .feed_clock import MINUTE, SECOND, FeedClock, jump_of, times_of
@@ -219,10 +219,10 @@ class Heard(Survey):
         """Follows the page to another PID, where the PMT says that it is there now."""
         if self.pid in (None, PES) or self.asked_pid is not None:
             return
-        before, self.pid = self.pid, moves.way_of(self.programmes, self.page, self.pid or 0)[-1]
+        before, self.pid = self.pid, moving.way_of(self.programmes, self.page, self.pid or 0)[-1]
         if self.pid == before:
             return
-        self.moved = moves.words_of(self.page, before or 0, self.pid)
+        self.moved = moving.words_of(page_name(*self.page), before or 0, self.pid)
         self.moves.append(self.clock.now)
         for run in self.packets.runs:
             if self.alive is not None and run.pts is not None and \

@@ -3,7 +3,7 @@ from __future__ import annotations
 
 from ...core.times import time_of
 from ...qc.status import ACCEPTED, NOT_JUDGED, WAIVED
-from ...qc.whole import Came, Whole
+from .whole import Came, Whole
 
 STOPPED, ENDED = "stopped", "the feed ended"
 

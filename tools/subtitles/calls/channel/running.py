@@ -13,7 +13,7 @@ from typing import IO, Sequence
 from ...core.times import FRAMES_OF_A_DAY, TICKS
 from ...qc.asked import Asked
 from ...qc.ending import Ending
-from ...qc.whole import Came, Whole
+from .whole import Came, Whole
 from .planned import Programme
 
 

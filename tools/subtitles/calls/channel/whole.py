@@ -3,7 +3,7 @@ from __future__ import annotations
 
 from typing import NamedTuple, Sequence
 
-from ..core.times import Between
+from ...core.times import Between
 
 
 class Came(NamedTuple):
