@@ -101,7 +101,8 @@ class Words(Case):
             words = what_is_wrong(Seen("refused", 9, told_of(line), count, "", causes_of(
                 cause(2, LATE, 3))))
             self.must(f"{line} {count}", words.endswith(
-                "; the first of 2 faults is 68 Parity at 00:00:01:00") == is_named and
+                "; the first of 2 faults is 68 Parity at 00:00:01:00") == is_named ==
+                      ("the first of" in words) and
                       words.startswith("at 00:00:02:00 subtitle 3"), words)
 
     def test_numbers_of_other_digits(self) -> None:
