@@ -17,6 +17,7 @@ from subtitles.preview.counts import (
 from subtitles.core.spans import Spans
 from subtitles.core.told import told_of
 from subtitles.preview.page import lost_places, subtitles_words, verdict_box
+from subtitles.preview.places import pes_words
 from subtitles.preview.program import Verdict, verdict_of
 from subtitles.preview.report import Report, Subject, end_of_knowledge
 from subtitles.preview.scope import BETWEEN, DELAY, ROW_0, Scope
@@ -186,6 +187,23 @@ class Reports(Case):
         text = page.document("a <line>", "b & c", ["one", "two"])
         self.must("document", "<title>a &lt;line&gt; &#8211; b &amp; c</title>" in text and
                   text.endswith("<h1>Report on b &amp; c</h1>\none\ntwo\n</body></html>\n"), text)
+
+    def test_pes_packets(self) -> None:
+        """What is known of the one from which nothing can be followed, of others whose frames do
+        not rise, and of the bytes behind the last."""
+        report: Any = SimpleNamespace(part=SimpleNamespace(packets=SimpleNamespace(
+            pts_at=lambda number: 3600 * number)), origin=0, asked=SimpleNamespace(within=0))
+        for halt, line, words in (
+                (7, "refused 62 Order pes 7", "PES packet 7 has the PTS 25200. Its frame: "
+                 "00:00:00:07. That of the one before: 00:00:00:09."),
+                (5, "refused 62 Order pes 7", "The frame of PES packet 7 is not after that"),
+                (None, "refused 62 Order pes 7", "The frame of PES packet 7 is not after that"),
+                (None, "refused 31 Start pes 7", "PES packet 7 can't be read, and nothing after")):
+            seen: Any = SimpleNamespace(halt=halt, last_frame=9, span_of=lambda _: None)
+            told = verdict_of(line, 1)
+            assert told
+            self.must(f"{halt} {line}", pes_words(told, None, report, seen).startswith(
+                f"<p>{words}"), pes_words(told, None, report, seen))
 
     def test_end_of_what_is_known(self) -> None:
         """Where the file ends before the last subtitle does, or can't be followed."""

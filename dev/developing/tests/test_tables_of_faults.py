@@ -24,7 +24,7 @@ from subtitles.qc.hints import gap_words, hints_of
 from subtitles.qc.made_with import proved_line
 from subtitles.qc.pair import Pair
 from subtitles.qc.progress import CLEAR, Progress
-from subtitles.qc.sentence import of_causes
+from subtitles.qc.sentence import Seen, of_causes, what_is_wrong
 from subtitles.qc.speech import Speech
 from subtitles.qc.unclear import Unclear
 from subtitles.qc.why import tell
@@ -91,6 +91,25 @@ class Words(Case):
                 ([cause(8, ATTRIBUTE)],
                  'at 00:00:08:00 subtitle 9, "text", has a wrong colour or attribute')):
             self.assertEqual(of_causes(causes_of(*several), "english"), wanted)
+
+    def test_the_first_fault_beside_a_cause(self) -> None:
+        """It is named where there are several, and it is none that has a cause."""
+        for line, count, is_named in (("refused 68 Parity frame 00:00:01:00 packet 1", 2, True),
+                                      ("refused 68 Parity frame 00:00:01:00 packet 1", 1, False),
+                                      ("refused 72 Content frame 00:00:01:00 row 1 column 1", 2,
+                                       False)):
+            words = what_is_wrong(Seen("refused", 9, told_of(line), count, "", causes_of(
+                cause(2, LATE, 3))))
+            self.must(f"{line} {count}", words.endswith(
+                "; the first of 2 faults is 68 Parity at 00:00:01:00") == is_named ==
+                      ("the first of" in words) and
+                      words.startswith("at 00:00:02:00 subtitle 3"), words)
+
+    def test_numbers_of_other_digits(self) -> None:
+        """What int takes and the program does not print is no answer."""
+        for number in ("\u0663\u0663", "+33", "3 3", ""):
+            with self.assertRaises(Unclear):
+                answer([f"refused {number} Flags pes 0", "1 faults"], 1)
 
     def test_faulty_frames(self) -> None:
         """Of a subtitle: the first stretch while it is due, and the first from its TCO on."""
