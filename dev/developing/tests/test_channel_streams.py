@@ -132,6 +132,8 @@ class Streams(Case):
             said = "\n".join(lines)
             self.must(f"{count}: told", "nothing came for 00:05:0" in said and (
                 "TS packets of 300.16 s are missing" in said or "12 TS packets lost" in said), said)
+            self.must(f"{count}: causes", known["causes"][0]["words"].startswith("not received"),
+                      known["causes"][:1])
             self.must(f"{count}: trusted", known["trusted"] and not any(
                 one["from"] < lost["before"] and one["to"] >= first for one in known["trusted"]),
                 known["trusted"])

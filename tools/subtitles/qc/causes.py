@@ -24,6 +24,7 @@ TEXT, PLACE, ATTRIBUTE = "wrong text", "wrong place", "wrong colour or attribute
 NOT_ERASED, UNKNOWN = "not erased", "unknown"
 NAMES = (LATE, EARLY, NEVER, OTHER, TEXT, PLACE, ATTRIBUTE, NOT_ERASED, UNKNOWN)
 UNSEEN = "not all that was sent then can be read"
+NOT_RECEIVED = "not received"  # in place of that, where packets are lost
 NEXT = "the page that comes at the last TCO is the next programme's"
 IN_PARTS = "as it is due only after another PES packet of the same frame"
 UNERASED = "C4 (erase page) is clear in each header: cells that nobody sent are not erased"
@@ -231,7 +232,7 @@ class Namer:
         """It came late or early."""
         one = self.subtitles[place]
         if came > one.begin and not self.held.is_seen(one.begin, came):
-            return self.unknown(place, one.begin, came, UNSEEN)
+            return self.unknown(place, one.begin, came, self.unseen_words(one.begin, came))
         name, frames = (LATE, came - one.begin) if came > one.begin else (EARLY, one.begin - came)
         words = self.row_words(came) if name == LATE and frames <= self.held.within else ""
         if name == LATE and self.came_closed(place):
@@ -267,7 +268,8 @@ class Namer:
         if other is not None:
             return self.of_other(place, other, window.last)
         if not self.held.is_seen(one.begin, one.end - 1):
-            return self.unknown(place, one.begin, window.last, UNSEEN)
+            return self.unknown(place, one.begin, window.last,
+                                self.unseen_words(one.begin, one.end - 1))
         if self.came_closed(place):
             return self.unknown(place, one.begin, window.last, self.closed_words())
         for number in self.held.numbers(one.begin, one.end):
@@ -326,7 +328,7 @@ class Namer:
             return self.unknown(place, faulty.after.first, one.end,
                                 self.after_words(place, number, faulty.after.first))
         if not self.held.is_seen(one.end, until):
-            return self.unknown(place, one.end, one.end, UNSEEN)
+            return self.unknown(place, one.end, one.end, self.unseen_words(one.end, until))
         return Cause(place, NOT_ERASED, None, self.held.pages[number], None,
                      self.gone_words(place, number), one.end)
 
@@ -374,13 +376,19 @@ class Namer:
         page = self.held.pages[number]
         other = self.programme.of_page(page, span.first)
         if not self.held.is_seen(span.first, span.last):
-            return self.unknown(place, span.first, one.end, UNSEEN)
+            return self.unknown(place, span.first, one.end,
+                                self.unseen_words(span.first, span.last))
         if other is not None and other != place:
             return self.of_other(place, other, one.end)
         if page == BLANK_PAGE:
             return self.unknown(place, span.first, one.end,
                                 f"it is gone at {time_of(self.broken_since(span.first))}")
         return self.differs(place, number)
+
+    def unseen_words(self, first: int, last: int) -> str:
+        """Why not all is known that was sent in some frames."""
+        is_lost = any(one.first <= last and first <= one.last for one in self.held.lost)
+        return NOT_RECEIVED if is_lost else UNSEEN
 
     def unknown(self, place: int, frame: int, known: int, words: str) -> Cause:
         sent = self.held.page_at(frame)
