@@ -166,8 +166,8 @@ class Beside(Case):
                       "each of them is as it is due" in found.verdict.sentence, found.said)
 
     def test_reports(self) -> None:
-        """The report draws the refused subtitles as undecided, beside the pictures of the others; of
-        tools/preview too. Each link leads somewhere, and each place has a name of its own."""
+        """The report draws the refused subtitles as undecided, beside the pictures of the others;
+        of tools/preview too. Each link leads somewhere, and each place has a name of its own."""
         slow = self.write("slow.pes", joined(late(5, 3600 * 600, 3600 * 650)(self.sent)))
         for number, (bad, pes) in enumerate((((3,), self.pes), ((3, 4, 9), slow))):
             out, stl = self.path(f"out{number}"), self.file(*bad)

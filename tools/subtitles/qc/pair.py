@@ -360,9 +360,7 @@ class Pair:
         self.measure(part, one, recording, count)
         part.was_read = part.is_read()
         if CONTROL in answer.numbers and part.pes:
-            others = sorted(part.options_sent() - {asked.option})
-            part.better = [option for option in others if self.steps.has_fewer_by(
-                option, recording, one, part.pes, answer.count)]
+            part.better = self.steps.better_of(part.options_sent(), one, part.pes, answer.count)
         if OF_HEADERS & answer.numbers:
             part.of_header = recording.header_words(recording.packets)
         if answer.first:
