@@ -166,8 +166,8 @@ class Beside(Case):
                       "each of them is as it is due" in found.verdict.sentence, found.said)
 
     def test_reports(self) -> None:
-        """The report draws the refused subtitles as undecided, beside the pictures of the others; of
-        tools/preview too. Each link leads somewhere, and each place has a name of its own."""
+        """The report draws the refused subtitles as undecided, beside the pictures of the others;
+        of tools/preview too. Each link leads somewhere, and each place has a name of its own."""
         slow = self.write("slow.pes", joined(late(5, 3600 * 600, 3600 * 650)(self.sent)))
         for number, (bad, pes) in enumerate((((3,), self.pes), ((3, 4, 9), slow))):
             out, stl = self.path(f"out{number}"), self.file(*bad)
@@ -192,6 +192,18 @@ class Beside(Case):
                     str(at) for at in range(1, 11) if at not in bad}, drawn)
                 self.must(f"{bad} {name}: said", "other subtitles were judged: " in page and
                           "It is drawn as undecided" in page and "Refused subtitles" in page)
+
+    def test_layouts(self) -> None:
+        """--layout auto is found by the subtitles that are judged, and draws what is due of them."""
+        self.blocks = [(begin, end, b"Number %d" % number)
+                       for number, (begin, end) in enumerate(times(14), 1)]
+        self.schedule(self.file(), "house.pes", "--every", "25", "--layout", "row=-2")
+        for bad, words in (((), ""), ((3,), "13 other subtitles were judged: each of them is as it "
+                                      "is due from the first frame on")):
+            found = self.judge(self.file(*bad), self.path("house.pes"), "--layout", "auto")
+            self.must(f"{bad}", found.word == ("refused" if bad else "accepted") and
+                      found.result["layout"] and words in found.verdict.sentence and
+                      " --layout " in found.lines("+ ")[-1], found.said)
 
     def test_today(self) -> None:
         """A program that prints the subtitle file's faults alone: nothing is judged beside them."""

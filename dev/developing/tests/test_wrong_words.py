@@ -76,12 +76,12 @@ class WrongWords(Case):
                           and sorted(os.listdir(self.folder)) == before, done)
 
     def test_leaves_what_is_asked_for(self) -> None:
-        """A call of qc that is wrong, or whose files are, leaves one entry that is not judged in each
-        file that is asked for, once more too; and nothing in the place of a file that is none."""
+        """A call of qc that is wrong, or whose files are, leaves one entry that is not judged in
+        each file that is asked for, once more too; and nothing in the place of another file."""
         names = {"--json": "one.json", "--csv": "one.csv", "--junit": "one.xml"}
         files = [f"{option}={self.path(name)}" for option, name in names.items()]
-        for words in ([STL, PES, "--page", "8FF"], [STL, PES, "--colour"], [STL, PES, "--jobs", "2"],
-                      ["none.stl", PES], [STL, PES, PES]) * 2:
+        for words in ([STL, PES, "--page", "8FF"], [STL, PES, "--colour"],
+                      [STL, PES, "--jobs", "2"], ["none.stl", PES], [STL, PES, PES]) * 2:
             done = self.tool("qc", *words, *files)
             there = [os.path.exists(self.path(name)) for name in names.values()]
             if not self.must(f"{words}: files", all(there), there):

@@ -2,7 +2,6 @@
 from __future__ import annotations
 
 import functools
-import os
 from typing import Callable, Iterable, NamedTuple, Sequence
 
 from ..core.layout import PLAIN, layout_of, text_of
@@ -31,7 +30,7 @@ from .missing import gap_of, gaps_in, is_in
 from .moved import moves_told
 from .names import Names
 from .options import FROM, LAYOUT
-from .recording import STANDARD_INPUT, Recording, is_recording
+from .recording import Recording, refuse_files
 from .speech import Speech
 from .start import NoFirst, began, refuse_outside
 from .status import REFUSED, UNSAID
@@ -78,18 +77,16 @@ class Pair:
     def judge(self) -> None:
         """Judges the pair; `Unclear` where a step is not clear."""
         asked = self.asked
-        if not os.path.isfile(asked.stl_path):
-            name = asked.stl.removeprefix("./") if asked.stl.startswith("./-") else asked.stl
-            raise Unclear(f"{name or 'an empty name'} is no file, or is not there")
-        if is_recording(asked.stl_path):
-            raise Unclear(f"{asked.stl} is a recording: the subtitle file stands before it")
-        if asked.recording is not None and asked.recording != STANDARD_INPUT:
-            os.stat(asked.recording)  # a name that is wrong is told before anything is judged
+        refuse_files(asked)
         if self.is_summed:
             self.verdict.stl = file_of(asked.stl_path, asked.stl)
         answer = self.check_alone()
-        if asked.is_layout_sought and not answer.numbers - {EMPTY} - BY_LAYOUT:
+        is_by_layout = not answer.numbers - {EMPTY} - BY_LAYOUT
+        if is_judged_beside(answer.numbers) and not is_by_layout:
+            answer = self.take_beside(answer)
+        if asked.is_layout_sought and (self.verdict.beside or is_by_layout):
             self.find_layout()
+            self.verdict.beside, self.steps.left_out = None, ()
             answer = self.check_alone()
         if is_judged_beside(answer.numbers):
             answer = self.take_beside(answer)
@@ -359,9 +356,7 @@ class Pair:
         self.measure(part, one, recording, count)
         part.was_read = part.is_read()
         if CONTROL in answer.numbers and part.pes:
-            others = sorted(part.options_sent() - {asked.option})
-            part.better = [option for option in others if self.steps.has_fewer_by(
-                option, recording, one, part.pes, answer.count)]
+            part.better = self.steps.better_of(part.options_sent(), one, part.pes, answer.count)
         if OF_HEADERS & answer.numbers:
             part.of_header = recording.header_words(recording.packets)
         if answer.first:

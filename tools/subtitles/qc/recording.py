@@ -38,6 +38,18 @@ def is_recording(path: str) -> bool:
         head[at:at + size + 1:size] == b"GG" for at in (0, 4) for size in PACKET_SIZES)
 
 
+def refuse_files(asked: Asked) -> None:
+    """Files that are not there, or stand in the place of each other, are told before anything is
+    judged."""
+    if not os.path.isfile(asked.stl_path):
+        name = asked.stl.removeprefix("./") if asked.stl.startswith("./-") else asked.stl
+        raise Unclear(f"{name or 'an empty name'} is no file, or is not there")
+    if is_recording(asked.stl_path):
+        raise Unclear(f"{asked.stl} is a recording: the subtitle file stands before it")
+    if asked.recording is not None and asked.recording != STANDARD_INPUT:
+        os.stat(asked.recording)
+
+
 def size_of(name: str) -> int | None:
     """The bytes of a file; `None` for one that can be read only once."""
     about = os.fstat(0) if name == STANDARD_INPUT else os.stat(name)

@@ -4,7 +4,7 @@ from __future__ import annotations
 import dataclasses
 import os
 import subprocess
-from typing import Collection, NamedTuple, Sequence
+from typing import Collection, Iterable, NamedTuple, Sequence
 
 from ..core.programme import Subtitle
 from ..core.times import FRAMES_OF_A_DAY
@@ -163,11 +163,15 @@ class Steps:
               self.speech.of_list)
         self.speech.end_list(answer.last)
 
-    def has_fewer_by(self, option: str, recording: Recording, one: Stretch, pes: Range,
-                     most: int) -> bool:
+    def better_of(self, options: Iterable[str], one: Stretch, pes: Range, most: int) -> list[str]:
+        """The other national options of some by which fewer faults than so many are told."""
+        return [option for option in sorted(options) if option != self.asked.option
+                and self.has_fewer_by(option, one, pes, most)]
+
+    def has_fewer_by(self, option: str, one: Stretch, pes: Range, most: int) -> bool:
         """Whether `check` tells fewer faults than so many by another national option, and none of
         the subtitle file."""
-        asked = dataclasses.replace(one.asked, option=option)
+        asked, recording = dataclasses.replace(one.asked, option=option), one.recording
         words = [*recording.words(), *pes_words(pes), *asked.check_words(),
                  *origin_words(one.found.origin), "--all"]
         count = 0
