@@ -218,8 +218,10 @@ class Reports(Case):
 
     def test_what_it_is_of(self) -> None:
         """The options as they hold, and what it speaks of."""
-        for words, more in (([], []), (["--within", "1"], ["--within 1"]),
-                            (["--within", "2", "--no-complete"], ["--within 2"])):
+        rows: list[tuple[list[str], list[str]]] = [
+            ([], []), (["--within", "1"], ["--within 1"]),
+            (["--within", "2", "--no-complete"], ["--within 2"])]
+        for words, more in rows:
             asked = asked_for("a.stl", "a.pes", "--every", "25", *words)
             part = SimpleNamespace(origin=5, pes=(1, 2), pes_name="1-2", between=ALL_DAY)
             made: Any = SimpleNamespace(judged=SimpleNamespace(asked=asked), part=part,

@@ -114,10 +114,11 @@ class Words(Case):
     def test_faulty_frames(self) -> None:
         """Of a subtitle: the first stretch while it is due, and the first from its TCO on."""
         one = Subtitle(1, 1, 100, 150, 20, 2, b"")
-        for spans, within, after in (
-                ((), None, None), ((90, 99), None, None), ((100,), 100, None), ((149,), 149, None),
-                ((150,), None, 150), ((110, 120, 130), 110, None), ((150, 160, 170), None, 150),
-                ((90, 110, 120, 155, 160), 110, 155), ((160, 120, 155, 110), 120, 160)):
+        rows: list[tuple[tuple[int, ...], int | None, int | None]] = [
+            ((), None, None), ((90, 99), None, None), ((100,), 100, None), ((149,), 149, None),
+            ((150,), None, 150), ((110, 120, 130), 110, None), ((150, 160, 170), None, 150),
+            ((90, 110, 120, 155, 160), 110, 155), ((160, 120, 155, 110), 120, 160)]
+        for spans, within, after in rows:
             faulty = Faulty()
             for first in spans:
                 faulty.add(Span(first, first + 1), one)
@@ -130,8 +131,9 @@ class Words(Case):
         pes = [pes_packet(TICKS * frame, [*[HEADER] * (frame > 5), *rows, CLOSING])
                for frame, rows in ((0, []), (60, [row(20, b"two")]))]
         held = timeline_of(self, b"".join(pes))
-        pages = [(b" " * 40,) * 19 + ((b"\x0b\x0b" + text).ljust(40),) + (b" " * 40,) * 4
-                 for text in (b"one", b"two")]
+        pages: list[tuple[bytes, ...]] = [
+            (b" " * 40,) * 19 + ((b"\x0b\x0b" + text).ljust(40),) + (b" " * 40,) * 4
+            for text in (b"one", b"two")]
         due = DuePages([Subtitle(1, 1, 10, 50, 20, 2, b""), Subtitle(2, 2, 100, 150, 20, 2, b"")],
                        pages)
         owners = {frame: Namer(due, held).owner(frame) for frame in (5, 20, 55, 60, 99, 100, 149)}
@@ -140,8 +142,9 @@ class Words(Case):
     def test_what_is_sent_instead(self) -> None:
         """Of a subtitle whose page never came a page of none that came after the one before it; of
         the first one whose own page came later, none from before its TCI."""
-        pages = [(b" " * 40,) * 19 + ((b"\x0b\x0b" + text).ljust(40),) + (b" " * 40,) * 4
-                 for text in (b"one", b"two")]
+        pages: list[tuple[bytes, ...]] = [
+            (b" " * 40,) * 19 + ((b"\x0b\x0b" + text).ljust(40),) + (b" " * 40,) * 4
+            for text in (b"one", b"two")]
         due = DuePages([Subtitle(1, 1, 100, 150, 20, 2, b""), Subtitle(2, 2, 200, 250, 20, 2, b"")],
                        pages)
         for sent, wanted in (({50: b"x", 160: b""}, [b"x", None, None]),
