@@ -128,8 +128,9 @@ class Words(Case):
     def test_owners(self) -> None:
         """Whose fault it is: of the one that is due or was last, before anything is held too, or
         of the one that came at another time."""
-        pes = [pes_packet(TICKS * frame, [*[HEADER] * (frame > 5), *rows, CLOSING])
-               for frame, rows in ((0, []), (60, [row(20, b"two")]))]
+        sent: list[tuple[int, list[bytes]]] = [
+            (0, [CLOSING]), (60, [HEADER, row(20, b"two"), CLOSING])]
+        pes = [pes_packet(TICKS * frame, packets) for frame, packets in sent]
         held = timeline_of(self, b"".join(pes))
         pages: list[tuple[bytes, ...]] = [
             (b" " * 40,) * 19 + ((b"\x0b\x0b" + text).ljust(40),) + (b" " * 40,) * 4
