@@ -261,12 +261,12 @@ class Kept(Case):
                           and first - found[0] <= 2 * length // SECOND // PARTS + 10
                           and list(data[::size]) == found, (found[0], found[-1]))
             spool.drop(50 * SECOND)
-            left = sorted(int(name.partition("-")[2]) for name in os.listdir(self.folder))
-            self.must("dropped", 5 <= len(left) <= 20 and spool.between(0, 10**12) == [
-                os.path.join(self.folder, f"feed-{number}") for number in left], left)
+            left = spool.between(0, 10**12)
+            self.must("dropped", 5 <= len(left) == len(spool.segments) <= 20, left)
             self.must("lately", b"".join(spool.lately(size))[-size:] == bytes([99]) * size)
-            for name in os.listdir(self.folder):
-                os.unlink(self.path(name))
+            self.must("no names", os.listdir(self.folder) == [])
+            spool.close()
+            self.must("closed", spool.between(0, 10**12) == [])
 
     def test_whole_pes_packets(self) -> None:
         """Of PES packets in pieces of any size each is whole in one file; what is none ends them.
@@ -281,8 +281,7 @@ class Kept(Case):
                 found = [open(path, "rb").read() for path in spool.between(0, 10**12)]
                 self.must(f"{size}, {count}", b"".join(found) == b"".join(pes[:count]) and
                           not any(len(one) % 184 for one in found), found)
-                for name in os.listdir(self.folder):
-                    os.unlink(self.path(name))
+                spool.close()
 
     def test_other_bytes(self) -> None:
         """A transport stream is kept as it comes, also one that begins with 00 00 01 BD 47."""
@@ -292,8 +291,7 @@ class Kept(Case):
             spool.write(data[4:], 0)
             found = b"".join(open(path, "rb").read() for path in spool.between(0, 9))
             self.must(f"{data[:5]!r}", found == data * (len(data) > 5), found)
-            for name in os.listdir(self.folder):
-                os.unlink(self.path(name))
+            spool.close()
 
     def test_no_room(self) -> None:
         """It is known since when, and why; it may have room again."""

@@ -228,6 +228,7 @@ class Ends(Case):
         for words in wanted:
             while words not in self.read("log") and time.monotonic() < end:
                 time.sleep(0.1)
+        time.sleep(1)  # it goes on at once with what it has heard
         return process
 
     def lines(self) -> list[str]:

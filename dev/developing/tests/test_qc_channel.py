@@ -4,6 +4,7 @@ from __future__ import annotations
 import json
 import os
 import signal
+import stat
 import subprocess
 import time
 from typing import Sequence
@@ -64,7 +65,8 @@ def verdicts(done_lines: Sequence[str]) -> list[str]:
 
 
 def memory_of(process: subprocess.Popen[bytes], folder: str) -> tuple[int, int]:
-    """Kilobytes of memory of a process, and bytes in a folder for temporary files."""
+    """Kilobytes of memory of a process, and bytes of temporary files, in a folder or without a
+    name."""
     with open(f"/proc/{process.pid}/status", encoding="utf-8") as file:
         memory = next(int(line.split()[1]) for line in file if line.startswith("VmRSS"))
     size = 0
@@ -74,6 +76,9 @@ def memory_of(process: subprocess.Popen[bytes], folder: str) -> tuple[int, int]:
                 size += os.path.getsize(os.path.join(place, name))
             except FileNotFoundError:
                 pass
+    for number in os.listdir(f"/proc/{process.pid}/fd"):
+        about = os.stat(f"/proc/{process.pid}/fd/{number}")
+        size += about.st_size if stat.S_ISREG(about.st_mode) else 0
     return memory, size
 
 

@@ -362,7 +362,6 @@ class Channel(Results):
     def close(self) -> None:
         """Ends what is still running."""
         self.hearing.close()
-        self.spool.end()
 
 
 def judge(words: argparse.Namespace, called: str) -> int:
@@ -388,7 +387,8 @@ def judge(words: argparse.Namespace, called: str) -> int:
             reason = f"{STOPPED} at {channel.time_of_feed()} of the feed"
         finally:
             channel.close()
-        channel.stop(reason)
+        with contextlib.closing(channel.spool):
+            channel.stop(reason)
     if not channel.verdicts and not channel.is_stopped:
         tell(f"{words.channel} names no programme")
     return of_all(channel.verdicts, channel.is_stopped)

@@ -2,7 +2,6 @@
 from __future__ import annotations
 
 import collections
-import contextlib
 import dataclasses
 import os
 from typing import BinaryIO, Iterator
@@ -19,9 +18,10 @@ SYNC = b"\x47"
 @dataclasses.dataclass
 class Segment:
     """A file: the time when it was begun, and its bytes, the first of which came then, or earlier:
-    what is told of a feed is behind what came of it by less than `LEAST` bytes."""
+    what is told of a feed is behind what came of it by less than `LEAST` bytes. It has no name, so
+    that nothing is left of it however this call ends."""
 
-    path: str
+    file: BinaryIO
     begin: int
     size: int = 0
 
@@ -74,8 +74,9 @@ class Spool:
         if self.file is None:
             self.count += 1
             path = os.path.join(self.folder, f"feed-{self.count}")
-            self.file = open(path, "wb", buffering=0)
-            self.segments.append(Segment(path, now))
+            self.file = open(path, "x+b", buffering=0)
+            os.unlink(path)
+            self.segments.append(Segment(self.file, now))
         left, last = memoryview(data), self.segments[-1]
         while left:
             left = left[self.file.write(left) or 0:]
@@ -85,22 +86,26 @@ class Spool:
 
     def end(self) -> None:
         """Ends the file that is written."""
-        file, self.file = self.file, None
-        if file is not None:
-            with contextlib.suppress(OSError):
-                file.close()
+        self.file = None
+
+    def close(self) -> None:
+        """Drops all there is."""
+        self.end()
+        while self.segments:
+            self.segments.popleft().file.close()
 
     def between(self, first: int, last: int) -> list[str]:
-        """The files with all that came from one time to another."""
+        """The files with all that came from one time to another, each by a name that opens it."""
         self.end()
-        return [one.path for one in [*self.segments][self.first_at(first):] if one.begin <= last]
+        return [name_of(one) for one in [*self.segments][self.first_at(first):]
+                if one.begin <= last]
 
     def lately(self, size: int) -> Iterator[bytes]:
         """The last bytes that came, so many and up to a file more."""
         self.end()
         found: list[str] = []
         for one in reversed(self.segments):
-            found.insert(0, one.path)
+            found.insert(0, name_of(one))
             size -= one.size
             if size <= 0:
                 break
@@ -111,7 +116,7 @@ class Spool:
     def drop(self, before: int) -> None:
         """Drops what came before a time, if it is a file or more."""
         for _ in range(self.first_at(before)):
-            os.unlink(self.segments.popleft().path)
+            self.segments.popleft().file.close()
         self.failures = [one for one in self.failures if one[0] >= before]
 
     def first_at(self, time: int) -> int:
@@ -127,3 +132,8 @@ class Spool:
     def failure(self, begin: int) -> str | None:
         """Why not all can be there that came from a time on."""
         return next((why for time, why in self.failures if time >= begin), None)
+
+
+def name_of(one: Segment) -> str:
+    """A name that opens a file."""
+    return f"/proc/self/fd/{one.file.fileno()}"
