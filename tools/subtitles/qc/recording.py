@@ -145,11 +145,14 @@ class Recording:
             why = "; ".join([f"{self.name} has no header of page {page}", *self.why_nothing()])
             is_other = any(one.sent for one in by_pid.values())
             raise Unclear(self.said(why), *([self.again("--page", "P")] if is_other else []))
-        if self.is_file and self.asked.pes is None:
-            self.stages = stages_of(self.survey, self.asked.page)
-        if self.stages:
-            return joined(self.stages)
-        raise Unclear(self.said(f"page {page} is sent on {len(found)} PIDs of {self.name}"),
+        stages = stages_of(self.survey, self.asked.page)
+        if stages and self.is_file and self.asked.pes is None:
+            self.stages = stages
+            return joined(stages)
+        why = f"page {page} is sent on {len(found)} PIDs of {self.name}"
+        if stages and not self.is_file:
+            why += ", since the PMT moves it: of what is read only once one PID is judged"
+        raise Unclear(self.said(why),
                       *(self.again("--pid", f"0x{one.pid:X}") for one in found))
 
     def why_nothing(self) -> list[str]:
