@@ -12,7 +12,7 @@ from subtitles.qc.moved import pieces_of
 from subtitles.reading.moving import Stage, joined, part_inside, stages_of
 from subtitles.reading.survey import Packets, Run, survey
 from .bench import Case, moved, packets
-from .judged import judged, programme
+from .judged import in_pipe, judged, programme
 from .muxed import MPEG_2, PRIVATE, TELETEXT_PID, VIDEO_PID, Maker, teletext_descriptor
 from .test_holes import Sent as Packet, Shape, sent_of
 from .test_pairs_in_parts import times
@@ -186,6 +186,9 @@ class Moves(Case):
         found = judged(self, self.stl, path, *WORDS, "--pes", "0-9")
         self.must("numbers", found.word == "not judged" and
                   "page 888 is sent on 2 PIDs of " in found.told[0], found.told)
+        found = judged(self, self.stl, in_pipe(self, self.read("one.ts")), *WORDS)
+        self.must("a feed", found.word == "accepted" and found.parts("pid") == [(OLD,), (NEW,)],
+                  found.said)
 
 
 class Pieces(Case):
