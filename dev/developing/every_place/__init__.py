@@ -20,11 +20,10 @@ What is known:
 
 known              pairs of files whose lines are known
 within             such pairs where a page may be some frames late
+beside             such pairs of which some subtitles are refused, and parts of a file
 one_file           such pairs for each field of a subtitle file and each kind of text
 one_rule           pairs of files that break one rule
-of_options         calls whose answers are known, for each national option
 recorded           such calls about transport streams and ranges of PES packets
-wrong_options      mistakes with national options, each of which such a call tells
 wrong_recordings   mistakes in reading a recording
 mistakes           tries such a mistake
 carried_laws       what is promised of a recording, tried at random

@@ -5,7 +5,7 @@ import os
 
 from subtitles.core.built import TOP
 from subtitles.core.pes import pes_packet
-from subtitles.core.stl import GSI, TTI, subtitle_blocks
+from subtitles.core.stl import GSI, subtitle_blocks
 from subtitles.core.teletext import mirrored
 from subtitles.core.times import TICKS
 from .calls import KnownCall, known_pair
@@ -29,12 +29,10 @@ HELLO, SENT = example("hello.stl"), example("hello.pes")
 SENT_25 = example("hello-25.pes")  # also at the frame between them
 BLANK = SENT_25[368:]  # the last of these: a page without rows
 EVEN_H = {117: 0x12}  # the row's H with even parity
-NO_ERASE = {55: 0xA8}  # C4 clear in the first header
-NO_END = {138: 0xFF}  # the first closing header a stuffing unit
 ROW = mirrored(SENT[96:138])  # row 22
 OTHER_ROW = poked(ROW, {21: 0x68})  # with an h in place of its H
 WHOLE = [HEADER, ROW, CLOSING]
-HI, ACCENT = b"\x0d\x0b\x0bHi\x0a\x0a", b"caf\xc2e"
+HI = b"\x0d\x0b\x0bHi\x0a\x0a"
 
 
 def told(*lines: str) -> list[str]:
@@ -98,17 +96,6 @@ def of_texts(*texts: tuple[int, int, int, bytes]) -> bytes:
         for number, (tci, tco, row, text) in enumerate(texts))
 
 
-# One that overlaps and two with an accent, a good one, and one before the others.
-FIVE = of_texts((0, 50, 22, HI), (40, 90, 22, ACCENT), (100, 150, 22, ACCENT),
-                (150, 160, 22, b"ok"), (10, 20, 22, b"ok"))
-OF_FIVE = ["refused 57 Overlap block 2", "refused 50 Character block 2 at 3",
-           "refused 50 Character block 3 at 3", "refused 56 OutOfOrder block 5"]
-# CS 1 in the first, JC 4 and VP 0 in the second, and an accent in the third.
-THREE = poked(of_texts((0, 50, 22, HI), (50, 100, 22, HI), (100, 150, 22, ACCENT)),
-              {GSI + 4: 1, GSI + TTI + 13: 0, GSI + TTI + 14: 4})
-# The one of hello.stl; one whose TCI is no time code; and one that begins before the first ended.
-BETWEEN = HELLO + poked(of_texts((0, 50, 22, HI), (0, 50, 22, HI), (40, 60, 22, HI))[GSI + TTI:],
-                        {8: 25})
 # A text of each kind that can't be drawn, then such a one that begins before the one before it has
 # ended, and one that begins before that.
 EIGHT = of_texts((0, 10, 22, b"\x0e"), (10, 20, 22, b"\xc2e"), (20, 30, 22, b"A" * 40),
@@ -123,29 +110,12 @@ NINTH = subtitle_blocks(8, FIRST, FIRST + 50, 22, 2, HI)
 OPEN_NINTH = poked(NINTH, {3: 0})  # the first block of a subtitle of more
 
 
-def refused_of_two(last_sn: int) -> bytes:
-    """A subtitle of two blocks, SN 0, that ends where it begins, and the one of hello.stl."""
-    block = subtitle_blocks(0, FIRST, FIRST, 22, 2, HI)
-    return HELLO[:GSI] + poked(block * 2, {3: 0, TTI + 1: last_sn}) + HELLO[GSI:]
-
-
 def after_eight(name: str, blocks: bytes, *last: str) -> KnownCall:
     """The eight subtitles and more blocks, and the line that is told of these."""
     return pair(f"eight subtitles and {name}", SENT, *OF_EIGHT, *last, stl=EIGHT + blocks)
 
 
 TEXTS = [
-    pair("five subtitles", SENT, *OF_FIVE, stl=FIVE),
-    pair("five subtitles and a part of a block", SENT, *OF_FIVE, "refused 10 Truncated block 6",
-         stl=FIVE + b"\0" * 127),
-    pair("three subtitles, two of them refused", SENT, "refused 16 Cumulative block 1",
-         "refused 18 Justify block 2", "refused 50 Character block 3 at 3", stl=THREE),
-    pair("a refused subtitle of two blocks", SENT, "refused 21 EmptyTime block 1",
-         stl=refused_of_two(0)),
-    pair("its second block with another SN", SENT, "refused 21 EmptyTime block 1",
-         "refused 22 Sequence block 2", stl=refused_of_two(9)),
-    pair("a refused subtitle between two", SENT, "refused 20 Time block 2",
-         "refused 57 Overlap block 3", stl=BETWEEN),
     after_eight("no more", b""),
     after_eight("EBN", poked(NINTH, {3: 0xF0}), "refused 15 Extension block 9"),
     after_eight("CS", poked(NINTH, {4: 1}), "refused 16 Cumulative block 9"),
@@ -218,28 +188,6 @@ GAP = stands("73 Gap", "01:00", "01:24")
 
 KNOWN = [
     *TEXTS,
-    pair("accepted", SENT, accepted(51, 2)),
-    pair("a gap", SENT, trusted("00:00", "00:24"), *GAP, LAST, words="--every 25"),
-    pair("the file twice", SENT + SENT, trusted("00:00", "01:24"), "refused 62 Order pes 2"),
-    pair("another page", SENT, refused("71 NoFirstHeader", "00:00"), *wrong("00:00", "01:24"),
-         words="--page 100"),
-    pair("a frame early", SENT, *EARLY_WRONG, *wrong("01:24"), refused("74 Late", "01:24"),
-         words="--origin 3600"),
-    pair("a frame late", SENT, refused("63 Early", "00:01"), trusted("00:01", "01:24"),
-         *wrong("02:00"), trusted("02:01", "02:01"), words="--origin 8589930992"),
-    pair("no frame", SENT, "refused 61 OffFrame pes 0", "ended 61 OffFrame pes 1",
-         words="--origin 1"),
-    pair("another data_identifier in the second of three", poked(SENT_25, {229: 0x20}),
-         f"{DATA_ID} 1", LAST),
-    pair("a unit's length in the first", poked(SENT_25, {47: 0x2D}), "refused 38 UnitLength pes 0",
-         refused("63 Early", "01:00"), trusted("01:00", "02:00")),
-    pair("a unit's length in the first two", poked(SENT_25, {47: 0x2D, 231: 0x2D}),
-         "refused 38 UnitLength pes 0", "ended 38 UnitLength pes 1", refused("63 Early", "02:00"),
-         LAST),
-    pair("another data_identifier in the last", poked(SENT_25, {413: 0x20}),
-         trusted("00:00", "00:24"), f"{DATA_ID} 2", refused("74 Late", "01:00")),
-    pair("another data_identifier in the last two, and a byte more", TWO_OF_THREE + b"\0",
-         f"{DATA_ID} 1", "ended 37 DataId pes 2", f"{TRUNCATED} 3"),
     pair("one that can't be read on both sides of one that can",
          poked(SENT_25, {45: 0x20, 413: 0x20}), f"{DATA_ID} 0", refused("63 Early", "01:00"),
          f"{DATA_ID} 2", refused("74 Late", "01:00")),
@@ -259,19 +207,6 @@ KNOWN = [
                              ("another data_identifier", 45, 0x11), ("another last byte", 183, 5))],
     pair("an even byte in a data field that is sent again", poked(SENT_25, {184 + 117: 0x12}),
          trusted("00:00", "00:24"), refused("68 Parity", "01:00", "packet 1"), LAST),
-    pair("no PES packet", b"", "refused 60 Empty"),
-    pair("no erase, an even byte, cut", poked(SENT, {**EVEN_H, **NO_ERASE})[:-1],
-         refused("67 Control", "00:00", "packet 0"), refused("68 Parity", "00:00", "packet 1"),
-         f"{TRUNCATED} 1"),
-    pair("an even byte", poked(SENT, EVEN_H), refused("68 Parity", "00:00", "packet 1"), LAST),
-    pair("another letter", poked(SENT, {117: 0x16}), *wrong("00:00", "01:24", 19), LAST),
-    pair("less its last byte", SENT[:-1], f"{TRUNCATED} 1"),
-    pair("its first PES packet", SENT[:184], trusted("00:00", "00:00"), LATE),
-    pair("three sendings less their last byte", SENT_25[:-1], trusted("00:00", "00:24"),
-         f"{TRUNCATED} 2"),
-    pair("no end of the page", poked(SENT, NO_END), *stands("77 Incomplete", "00:00", "01:24"),
-         LAST, words="--complete"),
-    pair("no end of the page, not asked for", poked(SENT, NO_END), accepted(51, 2)),
     after_even("another start code", {0: 1}, "refused 31 Start pes 1"),
     after_even("another length", {5: 0xB1}, "refused 32 Length pes 1"),
     *[after_even(name, changes, f"refused {fault} pes 1", LATE) for name, changes, fault in (

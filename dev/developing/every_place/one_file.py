@@ -14,8 +14,10 @@ from subtitles.core.stl import (
 from subtitles.core.teletext import packet
 from subtitles.core.times import TICKS
 from .calls import KnownCall, known_pair
-from .known import HI, poked
+from .definitions import JUDGES_BESIDE
+from .known import HI, poked, told
 from .one_rule import CLOSING, FIRST, HEADER, header
+from .reading import OF_FIRST_BLOCK
 
 TAKEN = ["refused 60 Empty", "1 faults"]  # of a file that is taken, with a PES file without a byte
 EBN, CS, TCI, TCO, VP, JC, CF = 3, 4, 5, 9, 13, 14, 15  # where the fields of a block begin
@@ -24,6 +26,13 @@ EBN, CS, TCI, TCO, VP, JC, CF = 3, 4, 5, 9, 13, 14, 15  # where the fields of a 
 def refused(fault: str) -> list[str]:
     """The lines of a file in which this alone is wrong, or nothing after it is read."""
     return [f"refused {fault}", "1 faults"]
+
+
+def refused_first(fault: str) -> list[str]:
+    """The lines of what the first block of a subtitle says: the other subtitle is judged beside it,
+    where that is done."""
+    is_read = JUDGES_BESIDE and int(fault.split()[0]) in OF_FIRST_BLOCK
+    return told(f"refused {fault}", *["refused 60 Empty"] * is_read)
 
 
 def of_file(name: str, stl: bytes, lines: list[str]) -> KnownCall:
@@ -87,7 +96,7 @@ def general_blocks() -> list[KnownCall]:
 def first_blocks() -> list[KnownCall]:
     """Of the first subtitle of a file, and of a later one."""
     return [of_file(f"{fault}: {value:02X} at {field} of block {block}",
-                    poked(WHOLE, {begin + field: value}), refused(f"{fault} block {block}"))
+                    poked(WHOLE, {begin + field: value}), refused_first(f"{fault} block {block}"))
             for fault, field, value in OF_FIRST for block, begin in ((2, TWO), (5, ALONE))]
 
 
@@ -106,7 +115,7 @@ def first_faults() -> list[KnownCall]:
     made = []
     file = poked(WHOLE, {TWO + field: wrong for _, field, wrong, _ in IN_ORDER})
     for fault, field, _, right in IN_ORDER:
-        made.append(of_file(f"{fault} before others", file, refused(f"{fault} block 2")))
+        made.append(of_file(f"{fault} before others", file, refused_first(f"{fault} block 2")))
         file = poked(file, {TWO + field: right})
     return [*made, of_file("all of them mended", file, TAKEN)]
 

@@ -5,6 +5,7 @@ packets, PES packets and subtitles of them are changed. A `Pair` is what `check`
 """
 from __future__ import annotations
 
+import contextlib
 import shlex
 from random import Random
 from typing import Callable, NamedTuple
@@ -14,11 +15,14 @@ from subtitles.core.times import FRAMES_OF_A_DAY
 from .as_houses import (
     TAKES_KEEPING, as_open, layout_text, pace_words, part_words, refused_some, without_erasing)
 from .broken import LETTERS, break_pes
+from .definitions import subtitles_in
 from .late import sent_late
 from .national import BITS, CELLS, SAME
+from .words import UsageFault, options_of
 
 Schedule = Callable[[bytes, list[str]], bytes]  # of a subtitle file, by words
 OPTIONS = [*BITS]  # national options
+MOST_TRIES = 20  # for a file some of whose subtitles are refused
 
 
 class Pair(NamedTuple):
@@ -214,8 +218,22 @@ def within_words(chance: Random, within: int) -> list[str]:
     return ["--within", chance.choice([str(within)] * 9 + [f"{within:010}"])]
 
 
-def random_pair(seed: int, schedule: Schedule) -> Pair:
-    """A pair at random. `schedule` gives the transmission of a subtitle file, by words."""
+def with_refused(house: Random, stl: bytes, words: list[str], is_sure: bool) -> bytes:
+    """The file, at times with some subtitles that are refused; where it is to be sure, with some
+    that are by these words, unless none can be."""
+    if not is_sure:
+        return refused_some(house, stl) if house.random() < 0.15 else stl
+    for _ in range(MOST_TRIES):
+        broken = refused_some(house, stl)
+        with contextlib.suppress(UsageFault):
+            if subtitles_in(broken, options_of(words)).lines:
+                return broken
+    return stl
+
+
+def random_pair(seed: int, schedule: Schedule, is_refused: bool = False) -> Pair:
+    """A pair at random; where that is asked, some of its subtitles are refused. `schedule` gives
+    the transmission of a subtitle file, by words."""
     chance, house = Random(seed), Random(f"house {seed}")
     words = random_words(chance)
     subtitles = random_subtitles(chance, words["--option"])
@@ -239,13 +257,14 @@ def random_pair(seed: int, schedule: Schedule) -> Pair:
         pes = sent_late(chance, pes, within or chance.randrange(3), int(words["--origin"]))
         if chance.random() < 0.7:
             words["--every"] = str(int(words["--every"]) + within)
-    if house.random() < 0.15:
-        stl = refused_some(house, stl)
-    # Of one that is late, or keeps pages, often nothing else is broken.
-    if not (is_late or keeps and house.random() < 0.6) or chance.random() < 0.4:
-        if chance.random() < 0.3:
-            stl = stl_file(chance, other_subtitles(chance, subtitles, words["--option"]))
-        if chance.random() < 0.2:
+    # Of one that is late, keeps pages, or is surely refused, often nothing else is broken.
+    is_broken = not (is_late or is_refused or keeps and house.random() < 0.6) \
+        or chance.random() < 0.4
+    if is_broken and chance.random() < 0.3:
+        stl = stl_file(chance, other_subtitles(chance, subtitles, words["--option"]))
+    stl = with_refused(house, stl, [*listed(words), *drawn, *part, *flags], is_refused)
+    if is_broken:
+        if chance.random() < (0.04 if is_refused else 0.2):
             stl = break_stl(chance, stl)
         pes = break_pes(chance, pes)
         words = other_words(chance, words)

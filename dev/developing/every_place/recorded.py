@@ -313,30 +313,6 @@ MARKS = [
               f"trusted frames {LATER} {LATER}", "1 faults"),
 ]
 
-WORDS = [
-    *[check("a PID that is none", T, "usage 86 Pid", f"--pid {pid}")
-      for pid in ("8191", "x", "0x", "0X101", "0x000000101", "''", "00000000257", "0x1fff")],
-    check("a PID that is none", T, "usage 86 Pid", "--pid=-1"),
-    check("a size that is none", T, "usage 87 PacketSize", f"{PID} --packet-size 190"),
-    check("a size without a PID", SENT, ACCEPTED, "--packet-size 204"),
-    check("a size that is none, without a PID", SENT, "usage 87 PacketSize", "--packet-size 0188"),
-    *[check("a range that is none", T, "usage 88 Range", f"{PID} --pes {pieces}")
-      for pieces in ("2-1", "1", "a-b", "''", "-", "1-2-3", "00000000001-")],
-    check("a range that is none", T, "usage 88 Range", f"{PID} --pes=-1"),
-    check("all words wrong", T, "usage 85 Within", "--within 51 --pid x --packet-size 1 --pes x"),
-    check("three words wrong", T, "usage 86 Pid", "--pid x --packet-size 1 --pes x"),
-    check("two words wrong", T, "usage 87 PacketSize", "--packet-size 1 --pes x"),
-    listen("a PID and a time that are none", T, "--pid x --at 1", "usage 86 Pid"),
-    packets("a size and a range that are none", T, f"{PID} --packet-size 1 --pes x",
-            "usage 87 PacketSize"),
-    extract("no PID", T, "usage 0 Words", None, "--packet-size 1"),
-    extract("a PID and a size that are none", T, "usage 86 Pid", None, "--pid x --packet-size 1"),
-    extract("a size that is none", T, "usage 87 PacketSize", None, f"{PID} --packet-size 1"),
-    check("the greatest PID", T, EMPTY, "--pid 8190"),
-    check("a PID of ten digits", T, ACCEPTED, "--pid 0000000257"),
-    check("a PID of eight digits", T, ACCEPTED, "--pid 0x00000101"),
-]
-
 FAILING = [
     KnownCall(Call("a stream that fails", "check", (HELLO, T[:200]), PID, True),
               Answer(["fault 41 Read pes 1"])),
@@ -348,4 +324,4 @@ FAILING = [
                    True), Answer(["fault 41 Read pes 2"], FIRST + MARK)),
 ]
 
-RECORDED = [*PLAIN, *REPEATED, *LOSSES, *JUMPS, *ENDED, *BYTES, *RANGES, *MARKS, *WORDS, *FAILING]
+RECORDED = [*PLAIN, *REPEATED, *LOSSES, *JUMPS, *ENDED, *BYTES, *RANGES, *MARKS, *FAILING]

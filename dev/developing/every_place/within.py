@@ -1,21 +1,21 @@
 """Pairs with the lines that `check --all --within N` prints of them, worked out by hand.
 
 A transmission is written as in `one_rule`: `o` is row 22 with an o in place of its i, and `e` with
-an even byte in place of its H.
+an even byte in place of its H, and `k` is a header that keeps the page.
 """
 from __future__ import annotations
 
 from subtitles.core.pes import pes_packet
-from subtitles.core.stl import GSI, subtitle_blocks
+from subtitles.core.stl import GSI
 from subtitles.core.times import CLOCK, FRAMES_OF_A_DAY, TICKS
 from .calls import KnownCall, known_pair
 from .known import (
     EARLY_WRONG, HELLO, LAST, ROW, SENT, accepted, ended, poked, refused, stands, told, trusted,
     wrong)
-from .one_rule import CLOSING, FIRST, HEADER, PAGE, pes_packets_of
+from .one_rule import CLOSING, FIRST, HEADER, PAGE, header, pes_packets_of
 
 PACKETS = {"h": HEADER, "r": ROW, "c": CLOSING, "o": poked(ROW, {22: 0xEF}),
-           "e": poked(ROW, {21: 0x48})}
+           "e": poked(ROW, {21: 0x48}), "k": header(c4="15")}
 
 
 def pes_file(packets: str, *changes: tuple[int, int, int]) -> bytes:
@@ -27,14 +27,6 @@ def pes_file(packets: str, *changes: tuple[int, int, int]) -> bytes:
     return b"".join(made)
 
 
-def followed_by(end: int) -> bytes:
-    """The subtitle of hello.stl, and one directly after it with an o in place of the i."""
-    return HELLO + subtitle_blocks(2, FIRST + 50, FIRST + end, 22, 2, b"\x0d\x0b\x0bHo\x0a\x0a")
-
-
-TWO_SECONDS, TWO_FRAMES = followed_by(100), followed_by(52)
-
-
 def of_pair(name: str, pes: bytes, *asked: tuple[str, ...], stl: bytes = HELLO,
             is_failing: bool = False) -> list[KnownCall]:
     """A pair with each of some words, and what is told then."""
@@ -43,103 +35,7 @@ def of_pair(name: str, pes: bytes, *asked: tuple[str, ...], stl: bytes = HELLO,
             for words, *lines in asked]
 
 
-UP_TO_TCO, ONE, TWO = trusted("00:00", "01:24"), "--within 1", "--within 2"
-UNFINISHED = [wrong("00:01")[0], refused("77 Incomplete", "00:01"), wrong("00:01")[1],
-              ended("77 Incomplete", "00:01")]
-
-# The page comes later than it is due, but not too late.
-LATE = [
-    *of_pair("a row a frame after its header", pes_file("0 h, 1 r c, 50 h c"),
-             ("", *wrong("00:00"), LAST), (ONE, accepted(51, 2)),
-             (f"{ONE} --complete", accepted(51, 2))),
-    *of_pair("a row two frames after its header", pes_file("0 h, 2 r c, 50 h c"),
-             (ONE, *wrong("00:01"), LAST), (TWO, accepted(51, 2)),
-             (f"{ONE} --complete", *UNFINISHED, LAST)),
-    *of_pair("a row three frames after its header", pes_file("0 h, 3 r c, 50 h c"),
-             (TWO, *wrong("00:02"), LAST)),
-    *of_pair("the last page a frame late", pes_file("0 h r c, 51 h c"),
-             ("", UP_TO_TCO, *wrong("02:00"), trusted("02:01", "02:01")), (ONE, accepted(52, 2))),
-    *of_pair("a page two frames late", pes_file("0 h r c, 52 h o c, 100 h c"),
-             (TWO, accepted(101, 3)),
-             (ONE, UP_TO_TCO, *wrong("02:01", column=20), trusted("02:02", "04:00")),
-             stl=TWO_SECONDS),
-    *of_pair("a subtitle of two frames, a frame late", pes_file("0 h r c, 51 h o c, 53 h c"),
-             ("--within 3", accepted(54, 3)), stl=TWO_FRAMES),
-    *of_pair("a subtitle of two frames that is not sent", pes_file("0 h r c, 52 h c"),
-             ("--within 3", UP_TO_TCO, *wrong("02:01", column=20), trusted("02:02", "02:02")),
-             stl=TWO_FRAMES),
-    *of_pair("a subtitle that is not sent", pes_file("0 h c, 50 h c"),
-             ("--within 50", *wrong("01:24"), LAST)),
-    *of_pair("a header, and two frames later its row", pes_file("0 h r, 1 h, 2 r c, 50 h c"),
-             (ONE, accepted(51, 3)), (f"{ONE} --complete", *UNFINISHED, LAST)),
-    *of_pair("the end of the page a frame later", pes_file("0 h r, 1 c, 50 h c"),
-             ("--complete", *stands("77 Incomplete", "00:00", "00:00"), LAST),
-             (f"{ONE} --complete", accepted(51, 2))),
-    *of_pair("no end of the page", pes_file("0 h r c, 50 h c", (0, 138, 0xFF)),
-             (f"{ONE} --complete", *stands("77 Incomplete", "00:01", "01:24"), LAST)),
-    *of_pair("the page of before again", pes_file("0 h r c, 50 h c, 51 h r c, 52 h c"),
-             (ONE, trusted("00:00", "02:00"), *wrong("02:01"), trusted("02:02", "02:02")),
-             (TWO, accepted(53, 4))),
-    *of_pair("the first page after the last TCO", pes_file("51 h r c, 52 h c"),
-             ("--within 5", refused("63 Early", "02:01"), *wrong("02:01"), trusted("02:02",
-              "02:02"))),
-]
-
-# Several PES packets of one frame, and PTS that are not those of frames.
-FIELDS = [
-    *of_pair("a row half a frame after its header", pes_file("0 h, 0+ r c, 50 h c"),
-             ("", refused("72 Content", "00:00", "row 22 column 16"), "refused 61 OffFrame pes 1",
-              ended("72 Content", "01:24"), LAST), (ONE, accepted(51, 2))),
-    *of_pair("a header in the second field", pes_file("0 c, 0+ h r c, 50 h c"),
-             (ONE, accepted(51, 2))),
-    *of_pair("a row half a frame later, twice", pes_file("0 h, 0+ r c, 1 h, 1+ r c, 50 h c"),
-             (ONE, accepted(51, 3))),
-    *of_pair("a PES packet without Teletext first", pes_file("0 h, 1, 1+ h r c, 50 h c"),
-             (ONE, accepted(51, 3))),
-    *of_pair("a quarter of a frame early", pes_file("0- h r c, 50 h c"), (ONE, accepted(51, 2))),
-    *of_pair("a PTS that is no frame's", SENT, ("--origin 1 --within 1", accepted(51, 2)),
-             ("--origin 8589934591 --within 1", accepted(51, 2))),
-    *of_pair("the first frame twice", pes_file("0 h r c, 0 h r c, 50 h c"),
-             ("", "refused 62 Order pes 1"), (ONE, accepted(51, 3))),
-    *of_pair("the file twice", SENT + SENT, (ONE, UP_TO_TCO, "refused 62 Order pes 2")),
-    *of_pair("another row in the first field", pes_file("0 h r c, 1 h o c, 1+ h r c, 50 h c"),
-             (ONE, accepted(51, 4))),
-    *of_pair("an even byte in the second field",
-             pes_file("0 h, 0+ r c, 1 h r c, 50 h c", (1, 71, 0x12)),
-             (ONE, refused("68 Parity", "00:00", "packet 1"), trusted("00:01", "02:00"))),
-    *of_pair("another row, and an even byte in the second field",
-             pes_file("0 h r c, 1 h o c, 1+ h e c, 2 h r c, 50 h c"),
-             (ONE, trusted("00:00", "00:00"), refused("68 Parity", "00:01", "packet 4"),
-              trusted("00:02", "02:00"))),
-    *of_pair("a page that is erased in the second field",
-             pes_file("0 h r c, 0+ h, 1 h r c, 1+ h, 50 h c"),
-             (ONE, *wrong("00:01", "01:24"), LAST)),
-    *of_pair("one that can't be read between those of a frame",
-             pes_file("0 h r c, 25 h, 25 c, 25+ r c, 50 h c", (2, 45, 0x20)),
-             (ONE, trusted("00:00", "00:24"), "refused 37 DataId pes 2", LAST)),
-]
-
-# What may be trusted where a page was not whole yet, and what else is told there.
-TRUST = [
-    *of_pair("a row that was never due", pes_file("0 h o c, 1 h r c, 50 h c"),
-             ("--within 3", *wrong("00:00", column=20), trusted("00:01", "02:00"))),
-    *of_pair("a page a frame early", pes_file("-1 h r c, 50 h c"),
-             ("--within 3", *EARLY_WRONG, LAST)),
-    *of_pair("a gap", SENT,
-             ("--every 49", trusted("00:00", "01:23"), *stands("73 Gap", "01:24", "01:24"), LAST),
-             ("--every 49 --within 1", trusted("00:00", "01:23"), *stands("73 Gap", "01:24",
-              "01:24"), LAST),
-             ("--every 48 --within 1", trusted("00:00", "01:22"), *stands("73 Gap", "01:23",
-              "01:24"), LAST)),
-    *of_pair("another page", SENT,
-             ("--page 100 --every 3 --within 1", refused("71 NoFirstHeader", "00:00"),
-              wrong("00:01")[0], refused("73 Gap", "00:02"), ended("72 Content", "01:24"),
-              ended("73 Gap", "02:00"))),
-    *of_pair("no header of the last page", pes_file("0 h r c, 50"),
-             (ONE, UP_TO_TCO, refused("74 Late", "02:00")),
-             (f"{ONE} --complete", UP_TO_TCO, refused("74 Late", "02:00"))),
-    *of_pair("a part of the second PES packet", SENT[:-1], (ONE, "refused 30 Truncated pes 1")),
-]
+UP_TO_TCO, ONE = trusted("00:00", "01:24"), "--within 1"
 
 # The first and the last PTS of the day, and one tick before and after them.
 DAY = [
@@ -149,11 +45,6 @@ DAY = [
     *[known for ticks in (-901, TICKS * FRAMES_OF_A_DAY - 900) for known in of_pair(
         f"a PTS of {ticks}", pes_packet(ticks % CLOCK, PAGE),
         (ONE, "refused 61 OffFrame pes 0"), stl=HELLO[:GSI])],
-]
-
-WORDS = [
-    *of_pair("too many frames", SENT, ("--within 51", "usage 85 Within")),
-    *of_pair("no number of frames", SENT, ("--within x", "usage 85 Within")),
 ]
 
 # What is left of a run where the page is not whole any more after ten frames, by what comes next.
@@ -226,4 +117,6 @@ TICKS_OF_A_FRAME = [
               "02:01"))),
 ]
 
-WITHIN = [*LATE, *FIELDS, *TRUST, *STOPPED, *ENDS, *TICKS_OF_A_FRAME, *DAY, *WORDS]
+WITHIN = [
+    *of_pair("the file twice", SENT + SENT, (ONE, UP_TO_TCO, "refused 62 Order pes 2")),
+    *STOPPED, *ENDS, *TICKS_OF_A_FRAME, *DAY]

@@ -59,10 +59,13 @@ def pid_of(text: str) -> int | None:
 
 
 def given_by(words: list[str]) -> dict[str, str]:
-    """The texts by their names; `--name=text` is a name and a text."""
+    """The texts by their names; `--name=text` is a name and a text. None stands there twice."""
     parts = [part for word in words for part in (
         word.split("=", 1) if word.startswith("--") else [word]) if word not in FLAGS]
-    return {**DEFAULTS, **dict(zip(parts[::2], parts[1::2]))}
+    names = parts[::2]
+    if len({*names}) < len(names):
+        raise UsageFault("0 Words")
+    return {**DEFAULTS, **dict(zip(names, parts[1::2]))}
 
 
 def options_of(words: list[str]) -> Options:

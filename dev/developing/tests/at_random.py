@@ -4,7 +4,8 @@ wrong on the way, and the options; and all that is said then, on the terminal an
 `dev/vectors/calls.tsv` has what was said of each when somebody last looked at it: the words, the
 last line, and sums of all lines, of the JSON result, and of the other files. A change that is meant
 changes them; from dev/, `python3 -m developing.tests.at_random ../subttx 0 240` prints the table,
-and `.. NUMBER` all that a call says, to compare.
+and `.. NUMBER` all that a call says, to compare. A line `# NUMBER: ..` before a row says why it
+says something else than it once did; it stays where it is.
 """
 from __future__ import annotations
 
@@ -38,6 +39,7 @@ from .muxed import (
     AHEAD, MPEG_2, PRIVATE, TELETEXT_PID, VIDEO_PID, Maker, mpeg_2_picture, spaced,
     teletext_descriptor, video_packet)
 
+VECTORS = os.path.join(TOP, "dev", "vectors", "calls.tsv")
 SECOND_PID = 0x102
 EACH = 20  # calls of which the results are collected
 TEXTS = [b"Good evening.", b"Here is the news.", b"It costs \xa35, or \xa47.",
@@ -348,8 +350,7 @@ def tool_here(command: Sequence[str], **options: Any) -> Any:
     assert spec
     module = importlib.util.module_from_spec(spec)
     loader.exec_module(module)
-    given = [module.__doc__] if name == "origin" else []  # its `main` takes the help that it has
-    status, out, told = in_process(lambda line: module.main(*given, line), list(command))
+    status, out, told = in_process(module.main, list(command))
     return subprocess.CompletedProcess(command, status, out, told)
 
 
@@ -451,7 +452,7 @@ class Here:
     """What steps call in the place of `subprocess`."""
 
     run = staticmethod(tool_here)
-    PIPE, DEVNULL = subprocess.PIPE, subprocess.DEVNULL
+    PIPE, DEVNULL, Popen = subprocess.PIPE, subprocess.DEVNULL, subprocess.Popen
 
 
 def sum_of(text: str) -> str:
@@ -461,21 +462,41 @@ def sum_of(text: str) -> str:
 def row_of(name: str, said: Said) -> str:
     """The row of a call."""
     others = "".join(text for name, text in said.files.items() if name != "one.json")
+    assert "a mistake of this tool" not in "".join([*said.lines, others]), said
     sums = map(sum_of, ("\n".join(said.lines), said.files.get("one.json", ""), others))
     last = next((line for line in reversed(said.lines) if not line.startswith("qc: ")), "")
     return "\t".join([name, " ".join(said.words), str(said.status), last, *sums])
 
 
+class Table(NamedTuple):
+    """The rows of the table, and the lines of notes before a row, by its name."""
+
+    rows: list[str]
+    notes: dict[str, list[str]]
+
+
+def table() -> Table:
+    """The table as it is."""
+    found = Table([], {})
+    with open(VECTORS, encoding="utf-8") as file:
+        for line in file.read().splitlines():
+            if line.startswith("#"):
+                found.notes.setdefault(line[2:].partition(":")[0], []).append(line)
+            else:
+                found.rows.append(line)
+    return found
+
+
 if __name__ == "__main__":
     PROGRAM, *NUMBERS = sys.argv[1:]
-    PROGRAM, RESULTS = os.path.abspath(PROGRAM), []
+    PROGRAM, RESULTS, NOTES = os.path.abspath(PROGRAM), [], table().notes
     for NUMBER in range(*map(int, NUMBERS)) if len(NUMBERS) > 1 else [int(NUMBERS[0])]:
         SAID = said_of(NUMBER, PROGRAM)
         RESULTS.append(SAID.result)
         if len(NUMBERS) == 1:
             print("\n".join([*SAID.words, *SAID.lines, *SAID.files.values()]))
         else:
-            print(row_of(str(NUMBER), SAID), flush=True)
+            print("\n".join([*NOTES.get(str(NUMBER), []), row_of(str(NUMBER), SAID)]), flush=True)
         if NUMBER % EACH == EACH - 1:
             print(row_of(f"to {NUMBER}", of_several(RESULTS, PROGRAM)), flush=True)
             RESULTS = []

@@ -1,7 +1,7 @@
 """Transport streams of a programme with video and Teletext, made for tests."""
 from __future__ import annotations
 
-from typing import Iterator
+from typing import Iterator, NamedTuple
 
 from subtitles.core.pes import pts_bytes, pts_in
 from subtitles.core.times import CLOCK, TICKS, ticks_between, wrapped
@@ -9,7 +9,7 @@ from developing.multiplex import BEGINS, PACKET, PAYLOAD, head, section
 from .bench import packets
 
 RANDOM_ACCESS = 0x40
-PMT_PID, VIDEO_PID, TELETEXT_PID = 0x100, 0x200, 0x101
+PMT_PID, VIDEO_PID, AUDIO_PID, TELETEXT_PID = 0x100, 0x200, 0x201, 0x101
 MPEG_2, H_264, HEVC, PRIVATE = 0x02, 0x1B, 0x24, 0x06
 SLICES = b"\0\0\1\1" + b"slice data " * 9  # of a picture of MPEG-2
 AHEAD = 18_000  # ticks by which PTS are ahead of the PCR
@@ -162,3 +162,44 @@ def spaced(data: bytes, size: int) -> bytes:
     before, behind = (b"time", b"") if size == 192 else (b"", b"\xa5" * (size - PACKET))
     return b"".join(before + data[at:at + PACKET] + behind
                     for at in range(0, len(data), PACKET))
+
+
+class Sent(NamedTuple):
+    """A TS packet: its PID, and its bytes."""
+
+    pid: int
+    data: bytes
+
+
+def stream_of(pes: list[bytes], begin: int, end: int, rate: int = 200, pid: int = TELETEXT_PID,
+              before: Maker | None = None) -> tuple[list[Sent], Maker]:
+    """A multiplex from one PTS to another: so many TS packets of video and audio a second, a PCR
+    each 40 ms, tables twice a second, and PES packets of Teletext on a PID when they are due. It
+    goes on with the counters of another one."""
+    maker = Maker([(VIDEO_PID, MPEG_2, b""), (pid, PRIVATE, teletext_descriptor())])
+    maker.counters = before.counters if before else maker.counters
+    made: list[Sent] = []
+
+    def take(own: int) -> None:
+        made.extend(Sent(own, maker.data[at:at + PACKET])
+                    for at in range(0, len(maker.data), PACKET))
+        maker.data = b""
+
+    second, at, clock = TICKS * 25, 0, 0
+    for number in range((end - begin) * rate // second):
+        now = begin + number * second // rate
+        if number % (rate // 2) == 0:
+            maker.put_tables()
+            take(0)
+        if now - begin >= clock:
+            clock += TICKS
+            maker.put_pcr(now - AHEAD)
+            take(VIDEO_PID)
+        while at < len(pes) and ticks_between(pts_in(pes[at]), wrapped(now)) >= 0:
+            maker.put(pid, pes[at])
+            take(pid)
+            at += 1
+        own = AUDIO_PID if number % 9 == 0 else VIDEO_PID
+        maker.put_packet(own, 0, b"\x55" * (PACKET - 4))
+        take(own)
+    return made, maker

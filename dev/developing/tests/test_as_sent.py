@@ -8,15 +8,19 @@ import random
 
 from subtitles.calls.channel.planned import Planned
 from subtitles.calls.single import refuse_auto
-from subtitles.core.layout import fault_in, layout_of
+from subtitles.core.layout import PLAIN, Layout, fault_in, layout_of
+from subtitles.core.national import ENGLISH
+from subtitles.core.pes import pes_packet
+from subtitles.core.programme import Subtitle
 from subtitles.core.stl import gsi_block, subtitle_blocks
+from subtitles.core.times import TICKS
 from subtitles.core.words import Stop, quoted
-from subtitles.qc.as_sent import words_of_layout
+from subtitles.qc.as_sent import otherwise, sent_in, words_of_layout
 from .bench import Case
 from .judged import Judged, in_pipe, judged
-from .parts import asked_for
+from .parts import CLOSING, HEADER, asked_for, row, timeline_of
 from .test_channel_tables import defaults
-from .test_layouts import line
+from .test_layouts import line, programme
 
 FIRST = 3000  # the frame of the first TCI
 DSC = slice(11, 12)
@@ -145,6 +149,38 @@ class Houses(Case):
         self.must("report", words.encode() in self.read("out/one.html"))
         given = self.judge(texts_of(some, False, b"\x8a", 30), "after=0A", "--layout", "last")
         self.must("not where one is given", given.word == "refused" and not given.result["hints"])
+
+
+class Sendings(Case):
+    """What is taken of a recording to find the layout, and told of it."""
+
+    def test_the_page_that_is_held_for_longest(self) -> None:
+        """Of those with the letters of a subtitle, while it is due; the pages differ in their
+        rows."""
+        for begin, end, pages, wanted in (
+                (0, 50, ((0, 18), (10, 20)), [20]), (0, 30, ((0, 18), (20, 20)), [18]),
+                (50, 80, ((0, 18), (60, 20)), [20]), (0, 50, ((0, 18), (25, 20)), [18]),
+                (0, 50, ((0, 18), (5, 19), (20, 20), (30, 21)), [21]),
+                (0, 50, ((0, 18), (10, None)), [18]), (0, 50, ((50, 18),), [])):
+            pes = [pes_packet(TICKS * frame, [HEADER, *[row(number or 1, b"ab" if number else b"c"
+                                                            )], CLOSING])
+                   for frame, number in (*pages, (200, None))]
+            one = Subtitle(1, 0, begin, end, 18, 2, b"ab")
+            found = sent_in([one], timeline_of(self, b"".join(pes)), ENGLISH)
+            rows = [number for sent in found for number, cells in enumerate(sent.rows, 1)
+                    if cells.strip()]
+            self.must(f"{begin} {end} {pages}", rows == wanted, rows)
+
+    def test_what_is_not_clear_is_not_told(self) -> None:
+        """Nothing of pages that are drawn in turns, of nine, and where all is drawn as it was
+        sent."""
+        some = random.Random(86)
+        house, plain = (programme(some, False, False, layout, 30)
+                        for layout in (Layout(text=True, row=-1), PLAIN))
+        turns = [one for pair in zip(house, plain) for one in pair]
+        for sent, is_told in ((house, True), (turns, False), (house[:9], False), (plain, False)):
+            self.must(f"{len(sent)} {is_told}", bool(otherwise(sent, ENGLISH)) == is_told,
+                      otherwise(sent, ENGLISH))
 
 
 class Words(Case):

@@ -6,33 +6,39 @@ import sys
 from typing import Callable
 
 from .. import DEV
-from .at_random import EACH
+from .at_random import EACH, table
 from .bench import Case
 
-VECTORS = os.path.join(DEV, "vectors", "calls.tsv")
+TABLE = table()
 
 
 class Calls(Case):
-    """Rows of the table, some at a time."""
+    """Rows of the table, some at a time, and notes beside them."""
+
+    def test_notes(self) -> None:
+        """Each is of a row, and says something."""
+        names = {row.partition("\t")[0] for row in TABLE.rows}
+        for name, lines in TABLE.notes.items():
+            self.must(name, name in names and all(
+                line.startswith(f"# {name}: ") and line.endswith(".") for line in lines), lines)
 
 
 def rows_from(first: int) -> Callable[[Calls], None]:
     """The test of the rows from a number on."""
 
     def test(self: Calls) -> None:
-        with open(VECTORS, encoding="utf-8") as file:
-            rows = file.read().splitlines()
-        wanted = rows[first // EACH * (EACH + 1):][:EACH + 1]
+        wanted = TABLE.rows[first // EACH * (EACH + 1):][:EACH + 1]
         done = self.call([sys.executable, "-m", "developing.tests.at_random", self.bench.program,
                           str(first), str(first + EACH)], env={**os.environ, "PYTHONPATH":
                           os.pathsep.join([DEV, *os.environ.get("PYTHONPATH", "").split(":")])})
         self.must("all are said", done.status == 0, done.told)
-        for row, found in zip(wanted, done.out.decode().splitlines()):
+        said = [line for line in done.out.decode().splitlines() if not line.startswith("#")]
+        self.must("all rows", len(said) == len(wanted), said)
+        for row, found in zip(wanted, said):
             self.must(row, row == found, found)
 
     return test
 
 
-with open(VECTORS, encoding="utf-8") as TABLE:
-    for FIRST in range(0, sum(1 for _ in TABLE) // (EACH + 1) * EACH, EACH):
-        setattr(Calls, f"test_from_{FIRST:03}", rows_from(FIRST))
+for FIRST in range(0, len(TABLE.rows) // (EACH + 1) * EACH, EACH):
+    setattr(Calls, f"test_from_{FIRST:03}", rows_from(FIRST))

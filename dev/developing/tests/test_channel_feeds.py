@@ -62,7 +62,8 @@ class Feeds(Case):
                 process.stdin.close()
             _, status, used = os.wait4(process.pid, 0)
             process.returncode = os.waitstatus_to_exitcode(status)
-        lines = verdicts(self.read("log").decode().splitlines())
+        lines = [line for line in verdicts(self.read("log").decode().splitlines())
+                 if not line.startswith("nothing of PID")]
         return lines, memory, used.ru_utime + used.ru_stime
 
     def test_of_any_length(self) -> None:

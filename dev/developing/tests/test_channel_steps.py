@@ -4,101 +4,25 @@ from __future__ import annotations
 import argparse
 import json
 import os
-from typing import Any, Iterator
+from typing import Any
 from unittest import mock
 
 from subtitles.calls.channel import channel as channels
-from subtitles.calls.channel.channel import ENDED, ENOUGH, LATER, Channel, stall_heard
-from subtitles.calls.channel.channel_feed import PesFeed, Taken
-from subtitles.calls.channel.feed_clock import MINUTE, SECOND
-from subtitles.calls.objects import found, unjudged
+from subtitles.calls.channel.channel import BEFORE_IT, LATER
+from subtitles.calls.channel.partial import ENDED, STOPPED
 from subtitles.calls.channel.queue import AT_ONCE
-from subtitles.core.pes import pes_packet, pts_in
+from subtitles.calls.objects import found, unjudged
 from subtitles.core.times import CLOCK, TICKS
 from subtitles.qc.clock import FITTED_SHORT
-from subtitles.calls.channel.source import Source
-from subtitles.qc.typed import Typed
 from .bench import Case
-from .parts import CLOSING, HEADER, asked_for, row
-from .test_channel_tables import EACH, FIRST, LASTS, defaults, programme
+from .listings import LAST, SECOND, Judging, Lines, Told, files_of, texts_of
+from .parts import asked_for
+from .test_channel_tables import FIRST
 
-TEXTS = ["Alpha", "Beta", "Gamma", "Delta"]
-LAST = EACH * (len(TEXTS) - 1) + LASTS  # frames from a programme's first TCI to its last TCO
-
-
-class Judging:
-    """Stands for a call that judges a programme: `given` is what it was handed, and it is over once
-    a test says so, or it is waited for."""
-
-    made: list[Judging] = []
-    ended = 0  # its status
-    left: dict[str, Any] = {"format": 3, "verdict": "accepted", "status": 0, "asked": {},
-                            "line": "accepted 5 frames", "faults": [], "hints": []}
-
-    def __init__(self, programme: Any, command: list[str], folder: str, end: int) -> None:
-        self.programme, self.command, self.end = programme, command, end
-        self.given, self.is_done, self.was_waited, self.was_closed = b"", False, False, False
-        self.process = argparse.Namespace(returncode=self.ended)
-        Judging.made.append(self)
-
-    def put(self, data: bytes) -> None:
-        self.given += data
-
-    def is_over(self) -> bool:
-        return self.is_done
-
-    def wait(self) -> None:
-        self.was_waited = self.is_done = True
-
-    def close(self) -> None:
-        """Writes the object of an accepted programme, where the command says."""
-        self.was_closed = True
-        words = self.command
-        out = words[words.index("-o") + 1] if "-o" in words else None
-        path = os.path.join(out, f"{self.programme.name}.json") if out else \
-            words[words.index("--json") + 1]
-        if not os.path.exists(path):
-            with open(path, "w", encoding="ascii") as file:
-                json.dump(self.left, file)
-
-    def lines(self) -> list[str]:
-        """What it told."""
-        return ["qc: first", "qc: told: last"]
+BEGIN = 900_000
 
 
-class Told(Channel):
-    """A channel of a list; what it says is kept, without the time."""
-
-    def __init__(self, case: Case, lines: str, out: str | None = None, is_kept: bool = False,
-                 *more: str) -> None:
-        words = argparse.Namespace(**{**vars(defaults(*more)), "channel": case.write(
-            "list", lines.encode()), "patience": 2, "out": out, "is_kept": is_kept})
-        Judging.made = []
-        super().__init__(words, Typed("tools/qc", case.bench.program), case.folder)
-        self.said: list[str] = []
-        self.feed = PesFeed(Source(case.write("feed", b"")))
-
-    def say(self, line: str) -> None:
-        self.said.append(line)
-
-    def give(self, packets: Iterator[bytes]) -> None:
-        """Takes PES packets one by one."""
-        for data in packets:
-            self.take(Taken(data, [data]))
-
-
-def sent(texts: list[str], begin: int, until: int = 0) -> Iterator[bytes]:
-    """PES packets of a programme from a PTS on, then one a second without the page's header up to
-    some seconds behind its end."""
-    for number, text in enumerate(texts):
-        for frame, is_text in ((EACH * number, True), (EACH * number + LASTS, False)):
-            rows = [row(20, text.encode())] * is_text
-            yield pes_packet((begin + TICKS * frame) % CLOCK, [HEADER, *rows, CLOSING])
-    for second in range(1, until):
-        yield pes_packet((begin + TICKS * LAST + SECOND * second) % CLOCK, [CLOSING])
-
-
-@mock.patch.object(channels, "Running", Judging)
+@mock.patch.object(channels, "Call", Judging)
 class Steps(Case):
     """Programmes of four subtitles each."""
 
@@ -107,46 +31,44 @@ class Steps(Case):
     def setUp(self) -> None:
         super().setUp()
         os.mkdir(self.path("out"))
-        self.files = {name: programme(self, f"{name}.stl", FIRST, [f"{name} {text}" for text in
-                                                                   TEXTS])
-                      for name in ("one", "two", "three", "four", "five", "six")}
-
-    def texts(self, name: str) -> list[str]:
-        return [f"{name} {text}" for text in TEXTS]
+        self.files = files_of(self, "one", "two", "three", "four", "five", "six")
 
     def names(self) -> list[str]:
-        """The programmes that were begun."""
-        return [one.programme.name for one in Judging.made]
+        """The programmes that were judged."""
+        return [one.name for one in Judging.made]
 
     def listed(self, *names: str, options: str = "") -> str:
         """Lines of a list."""
         return "".join(f"{self.files[name]}{options}\n" for name in names)
 
-    def test_begins_with_what_was_kept(self) -> None:
-        """Once five edges have come: with the origin by the feed, and all that came before and
-        after; what is judged ends with its last TCO. Its verdict is told when it is over."""
-        for begin in (900_000, CLOCK - SECOND):
+    def test_judges_once_all_has_come(self) -> None:
+        """It is there with its fifth edge, and is judged when the page was sent at its last TCO and
+        goes on: with the origin by the feed. Its verdict is told when it is over."""
+        for begin in (BEGIN, CLOCK - SECOND):
             for out, is_kept in ((None, False), (self.path("out"), False),
                                  (self.path("out"), True)):
-                channel = Told(self, self.listed("one", "two"), out, is_kept, "--pid", "0x101")
+                channel, lines = Told(self, self.listed("one", "two"), out, "--pid", "0x101",
+                                      is_kept=is_kept), Lines(0x101)
                 if out:
                     self.write("out/one.json", b"of an earlier call")
-                packets = list(sent(self.texts("one"), begin, 5))
-                channel.give(iter(packets[:4]))
-                self.must("not yet", not Judging.made)
-                channel.give(iter(packets[4:]))
+                told = list(lines.sent(texts_of("one"), begin, 5))
+                channel.give(told[:8])
+                self.must("not yet", channel.running is None)
+                channel.give(told[8:16])
+                self.must("there", channel.running is not None and not Judging.made)
+                with mock.patch.object(Judging, "is_quick", False):
+                    channel.give(told[16:])
                 [one] = Judging.made
                 origin = (begin - TICKS * FIRST) % CLOCK
                 files = ["-o", out, *["--keep"] * is_kept] if out else \
                     ["--json", self.path("one.json")]
                 words = one.command[2:]
-                self.must("command", words[:len(files) + 2] == ["--name=one", *files, "--fitted"]
-                          and words[words.index("--origin") + 1] == str(origin)
-                          and words[-3:] == ["--", self.files["one"], "-"]
-                          and "--pid" not in words, words)
+                self.must("command", words[:len(files) + 3] == [
+                    "--name=one", *files, "--fitted", "--cut"]
+                          and one.value("--origin") == str(origin)
+                          and one.value("--pid") == str(0x101)
+                          and words[-3:] == ["--", self.files["one"], "-"], words)
                 self.must("no earlier object", not os.path.exists(self.path("out/one.json")))
-                self.must("bytes", one.given == b"".join(packets), len(one.given))
-                self.must("end", one.end == TICKS * LAST, one.end)
                 self.must("nothing said", not channel.said and channel.running is not None)
                 one.is_done = True
                 channel.go_on()
@@ -156,25 +78,36 @@ class Steps(Case):
                           and list(channel.rows) == ["one"] and
                           os.path.exists(self.path("out/index.html")) == (out is not None))
                 self.must("waits since then", channel.queue.since == channel.queue.ended ==
-                          min(one.end, channel.clock.now), channel.queue.since)
-                if out:
-                    for name in os.listdir(out):
-                        os.unlink(os.path.join(out, name))
-                else:
-                    os.unlink(self.path("one.json"))
+                          TICKS * LAST, channel.queue.since)
+                for name in os.listdir(out) if out else ():
+                    os.unlink(os.path.join(out or "", name))
+
+    def test_is_judged_when(self) -> None:
+        """At the first PES packet behind the last page transmission, two minutes later by the time
+        alone, and where the feed stands still once the page was sent at its last TCO."""
+        for seconds, is_still, is_judged in (
+                ((1,), False, True), ((1, 2), False, True), ((), False, False), ((), True, True)):
+            channel, lines = Told(self, self.listed("one")), Lines()
+            channel.give(lines.sent(texts_of("one"), BEGIN))
+            channel.give(lines.pes(BEGIN + TICKS * LAST + SECOND * at) for at in seconds)
+            channel.take(is_still)
+            self.must(f"{seconds} {is_still}", bool(Judging.made) == is_judged)
+        channel, lines = Told(self, self.listed("one", options=" --every 9000")), Lines()
+        channel.give([*lines.sent(texts_of("one"), BEGIN)][:-2])
+        for ticks, is_judged in ((LATER - SECOND, False), (LATER + SECOND, True)):
+            channel.give([lines.pes(BEGIN + TICKS * LAST + ticks, "")])
+            self.must(f"{ticks}", bool(Judging.made) == is_judged)
 
     def test_several(self) -> None:
         """The second and the third, each by its own clock; what stands before one that is sent was
         not, and of many no more than four are looked for."""
-        channel = Told(self, self.listed("one", "two", "three", "four", "five"))
+        channel, lines = Told(self, self.listed("one", "two", "three", "four", "five")), Lines()
         for number, name in enumerate(("one", "three", "five")):
-            begin = 900_000 + 60 * SECOND * number
-            channel.give(sent(self.texts(name), begin, 20))
-            self.must(f"{name} is begun", self.names()[-1] == name, self.names())
-            self.must(f"{name}: origin", f"{(begin - TICKS * FIRST) % CLOCK}" in
-                      Judging.made[-1].command)
-            Judging.made[-1].is_done = True
-            channel.go_on()
+            begin = BEGIN + 60 * SECOND * number
+            channel.give(lines.sent(texts_of(name), begin, 20))
+            self.must(f"{name} is judged", self.names()[-1] == name, self.names())
+            self.must(f"{name}: origin",
+                      Judging.made[-1].value("--origin") == f"{(begin - TICKS * FIRST) % CLOCK}")
         self.must("said", [line.split("  ")[0] for line in channel.said] ==
                   ["one", "two", "three", "four", "five"], channel.said)
         self.must("why", channel.said[1].endswith(
@@ -184,20 +117,30 @@ class Steps(Case):
         # What is waited for at the same time is waited for anew, and its file may come meanwhile.
         for late in ("two", "three"):
             os.rename(self.files[late], self.path("away"))
-            channel = Told(self, self.listed("one", "two", "three"))
-            channel.give(sent(self.texts("one"), 900_000, 20))
+            channel, lines = Told(self, self.listed("one", "two", "three")), Lines()
+            channel.give([*lines.sent(texts_of("one"), BEGIN)])
             os.rename(self.path("away"), self.files[late])
-            Judging.made[0].is_done = True
-            channel.go_on()
-            channel.give(sent(self.texts(late), 900_000 + 115 * SECOND))
+            channel.give([lines.pes(BEGIN + TICKS * LAST + SECOND, "hecb", 20, SECOND)])
+            channel.give(lines.sent(texts_of(late), BEGIN + 115 * SECOND, 20))
             self.must(f"the {late}", self.names() == ["one", late], self.names())
         self.write("copy.stl", self.read("one.stl"))
         channel = Told(self, f"{self.path('copy.stl')}\n" + self.listed("one", "two"))
-        channel.give(sent(self.texts("one"), 900_000, 2))
+        channel.give(Lines().sent(texts_of("one"), BEGIN, 20))
         self.must("the first of two that are alike", self.names() == ["copy"], self.names())
         channel = Told(self, self.listed("one", "two", "three", "four", "five"))
-        channel.give(sent(self.texts("five"), 900_000, 2))
+        channel.give(Lines().sent(texts_of("five"), BEGIN, 20))
         self.must("the fifth", not Judging.made and len(channel.queue.waiting) == AT_ONCE)
+
+    def test_pages(self) -> None:
+        """Each programme on its page, at one time of the feed."""
+        channel = Told(self, self.listed("one") + self.listed("two", options=" --page 889"))
+        own, other = Lines(5), Lines(6)
+        channel.give(own.sent(texts_of("one"), BEGIN, 20))
+        channel.give(other.sent(texts_of("two"), BEGIN + 15 * SECOND, 20), (0, 0x89))
+        self.must("both", [(one.name, one.value("--page"), one.value("--pid"))
+                           for one in Judging.made] == [("one", "888", "5"), ("two", "889", "6")])
+        heard = channel.hearing.by_page[0, 0x89]
+        self.must("one time", heard.changes[False].times[0] == 15 * SECOND, heard.changes)
 
     def test_what_a_call_left(self) -> None:
         """Its line, with what to know of its first fault; where it ended with another status, what
@@ -213,33 +156,20 @@ class Steps(Case):
                  "not judged: why")):
             channel = Told(self, self.listed("one"), self.path("out"))
             with mock.patch.multiple(Judging, left=left, ended=ended):
-                channel.give(sent(self.texts("one"), 900_000))
-                Judging.made[0].is_done = True
-                channel.go_on()
+                channel.give(Lines().sent(texts_of("one"), BEGIN, 20))
             self.must(said, channel.said == [f"one  {said}"], channel.said)
             with open(self.path("out/one.json"), encoding="ascii") as file:
                 self.must("its object", [json.load(file)["verdict"]] == channel.verdicts)
-
-    def test_call_that_ends_early(self) -> None:
-        """The next one is waited for since then, and not since the end that was planned."""
-        channel = Told(self, self.listed("one", "two"))
-        channel.give(iter(list(sent(self.texts("one"), 900_000))[:6]))
-        [one] = Judging.made
-        one.is_done = True
-        channel.go_on()
-        self.must("since then", channel.queue.since == channel.queue.ended == channel.clock.now
-                  < one.end, channel.queue.ended)
 
     def test_patience(self) -> None:
         """Two minutes after the one before, or after waiting began; then the next one has two."""
         for options, why in (("", "its first five edges were not seen within 2 minutes"),
                              (" --origin 7000000000", "its first TCI did not come, by --origin "
                               "7000000000, within 2 minutes")):
-            channel = Told(self, self.listed("one", "two", options=options))
+            channel, lines = Told(self, self.listed("one", "two", options=options)), Lines()
             for second, count in ((0, 0), (60, 0), (120, 0), (121, 1), (180, 1), (240, 1),
                                   (241, 2)):
-                data = pes_packet(SECOND * second, [CLOSING])
-                channel.take(Taken(data, [data]))
+                channel.give([lines.pes(SECOND * second)])
                 self.must(f"{options} at {second}", len(channel.said) == count, channel.said)
             self.must("why", channel.said == [f"{name}  not judged: {why}" for name in
                                               ("one", "two")], channel.said)
@@ -247,166 +177,186 @@ class Steps(Case):
 
     def test_origin_that_is_given(self) -> None:
         """It is begun with its first TCI, and is not said to be fitted."""
-        for begin in (900_000, TICKS * FIRST):  # the second one is 0
+        for begin in (BEGIN, TICKS * FIRST):  # the second one is 0
             origin = (begin - TICKS * FIRST) % CLOCK
-            channel = Told(self, self.listed("one", options=f" --origin {origin}"), None, False,
+            channel = Told(self, self.listed("one", options=f" --origin {origin}"), None,
                            "--origin", "7")  # that of the call is for the others
+            lines = Lines()
             for ticks, is_begun in ((-SECOND, False), (-1, False), (0, True)):
-                data = pes_packet(begin + ticks, [CLOSING])
-                channel.take(Taken(data, [data]))
-                self.must(f"at {ticks}", bool(Judging.made) == is_begun)
+                channel.give([lines.pes(begin + ticks)])
+                self.must(f"at {ticks}", (channel.running is not None) == is_begun)
+            channel.give([lines.pes(begin + TICKS * LAST + SECOND, "hecb", 20, SECOND)])
             self.must("command", "--fitted" not in Judging.made[0].command
-                      and str(origin) in Judging.made[0].command, Judging.made[0].command)
-            self.must("end", Judging.made[0].end == channel.clock.now + TICKS * LAST)
-            Judging.made[0].is_done = True
-            channel.go_on()
+                      and Judging.made[0].value("--origin") == f"{origin}", Judging.made[0].command)
             self.must("said", channel.said == ["one  accepted 5 frames"], channel.said)
 
-    def test_waits_for_a_verdict(self) -> None:
-        """Where the feed is two minutes ahead, and four PES packets were handed on since then."""
-        channel = Told(self, self.listed("one", "two"))
-        packets = list(sent(self.texts("one"), 900_000))
-        channel.give(iter(packets))
-        [one] = Judging.made
-        end = pts_in(packets[-1])
-        for ticks, waited in ((1, False), (2, False), (3, False), (LATER, False),
-                              (LATER + 1, True)):
-            data = pes_packet(end + ticks, [CLOSING])
-            channel.take(Taken(data, [data]))
-            self.must(f"{ticks}", one.was_waited == waited)
-        channel = Told(self, self.listed("one", "two"))
-        channel.give(iter(packets))
-        [one] = Judging.made
-        for count in range(1, ENOUGH + 1):
-            data = pes_packet(end + LATER + 1, [CLOSING])
-            channel.take(Taken(data, [data]))
-            self.must(f"{count} packets", one.was_waited == (count == ENOUGH))
-        channel = Told(self, self.listed("one", "two"))
-        channel.give(sent(self.texts("one"), 900_000, ENOUGH + 3))
-        Judging.made[0].is_done = True
-        packets = list(sent(self.texts("two"), 900_000 + 40 * SECOND))
-        channel.give(iter([*packets, pes_packet(pts_in(packets[-1]) + LATER + 1, [CLOSING])]))
-        self.must("counted anew", self.names() == ["one", "two"] and
-                  not Judging.made[1].was_waited, self.names())
-
-    def test_keeps_what_is_asked_for(self) -> None:
-        """What came within two minutes, and since the end of what is judged."""
-        channel = Told(self, self.listed("one", "two"))
-        self.must("before", channel.floor() == -2 * MINUTE)
-        channel.give(sent(self.texts("one"), 900_000))
-        channel.clock.now = 9 * MINUTE
-        [one] = Judging.made
-        self.must("its end", channel.floor() == one.end, channel.floor())
-        one.end = 8 * MINUTE
-        self.must("two minutes", channel.floor() == 7 * MINUTE, channel.floor())
-
-    def test_begins_anew(self) -> None:
-        """What is judged ends there, nothing before counts, and the next is waited for since then.
-        """
-        channel = Told(self, self.listed("one", "two", "three"))
-        channel.give(sent(self.texts("one"), 900_000))
-        channel.give(iter([pes_packet(100, [CLOSING])]))
-        self.must("ended", Judging.made[0].was_closed and channel.running is None)
-        self.must("said", channel.said[0].startswith("an encoder begins anew: PTS 100 after ")
-                  and channel.said[1].startswith("one  accepted"), channel.said)
-        self.must("since", channel.queue.ended == channel.clock.now, channel.queue.ended)
-        self.must("kept", b"".join(channel.ring.pieces()) == pes_packet(100, [CLOSING]))
-        channel.give(sent(self.texts("two"), 200_000))
-        self.must("the next", self.names() == ["one", "two"], self.names())
-        waiting = Told(self, self.listed("one"))
-        waiting.give(sent(self.texts("two"), 900_000))
-        waiting.give(iter([pes_packet(100, [CLOSING])]))
-        self.must("waits on", (waiting.queue.since, waiting.queue.ended) == (0, waiting.clock.now)
-                  and waiting.clock.now > 0, waiting.queue.since)
-        for pts, words in ((200_000 + TICKS * LAST + 61 * MINUTE, "nothing came for 01:01:00:00, "
-                            "or an encoder begins anew: PTS "),):
-            channel.give(iter([pes_packet(pts, [CLOSING])]))
-            self.must("forward", any(line.startswith(words) for line in channel.said), channel.said)
+    def test_encoder_that_begins_anew(self) -> None:
+        """What was sent up to there is judged, and nothing that was heard before counts; also the
+        second time."""
+        channel, lines = Told(self, self.listed("one", "two", "three")), Lines()
+        for turn, (name, next_begin) in enumerate((("one", 100), ("two", CLOCK // 2))):
+            begin = BEGIN if turn == 0 else 100
+            channel.give([*lines.sent(texts_of(name), begin)][:14])
+            self.must(f"turn {turn}", channel.running is not None)
+            channel.give([lines.pes(next_begin)])
+            self.must("judged", self.names()[-1] == name and
+                      Judging.made[-1].value("--to") is None, self.names())
+            self.must("told", "an encoder begins anew: PTS " in channel.said[-2], channel.said)
+            heard = channel.hearing.by_page[0, 0x88]
+            self.must("forgotten", not heard.changes[False].times)
+        self.must("three", [one.programme.name for one in channel.queue.waiting] == ["three"])
 
     def test_end_of_the_feed(self) -> None:
-        """What is judged is ended, what is there is judged, and the others are open; a line that is
-        none is not."""
+        """What is there is judged, and the others are open; a line that is none is not. A signal
+        leaves what is not there yet."""
         lines = self.listed("one", "two") + "none.stl --pes 1-2\n" + self.listed("three")
         for is_stopped, begun in ((False, ["one", "two"]), (True, ["one"])):
-            channel = Told(self, lines, self.path("out"))
-            channel.give(sent(self.texts("one"), 900_000, 9))
-            for data in sent(self.texts("two"), 900_000 + 20 * SECOND):
-                channel.take(Taken(data, [data]))
+            channel, told = Told(self, lines, self.path("out")), Lines()
+            channel.give(told.sent(texts_of("one"), BEGIN))
+            with mock.patch.object(Judging, "is_quick", False):
+                channel.give(told.sent(texts_of("two"), BEGIN + 20 * SECOND))
             self.must("one is judged", self.names() == ["one"])
             channel.is_stopped = is_stopped
-            channel.stop(ENDED)
-            self.must("begun", self.names() == begun and all(
-                one.was_closed for one in Judging.made), self.names())
+            channel.stop(BEFORE_IT)
+            self.must("begun", self.names() == begun, self.names())
             known = {}
             for name in ("one", "two", "line-3", "three"):
                 with open(self.path(f"out/{name}.json"), encoding="ascii") as file:
                     known[name] = json.load(file)
                 os.unlink(self.path(f"out/{name}.json"))
-            self.must("reasons", known["three"]["reason"] == ENDED and known["three"]["open"]
+            self.must("reasons", known["three"]["reason"] == BEFORE_IT and known["three"]["open"]
                       and "--pes goes with" in known["line-3"]["reason"]
                       and "open" not in known["line-3"], known)
             self.must("verdicts", channel.verdicts.count("not judged") == 4 - len(begun))
+            self.must("in their order", [line.partition("  ")[0] for line in channel.said] ==
+                      ["one", "two", "line-3", "three"], channel.said)
             if is_stopped:
-                self.must("two", known["two"] == {**unjudged("two", ENDED, True)}, known["two"])
+                self.must("two", known["two"] == {**unjudged("two", BEFORE_IT, True)}, known["two"])
+
+    def test_end_in_mid_programme(self) -> None:
+        """It is not judged, and open; what came whole of it is, with --to: the feed ends, a signal
+        comes, and the second subtitle is the last that was erased."""
+        refused: dict[str, Any] = {**Judging.left, "verdict": "refused", "status": 1,
+                                   "line": "refused 72 X"}
+        for is_stopped, why in ((False, ENDED), (True, STOPPED)):
+            for left, ended, what in ((Judging.left, 0, "as it is due"),
+                                      (refused, 1, "refused 72 X")):
+                channel = Told(self, self.listed("one"), self.path("out"))
+                told = list(Lines().sent(texts_of("one"), BEGIN))
+                channel.give(told[:12])  # the third subtitle is erased, and the fourth not there
+                channel.is_stopped = is_stopped
+                with mock.patch.multiple(Judging, left=left, ended=ended):
+                    channel.stop(BEFORE_IT)
+                [one] = Judging.made
+                self.must("to", one.value("--to") == "11:06:49:00" and one.value("-o") is None,
+                          one.command)
+                self.must("said", channel.said == [
+                    f"one  not judged: {why} at 11:06:48:00, in mid-programme; up to 11:06:48:00 "
+                    f"it was {what}"], channel.said)
+                with open(self.path("out/one.json"), encoding="ascii") as file:
+                    self.must("open", json.load(file)["open"] is True)
+        origin = (BEGIN - TICKS * FIRST) % CLOCK
+        channel = Told(self, self.listed("one", options=f" --origin {origin}"))
+        channel.give([*Lines().sent(texts_of("one"), BEGIN)][:2])
+        channel.stop(BEFORE_IT)
+        self.must("nothing came whole", not Judging.made and channel.said == [
+            "one  not judged: the feed ended at 11:06:40:00, in mid-programme; no subtitle of it "
+            "came whole"], channel.said)
+
+    def test_beginning_that_was_missed(self) -> None:
+        """The feed was heard from within the programme on: that is not judged."""
+        channel = Told(self, self.listed("one"), self.path("out"))
+        channel.give([*Lines().sent(texts_of("one"), BEGIN, 20)][2:])
+        [one] = Judging.made
+        self.must("from", (one.value("--from"), one.value("--to")) == (
+            "11:06:43:00", "11:06:51:00"), one.command)
+        self.must("said", channel.said == [
+            "one  not judged: its beginning was missed: the feed was heard from 11:06:42:00 on; "
+            "from 11:06:43:00 up to 11:06:51:00 it was as it is due"], channel.said)
+        with open(self.path("out/one.json"), encoding="ascii") as file:
+            self.must("not open", "open" not in json.load(file))
+
+    def test_feed_that_is_not_kept(self) -> None:
+        """A programme is not judged of which something could not be written."""
+        channel = Told(self, self.listed("one"))
+        channel.spool.failures = [(0, "No space left on device")]
+        channel.give(Lines().sent(texts_of("one"), BEGIN, 20))
+        self.must("why", not Judging.made and channel.said == [
+            "one  not judged: the feed could not be kept: No space left on device"], channel.said)
 
     def test_list_at_the_end_of_the_feed(self) -> None:
         """What was written to it at last, and a last line without an end, are looked at too."""
-        channel = Told(self, self.listed("one"))
-        channel.give(sent(self.texts("one"), 900_000, 9))
-        channel.give(sent(self.texts("two"), 900_000 + 20 * SECOND))
+        channel, lines = Told(self, self.listed("one")), Lines()
+        channel.queue.next_look = 1e12
+        channel.give(lines.sent(texts_of("one"), BEGIN, 9))
+        channel.give(lines.sent(texts_of("two"), BEGIN + 20 * SECOND))
         with open(self.path("list"), "a", encoding="ascii") as file:
             file.write(self.listed("two") + self.listed("three").rstrip())
-        channel.stop(ENDED)
+        channel.stop(BEFORE_IT)
         self.must("begun", self.names() == ["one", "two"], self.names())
-        self.must("said", channel.said[2:] == [f"three  not judged: {ENDED}"], channel.said)
+        self.must("said", channel.said[1:] == [
+            f"{self.path('list')}: new: two, three", f"two  accepted 5 frames; {FITTED_SHORT}",
+            f"three  not judged: {BEFORE_IT}"], channel.said)
+
+    def test_list_that_is_edited(self) -> None:
+        """What is gone was never judged, and is told so; what is judged now or was stays; lines
+        that change places change turns; another option is that of the programme from then on."""
+        channel, lines = Told(self, self.listed("one", "two", "three", "four")), Lines()
+        channel.give([*lines.sent(texts_of("one"), BEGIN)][:14])
+        path = self.path("list")
+        channel.edit(self.listed("three", "two"))
+        self.must("gone", channel.said == [
+            f"{path}: gone: one, four; in another order",
+            f"four  not judged: it is gone from {path}"], channel.said)
+        self.must("one is sent", channel.running and channel.running.programme.name == "one")
+        channel.edit(self.listed("three", options=" --every 99") + self.listed("two", "five"))
+        self.must("changed", channel.said[2:] == [f"{path}: new: five; changed: three"],
+                  channel.said)
+        channel.give([*lines.sent(texts_of("one"), BEGIN, 20)][14:])
+        for number, name in enumerate(("three", "two", "five"), 1):
+            channel.give(lines.sent(texts_of(name), BEGIN + 60 * SECOND * number, 20))
+        self.must("all", self.names() == ["one", "three", "two", "five"] and
+                  Judging.made[1].value("--every") == "99", self.names())
+        channel.stop(BEFORE_IT)
+        self.must("one result each", [line.partition("  ")[0] for line in channel.said
+                                      if not line.startswith(path)] == [
+            "four", "one", "three", "two", "five"], channel.said)
 
     def test_goes_on_with_an_earlier_call(self) -> None:
-        """With the first that has no object, or one of another subtitle file."""
+        """With those that have no object, or one of another subtitle file."""
         names = ["one", "two", "three"]
         for kept in range(4):
             # The last line has no end.
-            channel = Told(self, self.listed(*names).rstrip(), self.path("out"))
             for name in names[:kept]:
                 asked = asked_for(self.files[name], None)
                 known = {"format": 3, "verdict": "refused", "status": 1, "line": "refused 72 X",
                          "asked": {"stl": self.files[name]}, "found": found(asked)}
                 self.write(f"out/{name}.json", json.dumps(known).encode())
-            channel.resume()
+            channel = Told(self, self.listed(*names).rstrip(), self.path("out"), is_resumed=True)
             self.must(f"{kept}", channel.verdicts == ["refused"] * kept and channel.said ==
                       [f"{kept} programme{'s' * (kept > 1)} of an earlier call kept"] * (kept > 0),
                       channel.said)
             self.must(f"{kept}: next", [one.programme.name for one in channel.queue.waiting] ==
-                      names[kept:kept + 1])
+                      names[kept:])
         self.write("out/one.json", json.dumps(unjudged("one", "why", True)).encode())
-        channel = Told(self, self.listed("one", "two"), self.path("out"))
-        channel.resume()
-        self.must("open", channel.queue.waiting[0].programme.name == "one" and not channel.said)
+        channel = Told(self, self.listed("one", "two"), self.path("out"), is_resumed=True)
+        self.must("open", [one.programme.name for one in channel.queue.waiting] == ["one"],
+                  channel.said)
         self.must("rows", set(channel.rows) == {*names}, channel.rows)
 
     def test_feed_that_stands_still(self) -> None:
         """Told once, after as many seconds; that it goes on is told too, and then it may stand
         still again."""
-        channel, shown = Told(self, self.listed("one")), list[str]()
-        progress: Any = argparse.Namespace(is_due=lambda: len(shown) == 0, show=shown.append)
-        channel.progress = progress
-        wait = stall_heard(channel, 10)
+        channel = Told(self, self.listed("one"))
         for turn in range(2):
             for still, count in ((9.4, 0), (10, 1), (11, 1), (99, 1)):
-                wait(still)
+                channel.stall(still)
                 self.must(f"turn {turn}, {still}", channel.said == [
                     "nothing has come for 10 seconds"] * count, channel.said)
-            data = pes_packet(SECOND, [CLOSING])
-            channel.take(Taken(data, [data]))
+            channel.stall(0)
             self.must("goes on", channel.said.pop() == "the feed goes on")
-            channel.take(Taken(data, [data]))
+            channel.stall(0)
             channel.said.clear()
-        self.must("shown", shown == ["waiting for one; 00:00:00:00 of the feed; nothing for 9 s"],
-                  shown)
-        channel = Told(self, self.listed("one"))
-        channel.give(sent(self.texts("one"), 900_000))
-        Judging.made[0].is_done = True
-        stall_heard(channel, 10)(3.0)
-        self.must("the verdict comes meanwhile", len(channel.said) == 1, channel.said)
 
     def test_lines_that_are_none(self) -> None:
         """Each is told when its turn has come, and not what stands before it."""
@@ -414,30 +364,32 @@ class Steps(Case):
                             ("none.stl --pes 1-2\n" + self.listed("one"), 1),
                             ("none.stl\nx.stl --pid 5\n" + self.listed("one"), 2)):
             channel = Told(self, lines)
-            channel.give(iter([pes_packet(0, [CLOSING])]))
+            channel.give([Lines().pes(0)])
             self.must(lines, len(channel.said) == said and
                       channel.queue.waiting[0].programme.name == "one", channel.said)
 
     def test_forgets(self) -> None:
-        """Changes that came more than two minutes ago."""
-        channel = Told(self, self.listed("one"))
-        channel.give(sent(["other", "texts"], 900_000))
-        channel.queue.since = MINUTE
-        for second in range(20, 160, 40):
-            channel.give(iter([pes_packet(900_000 + SECOND * second, [CLOSING])]))
-        [heard] = channel.hearing.by_way.values()
-        self.must("forgotten", not heard.changes.times and heard.changes.count == 4)
+        """Changes, and what is told, that came more than patience and a margin ago."""
+        channel, lines = Told(self, ""), Lines()
+        channel.hearing.turn_to([(0, 0x88)])
+        channel.give(lines.sent(["other", "texts"], BEGIN))
+        for second in range(20, 2000):
+            channel.give([lines.pes(BEGIN + SECOND * second, "hecb" if second % 2 else "he")])
+            channel.keep()
+        heard = channel.hearing.by_page[0, 0x88]
+        self.must("forgotten", not heard.changes[False].times and heard.changes[False].count == 4)
+        self.must("runs", len(heard.packets.runs) < 1300, len(heard.packets.runs))
 
     def test_progress(self) -> None:
         """What is judged or waited for, the time of the feed, and how long nothing came."""
-        channel, shown = Told(self, self.listed("one", "two")), list[str]()
+        channel, shown = Told(self, ""), list[str]()
         progress: Any = argparse.Namespace(is_due=lambda: True, show=shown.append)
         channel.progress = progress
         channel.show()
-        channel.go_on()
-        channel.clock.now = 61 * SECOND
+        channel.edit(self.listed("one", "two"))
+        channel.hearing.by_page[0, 0x88].clock.now = 61 * SECOND
         channel.show(3.2)
-        channel.give(sent(self.texts("one"), 900_000))
+        channel.give([*Lines().sent(texts_of("one"), BEGIN)][:14])
         channel.show()
         self.must("lines", shown[0] == "waiting for a programme; 00:00:00:00 of the feed" and
                   shown[1] == "waiting for one; 00:01:01:00 of the feed; nothing for 3 s" and

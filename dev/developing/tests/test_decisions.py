@@ -6,6 +6,8 @@ import contextlib
 import io
 import os
 from dataclasses import replace
+from types import SimpleNamespace
+from typing import Any
 
 from subtitles.calls.batch import words_of
 from subtitles.calls.machine import asked_words, total
@@ -22,7 +24,7 @@ from subtitles.qc.clock import START, Clock
 from subtitles.qc.delays import frames_until
 from subtitles.qc.fitting import Found, refuse, with_delay
 from subtitles.reading.survey import Packets
-from subtitles.reading.timeline import Span, Timeline
+from subtitles.reading.timeline import FEW, Span, Timeline
 from subtitles.qc.names import Names
 from subtitles.qc.options import passed_words
 from subtitles.qc.pair import Pair
@@ -341,8 +343,8 @@ class Pages(Case):
                              (123, 1), (124, None)):
             self.must(f"{frame}", held.pause_at(frame) == (None if pause is None else
                                                            held.pauses[pause]))
-        held.heard = held.heard[:1]
-        self.must("not steady", held.pause_at(91) is None)
+        for held.count, is_steady in ((2 * FEW, True), (2 * FEW - 1, False)):
+            self.must(f"{is_steady}", (held.pause_at(91) is not None) == is_steady)
 
     def test_frames_that_go_back(self) -> None:
         """Before what is due all is forgotten; in it nothing more is heard."""
@@ -382,8 +384,9 @@ class Parting(Case):
             pair = Pair(Verdict(asked, Severity(None), "now"), typed, names, Speech(Progress()),
                         False)
             found = [self.FOUND._replace(begin=begin, end=end) for begin, end in parts]
+            recording: Any = SimpleNamespace(stages=[])
             try:
-                made = pair.stretches(found, subtitles)
+                made = pair.stretches(found, subtitles, recording)
                 said = [(one.names.name, one.found) for one in made]
                 words = [passed_words(one.asked.passed_on) for one in made]
                 self.must(f"{name}: words", words == [

@@ -66,7 +66,7 @@ class EarlierCalls(Case):
         self.must("no severity", not is_current(known, none, PROGRAM))
         names = {field.name for field in dataclasses.fields(asked)}
         self.must("all words", names == {*OTHERS, "stl", "recording", "severity", "passed_on",
-                                             "found_layout"},
+                                             "found_layout", "kept_stl"},
                   names)  # those that are passed on: test_passed_on
 
     def test_object_of_another_program(self) -> None:
@@ -233,6 +233,10 @@ class Objects(Case):
         for data, wanted in ((b"{", True), (b"", True), (b"GSI", False), (b" {", False),
                              (b'{"a', True)):
             self.must(f"{data!r}", may_take(self.write("x", data)) == wanted)
+        for data, wanted in ((b"stl,recording,part", True), (b"", True), (b"stl", False),
+                             (b"{", False)):
+            self.must(f"{data!r}: a table", may_take(self.write("x", data), b"stl,recording,") ==
+                      wanted)
         self.must("not there", may_take(self.path("none")) and may_take("/dev/zero"))
 
 
@@ -283,6 +287,18 @@ class Watched(Case):
         for change, is_new in ((dict[str, Any](), False), (other, True), (other, False)):
             self.write("out/a.json", json.dumps({**have, **change}).encode())
             self.must(f"{change}", watch.is_new(item) == is_new)
+
+    def test_what_is_no_pair(self) -> None:
+        """It is told once, and again where its reason is another one."""
+        for name in ("in", "out"):
+            os.mkdir(self.path(name))
+        watch = Watch(self.words(), Typed("tools/qc", self.bench.program))
+        told = io.StringIO()
+        with contextlib.redirect_stderr(told):
+            for reason in ("first", "first", "second", "second", "first"):
+                self.must(reason, not watch.is_new(Item("a", None, reason)))
+        lines = [line.partition(": ")[2] for line in told.getvalue().splitlines()]
+        self.must("told", lines == ["first", "second", "first"], lines)
 
     def test_signals(self) -> None:
         """The first asks for the end, the second ends at once."""

@@ -6,17 +6,18 @@ import unittest
 from concurrent.futures import ThreadPoolExecutor
 from functools import partial
 from random import Random
+from unittest import mock
 
+from developing.every_place import definitions
+from developing.every_place.beside import OF_KEEPING, OF_PARTS, OF_REFUSED
 from developing.every_place.calls import KnownCall, answer_to
 from developing.every_place.carried_laws import LAWS, random_packets
 from developing.every_place.mistakes import Mistake, told_apart
-from developing.every_place.of_options import OF_OPTIONS
 from developing.every_place.recorded import RECORDED
 from developing.every_place.recordings import UNSEEN
 from developing.every_place.streams import multiplexed, with_losses
 from developing.every_place.trying import status_of
-from developing.every_place.wrong_options import WRONG as WRONG_OPTIONS
-from developing.every_place.wrong_recordings import WRONG as WRONG_RECORDINGS
+from developing.every_place.wrong_recordings import WRONG
 
 SEEDS = 150
 AT_ONCE = 2  # processes
@@ -33,8 +34,10 @@ class Known(unittest.TestCase):
     def test_recordings(self) -> None:
         self.have_answers(RECORDED)
 
-    def test_national_options(self) -> None:
-        self.have_answers(OF_OPTIONS)
+    def test_beside_refused_subtitles(self) -> None:
+        """Whether the program judges beside them or not yet."""
+        with mock.patch.object(definitions, "JUDGES_BESIDE", True):
+            self.have_answers([*OF_REFUSED, *OF_KEEPING, *OF_PARTS])
 
 
 class Statuses(unittest.TestCase):
@@ -62,10 +65,7 @@ class Told(unittest.TestCase):
                     self.assertNotEqual(call, "")
 
     def test_mistakes_in_recordings(self) -> None:
-        self.are_told(WRONG_RECORDINGS, "recorded", "RECORDED")
-
-    def test_mistakes_with_national_options(self) -> None:
-        self.are_told(WRONG_OPTIONS, "of_options", "OF_OPTIONS")
+        self.are_told(WRONG, "recorded", "RECORDED")
 
 
 class Promised(unittest.TestCase):

@@ -1,18 +1,14 @@
 """Holes of a recording that the counters of its PID do not tell, and clocks that jump."""
 from __future__ import annotations
 
-import io
-import unittest
 from typing import NamedTuple
 
 from subtitles.core.pes import pts_in
 from subtitles.core.stl import boxed, gsi_block, subtitle_blocks
 from subtitles.core.times import CLOCK, TICKS
-from subtitles.calls.channel.carriers import Carrier
-from subtitles.calls.channel.holes import Way, counters
-from subtitles.calls.channel.listing import Listing
-from developing.multiplex import head
-from subtitles.calls.channel.transport import PACKET, Piece, Reader
+from subtitles.reading.gaps import Jump, Place, jumps_of, places_of
+from subtitles.reading.survey import survey
+from developing.multiplex import PACKET
 from .bench import Case, packets
 from .judged import judged
 from .muxed import (
@@ -92,41 +88,6 @@ def without(made: list[Sent], first: int, count: int) -> list[Sent]:
     return made[:own[first]] + made[own[first + count]:]
 
 
-class Counters(unittest.TestCase):
-    """Whether the counters of other PIDs are whole between two PCR."""
-
-    def told(self, *parts: str, own: int = TELETEXT_PID) -> bool | None:
-        """By the packets before the first PCR, between, and behind the second, each a PID as a
-        letter and its counter, with `!` an error, with `-` no payload, with `~` it may jump."""
-        ways = []
-        for number, text in enumerate(parts):
-            data = b"".join(map(self.packet, text.split()))
-            ways.append(Way(Piece(data, 0, len(data) // PACKET, PACKET), 0, len(data), number))
-        return counters(iter(ways), own)
-
-    def packet(self, word: str) -> bytes:
-        pid = {"a": 0x201, "b": 0x202, "n": NULL_PID, "t": TELETEXT_PID}[word[0]]
-        control = (0 if "-" in word else 0x10) | (0x20 if "~" in word else 0)
-        made = head(pid, 0x80 if "!" in word else 0, control | int(word[1:].rstrip("!-~")))
-        return (made + (b"\1\x80" if "~" in word else b"")).ljust(PACKET, b"\x55")
-
-    def test_counters(self) -> None:
-        for parts, wanted in (
-                (("a1", "a2 a3", "a4"), True), (("a14", "a15 a0", "a1"), True),
-                (("a15", "a0", ""), True), (("a14", "a0", ""), False),
-                (("a1", "a2 a2 a3", ""), True),
-                (("a1", "a3", ""), False), (("", "a1 a3", ""), False), (("", "a1", ""), None),
-                (("", "", ""), None), (("a1 a9", "a10", ""), True), (("a1 a9", "", "a10"), True),
-                (("a1", "", "a3"), False), (("a1", "a2", "a3 a9"), True),
-                (("a1 b1", "a2", "b3"), False), (("a1 b1", "a2 b2", "a3 b3 a9 b9"), True),
-                (("a1 b1", "a2 b2", "a3 a9 b9"), False), (("t1", "t9", ""), None),
-                (("n1", "n9", ""), None), (("a1", "a9!", "a2"), True),
-                (("a1", "a9-", "a2"), True), (("a1", "a9~ a10", ""), True),
-                (("a1", "a9~ a11", ""), False)):
-            with self.subTest(parts=parts):
-                self.assertEqual(self.told(*parts), wanted)
-
-
 class Holes(Case):
     """Holes, pauses and jumps."""
 
@@ -138,19 +99,11 @@ class Holes(Case):
         self.schedule(stl, "story.pes", "--every", str(every))
         return packets(self.read("story.pes"))
 
-    def heard(self, made: list[Sent], size: int = 1 << 20) -> Carrier:
-        """What a carrier knows of a multiplex that is read in pieces of a size."""
-        listing, data = Listing(), io.BytesIO(b"".join(one.data for one in made))
-        carrier = Carrier(TELETEXT_PID, listing, None)  # type: ignore[arg-type]
-
-        class Pieces:
-            def read(self, most: int, /) -> bytes:
-                return data.read(min(most, size))
-
-        for piece in Reader(Pieces()):
-            listing.find(piece)
-            carrier.take(piece)
-        return carrier
+    def heard(self, made: list[Sent]) -> tuple[list[Place], list[Jump]]:
+        """The places at which something is missing of a multiplex, and the jumps of its clock."""
+        path = self.write("heard.ts", b"".join(one.data for one in made))
+        found = survey(self.bench.program, path, PAGE).by_pid[TELETEXT_PID]
+        return places_of(found), list(jumps_of(found))
 
     def test_of_whole_streams(self) -> None:
         """No loss and no jump: rates, PCR each 20 to 100 ms, with null packets, a pause of the
@@ -158,43 +111,40 @@ class Holes(Case):
         pes = self.programme()
         for shape in (Shape(), Shape(4000, 1800), Shape(700, 9000, True), Shape(pause=(60, 100)),
                       Shape(jump=(60, 500_000), is_announced=True)):
-            carrier = self.heard(sent_of(pes, shape), 5000)
-            self.must(f"{shape}", not carrier.places() and not carrier.holes.jumps,
-                      (carrier.places(), carrier.holes.jumps))
+            places, jumps = self.heard(sent_of(pes, shape))
+            self.must(f"{shape}", not places and not jumps, (places, jumps))
         made = b"".join(in_frames(pes, pts_in(pes[0]), 80))
         own = [at for at in range(0, len(made), PACKET)
                if made[at + 1] & 0x1F == TELETEXT_PID >> 8 and made[at + 2] == TELETEXT_PID & 255]
         torn = made[:own[40]] + made[own[56] - 5 * PACKET:]
         for name, data, count in (("whole", made, 0), ("torn", torn, 1)):
-            carrier = self.heard([Sent(data, 0)])
-            self.must(name, (len(carrier.places()), len(carrier.holes.jumps)) == (count, 0),
-                      (carrier.places(), carrier.holes.jumps))
+            places, jumps = self.heard([Sent(data, 0)])
+            self.must(name, (len(places), len(jumps)) == (count, 0), (places, jumps))
 
     def test_of_holes(self) -> None:
-        """16 packets of the PID and more lost: between which PTS, whatever the pieces are; jumps
-        are told too, and a loss where the clock jumps forward is a hole."""
+        """16 packets of the PID and more lost: between which PTS; jumps are told too, and a loss
+        where the clock jumps forward is a hole."""
         pes = self.programme()
         for shape in (Shape(4000, 1800), Shape(2000, 3600, True)):
             made = sent_of(pes, shape)
-            for count, size in ((16, 5000), (64, 1 << 20)):
-                carrier = self.heard(without(made, 70, count), size)
-                known = [(one.before, one.after) for one in carrier.places()]
+            for count in (16, 64):
+                places, _ = self.heard(without(made, 70, count))
+                known = [(one.before, one.after) for one in places]
                 first, last = known[0] if known else (None, None)
                 self.must(f"{shape} {count}", len(known) == 1 and first is not None
                           and last is not None and pts_in(pes[66]) <= first <= pts_in(pes[69])
                           and pts_in(pes[70 + count]) <= last <= pts_in(pes[74 + count]), known)
-        carrier = self.heard(without(made, 70, 17))
-        self.must("by its counter", [one.lost for one in carrier.losses.places] == [1])
+        places, _ = self.heard(without(made, 70, 17))
+        self.must("by its counter", [one.lost for one in places] == [1], places)
         for ticks in (8641 * SECOND, -SECOND, CLOCK // 2 - 10 * SECOND):
             made = sent_of(pes, Shape(jump=(60, ticks)))
-            carrier = self.heard(made)
-            found = [one.ticks for one in carrier.holes.jumps]
-            self.must(f"{ticks}", len(found) == 1 and abs(found[0] - ticks) < 400
-                      and not carrier.places(), (found, carrier.places()))
+            places, jumps = self.heard(made)
+            self.must(f"{ticks}", len(jumps) == 1 and abs(jumps[0].ticks - ticks) < 400
+                      and not places, (jumps, places))
             number = [at for at, one in enumerate(made) if one.pid == TELETEXT_PID][60]
-            carrier = self.heard(made[:number - 40] + made[number + 5:])
-            self.must(f"{ticks}: a loss", [one.missing > 0 for one in carrier.holes.places] ==
-                      [True] * (ticks > 0) and not carrier.holes.jumps, carrier.holes.places)
+            places, jumps = self.heard(made[:number - 40] + made[number + 5:])
+            missing = [one for one in places if one.missing]
+            self.must(f"{ticks}: a loss", len(missing) <= (ticks > 0) and not jumps, places)
 
     def test_is_judged(self) -> None:
         """A hole of 0.64 s is told, and a jump; a PID without a PCR is, where holes may be."""

@@ -23,7 +23,7 @@ NONE = ("", "fit,fit", "before=0", "before=0E", "before=00", "before=0B0B0B0B0B0
         "row=--1", "left=-1", "free=0", "free=4", "fit=1", "left", "left=", "fit,", ",fit", "Fit",
         "fit fit", "pitch=1", "colour", "open", "double=2", "before=0B*0B*", "before=0*B",
         "before=0B0B0B*0B0B0B0B", "before=*0E", "after=0A*", "strip=*0A", "before", "row=1\n",
-        "left=\u0661")
+        "left=\u0661", "left=-0", "free=-1")
 # The same layout in other words, and its simplest TEXT.
 MEANS = [("row=-0,left=00,free=01", ""), ("before=*", "before="), ("before=0b*0d", "before=0B*0D"),
          ("white,up", "up,white"), ("before=0B0B,after=0A0A,strip=", ""), ("row=-22", "row=-22"),
@@ -50,7 +50,7 @@ DRAWN = [
     ("Hi 8A Ho", 20, 2, "before=0D0B0B", "55 at 1"),
     ("Hi 8A 8A Ho", 20, 2, "pack,before=0D0B0B", "55 at 2"),
     ("0D Hi 8A 8A Ho", 20, 2, "", "20 16 0B0B0D4869 0A0A 22 17 0B0B486F 0A0A"),
-    ("E6", 22, 2, "", "50 at 0")]
+    ("03 06 07", 22, 2, "text,before=,after=", "22 17 03 0607"), ("E6", 22, 2, "", "50 at 0")]
 WORDS = "the cat sat on a mat and then it went to see what was there Hi Ho no yes".split()
 # How houses draw: whether a file has codes of its own, and the empty line between its lines that
 # leaves room for double height; what is sent; a TEXT that draws so.

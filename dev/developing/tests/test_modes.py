@@ -10,9 +10,9 @@ from unittest import mock
 from subtitles.calls import (
     batch, collecting, index_page, machine, main, objects, single, watching)
 from subtitles.calls.channel import (
-    awaited, channel, channel_feed, feed_clock, queue, ring, running)
+    awaited, channel, feed_clock, hearing, planned, queue, source, spool)
 from subtitles.calls.main import (
-    jobs_word, json_in, minutes_word, name_in, parser_of, seconds_word)
+    jobs_word, file_in, minutes_word, name_in, parser_of, seconds_word)
 from subtitles.calls.modes import (
     ALONE, BATCH, CHANNEL, CHANNEL_LINE, COLLECT, LINE, MODES, PAIR, TAKEN_BY, WATCH, Mode,
     mode_of, refuse_options)
@@ -34,7 +34,7 @@ VALUES = {"--page": "801", "--every": "25", "--within": "1", "--option": "german
           "--jobs": "2", "--settled": "1", "--patience": "9", "--from": "00:00:01:00",
           "--to": "00:00:02:00", "--layout": "fit"}
 MANUAL = os.path.join(TOP, "docs", "manual", "qc.md")
-HIDDEN = {"--name", "--fitted"}  # of calls that other ones make
+HIDDEN = {"--name", "--fitted", "--cut"}  # of calls that other ones make
 ASKING = {"--batch", "--watch", "--channel", "--collect", "--help", "-h", "--version"}
 
 
@@ -161,18 +161,20 @@ class Numbers(unittest.TestCase):
 
     OWN: dict[ModuleType, dict[str, object]] = {
         awaited: {"IN_A_ROW": 5, "BEFORE": 12, "NEAR": 1800}, batch: {"WAIT": 0.2},
-        channel: {"GAP": 5_400_000, "LATER": 10_800_000, "ENOUGH": 4},
-        channel_feed: {"BEFORE": 50, "ENDS": 2},
-        feed_clock: {"BACK": 45_000, "ANEW": 324_000_000}, index_page: {"MOST_CAUSES": 6},
+        channel: {"LATER": 10_800_000, "MARGIN": 10_800_000},
+        feed_clock: {"GAP": 5_400_000, "BACK": 45_000, "ANEW": 324_000_000},
+        hearing: {"BOTH": 450_000, "SILENT": 720_000, "NEAR_PCR": 900_000},
+        index_page: {"MOST_CAUSES": 6}, planned: {"MISSING": 60.0},
         machine: {"FORMAT": 3}, main: {"SETTLED": 5, "PATIENCE": 60}, objects: {"LINES": 100},
-        queue: {"AT_ONCE": 4, "LOOK": 1.0}, ring: {"PARTS": 20}, running: {"VERDICT": 60.0},
+        queue: {"AT_ONCE": 4, "LOOK": 1.0}, source: {"PART": 1 << 18},
+        spool: {"PARTS": 20, "LEAST": 1 << 20},
         single: {"SUMMED": 100, "SIGNALS": (2, 15, 1)}, watching: {"LOOK": 1.0, "DONE": ".done"},
         files: {"PIECE": 1 << 20, "OWN_OUTPUT": {"-", "/dev/stdout", "/dev/fd/1",
                                                  "/proc/self/fd/1"}}}
     NONE = ("batch", "channel", "collect", "csv", "found_layout", "json", "junit", "jobs", "name",
             "origin", "out", "patience", "pes", "pid", "program", "recording", "settled",
             "severity", "start", "stl", "watch")
-    FALSE = ("is_fitted", "is_kept", "is_loss_allowed", "is_resumed", "is_strict")
+    FALSE = ("is_cut", "is_fitted", "is_kept", "is_loss_allowed", "is_resumed", "is_strict")
 
     def test_own(self) -> None:
         for module, numbers in self.OWN.items():
@@ -192,12 +194,14 @@ class Words(unittest.TestCase):
     def test_json(self) -> None:
         paths: list[tuple[list[str], str | None]] = [
                            (["--json", "x"], "x"), (["--json=x"], "x"), (["--json", "-"], "-"),
-                           (["--json", "--csv"], None), (["--json"], None), (["--json="], None),
+                           (["--json", "--page"], None), (["--json"], None), (["--json="], None),
                            (["--", "--json", "x"], None), (["a", "--json", "x", "--", "b"], "x"),
                            (["--json", "a", "--json", "b"], "b"), (["--jsonx", "a"], None),
                            (["--json=a", "--json", "b"], "b"), ([], None)]
         for line, path in paths:
-            self.assertEqual(json_in(line), path, line)
+            self.assertEqual(file_in(line, "--json"), path, line)
+            others = [word.replace("json", "junit") for word in line]
+            self.assertEqual(file_in(others, "--junit"), path, others)
         names: list[tuple[list[str], str]] = [
             (["a.STL", "b.ts"], "a"), (["--x", "dir/one.stl"], "one"), ([], ""), (["b.ts"], ""),
             (["one.stl", "two.stl"], "one")]

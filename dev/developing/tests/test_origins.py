@@ -111,14 +111,29 @@ class Origins(Case):
         for some, printed in ((pes[2:3], [f"--origin {200 * TICKS}"]), (pes[1:2], [])):
             found = self.find(one, some)
             self.must("one sending", found.printed == printed, found)
-        for words, line in ((["--page", "100"], f"there is no header of page 100 in {self.path('one.pes')}; "
-                "other subtitle pages: 888"),):
-            found = self.find(one, pes, *words)
-            self.must(line, (found.status, found.told, found.parts) == (1, [line], []), found)
+        line = f"there is no header of page 100 in {self.path('one.pes')}; other subtitle pages: 888"
+        found = self.find(one, pes, "--page", "100")
+        self.must(line, (found.status, found.told, found.parts) == (1, [line], []), found)
         alike = self.stl(each(30, 100, 50, b"Again"))
         pes = self.planned(alike)
         for some, printed in ((pes, ["--origin 0"]), (pes[10:20], [])):
             self.must("alike", self.find(alike, some).printed == printed)
+
+    def test_of_equals(self) -> None:
+        """Of several that are as good the first is that of the earliest subtitle: of two of which
+        the second is late, and of two halves of which the second is sent first, in one time base
+        and in two."""
+        one, other = (100, 150, b"One"), (200, 260, b"Other")
+        own = [(100 * at, 100 * at + 20 + 5 * at, b"Text %c" % (65 + at)) for at in range(12)]
+        rows: list[tuple[Times, int, Times, int, list[str], str]] = [
+            ([one], 0, [other], 100, [], "as good as --origin 0 are --origin 360000"),
+            (own[6:], 0, own[:6], 2000, [], "as good as --origin 7200000 are --origin 0"),
+            (own[6:], 1000, own[:6], 950, ["--pes 12-23 --origin 3420000"], "12 of 12 edges")]
+        for some, by, later, by_too, printed, line in rows:
+            pes = [pes for times, frames in ((some, by), (later, by_too)) for pes in self.planned(
+                self.stl(times, "sent.stl"), "--origin", str(TICKS * frames))]
+            found = self.find(self.stl(sorted([*some, *later])), pes)
+            self.must(line, found.printed == printed and line in "".join(found.told), found)
 
     def test_of_parts_that_adjoin(self) -> None:
         """The last subtitle before a break is erased at its TCO, which is the TCI of the next one;
@@ -150,6 +165,15 @@ class Origins(Case):
     def own(self) -> str:
         """Its subtitle file."""
         return self.stl(each(COUNT, 70, 40, begin=FIRST))
+
+    def test_a_part_that_is_not_clear(self) -> None:
+        """Neither is printed, where fewer than half of the edges of one agree: the first or the
+        last."""
+        late, other = [0] * 5, [1600, 1600, 1600, 1631, 1667, 1613, 1689]
+        for row in ([*late, *other], [*(one - 1600 for one in other), *(1700 for _ in late)]):
+            found = self.find(self.own(), self.sent(9 * 3600, row), "--breaks", "1")
+            self.must(f"{row}", (found.status, found.printed, found.parts) == (1, [], []) and
+                      found.told[0].startswith("2 parts: "), found)
 
     def test_runs(self) -> None:
         """Each time that it is there, with its PES packets, of which one is looked for then."""
@@ -207,6 +231,10 @@ class Origins(Case):
                 (pes[:10] + pes[11:], Agreement(count - 2, count, count - 3, count, False))):
             found = self.find(self.own(), some)
             self.must(f"{wanted}", found.agreement == wanted, found)
+            others = [line for line in found.told if line.startswith("the first edge that does")]
+            self.must(f"{wanted}: first", others == [
+                f"the first edge that does not agree is {time_of(FIRST + 350)}"] * (
+                    not wanted.are_all), others)
 
     def test_breaks(self) -> None:
         """As many as are said, each part with its frames; else how many there are."""
@@ -226,7 +254,8 @@ class Origins(Case):
         """All lines of all parts, each told one behind the name of the tool."""
         pes = self.sent(0, [0] * 6 + [1600] * 6)
         found = self.find(self.own(), pes, "--breaks", "1")
-        words = ["origin", "-p", self.bench.program, "--breaks", "1", self.own(), self.write("one.pes", b"".join(pes))]
+        words = ["origin", "-p", self.bench.program, "--breaks", "1", self.own(),
+                 self.write("one.pes", b"".join(pes))]
         status, out, told = in_process(TOOL.main, words)
         self.must("all", (status, out.splitlines(), told.splitlines()) == (
             0, found.printed, [f"origin: {line}" for line in found.told]) and

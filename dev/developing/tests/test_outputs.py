@@ -16,7 +16,6 @@ from subtitles.calls.junit import TestCase, text_of as junit_of
 from subtitles.calls.machine import asked_words, file_words, gap_words, part_words
 from subtitles.calls.objects import Row
 from subtitles.calls.table import cell_words, of_part, said, text_of as csv_of
-from subtitles.core.pieces import Pieces
 from subtitles.core.words import shown
 from subtitles.qc.clock import GIVEN
 from subtitles.qc.sums import File

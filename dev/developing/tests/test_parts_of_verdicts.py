@@ -14,7 +14,8 @@ from subtitles.qc.clock import FITTED, FITTED_LATER, GIVEN, RECORDING, Clock
 from subtitles.qc.delays import MOVED, Spread, spread_of
 from subtitles.qc.ending import is_enough
 from subtitles.qc.names import Names
-from subtitles.qc.pair import Pair, gap_of
+from subtitles.qc.missing import gap_of, gaps_of
+from subtitles.qc.pair import Pair
 from subtitles.qc.progress import Progress
 from subtitles.qc.severity import ERROR, OTHERS, REFUSALS, WARNING, Severity
 from subtitles.qc.speech import Speech
@@ -103,14 +104,11 @@ class Verdicts(Case):
                     ([(10, 11), (299, 320), (-9, -5)], [True, False, False]),
                     ([(99, 100), (299, 320)], [False, False])):
                 verdict = verdict_of([])
-                typed = Typed("tools/qc", self.bench.program)
-                pair = Pair(verdict, typed, Names("one", self.folder, None), Speech(Progress()),
-                            False)
                 verdict.parts = [part_with(100 * at, 100 * at + 99, shift, number=at + 1)
                                  for at in range(3)]
-                pair.note_gaps([Place((shift + TICKS * before) % CLOCK,
-                                      (shift + TICKS * after) % CLOCK, 1)
-                                for before, after in places])
+                verdict.gaps += gaps_of([Place((shift + TICKS * before) % CLOCK,
+                                               (shift + TICKS * after) % CLOCK, 1)
+                                         for before, after in places], verdict.parts)
                 found = [gap.is_judged for gap in verdict.gaps]
                 self.must(f"{shift} {places}", found == judged and verdict.is_lost == any(judged),
                           found)
@@ -127,11 +125,8 @@ class Verdicts(Case):
                              (150, ("00:00:06:00", "00:00:06:01")),
                              (2350, ("00:00:14:00", "00:00:14:01")),
                              (2500, ("00:01:40:00", "00:01:40:01"))):
-            pair = self.pair()
-            pair.verdict.parts = [part_with(100, 199, 0), part_with(300, 399, TICKS * 2000,
-                                                                    number=2)]
-            pair.note_gaps([Place(TICKS * frame, TICKS * (frame + 1), 1)])
-            gap = pair.verdict.gaps[0]
+            parts = [part_with(100, 199, 0), part_with(300, 399, TICKS * 2000, number=2)]
+            gap, = gaps_of([Place(TICKS * frame, TICKS * (frame + 1), 1)], parts)
             self.must(f"{frame}", (gap.after, gap.before) == times, gap)
 
     def test_times_of_losses(self) -> None:
@@ -154,7 +149,7 @@ class Verdicts(Case):
     def test_promises_nothing_of_what_is_lost(self) -> None:
         """Where a part lacks something, at a first place or a second, nothing is tried."""
         pair = self.pair()
-        one: Any = SimpleNamespace(found=SimpleNamespace(origin=0), stl_path="one.stl")
+        one: Any = SimpleNamespace(found=SimpleNamespace(origin=0), stl_path="one.stl", piece=None)
         inside, outside = (Place(TICKS * at, TICKS * (at + 1), missing=9) for at in (150, 250))
         tried: Any = SimpleNamespace(least=lambda numbers, causes: 2)
         for places, wanted in (([], 2), ([inside], None), ([outside], 2),

@@ -1,37 +1,18 @@
 """tools/qc --channel: programmes one after another out of a feed that does not end."""
 from __future__ import annotations
 
-import argparse
-import contextlib
-import io
 import json
 import os
 import signal
+import stat
 import subprocess
-import sys
 import time
-from typing import Callable, Sequence
-from unittest import mock
+from typing import Sequence
 
-from subtitles.calls.channel import channel as channels
-from subtitles.calls.channel.channel import ENDED
-from subtitles.calls.channel.channel_feed import PesFeed, Taken, TransportFeed, feed_of, unpacked
-from subtitles.calls.objects import found
-from subtitles.calls.channel.planned import PlannedProgramme
-from subtitles.calls.channel.running import Running
-from subtitles.core.files import Damaged
 from subtitles.core.pes import pts_bytes
 from subtitles.core.stl import boxed, gsi_block, subtitle_blocks
 from subtitles.core.times import CLOCK, FRAMES_A_SECOND, TICKS
-from subtitles.core.words import Stop
-from subtitles.calls.channel.carriers import NoTeletext
-from subtitles.qc.clock import FITTED_SHORT
-from subtitles.calls.channel.source import Source
 from .bench import Case, packets, tool_path
-from .muxed import TELETEXT_PID, Maker, components
-from .parts import PAGE, asked_for
-from .test_channel_steps import TEXTS, Judging, sent
-from .test_channel_tables import FIRST, defaults, programme
 
 SECOND = TICKS * FRAMES_A_SECOND
 BEGIN = CLOCK - 30 * SECOND  # of the feed, so that PTS begin again soon
@@ -84,7 +65,8 @@ def verdicts(done_lines: Sequence[str]) -> list[str]:
 
 
 def memory_of(process: subprocess.Popen[bytes], folder: str) -> tuple[int, int]:
-    """Kilobytes of memory of a process, and bytes in a folder for temporary files."""
+    """Kilobytes of memory of a process, and bytes of temporary files, in a folder or without a
+    name."""
     with open(f"/proc/{process.pid}/status", encoding="utf-8") as file:
         memory = next(int(line.split()[1]) for line in file if line.startswith("VmRSS"))
     size = 0
@@ -94,6 +76,9 @@ def memory_of(process: subprocess.Popen[bytes], folder: str) -> tuple[int, int]:
                 size += os.path.getsize(os.path.join(place, name))
             except FileNotFoundError:
                 pass
+    for number in os.listdir(f"/proc/{process.pid}/fd"):
+        about = os.stat(f"/proc/{process.pid}/fd/{number}")
+        size += about.st_size if stat.S_ISREG(about.st_mode) else 0
     return memory, size
 
 
@@ -155,7 +140,7 @@ class Channels(Case):
         self.must("no traceback", b"Traceback" not in self.read("log"), self.read("log"))
 
     def test_holds_no_more_after_a_day(self) -> None:
-        """Memory and temporary files after 24 hours of feed are those after two."""
+        """Memory and temporary files after 24 hours of feed are those after seven."""
         hours, folder = 24, self.path("temporary")
         os.mkdir(folder)
         made = [make_programme(self, f"p{hour}", 1_000_000, f"Hour {hour} of day",
@@ -172,7 +157,7 @@ class Channels(Case):
                 process.stdin.write(blank(one, begin, 599) + one
                                     + blank(one, begin + SECOND * 612, 2987))
                 process.stdin.flush()
-                if hour in (1, hours - 1):
+                if hour in (6, hours - 1):
                     time.sleep(1)
                     seen.append(memory_of(process, folder))
             process.stdin.close()
@@ -181,141 +166,3 @@ class Channels(Case):
                   lines)
         self.must("memory, and temporary files", all(
             later <= before * 1.1 for before, later in zip(*seen)), seen)
-
-
-@mock.patch.object(channels, "Running", Judging)
-class Ends(Case):
-    """A whole call, whose feed ends otherwise each time."""
-
-    is_alone = True  # it takes what is printed, and the signals
-
-    def ends(self, reason: BaseException | None, lines: str, *, out: str | None = None,
-             is_resumed: bool = False) -> tuple[int, list[str], list[str]]:
-        """The status, what is said without the time, and what is told."""
-        words = argparse.Namespace(**{
-            **vars(defaults()), "channel": self.write("list", lines.encode()), "patience": 2,
-            "out": out, "is_kept": False, "is_resumed": is_resumed, "stall": 5,
-            "program": self.bench.program, "stl": self.write("feed", b"")})
-        closed: list[bool] = []
-        os.makedirs(self.path("temporary"), exist_ok=True)
-
-        def follow(take: Callable[[Taken], None]) -> None:
-            for data in sent(TEXTS, 900_000):
-                take(Taken(data, [data]))
-            if reason:
-                raise reason
-
-        feed = argparse.Namespace(follow=follow, unpacked=unpacked,
-                                  close=lambda: closed.append(True))
-        before = {one: signal.getsignal(one) for one in (signal.SIGTERM, signal.SIGINT,
-                                                         signal.SIGHUP)}
-        printed, told = io.StringIO(), io.StringIO()
-        try:
-            with mock.patch.object(channels, "feed_of", lambda *_: feed), \
-                    mock.patch("tempfile.tempdir", self.path("temporary")), \
-                    contextlib.redirect_stdout(printed), contextlib.redirect_stderr(told):
-                status = channels.judge(words, "tools/qc")
-            self.must("closed", closed == [True])
-        finally:
-            for one, heard in before.items():
-                signal.signal(one, heard)
-        return (status, [line[21:] for line in printed.getvalue().splitlines()],
-                [line.partition(": ")[2] for line in told.getvalue().splitlines()])
-
-    def test_reasons(self) -> None:
-        """What there is of a feed is judged, whatever ends it; the rest is not."""
-        one = programme(self, "one.stl", FIRST, TEXTS)
-        other = programme(self, "other.stl", FIRST, ["never"])
-        said = f"one  accepted 5 frames; {FITTED_SHORT}"
-        unread = "the feed can't be read any further: "
-        for reason, lines, status, wanted in (
-                (None, one, 0, [said]), (None, f"{one}\n{other}", 2, [
-                    said, f"other  not judged: {ENDED}"]), (None, "\n", 2, []),
-                (Damaged("odd"), one, 0, [unread + "odd", said]),
-                (NoTeletext("none"), f"{one}\n{other}", 2, [
-                    unread + "none", said, f"other  not judged: {ENDED}"]),
-                (KeyboardInterrupt(), f"{one}\n{other}\n", 2, [
-                    said, "other  not judged: stopped at 00:00:11:00 of the feed"]),
-                (KeyboardInterrupt(), f"{one}\n", 2, [said]), (KeyboardInterrupt(), "\n", 2, [])):
-            found_status, found_lines, told = self.ends(reason, lines)
-            self.must(f"{reason!r} {lines}", (found_status, found_lines) == (status, wanted),
-                      (found_status, found_lines))
-            is_none = not wanted and reason is None
-            self.must("told", told == [f"{self.path('list')} names no programme"] * is_none, told)
-        for error in (ValueError("odd"), Stop("two PIDs")):
-            with self.assertRaises(type(error)):
-                self.ends(error, one)
-        self.must("its folders went", os.listdir(self.path("temporary")) == [])
-
-    def test_goes_on(self) -> None:
-        """With --resume, which needs a folder, the verdicts of an earlier call count too."""
-        one = programme(self, "one.stl", FIRST, TEXTS)
-        other = programme(self, "other.stl", FIRST, ["never"])
-        out = self.path("out")
-        with self.assertRaises(Stop):
-            self.ends(None, one, is_resumed=True)
-        status, lines, _ = self.ends(None, f"{one}\n{other}\n", out=out)
-        self.must("at first", status == 2 and len(lines) == 2 and sorted(os.listdir(out)) == [
-            "index.html", "one.json", "other.json"], lines)
-        known = {"format": 3, "verdict": "refused", "status": 1, "line": "refused 72 X",
-                 "asked": {"stl": one}, "found": found(asked_for(one, None))}
-        self.write("out/one.json", json.dumps(known).encode())
-        for is_resumed, wanted in ((True, "1 programme of an earlier call kept"),
-                                   (False, f"one  accepted 5 frames; {FITTED_SHORT}")):
-            status, lines, _ = self.ends(None, f"{one}\n", out=out, is_resumed=is_resumed)
-            self.must(f"{is_resumed}", (status, lines) == (int(is_resumed), [wanted]), lines)
-
-
-class Kinds(Case):
-    """Feeds by their first bytes, and calls that are handed what comes."""
-
-    def test_feeds(self) -> None:
-        """PES packets one by one, which have no PID; else a transport stream, of which the last
-        PES packets are asked for too."""
-        pes = list(sent(TEXTS, 900_000))
-        took: list[Taken] = []
-        feed = feed_of(Source(self.write("feed.pes", b"".join(pes))), None, lambda: [PAGE],
-                       print, "none")
-        feed.follow(took.append)
-        self.must("PES", isinstance(feed, PesFeed) and took == [Taken(one, [one]) for one in pes])
-        self.must("kept", list(feed.unpacked([pes[0] + pes[1], b"", pes[2]])) == pes[:3])
-        with self.assertRaises(Stop):
-            feed_of(Source(self.path("feed.pes")), 0x101, lambda: [PAGE], print, "none")
-        maker = Maker(components())
-        maker.put_tables()
-        for one in pes:
-            maker.put(TELETEXT_PID, one)
-        path = self.write("feed.ts", maker.data)
-        for pid in (None, TELETEXT_PID):
-            took = []
-            source = Source(path)
-            feed = feed_of(source, pid, lambda: [PAGE], print, self.bench.program)
-            feed.follow(took.append)
-            feed.close()
-            self.must(f"{pid}", isinstance(feed, TransportFeed) and
-                      [data for one in took for data in one.packets] == pes, took)
-
-    def test_calls(self) -> None:
-        """What is put is read by the call, and nothing more is wanted once it is over."""
-        planned = PlannedProgramme("one", None, None)
-        code = "import sys; data = sys.stdin.buffer.read(5); print('qc: got', len(data), " \
-            "file=sys.stderr); sys.exit(3)"
-        running = Running(planned, [sys.executable, "-c", code], self.folder, 7)
-        self.must("waits", not running.is_over() and running.end == 7 and os.readlink(
-            f"/proc/{running.process.pid}/fd/1") == os.devnull)
-        running.put(b"123")
-        running.put(b"45")
-        running.wait()
-        self.must("over", running.is_over() and running.process.returncode == 3 and
-                  running.lines() == ["qc: got 5"], running.lines())
-        running.put(b"more")
-        running.close()
-        waited = Running(planned, [sys.executable, "-c", code], self.folder, 7)
-        waited.put(b"1")
-        with mock.patch("subtitles.calls.channel.running.VERDICT", 0.1):
-            waited.wait()
-        self.must("not for ever", waited.lines() == ["qc: got 1"], waited.lines())
-        closed = Running(planned, [sys.executable, "-c", code], self.folder, 7)
-        closed.put(b"12")
-        closed.close()
-        self.must("closed", closed.lines() == ["qc: got 2"], closed.lines())

@@ -1,17 +1,15 @@
 """Recordings read and written, in process: why nothing is given, what is handed on, pictures."""
 from __future__ import annotations
 
-import io
 import random
 from typing import Optional, Sequence, Tuple
 
 from subtitles.core.pes import pes_packet
 from subtitles.core.times import CLOCK, TICKS
 from subtitles.reading.languages import names_of
-from subtitles.calls.channel.listing import Listing
 from developing.multiplex import Multiplex
-from subtitles.calls.channel.transport import Reader, Stream
-from .bench import Case
+from subtitles.reading.survey import survey
+from .bench import Case, packets
 from .parts import HEADER, row
 
 PID = 0x101
@@ -34,22 +32,15 @@ class Written(Case):
                     data += multiplex.taken()
                     self.must("all is taken", multiplex.size == 0 and not multiplex.taken())
             data += multiplex.taken()
-            listing, streams = Listing(), {pid: Stream(pid) for pid in (PID, 0, 0x100)}
-            found: dict[int, list[bytes]] = {pid: [] for pid in streams}
-            for piece in Reader(io.BytesIO(data)):
-                listing.take(piece)
-                for pid, stream in streams.items():
-                    for begins, payload, trouble in stream.payloads(piece):
-                        found[pid] += [payload] if begins else []
-                        if not begins:
-                            found[pid][-1] += payload
-                        self.must(f"{pid}: whole", trouble is None)
-            self.must("PES packets", found[PID] == pes)
-            self.must("tables", [len(found[pid]) for pid in (0, 0x100)] == [40, 40])
-            self.must("listed", listing.lines() == [
+            self.write("one.ts", data)
+            status, _ = self.program("extract", "--pid", str(PID), self.path("one.ts"),
+                                     self.path("one.pes"))
+            self.must("PES packets", status == 0 and packets(self.read("one.pes")) == pes, status)
+            found = survey(self.bench.program, self.path("one.ts"), (0, 0x88))
+            self.must("listed", found.lines() == [
                 "PID 0x101: announced 150 ger subtitles in programme 1; subtitle pages sent: 888"],
-                listing.lines())
-            [one] = listing.programmes
+                found.lines())
+            [one] = found.programmes
             self.must("its PCR", (one.number, one.pcr_pid, one.kinds) == (1, 0x1FF0, {PID: 6}), one)
 
     def test_languages(self) -> None:

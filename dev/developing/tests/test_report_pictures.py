@@ -385,9 +385,9 @@ class Blocks(Case):
         for more, last, words in (
                 (0, lines[-1], "read to its end, 6 blocks"),
                 (1, "refused 15 Ebn block 6", "ended at block 6</b>, with 15 Ebn")):
-            report: Any = SimpleNamespace(faults=SimpleNamespace(of_blocks=lines, count=3 + more),
-                                          part=SimpleNamespace(answer=SimpleNamespace(
-                                              last_told=last)))
+            faults = SimpleNamespace(of_blocks=lines, counts={50: 1, 51: 1, 56: 1 + more, 78: 9})
+            report: Any = SimpleNamespace(faults=faults, is_beside=False, part=SimpleNamespace(
+                answer=SimpleNamespace(last_told=last)))
             said = blocks.refused_blocks(report, self.blocks())
             self.must(words, words in said and said.count("<li") == 2 and
                       ("1 more fault</b>" in said) == bool(more), said)

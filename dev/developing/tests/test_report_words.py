@@ -10,21 +10,24 @@ from typing import Any
 
 from subtitles.core.manual import Meaning
 from subtitles.core.stl import gsi_block, tti_block
-from subtitles.core.times import FRAMES_OF_A_DAY
+from subtitles.core.times import ALL_DAY, FRAMES_OF_A_DAY
 from subtitles.preview import page
 from subtitles.preview.counts import (
     meaning_of_verdict, means_and_do, numbers_table, place_words)
 from subtitles.core.spans import Spans
 from subtitles.core.told import told_of
 from subtitles.preview.page import lost_places, subtitles_words, verdict_box
+from subtitles.preview.places import pes_words
 from subtitles.preview.program import Verdict, verdict_of
-from subtitles.preview.report import end_of_knowledge
+from subtitles.preview.report import Report, Subject, end_of_knowledge
 from subtitles.preview.scope import BETWEEN, DELAY, ROW_0, Scope
+from subtitles.qc.clock import GIVEN, START, Clock
 from subtitles.qc.made_with import Program
 from subtitles.qc.midnight import AT_MIDNIGHT
 from subtitles.qc.subtitle_file import SubtitleFile
 from subtitles.qc.sums import File
 from .bench import Case, example
+from .parts import asked_for
 from .test_report_faults import SUBTITLES
 
 
@@ -48,7 +51,7 @@ class Box(unittest.TestCase):
             "asked": SimpleNamespace(**asked), "looks": None, "seen": None, "lost": [],
             "notes": [], "subject": SimpleNamespace(judged=SimpleNamespace(**judged)),
             "part": part_of(example("story.stl")),
-            "is_refused_file": False}
+            "is_refused_file": False, "is_beside": False}
         return SimpleNamespace(**{**known, **more})
 
     def refused(self, count: int, **more: Any) -> Any:
@@ -185,6 +188,23 @@ class Reports(Case):
         self.must("document", "<title>a &lt;line&gt; &#8211; b &amp; c</title>" in text and
                   text.endswith("<h1>Report on b &amp; c</h1>\none\ntwo\n</body></html>\n"), text)
 
+    def test_pes_packets(self) -> None:
+        """What is known of the one from which nothing can be followed, of others whose frames do
+        not rise, and of the bytes behind the last."""
+        report: Any = SimpleNamespace(part=SimpleNamespace(packets=SimpleNamespace(
+            pts_at=lambda number: 3600 * number)), origin=0, asked=SimpleNamespace(within=0))
+        for halt, line, words in (
+                (7, "refused 62 Order pes 7", "PES packet 7 has the PTS 25200. Its frame: "
+                 "00:00:00:07. That of the one before: 00:00:00:09."),
+                (5, "refused 62 Order pes 7", "The frame of PES packet 7 is not after that"),
+                (None, "refused 62 Order pes 7", "The frame of PES packet 7 is not after that"),
+                (None, "refused 31 Start pes 7", "PES packet 7 can't be read, and nothing after")):
+            seen: Any = SimpleNamespace(halt=halt, last_frame=9, span_of=lambda _: None)
+            told = verdict_of(line, 1)
+            assert told
+            self.must(f"{halt} {line}", pes_words(told, None, report, seen).startswith(
+                f"<p>{words}"), pes_words(told, None, report, seen))
+
     def test_end_of_what_is_known(self) -> None:
         """Where the file ends before the last subtitle does, or can't be followed."""
         for last, is_whole, wanted in ((None, True, None), (124, True, None), (123, True, 124),
@@ -195,3 +215,30 @@ class Reports(Case):
         held = SimpleNamespace(last_frame=5, is_whole=lambda: True)
         made.subtitles = []
         self.must("no subtitle", end_of_knowledge(held, made) is None)
+
+    def test_what_it_is_of(self) -> None:
+        """The options as they hold, and what it speaks of."""
+        rows: list[tuple[list[str], list[str]]] = [
+            ([], []), (["--within", "1"], ["--within 1"]),
+            (["--within", "2", "--no-complete"], ["--within 2"])]
+        for words, more in rows:
+            asked = asked_for("a.stl", "a.pes", "--every", "25", *words)
+            part = SimpleNamespace(origin=5, pes=(1, 2), pes_name="1-2", between=ALL_DAY)
+            made: Any = SimpleNamespace(judged=SimpleNamespace(asked=asked), part=part,
+                                        window=(0, 10))
+            complete = [] if "--no-complete" in words else ["--complete"]
+            self.must(f"{words}", Subject.options(made) == " ".join([
+                "--page 888 --every 25 --origin 5 --option english", *complete, *more,
+                "--pes 1-2 --from 00:00:00:00 --to 00:00:00:10"]), Subject.options(made))
+        file = File("a.ts", 9, "0" * 64)
+        for count, source, is_fitted, clock in ((3, GIVEN, True, None), (1, START, False, "words")):
+            subject = SimpleNamespace(parts=count, judged=SimpleNamespace(
+                recording=file, fitted=["1"] * is_fitted))
+            part = SimpleNamespace(clock=Clock(7, source), number=2, stl_path=example("story.stl"))
+            made = SimpleNamespace(is_refused_file=False, part=part, subject=subject, subtitles=[
+                SimpleNamespace(begin=25, end=30), SimpleNamespace(begin=40, end=50)])
+            found = Report.scope(made)
+            assert found
+            self.must(f"{count}", found[1:8] == (file, 25, 50, 2, (2, 3) if count > 1 else None,
+                                                 is_fitted, count > 1) and
+                      found.titles and bool(found.clock) == bool(clock), found)

@@ -1,13 +1,23 @@
 """What is said of a verdict in words: its sentence, and its first header that is refused (67)."""
 from __future__ import annotations
 
+import re
 import unittest
 
+from subtitles.core.manual import meanings
 from subtitles.core.national import OPTIONS
 from subtitles.core.told import told_of
+from subtitles.qc.causes import NAMES
+from subtitles.qc.fault_words import WORDS
 from subtitles.qc.hints import control_words
-from subtitles.qc.sentence import Seen, sentence_of
+from subtitles.qc.sentence import SAID, Seen, of_causes, sentence_of
+from subtitles.qc.severity import REFUSALS
 from subtitles.qc.status import ACCEPTED, LOST, NOT_JUDGED, REFUSED, WAIVED, WARNED
+from .test_tables_of_faults import cause, causes_of
+
+OF_PACKETS = {3, 4}  # refusals of `normal`, which `check` does not have
+VERB = re.compile(r"\b(is|are|has|have|was|were|does|ends|comes|begin|differs|fall|shows|stands?|"
+                  r"cannot)\b")
 
 
 def header(erase: int = 8, subtitle: int = 8, suppress: int = 1, national: int = 0) -> bytes:
@@ -31,15 +41,17 @@ class Words(unittest.TestCase):
         ]
         for name, numbers, option, words in cases:
             with self.subTest(name):
-                self.assertEqual(control_words(numbers, option), words)
+                self.assertEqual(control_words(numbers, option, ["english", "german"]), words)
 
     def test_each_option_in_each_other(self) -> None:
         for sent in OPTIONS:
             for asked in OPTIONS:
-                words = [f"the header is {sent.name}: --option {sent.word}"]
+                words, numbers = f"the header is {sent.name}", header(national=sent.bits)
                 with self.subTest(sent=sent.word, asked=asked.word):
-                    self.assertEqual(control_words(header(national=sent.bits), asked.word),
-                                     [] if sent == asked else words)
+                    self.assertEqual(control_words(numbers, asked.word, [sent.word]),
+                                     [f"{words}: --option {sent.word}"] * (sent != asked))
+                    self.assertEqual(control_words(numbers, asked.word, [asked.word]),
+                                     [words] * (sent != asked))
 
 
 class Sentences(unittest.TestCase):
@@ -74,3 +86,32 @@ class Sentences(unittest.TestCase):
             found = sentence_of(Seen(WAIVED if told is None else REFUSED, 1, first=told, faults=1))
             self.assertTrue(found.startswith(begin) and found.endswith(".") and
                             found.count(".") == 1 and "`" not in found, found)
+
+    def test_each_number(self) -> None:
+        """The sentence of each number that `check` has, at each kind of place: one clause, with its
+        verb, and none of the letters that stand for a place in the manual."""
+        self.assertEqual(set(WORDS), REFUSALS - OF_PACKETS)
+        known = {number for number, one in meanings().items() if number in REFUSALS}
+        self.assertLessEqual(known - OF_PACKETS, set(WORDS))
+        for number, words in WORDS.items():
+            for place, begin in (("frame 10:00:00:00", "at 10:00:00:00"),
+                                 ("pes 7", "in PES packet 7"), ("block 12", "in block 12"),
+                                 ("", "")):
+                told = told_of(f"refused {number} Name {place}".rstrip())
+                found = sentence_of(Seen(REFUSED, 1, first=told, faults=1))
+                with self.subTest(number=number, place=place):
+                    self.assertEqual(found, " ".join(["Refused:", *begin.split(), words]) + ".")
+                    self.assertRegex(words, VERB)
+                    self.assertNotRegex(words, r"TIME|\bN frames|\bK\b|`|[;.] |--complete")
+
+    def test_each_cause(self) -> None:
+        """The sentence of each cause, of one subtitle and of two: what is wrong, and with which."""
+        for name in NAMES:
+            for several in ([cause(2, name, 3)], [cause(2, name, 3), cause(4, name, 5)]):
+                words = of_causes(causes_of(*several), "english")
+                said = SAID[name][len(several) > 1] if name in SAID else \
+                    f"{'are' if len(several) > 1 else 'is'} 3 "
+                with self.subTest(name, count=len(several)):
+                    self.assertIn(f" {said}", words)
+                    self.assertRegex(words, VERB)
+                    self.assertRegex(words, r"^(at|from) \d\d:\d\d:\d\d:\d\d ")

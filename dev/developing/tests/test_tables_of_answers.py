@@ -62,8 +62,8 @@ class Answers(Case):
             self.assertEqual(list(made.lines()), list(lines))
             self.assertEqual([one.line for one, _ in made.told()],
                              [one for one in lines if one.startswith("refused ") and told_of(one)])
-            self.assertEqual([one.first for one in made.trusted_lines()],
-                             ["00:00:06:00"] * (self.TRUSTED in lines))
+            self.assertEqual([begin for begin, _ in made.trusted],
+                             [150] * (self.TRUSTED in lines))
 
     def test_stopped(self) -> None:
         """Up to when it was told; what is accepted without a list; and where its file is then."""

@@ -9,7 +9,7 @@ import random
 import unittest
 from typing import Callable, Sequence
 
-from subtitles.core import batch, pes, teletext, times, units
+from subtitles.core import pes, teletext, times, units
 from subtitles.core.files import Damaged
 from .parts import CLOSING, HEADER, row
 
@@ -21,10 +21,6 @@ CODES = ["00010101", "00000010", "01001001", "01011110", "01100100", "01110011",
 
 
 NOTHING = b"\x01"  # two wrong bits of each code that is near
-
-
-def of_all(packets: Sequence[bytes]) -> batch.Batch:
-    return batch.of_packets(list(packets))
 
 
 def bits_of(number: int, count: int) -> str:
@@ -193,8 +189,6 @@ class Packets(unittest.TestCase):
             self.assertEqual(pes.pts_bytes(pts), wanted)
             data = pes.pes_packet(pts, [])
             self.assertEqual((pes.pts_in(data), pes.pts_or_none(data)), (pts, pts))
-            self.assertEqual(of_all([data, data]).pts(), [pts, pts])
-            self.assertEqual(of_all([data, pes.pes_packet(pts, [HEADER] * 4)]).pts(), [pts, pts])
 
     def test_made(self) -> None:
         """Of no Teletext packet to 16: on lines from 7 on, in as few blocks of 184 bytes as hold

@@ -14,22 +14,25 @@ from subtitles.core.pes import pes_packet
 from subtitles.core.programme import Subtitle
 from subtitles.core.teletext import packet
 from subtitles.core.times import CLOCK, TICKS
+from subtitles.core.told import told_of
 from subtitles.qc.causes import (
-    ATTRIBUTE, EARLY, LATE, NEVER, NOT_ERASED, OTHER, TEXT, UNKNOWN, Cause, Faulty)
-from subtitles.qc.due_pages import asked_of
+    ATTRIBUTE, EARLY, LATE, NEVER, NOT_ERASED, OTHER, TEXT, UNKNOWN, Cause, Faulty, Namer)
+from subtitles.qc.cells import place_of
+from subtitles.qc.due_pages import DuePages, asked_of
 from subtitles.reading.timeline import Span
 from subtitles.qc.hints import gap_words, hints_of
 from subtitles.qc.made_with import proved_line
 from subtitles.qc.pair import Pair
 from subtitles.qc.progress import CLEAR, Progress
-from subtitles.qc.sentence import of_causes
+from subtitles.qc.sentence import Seen, of_causes, what_is_wrong
 from subtitles.qc.speech import Speech
 from subtitles.qc.unclear import Unclear
 from subtitles.qc.why import tell
 from subtitles.reading.receiver import OLD
 from .bench import Case, alone
 from .judged import Heard
-from .parts import CLOSING, HEADER, answer, asked_for, packets_told, part_with
+from .parts import (
+    CLOSING, HEADER, answer, asked_for, packets_told, part_with, row, timeline_of)
 from .test_helpers import script
 from .test_pairs_in_parts import ORIGIN
 from .test_parts_of_verdicts import verdict_of
@@ -89,18 +92,102 @@ class Words(Case):
                  'at 00:00:08:00 subtitle 9, "text", has a wrong colour or attribute')):
             self.assertEqual(of_causes(causes_of(*several), "english"), wanted)
 
+    def test_the_first_fault_beside_a_cause(self) -> None:
+        """It is named where there are several, and it is none that has a cause."""
+        for line, count, is_named in (("refused 68 Parity frame 00:00:01:00 packet 1", 2, True),
+                                      ("refused 68 Parity frame 00:00:01:00 packet 1", 1, False),
+                                      ("refused 72 Content frame 00:00:01:00 row 1 column 1", 2,
+                                       False)):
+            words = what_is_wrong(Seen("refused", 9, told_of(line), count, "", causes_of(
+                cause(2, LATE, 3))))
+            self.must(f"{line} {count}", words.endswith(
+                "; the first of 2 faults is 68 Parity at 00:00:01:00") == is_named ==
+                      ("the first of" in words) and
+                      words.startswith("at 00:00:02:00 subtitle 3"), words)
+
+    def test_numbers_of_other_digits(self) -> None:
+        """What int takes and the program does not print is no answer."""
+        for number in ("\u0663\u0663", "+33", "3 3", ""):
+            with self.assertRaises(Unclear):
+                answer([f"refused {number} Flags pes 0", "1 faults"], 1)
+
     def test_faulty_frames(self) -> None:
         """Of a subtitle: the first stretch while it is due, and the first from its TCO on."""
         one = Subtitle(1, 1, 100, 150, 20, 2, b"")
-        for spans, within, after in (
-                ((), None, None), ((90, 99), None, None), ((100,), 100, None), ((149,), 149, None),
-                ((150,), None, 150), ((110, 120, 130), 110, None), ((150, 160, 170), None, 150),
-                ((90, 110, 120, 155, 160), 110, 155), ((160, 120, 155, 110), 120, 160)):
+        rows: list[tuple[tuple[int, ...], int | None, int | None]] = [
+            ((), None, None), ((90, 99), None, None), ((100,), 100, None), ((149,), 149, None),
+            ((150,), None, 150), ((110, 120, 130), 110, None), ((150, 160, 170), None, 150),
+            ((90, 110, 120, 155, 160), 110, 155), ((160, 120, 155, 110), 120, 160)]
+        for spans, within, after in rows:
             faulty = Faulty()
             for first in spans:
                 faulty.add(Span(first, first + 1), one)
             self.must(f"{spans}", [part and part.first for part in (faulty.within, faulty.after)] ==
                       [within, after], spans)
+
+    def test_owners(self) -> None:
+        """Whose fault it is: of the one that is due or was last, before anything is held too, or
+        of the one that came at another time."""
+        sent: list[tuple[int, list[bytes]]] = [
+            (0, [CLOSING]), (60, [HEADER, row(20, b"two"), CLOSING])]
+        pes = [pes_packet(TICKS * frame, packets) for frame, packets in sent]
+        held = timeline_of(self, b"".join(pes))
+        pages: list[tuple[bytes, ...]] = [
+            (b" " * 40,) * 19 + ((b"\x0b\x0b" + text).ljust(40),) + (b" " * 40,) * 4
+            for text in (b"one", b"two")]
+        due = DuePages([Subtitle(1, 1, 10, 50, 20, 2, b""), Subtitle(2, 2, 100, 150, 20, 2, b"")],
+                       pages)
+        owners = {frame: Namer(due, held).owner(frame) for frame in (5, 20, 55, 60, 99, 100, 149)}
+        self.assertEqual(owners, {5: 0, 20: 0, 55: 0, 60: 1, 99: 1, 100: 1, 149: 1})
+
+    def test_what_is_sent_instead(self) -> None:
+        """Of a subtitle whose page never came a page of none that came after the one before it; of
+        the first one whose own page came later, none from before its TCI."""
+        pages: list[tuple[bytes, ...]] = [
+            (b" " * 40,) * 19 + ((b"\x0b\x0b" + text).ljust(40),) + (b" " * 40,) * 4
+            for text in (b"one", b"two")]
+        due = DuePages([Subtitle(1, 1, 100, 150, 20, 2, b""), Subtitle(2, 2, 200, 250, 20, 2, b"")],
+                       pages)
+        for sent, wanted in (({50: b"x", 160: b""}, [b"x", None, None]),
+                             ({50: b"x", 110: b"y", 115: b"z", 260: b""}, [b"z", b"y", None]),
+                             ({160: b"x", 260: b""}, [None, None, b"x"])):
+            held = timeline_of(self, b"".join(pes_packet(TICKS * frame, [
+                HEADER, *[row(20, text)] * bool(text), CLOSING]) for frame, text in sent.items()))
+            namer = Namer(due, held)
+            numbers = [namer.strange(0, None), namer.strange(0, 112), namer.strange(1, None)]
+            found = [None if one is None else text_in(held.pages[one]) for one in numbers]
+            self.must(f"{sent}", found == wanted, found)
+
+    def test_what_is_seen(self) -> None:
+        """Nothing of frames of which something is lost, by whoever knows it, nor behind the end of
+        what can be followed."""
+        data = b"".join(pes_packet(TICKS * frame, [HEADER, CLOSING]) for frame in (0, 50, 100))
+        held = timeline_of(self, data)
+        held.lost, held.doubts = [Span(10, 20)], [Span(60, 70)]
+        for first, last, is_seen in ((0, 9, True), (0, 10, False), (20, 25, False), (21, 59, True),
+                                     (5, 30, False), (70, 90, False), (71, 100, True)):
+            self.assertEqual(held.is_seen(first, last), is_seen, (first, last))
+        held.halt = 9
+        self.assertEqual([held.is_seen(80, last) for last in (100, 101)], [True, False])
+
+    def test_places(self) -> None:
+        """Of a frame's end the last of its PES packets; of a gap the first, which it is told
+        before, but where several are one frame's."""
+        data = b"".join(pes_packet(ticks, [HEADER, CLOSING])
+                        for ticks in (0, 10 * TICKS, 10 * TICKS + 1800, 20 * TICKS))
+        for line, within, pes in (
+                ("refused 73 Gap frame 00:00:00:10", 0, 1),
+                ("refused 73 Gap frame 00:00:00:10", 1, 2),
+                ("refused 77 Incomplete frame 00:00:00:10", 0, 1),
+                ("refused 77 Incomplete frame 00:00:00:10", 1, 2),
+                ("refused 73 Gap frame 00:00:00:15", 1, None),
+                ("refused 68 Parity frame 00:00:00:10 packet 1", 1, 1),
+                ("refused 68 Parity frame 00:00:00:10 packet 2", 1, 2),
+                ("refused 38 UnitLength pes 3", 0, 3)):
+            packets, fault = packets_told(self, data), told_of(line)
+            assert fault
+            found = place_of(fault, packets, timeline_of(self, data, 0, within))
+            self.must(f"{line} {within}", found.pes == pes, found)
 
     def test_gaps(self) -> None:
         """The longest gap, the last among them; what accepts it, where nothing else is refused and

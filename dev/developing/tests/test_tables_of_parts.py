@@ -3,20 +3,15 @@ from __future__ import annotations
 
 import os
 import unittest
-from types import SimpleNamespace
-from typing import Any, Callable
-from unittest import mock
 
 from subtitles.core.pes import pes_packet
 from subtitles.core.stl import gsi_block, tti_block
-from subtitles.core.words import Stop
 from subtitles.qc.hints import control_words
-from subtitles.calls.channel.kinds import is_pes_packets, is_recording
 from subtitles.qc.lettering import (
     ATTRIBUTES, attribute_words, code_words, is_moved, is_part, place_words, text_of, words_on)
 from subtitles.qc.names import Names, again
 from subtitles.qc.option_advice import OptionAdvice
-from subtitles.calls.channel.source import Source
+from subtitles.qc.recording import is_recording
 from subtitles.qc.subtitle_file import SubtitleFile
 from subtitles.qc.typed import Typed, line_of
 from subtitles.reading.receiver import BLANK_PAGE
@@ -105,32 +100,16 @@ class Kinds(Case):
     """What a file is, by its first bytes."""
 
     def test_kinds(self) -> None:
-        pes, stl = pes_packet(0, []), gsi_block(b"", 0, 0)
-        of_kinds: list[tuple[bytes, bool | None, bool]] = [
-            (pes, True, True), (pes[:4], True, True), (b"G" * 400, False, True), (stl, None, False),
-            (b"\0\0\1\xbdG" + b"\0" * 300, False, True), (b"\0\0\1\xe0" + b"\0" * 99, None, False),
-            (b"\0\0\1", False, False), (b"abcd" * 99, False, False), (b"", None, False),
-            (b"G" + b"\0" * 187 + b"G" + b"\0" * 99, False, True),
-            (b"G" + b"\0" * 203 + b"G" + b"\0" * 99, False, True),
-            (b"timeG" + b"\0" * 191 + b"G" + b"\0" * 99, False, True),
-            (b"G" + b"\0" * 188 + b"G" + b"\0" * 99, False, False)]
-        for data, is_pes, is_one in of_kinds:
-            path = self.write("one", data)
-            source = Source(path)
-            try:
-                found: bool | None = is_pes_packets(source)
-            except Stop:
-                found = None
-            rest = source.read()
-            source.close()
-            self.must(f"{data[:6]!r}", found == is_pes, found)
-            self.must(f"{data[:6]!r}: read again", data.startswith(rest) and len(rest) ==
-                      min(len(data), 11))
-            self.must(f"{data[:6]!r}: a recording", is_recording(path) == is_one)
-
-def at_times(now: Callable[[], float]) -> Any:
-    """While this holds, a feed takes these times for those that are."""
-    return mock.patch("subtitles.qc.feed.time", SimpleNamespace(monotonic=now))
+        """Whether it begins as a recording does."""
+        for data, is_one in (
+                (pes_packet(0, []), True), (pes_packet(0, [])[:4], True), (b"G" * 400, True),
+                (gsi_block(b"", 0, 0), False), (b"\0\0\1\xbdG" + b"\0" * 300, True),
+                (b"\0\0\1\xe0" + b"\0" * 99, False), (b"\0\0\1", False), (b"abcd" * 99, False),
+                (b"", False), (b"G" + b"\0" * 187 + b"G" + b"\0" * 99, True),
+                (b"G" + b"\0" * 203 + b"G" + b"\0" * 99, True),
+                (b"timeG" + b"\0" * 191 + b"G" + b"\0" * 99, True),
+                (b"G" + b"\0" * 188 + b"G" + b"\0" * 99, False)):
+            self.must(f"{data[:6]!r}", is_recording(self.write("one", data)) == is_one)
 
 
 class Pages(Case):
@@ -189,7 +168,7 @@ class Pages(Case):
             self.assertEqual(len(found), len(words), (place, value, found))
             self.assertTrue(all(one.startswith(word) for one, word in zip(found, words)), found)
         self.assertEqual(control_words(bytes([*good[:7], 8]), "german"), [])
-        self.assertEqual(control_words(bytes(good), "german"),
+        self.assertEqual(control_words(bytes(good), "german", ["english"]),
                          ["the header is English: --option english"])
 
     def test_letters_of_a_file(self) -> None:

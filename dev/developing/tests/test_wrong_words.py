@@ -1,7 +1,10 @@
 """Words and files that are wrong: one line on standard error, status 2, nothing written."""
 from __future__ import annotations
 
+import csv
+import json
 import os
+import xml.etree.ElementTree as tree
 
 from subtitles.core.built import TOP
 from .bench import Case, example, tool_path
@@ -71,6 +74,36 @@ class WrongWords(Case):
                 self.must(f"{name} {' '.join(words)}", done.status == 2 and not done.out
                           and len(done.told) == 1 and done.told[0].startswith(name + ": ")
                           and sorted(os.listdir(self.folder)) == before, done)
+
+    def test_leaves_what_is_asked_for(self) -> None:
+        """A call of qc that is wrong, or whose files are, leaves one entry that is not judged in
+        each file that is asked for, once more too; and nothing in the place of another file."""
+        names = {"--json": "one.json", "--csv": "one.csv", "--junit": "one.xml"}
+        files = [f"{option}={self.path(name)}" for option, name in names.items()]
+        for words in ([STL, PES, "--page", "8FF"], [STL, PES, "--colour"],
+                      [STL, PES, "--jobs", "2"], ["none.stl", PES], [STL, PES, PES]) * 2:
+            done = self.tool("qc", *words, *files)
+            there = [os.path.exists(self.path(name)) for name in names.values()]
+            if not self.must(f"{words}: files", all(there), there):
+                return
+            known = json.loads(self.read("one.json"))
+            head, row, *more = csv.reader(self.read("one.csv").decode().splitlines())
+            suite = tree.fromstring(self.read("one.xml"))
+            told = done.told[0].partition(": ")[2]
+            self.must(f"{words}", done.status == 2 and known["verdict"] == "not judged" and
+                      known["reason"] == told, known)
+            one = dict(zip(head, row))
+            self.must(f"{words}: table", not more and (one["verdict"], one["status"],
+                                                       one["reason"]) == ("not judged", "2", told),
+                      row)
+            cases = list(suite.iter("testcase"))
+            self.must(f"{words}: case", len(cases) == 1 and suite.get("errors") == "1" and
+                      [one.get("message") for one in cases[0].iter("error")] == [told],
+                      self.read("one.xml"))
+        for option, name in names.items():
+            path = self.write(name, b"something else")
+            self.tool("qc", STL, PES, "--page", "8FF", option, path)
+            self.must(f"{option}: something else", self.read(name) == b"something else")
 
     def test_helps(self) -> None:
         """--help, and what it says first is what the script says first; --version."""

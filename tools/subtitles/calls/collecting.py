@@ -103,7 +103,8 @@ def first_fault(row: Row) -> str:
     if row.verdict == ACCEPTED or not row.line:
         return ""
     line = row.line.splitlines()[0].removeprefix("refused ").partition("; ")[0]
-    return f"{line}: {row.hint}" if row.hint else line
+    more = f"; {row.counts}" if row.counts else ""
+    return (f"{line}: {row.hint}" if row.hint else line) + more
 
 
 def put(path: str | None, pieces: Callable[[], Iterator[bytes]]) -> None:
@@ -142,4 +143,4 @@ def lines_of(paths: Sequence[str]) -> Iterator[bytes]:
 def testcases(rows: Sequence[Row], date: str) -> Iterator[bytes]:
     """A testcase for each pair."""
     yield junit.text_of([junit.TestCase(row.title, row.verdict, row.status, row.line, row.lines,
-                                        row.seconds) for row in rows], date)
+                                        row.seconds, row.counts) for row in rows], date)

@@ -75,7 +75,7 @@ def line_of(folder: str, row: Row) -> str:
     faults = f"{count}<br><small>{'<br>'.join(told)}</small>" if told else count
     title = f"{shown(row.name)}<br><small>{shown(row.title)}</small>"
     why = "" if row.verdict == ACCEPTED else \
-        "<br>".join(map(shown, [*row.line.splitlines()[:3], *[row.hint] * bool(row.hint)]))
+        "<br>".join(map(shown, [*row.line.splitlines()[:3], *filter(None, [row.hint, row.counts])]))
     return (f'<tr class="{row.verdict.replace(" ", "-")}">'
             f'<td class="verdict">{shown(row.verdict)}</td>'
             f"<td>{title}</td><td>{faults}</td><td>{why}</td><td>{links(folder, row.name)}</td>"

@@ -12,7 +12,8 @@ NOT_XML = re.compile("[^\t\n\r\x20-\ud7ff\ue000-\ufffd\U00010000-\U0010ffff]")
 
 
 class TestCase(NamedTuple):
-    """A pair: what is said of it, the first lines of its list, and the seconds that it took."""
+    """A pair: what is said of it, the first lines of its list, the seconds that it took, and how
+    many subtitles were judged, where some are refused."""
 
     name: str
     verdict: str
@@ -20,6 +21,7 @@ class TestCase(NamedTuple):
     line: str
     lines: Sequence[str]
     seconds: float
+    counts: str = ""
 
 
 def clean(text: str) -> str:
@@ -31,7 +33,7 @@ def clean(text: str) -> str:
 def element_of(case: TestCase) -> tree.Element:
     element = tree.Element("testcase", classname="subttx", name=clean(case.name),
                            time=f"{case.seconds:.3f}")
-    text = clean("\n".join([case.line, *case.lines]))
+    text = clean("\n".join([case.line, *[case.counts] * bool(case.counts), *case.lines]))
     if case.status:
         kind = "error" if case.verdict == NOT_JUDGED else "failure"
         told = tree.SubElement(element, kind, message=clean(case.line), type=case.verdict)

@@ -5,6 +5,7 @@ import json
 from typing import Iterable, Iterator, Mapping
 
 from ..core.layout import text_of
+from ..core.times import time_of
 from ..qc.asked import Asked
 from ..qc.cause_words import Wording
 from ..qc.faults import faults_of, words_of_subtitle
@@ -80,6 +81,7 @@ def head_of(verdict: Verdict, program: Program) -> dict[str, Value]:
         "frames": total([part.answer.frames for part in parts]),
         "transmissions": total([part.answer.transmissions for part in parts]),
         "fault_count": verdict.faults,
+        "subtitle_counts": verdict.counts and verdict.counts._asdict(),
         "asked": asked_words(verdict.asked),
         "found": verdict.found,
         "parts": [part_words(part, verdict.is_kept) for part in parts],
@@ -103,8 +105,8 @@ def object_of(verdict: Verdict, program: Program) -> Iterator[str]:
     """The text of the object, a piece after another: there may be any number of faults."""
     head = json.dumps(head_of(verdict, program), ensure_ascii=False, indent=1)
     yield head.removesuffix("\n}") + ',\n "trusted": ['
-    trusted = ({"part": part.number, "from": begin, "to": end}
-               for part in verdict.parts for begin, end in part.answer.trusted_lines())
+    trusted = ({"part": part.number, "from": time_of(begin), "to": time_of(end)}
+               for part in verdict.parts for begin, end in part.answer.trusted)
     yield from listed(trusted)
     yield '],\n "faults": ['
     yield from listed(faults_of(verdict))

@@ -5,12 +5,12 @@ import argparse
 import contextlib
 import os
 import sys
-from typing import Sequence
+from typing import Any, Sequence
 
-from ..core.files import IsInput, plain_name
+from ..core.files import IsInput, plain_name, whole_file
 from ..core.words import Stop, Words, line_of
 from ..qc.asked import add_pair_options
-from . import modes, objects, single
+from . import junit, modes, objects, single, table
 
 SETTLED = 5  # seconds
 PATIENCE = 60  # minutes
@@ -72,32 +72,61 @@ def parser_of(text: str) -> Words:
     # For the calls that other ones make.
     parser.add_argument("--name", help=argparse.SUPPRESS)
     parser.add_argument("--fitted", dest="is_fitted", action="store_true", help=argparse.SUPPRESS)
+    parser.add_argument("--cut", dest="is_cut", action="store_true", help=argparse.SUPPRESS)
     return parser
 
 
 def main(text: str, called: str, line: list[str]) -> int:
-    """Does what the words ask; answers the status. Where that ends early, the object that is asked
-    for by --json says why, as nothing else may."""
+    """Does what the words ask; answers the status. Where that ends early, what is asked for by
+    --json, --csv and --junit says why, as nothing else may."""
     try:
         status = answer(text, called, line)
         sys.stdout.flush()
         return status
     except (Exception, KeyboardInterrupt) as reason:
-        path = json_in(line)
-        with contextlib.suppress(Stop, OSError):
-            if path is not None and not isinstance(reason, IsInput) and objects.may_take(path):
-                objects.put(path, objects.unjudged(name_in(line), line_of(reason)))
+        if not isinstance(reason, IsInput):
+            leave(line, line_of(reason))
         raise
 
 
-def json_in(line: Sequence[str]) -> str | None:
-    """The file of --json in the words of a command line, whatever else is wrong with them."""
+def leave(line: Sequence[str], reason: str) -> None:
+    """Writes the files that are asked for, each with one entry that is not judged."""
+    known = objects.unjudged(name_in(line), reason)
+    for option, write in OUTPUTS.items():
+        path = file_in(line, option)
+        with contextlib.suppress(Stop, OSError):
+            if path is not None and objects.may_take(path, BEGINS[option]):
+                write(path, known)
+
+
+def write_table(path: str, known: dict[str, Any]) -> None:
+    """The CSV file of a pair by its object."""
+    with whole_file(path, []) as file:
+        for piece in table.text_of([known]):
+            file.write(piece)
+
+
+def write_testcase(path: str, known: dict[str, Any]) -> None:
+    """The file for a CI of a pair that is not judged."""
+    case = junit.TestCase(known["name"], known["verdict"], known["status"], known["reason"], [],
+                          0.0)
+    with whole_file(path, []) as file:
+        file.write(junit.text_of([case], single.now()))
+
+
+OUTPUTS = {"--json": objects.put, "--csv": write_table, "--junit": write_testcase}
+# What a file begins with that an earlier call wrote: another one may be an input.
+BEGINS = {"--json": b"{", "--csv": b"stl,recording,", "--junit": b"<?xml version='1.0' "}
+
+
+def file_in(line: Sequence[str], option: str) -> str | None:
+    """The file of an option in the words of a command line, whatever else is wrong with them."""
     words = list(line[:line.index("--")] if "--" in line else line)
     found = None
     for word, following in zip(words, [*words[1:], ""]):
-        if word.startswith("--json="):
-            found = word.removeprefix("--json=")
-        elif word == "--json" and (following == "-" or not following.startswith("-")):
+        if word.startswith(f"{option}="):
+            found = word.removeprefix(f"{option}=")
+        elif word == option and (following == "-" or not following.startswith("-")):
             found = following
     return found or None
 

@@ -9,6 +9,7 @@ from typing import Any, Iterator, NamedTuple, Sequence
 
 from ..core.files import is_replaced, whole_file
 from ..qc.asked import Asked
+from ..qc.beside import Counts
 from ..qc.made_with import Program
 from ..qc.status import NOT_JUDGED, STATUSES, is_of_call
 from .machine import FORMAT, asked_words
@@ -20,7 +21,7 @@ OF_FAULT = {"line", "number", "name", "cause", "subtitle", "due", "held"}  # tha
 
 class Row(NamedTuple):
     """A pair that was judged, or was not; what `title` names are its two files, `hint` what to know
-    of its first fault."""
+    of its first fault, `counts` how many subtitles were judged, where some are refused."""
 
     name: str
     title: str
@@ -32,6 +33,7 @@ class Row(NamedTuple):
     lines: Sequence[str]
     seconds: float
     hint: str
+    counts: str = ""
 
     @property
     def is_judged(self) -> bool:
@@ -56,13 +58,13 @@ def has_had_its_turn(known: dict[str, Any], asked: Asked | None) -> bool:
         found_then.get("stl") == found_at(asked.stl)
 
 
-def may_take(path: str) -> bool:
-    """Whether an object may take the place of a file, whatever words are wrong: one that holds
-    something else may be an input."""
+def may_take(path: str, begins: bytes = b"{") -> bool:
+    """Whether an object, or what begins otherwise, may take the place of a file, whatever words are
+    wrong: one that holds something else may be an input."""
     if not is_replaced(path) or not os.path.exists(path):
         return True
     with open(path, "rb") as file:
-        return file.read(1) in (b"{", b"")
+        return file.read(len(begins)) in (begins, b"")
 
 
 def put(path: str, known: dict[str, Any]) -> None:
@@ -92,7 +94,7 @@ def has_shape(known: dict[str, Any]) -> bool:
     """Whether an object has what a row takes of it, and the status of its verdict."""
     kinds = {"line": (str, type(None)), "reason": (str, type(None)), "asked": (dict, type(None)),
              "faults": (list, type(None)), "cause_counts": (dict, type(None)),
-             "hints": (list, type(None)),
+             "hints": (list, type(None)), "subtitle_counts": (dict, type(None)),
              "fault_count": (int, type(None)), "seconds": (int, float, type(None))}
     word, status = known["verdict"], known.get("status")
     is_row = isinstance(word, str) and type(status) is int and STATUSES.get(word) == status and \
@@ -120,7 +122,7 @@ def row_of(known: dict[str, Any], name: str) -> Row:
     return Row(name, title or name, known["verdict"], known["status"], line,
                known.get("fault_count") or 0, causes_in(known),
                [fault["line"] for fault in faults[:LINES]], known.get("seconds") or 0.0,
-               hint_in(known))
+               hint_in(known), counts_in(known))
 
 
 def hint_in(known: dict[str, Any]) -> str:
@@ -131,6 +133,14 @@ def hint_in(known: dict[str, Any]) -> str:
         if refused.startswith(f"{number} "):
             return words
     return ""
+
+
+def counts_in(known: dict[str, Any]) -> str:
+    """How many subtitles were judged, and how many are refused, where some are."""
+    counts = known.get("subtitle_counts") or {}
+    judged, refused = counts.get("judged"), counts.get("refused")
+    return Counts(judged, refused).words() if isinstance(judged, int) and isinstance(
+        refused, int) else ""
 
 
 def causes_in(known: dict[str, Any]) -> dict[str, int]:

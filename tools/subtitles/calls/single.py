@@ -14,7 +14,7 @@ from typing import Callable, Iterator, NamedTuple, Sequence
 from ..core.files import (
     OWN_OUTPUT, is_replaced, refuse_input, refuse_name, temporary_folder, whole_file)
 from ..core.words import Stop, counted, escaped, line_of, shown, silence, tell
-from ..qc.asked import AUTO_OF_FEED, Asked, asked_of
+from ..qc.asked import AUTO_OF_FEED, Asked, asked_of, keep_stl
 from ..qc.cause_words import count_line
 from ..qc.faults import faults_of
 from ..qc.hints import hints_of
@@ -60,12 +60,13 @@ def judge(words: argparse.Namespace, called: str) -> int:
     name = shown(words.name or os.path.splitext(os.path.basename(asked.stl))[0])
     with temporary_folder("subttx-qc-") as folder, claimed(out, name):
         names = Names(name, folder, out)
-        names.give(asked.stl)
+        keep_stl(asked, folder)
+        names.give(asked.stl_path, asked.stl)
         files = Files(words, verdict, typed, names)
         files.prepare()
         verdict.found = found(asked)
         pair = Pair(verdict, typed, names, speech, files.are_any())
-        pair.stalled_after = words.stall
+        pair.stalled_after, pair.is_cut = words.stall, words.is_cut
         if out is not None:
             pair.draw = functools.partial(draw, pair)
         try:
@@ -264,7 +265,8 @@ class Files:
         """The file for a CI."""
         verdict = self.verdict
         case = junit.TestCase(name_of(verdict.asked), verdict.word, verdict.status,
-                              verdict.line or verdict.why_not or "", self.lines(), verdict.seconds)
+                              verdict.line or verdict.why_not or "", self.lines(), verdict.seconds,
+                              verdict.counts.words() if verdict.counts else "")
         yield junit.text_of([case], verdict.date).decode()
 
     def leave(self, pair: Pair) -> None:

@@ -17,7 +17,9 @@ OF_CAUSE = ["cause", "cause_frames", "cause_subtitle", "cause_text", "cause_sent
 OF_PAIR = ["verdict", "status", "reason"]
 PLACES = ["position", "cause_position"]
 OF_JUDGED = ["pid", "packet_size", "range"]  # what is judged of the recording, or of a part
-COLUMNS = ["stl", "recording", *OF_FAULT, *OF_PAIR, *OF_CAUSE, *PLACES, "sentence", *OF_JUDGED]
+COUNTS = {"subtitles_judged": "judged", "subtitles_refused": "refused"}
+COLUMNS = ["stl", "recording", *OF_FAULT, *OF_PAIR, *OF_CAUSE, *PLACES, "sentence", *OF_JUDGED,
+           *COUNTS]
 
 Known = dict[str, object]  # the columns that there is something to say of
 
@@ -34,7 +36,13 @@ def of_pair(verdict: Verdict) -> Known:
     return {"stl": verdict.asked.stl, "recording": verdict.asked.recording,
             "verdict": verdict.word, "status": verdict.status, "reason": verdict.why_not,
             "line": verdict.line, "sentence": verdict.sentence,
+            **of_counts(verdict.counts and verdict.counts._asdict()),
             **of_part([*map(words_of, verdict.parts)], None)}
+
+
+def of_counts(counts: dict[str, Any] | None) -> Known:
+    """The columns of how many subtitles were judged, and how many are refused."""
+    return {column: counts.get(name) for column, name in COUNTS.items()} if counts else {}
 
 
 def words_of(part: Part) -> dict[str, Any]:
@@ -60,6 +68,7 @@ def of_object(known: dict[str, Any]) -> Known:
     asked = known.get("asked") or {"stl": known.get("name")}
     return {"stl": asked.get("stl"), "recording": asked.get("recording"),
             **{name: known.get(name) for name in (*OF_PAIR, "line", "sentence")},
+            **of_counts(known.get("subtitle_counts")),
             **of_part(known.get("parts") or [], None)}
 
 

@@ -8,10 +8,8 @@ teletext   Teletext packets and their codes; the table of control bits
 characters the characters of the national options
 national   the national options, a row for each
 pes        PES packets
-pieces     some of them by their numbers, and marks among them
 spans      spans of frames, or of PES packets
 units      the data units in them
-batch      many PES packets in one step
 stl        blocks of subtitle files
 gsi        the texts of the first of them
 letters    the letters of the others

@@ -39,6 +39,15 @@ class Spans:
         first, last = bisect.bisect_left(self.ends, begin), bisect.bisect_left(self.begins, end)
         return zip(self.begins[first:last], self.ends[first:last])
 
+    def without(self, others: Iterable[Span]) -> Spans:
+        """The same without what is in others."""
+        found = list(self)
+        for begin, end in others:
+            parts = [part for first, last in found for part in (
+                (first, min(last, begin - 1)), (max(first, end + 1, begin), last))]
+            found = [part for part in parts if part[0] <= part[1]]
+        return Spans(found)
+
     def total(self) -> int:
         """How many all of them have."""
         return sum(last + 1 - first for first, last in self)

@@ -28,6 +28,7 @@ EMPTY = 60  # the number for a file without PES packets
 DISPLAY = 13  # display standard code (DSC)
 EMPTY_TIME, OUT_OF_ORDER = 21, 56  # times of a subtitle file that fall
 OFF_FRAME, GAP = 61, 73
+UNDECIDED = 78  # frames at which what is due is not known, beside subtitles that are refused
 STL_FAULTS = {*range(10, 26), *range(50, 58)}
 PASSED_OVER = {*range(33, 41), 45, 61}  # of PES packets that can't be read, or have no frame
 # Where reading a recording ended: nobody saw what comes after that.

@@ -8,19 +8,23 @@ import os
 import time
 
 from ..core.built import behind_script
+from ..core.layout import PLAIN, layout_of
+from ..core.told import EMPTY, STL_FAULTS, WITH_CAUSE
 from ..core.words import line_of, stream_words
 from ..qc.asked import Asked
+from ..qc.beside import Beside, beside_of, due_beside, is_judged_beside
 from ..qc.checking import Answer, check
 from ..qc.clock import GIVEN, Clock
 from ..qc.delays import MOVED, frames_in
 from ..qc.due_pages import due_pages_of
 from ..qc.naming import Causes
+from ..qc.options import LAYOUT
 from ..qc.severity import Severity
+from ..qc.subtitle_file import SubtitleFile
 from ..qc.sums import Files
 from ..qc.typed import line_of as command_of
 from ..qc.unclear import Unclear
 from ..qc.verdict import Part, Verdict
-from ..core.told import WITH_CAUSE
 from ..reading.survey import PES, Packets, survey
 from .program import NoReport, Program
 from .report import Report, Subject
@@ -44,33 +48,53 @@ def report_of(words: argparse.Namespace, folder: str) -> Report:
                *(["--origin", str(asked.origin)] if asked.origin else []),
                *(["--pes", f"{asked.pes[0]}-{asked.pes[1]}"] if asked.pes else []), "--all"]
     try:
-        part = part_of(asked, path, options, folder)
+        part, beside = part_of(asked, path, options, folder)
     except Unclear as reason:
         raise NoReport(reason.reason) from None
     files = [*zip(("STL", "PES" if stream is None else "Recording"), summed.all())]
     verdict = Verdict(asked, Severity(None), time.strftime("%Y-%m-%dT%H:%M:%SZ", time.gmtime()),
-                      parts=[part], stl=files[0][1], count=len(part.due().subtitles))
+                      parts=[part], stl=files[0][1], count=len(part.due().subtitles),
+                      beside=beside)
     command = command_of(name, "check", *names, *options)
     return Report(Subject(verdict, part, 1, Program(name, path, words.recording, stream, folder),
                           [command], files, (words.begin, words.end)))
 
 
-def part_of(asked: Asked, program: str, options: list[str], folder: str) -> Part:
-    """What is judged, all of it or some PES packets."""
+def beside_in(asked: Asked, part: Part) -> Beside | None:
+    """What is judged beside subtitles that are refused, where the program does so."""
+    answer = part.answer
+    is_sent = bool(answer.numbers - STL_FAULTS) or len(answer.trusted) > 0
+    if not answer.numbers & STL_FAULTS or asked.recording is None or not is_sent:
+        return None
+    beside = beside_of(SubtitleFile(asked.stl), (told for told, _ in answer.told()), asked.option)
+    layout = layout_of(asked.handed_on.get(LAYOUT, "")) or PLAIN
+    part.due = functools.cache(lambda: due_beside(beside.judged, asked.page, asked.option, layout))
+    part.left_out = beside.left_out
+    return beside
+
+
+def part_of(asked: Asked, program: str, options: list[str], folder: str) \
+        -> tuple[Part, Beside | None]:
+    """What is judged, all of it or some PES packets, and what is judged beside refused subtitles.
+    """
     answer = Answer(os.path.join(folder, "list.txt"))
     recording = asked.recording or os.devnull
     try:
         check([program, "check", *options, "--", asked.stl, recording], answer, lambda line: None)
     except OSError as reason:
         raise NoReport(f"{program} can't be run: {line_of(reason)}") from None
+    if asked.recording is None and is_judged_beside(answer.numbers):
+        answer = answer.without(EMPTY, os.path.join(folder, "refused.txt"))
     part = Part(1, asked.stl, asked.stl, None, asked.origin, None, None, None, answer,
                 Clock(asked.origin or 0, GIVEN), asked=asked, was_read=True)
     if answer.first is None or answer.first.block is None:
         part.due = functools.cache(lambda: due_pages_of(
             program, asked.stl, asked.page, asked.option, words=asked.words_of_pages(),
             is_open=asked.is_open))
-    if part.answer.first and part.answer.first.block is not None or asked.recording is None:
-        return part
+    beside = beside_in(asked, part)
+    is_refused = part.answer.first and part.answer.first.block is not None and not beside
+    if is_refused or asked.recording is None:
+        return part, None
     pid = PES if asked.pid is None else asked.pid
     part.packets = survey(program, asked.recording, asked.page, asked.pid).by_pid.get(
         pid, Packets(pid))
@@ -83,4 +107,4 @@ def part_of(asked: Asked, program: str, options: list[str], folder: str) -> Part
     if held:
         part.delays = frames_in(not asked.within and not answer.numbers & MOVED,
                                 len(part.due().subtitles), held, part.due, asked.is_complete)
-    return part
+    return part, beside

@@ -7,6 +7,7 @@ from typing import TYPE_CHECKING, Iterable
 from ..core.manual import number_link, shown
 from ..core.stl import GSI, LAST, TTI, USER_DATA
 from ..core.times import frame_of
+from ..core.told import STL_FAULTS
 from ..core.words import counted
 from ..qc.subtitle_file import COMMENT, NamedSubtitle, SubtitleFile
 from .counts import heads
@@ -26,6 +27,8 @@ FIELDS = {11: ("DFC", slice(3, 11)), 12: ("DFC", slice(3, 11)), 13: ("DSC", slic
           17: ("CF", slice(15, 16)), 18: ("JC", slice(14, 15)), 19: ("VP", slice(13, 14)),
           22: ("SGN and SN", slice(0, 3))}
 FIRST_LINES, LAST_LINES = 200, 20  # of what `show` prints
+DRAWN_BESIDE = "It is drawn as undecided: what was sent from the subtitle before it that can be " \
+    "relied on to the next one is not judged."
 
 
 class Blocks:
@@ -84,8 +87,9 @@ def block_place(report: Report, blocks: Blocks) -> str:
     begin = GSI + TTI * (verdict.block - 1)
     named = f"TTI block {verdict.block} begins at byte {begin} of the subtitle file." \
         if verdict.block else "The GSI block, block 0, is the first 1024 bytes of the file."
-    parts = [f'<section id="place"><h2>The broken place</h2><p>{named} No page is drawn: what is '
-             "due is known from a whole subtitle file alone.</p>"]
+    why = DRAWN_BESIDE if report.is_beside else \
+        "No page is drawn: what is due is known from a whole subtitle file alone."
+    parts = [f'<section id="place"><h2>The broken place</h2><p>{named} {why}</p>']
     subtitle = blocks.subtitle(verdict.block)
     if subtitle:
         parts.append(refused_subtitle(blocks, subtitle, verdict))
@@ -137,11 +141,13 @@ def refused_blocks(report: Report, blocks: Blocks) -> str:
     told = map(lambda line: verdict_of(line), faults.of_blocks)
     for index, (block, several) in enumerate(itertools.groupby(told, lambda one: one.block), 1):
         items.append(refused_item(blocks, index, block, list(several)))
-    more = faults.count - len(faults.of_blocks)
+    count = sum(count for number, count in faults.counts.items() if number in STL_FAULTS)
+    more = count - len(faults.of_blocks)
     left = f"<p><b>{more:,} more fault{'s' * (more != 1)}</b> from <code>check --all</code> " \
         f"{'are' if more != 1 else 'is'} left out here.</p>" if more else ""
-    return (f"<p>{end_of_reading(report, blocks)} No PES file is read before all of them are "
-            f'repaired.</p><ol class="faults">{"".join(items)}</ol>{left}')
+    read = "" if report.is_beside else \
+        f"{end_of_reading(report, blocks)} No PES file is read before all of them are repaired."
+    return f'<p>{read}</p><ol class="faults">{"".join(items)}</ol>{left}'
 
 
 def end_of_reading(report: Report, blocks: Blocks) -> str:

@@ -5,7 +5,7 @@ from typing import TYPE_CHECKING
 
 from ..core.manual import number_link
 from ..core.times import frame_of, time_of
-from ..core.told import CONTENT, WITH_CAUSE
+from ..core.told import CONTENT, UNDECIDED, WITH_CAUSE
 from ..reading.receiver import national_option
 from .counts import place_words
 from .drawing import text_of_code
@@ -20,6 +20,8 @@ if TYPE_CHECKING:
     from .report import Looks, Report
 
 MOST_PICTURED = 100  # entries with pictures
+NOT_DECIDED = "what is due is not known up to the next subtitle that can be relied on, since a " \
+    "subtitle there is refused"
 
 
 class FaultList:
@@ -64,6 +66,8 @@ class FaultList:
         words: list[str] = []
         if fault.frame is None:
             return ""
+        if fault.number == UNDECIDED:
+            return NOT_DECIDED
         reasons = self.report.reasons
         if fault.number in WITH_CAUSE and reasons:
             due = self.report.programme.subtitle(fault.frame)
@@ -145,7 +149,7 @@ class FaultList:
     def seen(self, entry: Entry, frame: int | None) -> str:
         """What there is to see of an entry."""
         fault = entry.first
-        if frame is None and fault.pes is None:
+        if frame is None and fault.pes is None or fault.number == UNDECIDED:
             return ""
         if frame is None and self.held.halt is None:
             return "<p>There is no frame to look at: no PES packet comes before it.</p>"

@@ -6,7 +6,7 @@ from typing import Iterable
 
 from ..core.programme import Programme
 from ..core.spans import Span, Spans, joined
-from ..core.told import ENDS_READING
+from ..core.told import ENDS_READING, UNDECIDED
 from ..qc.checking import Answer, End
 from .program import Verdict, verdict_of
 
@@ -44,14 +44,16 @@ class Faults:
 
     The lines that name a block are `of_blocks`, an entry for each block. `first_entries` is by
     number the entry that has the first fault of it. `spans` are the frames at which something is
-    told, or stands.
+    told, or stands; at those that are `undecided` it is not known what is due.
     """
 
     def __init__(self, answer: Answer, programme: Programme) -> None:
         self.answer, self.programme = answer, programme
         self.count, self.counts, self.firsts = answer.count, answer.counts, answer.firsts
         self.passed, self.trusted = answer.passed, answer.trusted
-        self.spans = joined(answer.marks.values())
+        self.spans = joined(spans for number, spans in answer.marks.items()
+                            if number != UNDECIDED)
+        self.undecided = answer.marks.get(UNDECIDED, Spans())
         self.entries: list[Entry] = []
         self.of_blocks: list[str] = []
         self.entry_count = 0

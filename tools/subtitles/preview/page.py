@@ -68,6 +68,8 @@ is shown. Under each large picture are folded away its rows, as <code>subttx lis
 prints them (codes as ASCII, and spacing attributes as dots), and what its header says.</p>"""
 
 
+UNDECIDED = ("<p><b>Undecided.</b> Dashed areas behind the bars are frames at which it is not "
+             "known what is due, since a subtitle there is refused.</p>")
 TRUSTED = ("<p><b>Trusted.</b> Green lines below the axis are the frames that <code>check --all"
            "</code> calls trusted.{}</p>")
 PROMISED = ("at the end of each frame every cell holds a space, or a code that was due there in "
@@ -95,7 +97,8 @@ def keys_of(within: int) -> str:
 def trusted_words(report: Report) -> str:
     """What the green lines are, where there are some."""
     words = f" There, {promised(report.asked)}." if report.asked.within else ""
-    return TRUSTED.format(words) if report.faults.trusted else ""
+    undecided = UNDECIDED if len(report.faults.undecided) else ""
+    return undecided + (TRUSTED.format(words) if report.faults.trusted else "")
 
 
 def document(line: str, title: str, parts: Iterable[str]) -> str:
@@ -137,15 +140,26 @@ def refused_file_parts(report: Report) -> list[str]:
             blocks.refused_blocks(report, known), blocks.printed(report)]
 
 
+def beside_parts(report: Report) -> list[str]:
+    """The subtitles that are refused, beside which the others are judged."""
+    from . import blocks
+    told = (verdict_of(line) for line in report.faults.of_blocks)
+    known = blocks.Blocks(report.part.subtitle_file(), told)
+    return [blocks.block_place(report, known), '<h2 id="refused">Refused subtitles</h2>',
+            blocks.refused_blocks(report, known)]
+
+
 def transmission_parts(report: Report, looks: Looks) -> list[str]:
     """The faults of a transmission, its timeline and its subtitles."""
-    parts = [looks.fault_list.place(),
+    place = looks.fault_list.place()
+    parts = [*(beside_parts(report) if report.is_beside else [place]),
              f'<h2 id="timeline">Timeline</h2><p>A strip is {looks.timeline.called}.</p>'
              f"{looks.timeline.overview()}"]
     if report.reasons:
         parts.append(report.reasons.section())
     if report.faults.count:
-        parts += [faults_head(report), looks.fault_list.listed(), looks.fault_list.others()]
+        parts += [faults_head(report), looks.fault_list.listed(), *[place] * report.is_beside,
+                  looks.fault_list.others()]
     parts.append(f'<h2 id="subtitles">Subtitles</h2>{subtitles_words(report, looks)}'
                  f"{looks.entries.all(looks.timeline)}")
     return parts

@@ -10,6 +10,7 @@ from ..core.manual import meanings
 from ..core.programme import Programme
 from ..core.teletext import page_name
 from ..core.times import FRAMES_OF_A_DAY, time_of
+from ..core.told import UNDECIDED
 from ..core.words import counted, shown
 from ..qc.clock import START, TCP
 from ..qc.made_with import program_at
@@ -75,7 +76,9 @@ class Report:
         self.files = [*subject.files,
                       ("Program", File(self.program.name, size, self.made_with.sha256))]
         self.verdict: Verdict = verdict_of(answer.line, answer.status or 0)
-        self.is_refused_file = self.verdict.block is not None
+        # Subtitles are refused; the others are judged beside them where PES packets are.
+        self.is_beside = self.verdict.block is not None and self.part.pes is not None
+        self.is_refused_file = self.verdict.block is not None and not self.is_beside
         due = self.part.due()
         self.subtitles = due.subtitles
         self.programme: Programme = due
@@ -113,6 +116,13 @@ class Report:
                      self.subtitles[-1].end, len(self.subtitles), part,
                      bool(self.subject.judged.fitted), part is not None, words)
 
+    def flag(self, broken: int | None) -> str:
+        """The line of the first fault on the strips."""
+        if not self.is_beside:
+            return self.verdict.line
+        return next((entry.first.line for entry in self.faults.entries
+                     if entry.first.frame == broken), "")
+
     def first_link(self, fault: Verdict) -> str:
         """The place of the first fault of a number, as a link where the list has it."""
         assert fault.number is not None
@@ -138,13 +148,16 @@ class Looks:
                                pages_of_content(faults, seen, self.figures))
         pes = report.verdict.pes
         broken = report.verdict.frame if pes is None else seen.last_before(pes)
+        if report.is_beside:
+            broken = next((frame for entry in faults.entries if entry.first.number != UNDECIDED
+                           and (frame := entry.first.frame) is not None), None)
         self.entries: Entries = Entries(self.figures, seen, report.subtitles, report.looked,
                                         report.subject.window, faults, broken)
         if report.reasons:
             report.reasons.drawn = self.entries.drawn
         self.fault_list = FaultList(report, self, seen)
         self.timeline = Timeline(report.subtitles, seen.sendings, self.entries, faults, broken,
-                                 report.verdict.line, end_of_knowledge(seen, report))
+                                 report.flag(broken), end_of_knowledge(seen, report))
 
 
 def pages_of_content(faults: Faults, seen: Seen, figures: Figures) -> dict[int, tuple[Rows, Rows]]:

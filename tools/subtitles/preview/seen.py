@@ -124,12 +124,13 @@ class Changes:
             if not self.pages or self.pages[-1] != state.rows:
                 self.frames.append(frame)
                 self.pages.append(state.rows)
+        self.spans: dict[Rows, list[Span]] = {}
+        for first, end, page in zip(self.frames, [*self.frames[1:], FRAMES_OF_A_DAY], self.pages):
+            self.spans.setdefault(page, []).append((first, end - 1))
 
     def spans_of(self, page: Rows) -> list[Span]:
         """When a page is held."""
-        ends = [*self.frames[1:], FRAMES_OF_A_DAY]
-        return [(first, end - 1) for first, end, one in zip(self.frames, ends, self.pages)
-                if one == page]
+        return list(self.spans.get(page, ()))
 
     def is_change(self, frame: int) -> bool:
         """Whether another page comes to be held at a frame."""

@@ -65,6 +65,7 @@ class Timeline:
                  faults: Faults, broken: int | None, flag: str, end: int | None) -> None:
         self.subtitles, self.sendings = subtitles, Spans(runs_of(sendings))
         self.entries, self.spans, self.trusted = entries, faults.spans, faults.trusted
+        self.undecided = faults.undecided
         self.broken, self.flag, self.end = broken, flag, end
         self.numbers: dict[int, set[int]] = {}  # of strips in use, by their length
         self.ends = [subtitle.end for subtitle in subtitles]
@@ -79,7 +80,7 @@ class Timeline:
             used = self.numbers[unit] = set[int]()
             subtitles = ((subtitle.begin, subtitle.end - 1) for subtitle in self.subtitles)
             last: int | None = None
-            for begin, end in itertools.chain(subtitles, self.sendings, self.spans):
+            for begin, end in itertools.chain(subtitles, self.sendings, self.spans, self.undecided):
                 if begin // unit != last or end // unit != last:
                     last = end // unit
                     used.update(range(begin // unit, last + 1))
@@ -126,6 +127,7 @@ class Strip:
         line = self.timeline
         words: list[str] = []
         shapes = [f'<rect class="lane" y="0" width="{WIDTH}" height="{LANE}"/>']
+        shapes += self.undecided()
         shapes += self.bars(words)
         shapes += self.hatching(words)
         shapes += self.sendings()
@@ -201,6 +203,16 @@ class Strip:
                 f"right:{(WIDTH - left) / 10:.4g}%"
             words.append(f'<span class="end" style="{side}">nothing heard after '
                          f"{time_of(end - 1)}</span>")
+
+    def undecided(self) -> Iterator[str]:
+        """The frames at which it is not known what is due."""
+        _, top, height = UNKNOWN
+        for begin, end in self.timeline.undecided.between(self.begin, self.end):
+            left = self.x(begin)
+            width = max(self.x(end + 1) - left, 2)
+            yield (f'<rect class="unknown" x="{left:g}" y="{top}" width="{width:.4g}" '
+                   f'height="{height}"><title>undecided: {time_of(begin)} to {time_of(end)}'
+                   "</title></rect>")
 
     def sendings(self) -> Iterator[str]:
         """The sendings, those that are close to each other as one block."""

@@ -10,7 +10,10 @@ unclear       why a pair can't be judged
 recording     what is told of a recording, and how the program reads it once more
 feed          a recording that comes through a pipe
 ending        when a feed has all that is judged
+pes_header    the first PES header of a PID, where it is not one of Teletext
 fitting       what is found of its origin: parts with their clocks
+moved         a page that moves to another PID: what is judged on each
+missing       places at which something is missing, and of which parts
 start         the clock by the first picture
 clock         the clock of a part, and what is said of it
 warned        what is strange of a recording
@@ -21,6 +24,7 @@ cells         the PES packets and the cells at their places
 subtitle_file the subtitles of a file by blocks and by frames
 status        the verdict in one word, and its exit status: decided here alone
 sentence      it in one sentence for a person
+fault_words   a fault of each number as a clause of that sentence
 severity      which faults count
 sums          SHA-256 of files
 made_with     the program, and what PROVED says of it
@@ -29,6 +33,7 @@ why           why the content of a part is refused
 naming        the causes of a list
 causes        the cause of a subtitle, by what is due and what is held
 due_pages     the subtitles with the pages that are due
+beside        what is judged beside subtitles that are refused
 lettering     what a person reads on a page, and where two differ
 option_advice what to do about a letter that the national option lacks
 as_sent       the layout of a recording, looked for and told

@@ -5,10 +5,12 @@ import argparse
 import contextlib
 import dataclasses
 import os
+import stat
 from typing import Sequence
 
 from ..core.files import plain_name
 from ..core.national import WORDS, named_by
+from ..core.stl import GSI, TTI
 from ..core.teletext import page_name
 from ..core.times import FRAMES_OF_A_DAY, Between, frame_of, time_of
 from ..core.words import (
@@ -20,6 +22,8 @@ AUTO_OF_FEED = ("--layout auto reads all that was sent before it judges: try a r
                 "feed first, and give the TEXT that is found there")
 MOST_TRIED = 5  # frames within which a recording is tried, where it is not judged or refused
 LC = slice(14, 16)  # the field in the GSI block
+KEPT = "subtitles.stl"  # in the temporary folder
+MOST_STL = GSI + TTI * 99_999 + 1  # bytes of a subtitle file: `check` refuses one more
 
 
 @dataclasses.dataclass
@@ -46,6 +50,12 @@ class Asked:
     is_strict: bool = False  # warnings count
     passed_on: dict[str, str] = dataclasses.field(default_factory=dict)  # that `check` gets too
     found_layout: str | None = None  # by --layout auto; the empty one is that without an option
+    kept_stl: str | None = None  # what came through a pipe as the subtitle file
+
+    @property
+    def stl_path(self) -> str:
+        """The subtitle file that can be read."""
+        return self.kept_stl or self.stl
 
     @property
     def page_name(self) -> str:
@@ -142,7 +152,7 @@ def add_pair_options(parser: Words) -> None:
 
 def pair_options() -> list[str]:
     """The names of those options in `Asked`."""
-    return [field.name for field in dataclasses.fields(Asked)][2:]
+    return [field.name for field in dataclasses.fields(Asked)][2:-1]
 
 
 def asked_of(words: argparse.Namespace) -> Asked:
@@ -157,9 +167,28 @@ def asked_with(stl: str, recording: str | None, options: argparse.Namespace) -> 
         raise Stop("--start tells the origin: --origin is too many")
     asked = Asked(plain_name(stl), named,
                   **{name: getattr(options, name) for name in pair_options()})
-    if asked.option == AUTO:
+    if asked.option == AUTO and not is_pipe(asked.stl):  # else it is known once that is read
         asked.option = option_named_in(asked.stl)
     return asked
+
+
+def is_pipe(name: str) -> bool:
+    """Whether a file can be read only once."""
+    return os.path.exists(name) and stat.S_ISFIFO(os.stat(name).st_mode)
+
+
+def keep_stl(asked: Asked, folder: str) -> None:
+    """Keeps what comes through a pipe as the subtitle file, up to what a whole one has."""
+    if not is_pipe(asked.stl):
+        return
+    asked.kept_stl = os.path.join(folder, KEPT)
+    with open(asked.stl, "rb") as pipe, open(asked.kept_stl, "wb") as file:
+        left = MOST_STL
+        while left and (data := pipe.read(min(left, 1 << 20))):
+            file.write(data)
+            left -= len(data)
+    if asked.option == AUTO:
+        asked.option = option_named_in(asked.kept_stl)
 
 
 def option_named_in(stl: str) -> str:

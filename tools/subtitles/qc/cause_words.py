@@ -6,7 +6,7 @@ from typing import TypedDict
 from ..core.national import BY_WORD
 from ..core.times import time_of
 from ..core.words import counted
-from .causes import EARLY, LATE, NOT_ERASED, OTHER, Cause
+from .causes import EARLY, LATE, NOT_ERASED, NOT_RECEIVED, OTHER, Cause
 from .lettering import text_of
 from .naming import Causes, counts_of
 
@@ -76,7 +76,9 @@ class Wording:
             words += f" at {time_of(one.end)}"
         elif cause.name == OTHER:
             words += " at its time"
-        if cause.words:
+        if cause.words == NOT_RECEIVED:
+            words = NOT_RECEIVED
+        elif cause.words:
             words += f": {cause.words}"
         if has_text and cause.sent not in (None, self.pages[cause.place]):
             sent = text_of(cause.sent or (), self.option)

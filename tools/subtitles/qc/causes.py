@@ -6,13 +6,15 @@ before the subtitle to the TCI after it, and 250 frames before and after its own
 from __future__ import annotations
 
 import bisect
+import functools
 from typing import NamedTuple
 
 from ..core.programme import Subtitle
 from ..core.teletext import page_name
 from ..core.times import time_of
 from ..core.words import counted
-from ..reading.receiver import BLANK_PAGE, Rows
+from ..reading.receiver import BLANK_PAGE, HIT, OLD, Rows
+from ..reading.subcodes import subcode_words, turns_of
 from ..reading.timeline import LEAST, Span, Timeline
 from .due_pages import DuePages
 from .lettering import attribute_words, is_moved, is_part, place_words, words_on
@@ -22,8 +24,11 @@ TEXT, PLACE, ATTRIBUTE = "wrong text", "wrong place", "wrong colour or attribute
 NOT_ERASED, UNKNOWN = "not erased", "unknown"
 NAMES = (LATE, EARLY, NEVER, OTHER, TEXT, PLACE, ATTRIBUTE, NOT_ERASED, UNKNOWN)
 UNSEEN = "not all that was sent then can be read"
+NOT_RECEIVED = "not received"  # in place of that, where packets are lost
 NEXT = "the page that comes at the last TCO is the next programme's"
 IN_PARTS = "as it is due only after another PES packet of the same frame"
+UNERASED = "C4 (erase page) is clear in each header: cells that nobody sent are not erased"
+EVEN = "a byte of its rows has even parity"
 
 
 class Cause(NamedTuple):
@@ -227,7 +232,7 @@ class Namer:
         """It came late or early."""
         one = self.subtitles[place]
         if came > one.begin and not self.held.is_seen(one.begin, came):
-            return self.unknown(place, one.begin, came, UNSEEN)
+            return self.unknown(place, one.begin, came, self.unseen_words(one.begin, came))
         name, frames = (LATE, came - one.begin) if came > one.begin else (EARLY, one.begin - came)
         words = self.row_words(came) if name == LATE and frames <= self.held.within else ""
         if name == LATE and self.came_closed(place):
@@ -263,7 +268,8 @@ class Namer:
         if other is not None:
             return self.of_other(place, other, window.last)
         if not self.held.is_seen(one.begin, one.end - 1):
-            return self.unknown(place, one.begin, window.last, UNSEEN)
+            return self.unknown(place, one.begin, window.last,
+                                self.unseen_words(one.begin, one.end - 1))
         if self.came_closed(place):
             return self.unknown(place, one.begin, window.last, self.closed_words())
         for number in self.held.numbers(one.begin, one.end):
@@ -273,7 +279,8 @@ class Namer:
                 return Cause(place, TEXT, None, page, None, "rows are missing", window.last)
         sent = self.held.page_at(one.begin)
         is_all = self.held.last >= min(window.last, one.begin + LEAST)
-        words = "" if is_all else f"the recording was read up to {time_of(self.held.last)}"
+        words = self.subcode_words if is_all else \
+            f"the recording was read up to {time_of(self.held.last)}"
         return Cause(place, NEVER, None, None if sent == BLANK_PAGE else sent, None, words,
                      window.last)
 
@@ -297,7 +304,7 @@ class Namer:
             if places and words:
                 other = self.programme.nearest(places, one.begin)
                 return self.of_other(place, other, one.end)._replace(sent=sent)
-            return Cause(place, TEXT, None, sent, None, "", one.end)
+            return Cause(place, TEXT, None, sent, None, self.subcode_words, one.end)
         if is_moved(due, sent):
             return Cause(place, PLACE, None, sent, None, place_words(due, sent), one.end)
         return Cause(place, ATTRIBUTE, None, sent, None, attribute_words(due, sent), one.end)
@@ -310,7 +317,7 @@ class Namer:
         one = self.subtitles[place]
         span = faulty.within or faulty.after
         if span and self.is_due(span.first):
-            return self.unknown(place, span.first, one.end, IN_PARTS)
+            return self.unknown(place, span.first, one.end, self.hidden_words(span.first))
         if faulty.within:
             return self.broken(place, faulty.within)
         if faulty.after is None:
@@ -321,9 +328,24 @@ class Namer:
             return self.unknown(place, faulty.after.first, one.end,
                                 self.after_words(place, number, faulty.after.first))
         if not self.held.is_seen(one.end, until):
-            return self.unknown(place, one.end, one.end, UNSEEN)
+            return self.unknown(place, one.end, one.end, self.unseen_words(one.end, until))
         return Cause(place, NOT_ERASED, None, self.held.pages[number], None,
                      self.gone_words(place, number), one.end)
+
+    def hidden_words(self, frame: int) -> str:
+        """Why `check` tells another page at a frame than the one that is held after it."""
+        if len(self.held.members(frame)) > 1:
+            return IN_PARTS
+        if not self.held.is_seen(frame, frame):
+            return UNSEEN
+        cells = b"".join(self.held.state_at(frame).rows)
+        return UNERASED if OLD in cells else EVEN if HIT in cells else ""
+
+    @functools.cached_property
+    def subcode_words(self) -> str:
+        """That sub-pages alternate, where they do."""
+        subcodes = turns_of(self.held.packets, self.held.inside)
+        return subcode_words(subcodes, page_name(*self.held.page)) if subcodes else ""
 
     def after_words(self, place: int, number: int, frame: int) -> str:
         """What a page is that is held after a TCO, and came not before that. One of no subtitle
@@ -354,13 +376,19 @@ class Namer:
         page = self.held.pages[number]
         other = self.programme.of_page(page, span.first)
         if not self.held.is_seen(span.first, span.last):
-            return self.unknown(place, span.first, one.end, UNSEEN)
+            return self.unknown(place, span.first, one.end,
+                                self.unseen_words(span.first, span.last))
         if other is not None and other != place:
             return self.of_other(place, other, one.end)
         if page == BLANK_PAGE:
             return self.unknown(place, span.first, one.end,
                                 f"it is gone at {time_of(self.broken_since(span.first))}")
         return self.differs(place, number)
+
+    def unseen_words(self, first: int, last: int) -> str:
+        """Why not all is known that was sent in some frames."""
+        is_lost = any(one.first <= last and first <= one.last for one in self.held.lost)
+        return NOT_RECEIVED if is_lost else UNSEEN
 
     def unknown(self, place: int, frame: int, known: int, words: str) -> Cause:
         sent = self.held.page_at(frame)

@@ -10,8 +10,8 @@ from typing import BinaryIO, Callable, Iterator, NamedTuple
 from ..core.files import naming
 from ..core.spans import Spans
 from ..core.told import (
-    ENDED, PASSED_OVER, REFUSED, Told, Trusted, accepted_of, count_of, frame_of_place, is_line,
-    told_of, trusted_of, words_of)
+    ENDED, PASSED_OVER, REFUSED, STL_FAULTS, UNDECIDED, Told, accepted_of, count_of,
+    frame_of_place, is_line, number_of, told_of, trusted_of, words_of)
 from .status import NOT_JUDGED, UNSAID, Said, word_of
 from .unclear import Unclear
 
@@ -169,6 +169,29 @@ class Answer:
         return word_of(self.said())
 
     @property
+    def first_sent(self) -> Told | None:
+        """The first fault of the transmission, beside subtitles that are refused."""
+        return next((told for number, told in self.firsts.items()
+                     if number not in STL_FAULTS | {UNDECIDED}), None)
+
+    @property
+    def count_sent(self) -> int:
+        """How many faults of the transmission there are."""
+        return sum(count for number, count in self.counts.items()
+                   if number not in STL_FAULTS | {UNDECIDED})
+
+    def without(self, number: int, path: str) -> Answer:
+        """The same without the faults of a number."""
+        made = Answer(path)
+        for line in self.lines():
+            if count_of(line) is not None:
+                made.take(f"{made.count} faults")
+            elif number_of(line) != number:
+                made.take(line)
+        made.end(self.status or 0)
+        return made
+
+    @property
     def line(self) -> str:
         """The line of `check` without `--all`."""
         return self.first.line if self.first else self.last
@@ -183,10 +206,6 @@ class Answer:
         """The faults in order, each with where it ended."""
         faults = (told for told in map(told_of, self.lines()) if told and told.is_fault)
         return ((told, self.ends.get(index, NO_END)) for index, told in enumerate(faults))
-
-    def trusted_lines(self) -> Iterator[Trusted]:
-        """The stretches that may be trusted, as they were told."""
-        return filter(None, map(trusted_of, self.lines()))
 
 
 def check(command: list[str], answer: Answer, hear: Callable[[str], None]) -> Answer:

@@ -90,7 +90,7 @@ class PartFaults:
         if told.number == CONTENT:
             do = self.part.otherwise or do
         do = midnight_words(told, self.subtitles) or do
-        means = header_words(place.headers, self.asked.option) or means
+        means = header_words(place.headers, self.asked.option, self.part.better) or means
         return {
             "part": self.part.number, "line": told.line, "number": told.number,
             "name": told.name, "severity": self.verdict.severity.of(told.number),

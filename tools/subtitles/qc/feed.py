@@ -16,6 +16,7 @@ from typing import BinaryIO, Iterator
 
 from ..core.files import STANDARD
 from ..core.words import counted, stream_words
+from ..reading.moving import joined, stages_of
 from ..reading.survey import PES, Mark, Packets, Survey, survey, words_of
 from .asked import Asked
 from .ending import Ending
@@ -188,10 +189,13 @@ class Feed:
             self.handing.waiting.put(self.calls[pid].stdin)  # type: ignore[arg-type]
 
     def is_over(self, ending: Ending, is_still: bool) -> bool:
-        """Whether nothing more of it is needed: also where a second PID carries the page."""
+        """Whether nothing more of it is needed: also where a second PID carries the page, unless it
+        goes there."""
         found = [one for one in self.survey.by_pid.values() if one.has_page]
-        return len(found) > 1 or \
-            len(found) == 1 and ending.is_over(self.survey, found[0], is_still)
+        if len(found) < 2:
+            return bool(found) and ending.is_over(self.survey, found[0], is_still)
+        stages = stages_of(self.survey, self.asked.page)
+        return not stages or ending.is_over(self.survey, joined(stages), is_still)
 
     def keep(self, packets: Packets, path: str) -> Packets:
         """Gives what is kept of a PID its name; the PES packets by their numbers there, with what

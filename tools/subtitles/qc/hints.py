@@ -1,15 +1,16 @@
 """What a person should know of the first fault of some numbers, beside its place."""
 from __future__ import annotations
 
-from typing import Iterator, Sequence
+from typing import Collection, Iterator, Sequence
 
 from ..core.national import BY_BITS, BY_WORD, RESERVED
 from ..core.teletext import ERASE, INHIBIT, NEWSFLASH, SUBTITLE, SUPPRESS, has_bit
 from ..core.times import frame_at
 from ..core.told import (
-    CHARACTER, CONTENT, CONTROL, DISPLAY, EMPTY_TIME, GAP, OFF_FRAME, OUT_OF_ORDER, PASSED_OVER,
-    Told)
-from ..core.words import MOST_EVERY, counted
+    BEGIN, CHARACTER, CONTENT, CONTROL, DISPLAY, EMPTY_TIME, END, GAP, OFF_FRAME, OUT_OF_ORDER,
+    PASSED_OVER, Told)
+from ..core.words import MOST_EVERY, counted, pid_name
+from ..reading.gaps import why_refused
 from ..reading.receiver import national_option
 from ..reading.repeat import longest_gap
 from ..reading.survey import HEADER
@@ -23,6 +24,9 @@ from .verdict import Part, Verdict
 
 HINTED = {EMPTY_TIME, CHARACTER, OUT_OF_ORDER, OFF_FRAME, CONTROL, GAP}
 NAMED = {DISPLAY, CONTENT}  # for which an option is named, where one helps
+OF_HEADERS = {32, 35}  # of PES packets: their length, and that of their headers
+OF_ENDS = {BEGIN, END}  # where the page moves to another PID, or that has no more Teletext
+HINTS = HINTED | NAMED | OF_HEADERS | OF_ENDS
 DSC = slice(11, 12)  # the field in the GSI block
 # The control bits that a header of subtitles has set, or clear, and what it is where they are not.
 ASKED = (
@@ -34,29 +38,31 @@ ASKED = (
 )
 
 
-def control_words(header: bytes, option: str) -> list[str]:
-    """What is wrong with the control bits of a header of the page, with its national option."""
+def control_words(header: bytes, option: str, better: Collection[str] = ()) -> list[str]:
+    """What is wrong with the control bits of a header of the page, with its national option; that
+    is advised where it is one by which less is refused."""
     found = [words for bit, is_set, words in ASKED if has_bit(header, bit) != is_set]
     bits = national_option(header)
     if bits == RESERVED:
         found.append("C12, C13 and C14 are set, which is reserved")
     elif bits != BY_WORD[option].bits:
         one = BY_BITS[bits]
-        found.append(f"the header is {one.name}: --option {one.word}")
+        advice = f": --option {one.word}" if one.word in better else ""
+        found.append(f"the header is {one.name}{advice}")
     return found
 
 
 def hints_of(verdict: Verdict) -> Iterator[str]:
     """The lines for the first fault of each of these numbers, in the order of the list."""
     for part in verdict.parts:
-        if part.answer.numbers & (HINTED | NAMED):
+        if part.answer.numbers & HINTS:
             yield from hints_of_part(part, verdict)
 
 
 def hints_of_part(part: Part, verdict: Verdict) -> Iterator[str]:
     """The same of a part."""
     for number, told in part.answer.firsts.items():
-        words = words_of(told, part, verdict) if number in HINTED | NAMED else ""
+        words = words_of(told, part, verdict) if number in HINTS else ""
         if words:
             yield f"{number}: {words}"
 
@@ -70,6 +76,10 @@ def words_of(told: Told, part: Part, verdict: Verdict) -> str:
         return OptionAdvice(part.subtitle_file(), asked.option).of(told.block, told.at)
     if told.number == DISPLAY:
         return open_words(part.subtitle_file())
+    if told.number in OF_HEADERS:
+        return part.of_header
+    if told.number in OF_ENDS:
+        return end_words(told.number, part, asked.page_name)
     if told.number == CONTENT:
         return part.otherwise
     if told.number in (EMPTY_TIME, OUT_OF_ORDER):
@@ -81,7 +91,21 @@ def words_of(told: Told, part: Part, verdict: Verdict) -> str:
         return off.words(part.accepted_within) if off else ""
     if told.number == GAP:
         return gap_words(part.pts(HEADER), part.origin, asked, part.answer.numbers)
-    return header_words(place_of(told, part.packets, part.held).headers, asked.option)
+    headers = place_of(told, part.packets, part.held).headers
+    return header_words(headers, asked.option, part.better)
+
+
+def end_words(number: int, part: Part, page: str) -> str:
+    """That the page comes from another PID, or goes to one, or that its PID goes on with what is
+    no Teletext, where that is why a subtitle is not whole."""
+    came, goes = (part.piece.came, part.piece.goes) if part.piece else (None, None)
+    if number == BEGIN and came is not None:
+        return f"page {page} was on {pid_name(came)} before"
+    if number == END and goes is not None:
+        return f"page {page} moves to {pid_name(goes)} then"
+    is_last = part.pes is not None and part.pes[1] == part.packets.count - 1
+    return (why_refused(part.packets) or "") if number == END and is_last and \
+        part.packets.refusal else ""
 
 
 def open_words(subtitles: SubtitleFile) -> str:
@@ -90,9 +114,9 @@ def open_words(subtitles: SubtitleFile) -> str:
     return f"its DSC is {kind}: --open takes it" if kind else ""
 
 
-def header_words(headers: Sequence[bytes], option: str) -> str:
+def header_words(headers: Sequence[bytes], option: str, better: Collection[str]) -> str:
     """What is wrong with the control bits of the first header of some of which something is."""
-    wrong = (control_words(one, option) for one in headers)
+    wrong = (control_words(one, option, better) for one in headers)
     return "; ".join(next(filter(None, wrong), []))
 
 

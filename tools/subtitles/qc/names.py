@@ -77,9 +77,9 @@ class Names:
         """What is there of the files that may be written."""
         return self.kept() + [path for ending in ENDINGS for path, _ in self.of_parts(ending)]
 
-    def give(self, stl: str) -> None:
-        """Takes the subtitle file."""
-        self.given, self.given_typed = self.as_program(stl), stl
+    def give(self, stl: str, typed: str = "") -> None:
+        """Takes the subtitle file, by a name that can be read and as it is typed."""
+        self.given, self.given_typed = self.as_program(stl), typed or stl
 
     def as_program(self, name: str) -> str:
         """A file by a name that is UTF-8, as the program asks."""

@@ -2,34 +2,35 @@
 from __future__ import annotations
 
 import functools
-import os
-from typing import Callable, NamedTuple, Sequence
+from typing import Callable, Iterable, NamedTuple, Sequence
 
-from ..core.layout import text_of
+from ..core.layout import PLAIN, layout_of, text_of
 from ..core.national import BY_WORD
 from ..core.programme import Subtitle
-from ..core.times import ALL_DAY, FRAMES_OF_A_DAY, TICKS, frame_in, ticks_between, time_of
-from ..core.told import CONTENT, EMPTY, LOST_PACKETS, WITH_CAUSE
+from ..core.times import ALL_DAY, time_of
+from ..core.told import CONTENT, CONTROL, EMPTY, LOST_PACKETS, WITH_CAUSE
 from ..core.words import counted, pid_name
-from ..reading.cutting import cut_of
 from ..reading.finding import runs_line
-from ..reading.gaps import Place, what_of
-from ..reading.survey import HEADER, Range
+from ..reading.survey import HEADER
 from ..reading.timeline import Span, timeline_near
 from . import warned
+from .asked import Asked
 from .as_sent import BY_LAYOUT, otherwise, sent_in, told_of, why_none
+from .beside import beside_of, due_beside, is_judged_beside
 from .checking import Answer
 from .clock import GIVEN, RECORDING, TCP, Clock
 from .delays import MOVED, frames_in
-from .due_pages import due_pages_of, subtitles_in
+from .due_pages import DuePages, due_pages_of, subtitles_in
 from .ending import Ending
 from .fitting import Found, found_in, with_delay
-from .hints import words_of
+from .hints import OF_HEADERS, words_of
 from .layouts import layout_of_sent
 from .midnight import title_words
+from .missing import gap_of, gaps_in, is_in
+from .moved import moves_told
 from .names import Names
 from .options import FROM, LAYOUT
-from .recording import STANDARD_INPUT, Recording, is_recording
+from .recording import Recording, refuse_files
 from .speech import Speech
 from .start import NoFirst, began, refuse_outside
 from .status import REFUSED, UNSAID
@@ -39,7 +40,8 @@ from .sums import file_of
 from .typed import Typed
 from .unclear import Unclear
 from .verdict import Gap, Part, Verdict
-from .why import causes_of, tell
+from .warned import Warned
+from .why import causes_of, tell, unseen
 from .within import Trying
 
 NO_CLOCK = Clock(0, RECORDING)  # stands for one that is not found yet
@@ -70,30 +72,30 @@ class Pair:
         self.whole = Found(0, 0, NO_CLOCK)
         self.begun: Part | None = None  # that is being judged
         self.heard: Heard | None = None  # before the file was judged
-        self.is_shifted = False
+        self.is_shifted = self.is_cut = False
 
     def judge(self) -> None:
         """Judges the pair; `Unclear` where a step is not clear."""
         asked = self.asked
-        if not os.path.isfile(asked.stl):
-            name = asked.stl.removeprefix("./") if asked.stl.startswith("./-") else asked.stl
-            raise Unclear(f"{name or 'an empty name'} is no file, or is not there")
-        if is_recording(asked.stl):
-            raise Unclear(f"{asked.stl} is a recording: the subtitle file stands before it")
-        if asked.recording is not None and asked.recording != STANDARD_INPUT:
-            os.stat(asked.recording)  # a name that is wrong is told before anything is judged
+        refuse_files(asked)
         if self.is_summed:
-            self.verdict.stl = file_of(asked.stl, asked.stl)
+            self.verdict.stl = file_of(asked.stl_path, asked.stl)
         answer = self.check_alone()
-        if asked.is_layout_sought and not answer.numbers - {EMPTY} - BY_LAYOUT:
+        is_by_layout = not answer.numbers - {EMPTY} - BY_LAYOUT
+        if is_judged_beside(answer.numbers) and not is_by_layout:
+            answer = self.take_beside(answer)
+        if asked.is_layout_sought and (self.verdict.beside or is_by_layout):
             self.find_layout()
+            self.verdict.beside, self.steps.left_out = None, ()
             answer = self.check_alone()
+        if is_judged_beside(answer.numbers):
+            answer = self.take_beside(answer)
         subtitles = SubtitleFile(self.names.given)
         self.verdict.warnings += warned.of_counts(subtitles)
         if FROM not in asked.passed_on and (title := title_words(subtitles)):
             self.verdict.notes.append(title)
         is_refused = answer.numbers != {EMPTY}
-        if is_refused or asked.recording is None:
+        if asked.recording is None or is_refused and not self.verdict.beside:
             self.judge_alone(answer, is_refused)
         else:
             self.judge_transmission()
@@ -106,6 +108,16 @@ class Pair:
         if answer.verdict != REFUSED:
             raise Unclear(f"{UNSAID}: {answer.last}, where there is no PES packet")
         return answer
+
+    def take_beside(self, answer: Answer) -> Answer:
+        """Takes what is judged beside the subtitles that are refused; answers what is told of the
+        file alone."""
+        if self.asked.recording is not None:
+            file = SubtitleFile(self.names.given, self.asked.between)
+            faults = (told for told, _ in answer.told())
+            beside = self.verdict.beside = beside_of(file, faults, self.asked.option)
+            self.steps.left_out = beside.left_out
+        return answer.without(EMPTY, self.names.temporary("refused.txt"))
 
     def stop(self, now: str) -> str:
         """Takes what was told before a signal came; at which time that was, and up to where the
@@ -141,6 +153,8 @@ class Pair:
     def subtitles(self) -> list[Subtitle]:
         """The subtitles that are judged."""
         between = self.asked.between
+        if self.verdict.beside:
+            return self.verdict.beside.judged
         found = subtitles_in(self.typed.program_path, self.names.given, between,
                              self.asked.is_open)
         if not found and between != ALL_DAY:
@@ -175,7 +189,7 @@ class Pair:
         given = self.given()
         self.whole = Found(subtitles[0].begin, subtitles[-1].end, given or NO_CLOCK)
         recording = Recording(asked, self.typed, self.names, self.speech, self.stalled_after)
-        self.recording = recording
+        self.recording, recording.is_cut = recording, self.is_cut
         ending = Ending(asked, self.whole.begin, self.whole.end, lambda packets: origin_in(
             packets, self.steps.sought(recording, None)))
         recording.read(self.is_summed, ending)
@@ -187,17 +201,29 @@ class Pair:
         """Judges what was recorded, part by part."""
         asked = self.asked
         recording, found, subtitles = self.heard or self.listen()
-        self.warn(recording, found[0].origin)
-        stretches = self.stretches(found, subtitles)
+        if self.verdict.beside:
+            subtitles = self.verdict.beside.judged
+            self.verdict.count = len(subtitles) + len(self.verdict.beside.left_out)
+            for line in self.verdict.beside.lines():
+                self.speech.say(line)
+        if not recording.stages:
+            self.warn(recording, found[0].origin, self.whole)
+        stretches = self.stretches(found, subtitles, recording)
+        for one in stretches if recording.stages else ():
+            self.warn(one.recording, one.found.origin, one.found)
+        pieces = [one.piece for one in stretches if one.piece]
+        self.add_warnings(moves_told(pieces, asked.page_name))
         for number, one in enumerate(stretches, 1):
-            part = self.begun = self.part_of(number, one, recording)
+            self.recording = one.recording
+            part = self.begun = self.part_of(number, one)
             assert part.pes
-            self.steps.check(recording, one, part.pes, part.answer)
+            self.steps.check(one.recording, one, part.pes, part.answer)
             self.verdict.parts.append(part)
-            self.end_part(part, one, recording, len(stretches), subtitles)
+            self.end_part(part, one, len(stretches), subtitles)
+        self.recording = recording
         if not any(one.kind == "grew" for one in self.verdict.warnings):
             self.verdict.warnings += [one for one in recording.strange() if one.kind == "grew"]
-        self.note_gaps(recording.places())
+        self.verdict.gaps += gaps_in(recording, stretches, self.verdict.parts)
         if recording.is_feed and not asked.breaks and not self.is_shifted:
             self.note_unsent(self.verdict.parts[-1])
 
@@ -209,9 +235,11 @@ class Pair:
 
     def found(self, recording: Recording, given: Clock | None) -> list[Found]:
         """The parts with their clocks; the first one has the one that was given."""
+        if self.is_cut and given and not recording.stages:
+            self.steps.inside = self.steps.near(recording, self.whole, given.origin)
         origin = self.steps.fit(recording, given)
         if origin.runs and recording.is_feed:
-            run = self.run_at(recording, given, origin.runs)
+            run = self.steps.run_at(recording, self.whole, given, origin.runs)
             which = "first run" if run == origin.runs[0] else "run at the origin that was given"
             self.verdict.notes.append(f"{runs_line(len(origin.runs))}: of a feed the {which} is "
                                       "judged")
@@ -229,14 +257,6 @@ class Pair:
             found[0] = found[0]._replace(clock=clock)
         return found
 
-    def run_at(self, recording: Recording, given: Clock | None, runs: Sequence[Range]) -> Range:
-        """The run that is at the origin that was given; without one, or where none is, the first.
-        """
-        asked = self.asked
-        own = cut_of(recording.packets, self.whole.begin, self.whole.end, given.origin, asked.every,
-                     asked.within).range if given else None
-        return next((run for run in runs if own and run[0] <= own[0] and own[1] <= run[1]), runs[0])
-
     def by_start(self, recording: Recording) -> Clock | None:
         """The clock that the first picture tells, where it is asked."""
         if self.asked.start is None:
@@ -253,9 +273,14 @@ class Pair:
             refuse_outside(self.asked, one, self.whole.begin, self.whole.end, recording.last())
         return one.clock
 
-    def warn(self, recording: Recording, origin: int) -> None:
-        """Takes what is strange of a recording."""
-        found, packets, survey = self.verdict.warnings, recording.packets, recording.survey
+    def add_warnings(self, found: Iterable[Warned]) -> None:
+        """Takes warnings that are not known yet."""
+        known = self.verdict.warnings
+        known += [one for one in dict.fromkeys(found) if one not in known]
+
+    def warn(self, recording: Recording, origin: int, part: Found) -> None:
+        """Takes what is strange of a recording, or of what is on a PID."""
+        found, packets, survey = list[Warned](), recording.packets, recording.survey
         found += recording.strange()
         if recording.is_stream:
             if survey.clock_of(packets.pid) is None:
@@ -263,19 +288,27 @@ class Pair:
                     f"there is no PCR of the programme of {pid_name(packets.pid)}: a hole that its "
                     "counter does not show, as one of 16 TS packets, can't be seen")
             found += [*warned.of_timing(packets, origin),
-                      *warned.of_jumps(packets, origin, self.whole.begin, self.whole.end),
+                      *warned.of_jumps(packets, origin, part.begin, part.end),
                       *warned.of_tables(survey, packets.pid, self.asked)]
-        found += warned.of_character_sets(packets, self.asked)
+        self.add_warnings([*found, *warned.of_character_sets(packets, self.asked)])
 
-    def stretches(self, found: list[Found], subtitles: list[Subtitle]) -> list[Stretch]:
+    def stretches(self, found: list[Found], subtitles: list[Subtitle], recording: Recording) \
+            -> list[Stretch]:
         """What is judged, one after another; each of the subtitles has to be in one, once and as it
-        is in the file."""
+        is in the file; in two, where the page moves to another PID while it is due."""
         if len(found) == 1:
-            whole = self.whole._replace(clock=found[0].clock, packets=found[0].packets)
-            return [Stretch(self.asked, self.names, whole)]
-        stretches = [self.steps.part(number, one) for number, one in enumerate(found, 1)]
+            found = [self.whole._replace(clock=found[0].clock, packets=found[0].packets)]
+        if recording.stages:
+            stretches = self.steps.pieces(found, recording, subtitles)
+        elif len(found) == 1:
+            return [Stretch(self.asked, self.names, found[0], recording)]
+        else:
+            stretches = [self.steps.part(number, one, recording)
+                         for number, one in enumerate(found, 1)]
         parted = [one for part in stretches for one in subtitles
                   if part.asked.between.has(one.begin)]
+        if recording.stages:
+            parted = [*dict.fromkeys(parted)]
         left = len(subtitles) - len(parted)
         if left > 0:
             raise Unclear(f"{counted(left, 'subtitle')} of {self.asked.stl} would be in no part, "
@@ -284,21 +317,34 @@ class Pair:
             raise Unclear(f"the parts of {self.asked.stl} would hold other subtitles than it has")
         return stretches
 
-    def part_of(self, number: int, one: Stretch, recording: Recording) -> Part:
+    def part_of(self, number: int, one: Stretch) -> Part:
         """A part that begins to be judged: the PES packets of its time."""
-        found, pes = one.found, self.steps.cut(recording, one)
+        recording, found = one.recording, one.found
+        pes = self.steps.cut(recording, one)
         judged = file_of(*recording.judged()) if self.is_summed and not recording.is_file else None
-        due = functools.cache(lambda: due_pages_of(
-            self.typed.program_path, self.names.given, one.asked.page, one.asked.option,
-            one.asked.between, one.asked.words_of_pages(), one.asked.is_open))
         return Part(number, one.asked.stl, self.names.given, pes, found.origin, found.begin,
                     found.end, judged, Answer(one.names.list_path), found.clock,
-                    recording.stream(), packets=recording.packets, asked=one.asked, due=due)
+                    recording.stream(), packets=recording.packets, asked=one.asked,
+                    due=functools.cache(lambda: self.due_of(one.asked)), piece=one.piece,
+                    left_out=self.steps.left_out)
 
-    def end_part(self, part: Part, one: Stretch, recording: Recording, count: int,
-                 subtitles: Sequence[Subtitle]) -> None:
+    def due_of(self, asked: Asked) -> DuePages:
+        """The pages that are due of a part; beside subtitles that are refused those of the others.
+        """
+        if self.verdict.beside:
+            found = [one for one in self.verdict.beside.judged if asked.between.has(one.begin)]
+            layout = layout_of(asked.handed_on.get(LAYOUT, "")) or PLAIN
+            return due_beside(found, asked.page, asked.option, layout)
+        return due_pages_of(self.typed.program_path, self.names.given, asked.page, asked.option,
+                            asked.between, asked.words_of_pages(), asked.is_open)
+
+    def end_part(self, part: Part, one: Stretch, count: int, subtitles: Sequence[Subtitle]) -> None:
         """Takes what `check` said of a part, and draws its report, with what is missing there."""
-        asked, answer, origin = self.asked, part.answer, one.found.origin
+        asked, answer, origin, recording = self.asked, part.answer, one.found.origin, one.recording
+        # A hole without a mark is seen by who reads the PCR: of its frames nothing is known.
+        answer.trusted = answer.trusted.without(unseen([
+            place for place in recording.places() if place.mark is None and is_in(place, part)],
+            origin, asked.within, False))
         if answer.numbers & WITH_CAUSE:
             part.causes = causes_of(asked, part.due(), recording, one.found, answer)
         if part.causes:
@@ -309,13 +355,17 @@ class Pair:
                                            option)
         self.measure(part, one, recording, count)
         part.was_read = part.is_read()
+        if CONTROL in answer.numbers and part.pes:
+            part.better = self.steps.better_of(part.options_sent(), one, part.pes, answer.count)
+        if OF_HEADERS & answer.numbers:
+            part.of_header = recording.header_words(recording.packets)
         if answer.first:
             part.hint = words_of(answer.first, part, self.verdict)
+        if answer.first_sent:
+            part.sent_hint = words_of(answer.first_sent, part, self.verdict)
         times = [(subtitle.begin, subtitle.end) for subtitle in subtitles]
-        for strange in (*warned.of_pauses(part.pts(), asked, origin),
-                        *warned.of_repeat(part.pts(HEADER), asked, origin, times)):
-            if strange not in self.verdict.warnings:
-                self.verdict.warnings.append(strange)
+        self.add_warnings([*warned.of_pauses(part.pts(), asked, origin),
+                     *warned.of_repeat(part.pts(HEADER), asked, origin, times)])
         self.draw(part, one.names, [gap_of(place, origin, True) for place in recording.places()
                                     if is_in(place, part)], count)
 
@@ -330,11 +380,9 @@ class Pair:
                                     asked.is_complete)
         is_lost = LOST_PACKETS in answer.numbers or \
             any(is_in(place, part) for place in recording.places())
-        if part.is_refused and not (recording.is_feed or is_lost):
+        if part.is_refused and not (recording.is_feed or is_lost or one.piece):
             part.accepted_within = Trying(self.steps, recording, one, part.number, count).least(
                 answer.numbers, part.causes)
-
-    # What is missing.
 
     def note_unsent(self, part: Part) -> None:
         """That the last subtitles of a feed did not come: it is not read long enough to tell a
@@ -344,37 +392,3 @@ class Pair:
             self.verdict.notes.append(
                 f"from {time_of(frame)} on no subtitle was sent while the feed was read; if the "
                 "programme has a break there, say --breaks 1")
-
-    def note_gaps(self, places: list[Place]) -> None:
-        """Between which times TS packets are missing."""
-        for place in places:
-            parts = [part for part in self.verdict.parts if is_in(place, part)]
-            origin = (parts or self.verdict.parts)[0].origin or 0
-            self.verdict.gaps.append(gap_of(place, origin, bool(parts)))
-
-
-def gap_of(place: Place, origin: int, is_judged: bool) -> Gap:
-    """A place at which TS packets are missing, with its times."""
-    times = time_at(place.before, origin), time_at(place.after, origin)
-    return Gap(*times, what_of(place), place, is_judged)
-
-
-def is_in(place: Place, part: Part) -> bool:
-    """Whether a mark is one of those that are judged with a part; or where none stands, whether
-    frames of the part may lack what is missing there."""
-    if part.begin is None or part.end is None or part.origin is None:
-        return False
-    if place.mark is not None and part.pes is not None:
-        return part.pes[0] <= place.mark <= part.pes[1]
-    first, last = (part.origin + TICKS * frame for frame in (part.begin, part.end))
-    is_before = place.after is not None and ticks_between(first, place.after) <= 0
-    is_after = place.before is not None and ticks_between(last, place.before) >= 0
-    return not is_before and not is_after
-
-
-def time_at(pts: int | None, origin: int) -> str | None:
-    """The time of a PTS, to the frame before it."""
-    if pts is None:
-        return None
-    frame = frame_in(pts, origin)
-    return time_of(frame) if frame < FRAMES_OF_A_DAY else None

@@ -1,6 +1,7 @@
 """A recording: what `subttx survey` tells of it, and how the program reads it once more."""
 from __future__ import annotations
 
+import copy
 import functools
 import os
 import shutil
@@ -11,12 +12,14 @@ from ..core.pes import START
 from ..core.times import ticks_between
 from ..core.words import PACKET_SIZES, Stop, counted, shown, stream_words
 from ..reading.gaps import TOLD, Place, line_of, places_of, why_refused
+from ..reading.moving import Stage, joined, stages_of
 from ..reading.survey import PES, Packets, Survey, survey, words_of
 from ..reading.timing import reach_of
 from .asked import Asked
 from .ending import Ending
 from .feed import Feed
 from .names import Names, again
+from .pes_header import header_length, header_words
 from .speech import Speech
 from .start import NoFirst
 from .sums import File, Files
@@ -35,14 +38,46 @@ def is_recording(path: str) -> bool:
         head[at:at + size + 1:size] == b"GG" for at in (0, 4) for size in PACKET_SIZES)
 
 
+def refuse_files(asked: Asked) -> None:
+    """Files that are not there, or stand in the place of each other, are told before anything is
+    judged."""
+    if not os.path.isfile(asked.stl_path):
+        name = asked.stl.removeprefix("./") if asked.stl.startswith("./-") else asked.stl
+        raise Unclear(f"{name or 'an empty name'} is no file, or is not there")
+    if is_recording(asked.stl_path):
+        raise Unclear(f"{asked.stl} is a recording: the subtitle file stands before it")
+    if asked.recording is not None and asked.recording != STANDARD_INPUT:
+        os.stat(asked.recording)
+
+
 def size_of(name: str) -> int | None:
     """The bytes of a file; `None` for one that can be read only once."""
     about = os.fstat(0) if name == STANDARD_INPUT else os.stat(name)
     return about.st_size if stat.S_ISREG(about.st_mode) else None
 
 
+def ending_of(pid: int) -> str:
+    """What the name of the file with the PES packets of a PID ends with."""
+    return f"{pid:x}.recording.pes"
+
+
+def refuse(survey: Survey, name: str) -> None:
+    """What is no recording of Teletext is told so."""
+    head = survey.head
+    if not head:
+        raise Stop(f"{name} is empty")
+    if head[3:6] == b"STL":
+        raise Stop(f"{name} is a subtitle file: the recording stands after the subtitle file")
+    if survey.size is None and head.startswith(START[:3]) and head[3:4] != START[3:]:
+        raise Stop(f"{name} has PES packets of another kind than Teletext's: stream_id "
+                   f"{head[3]:02X} instead of BD")
+    if survey.size is None:
+        raise Unclear(f"{name}: no transport stream: packets of 188 bytes that begin with 47")
+
+
 class Recording:
-    """A recording that is read: `packets` are those of the PID with the page. What is judged of a
+    """A recording that is read: `packets` are those of the PID with the page; `stages` are the PIDs
+    where it moves to another one, and `packets` then stand for all of them. What is judged of a
     file is a range of the recording itself; the PES packets of what comes through a pipe are kept
     in a file."""
 
@@ -53,8 +88,11 @@ class Recording:
         self.name, self.stalled_after = asked.recording, stalled_after
         self.size = size_of(self.name)
         self.is_feed = self.size is None
+        self.is_cut = False  # of a feed, by who calls this tool: it is read to its end
         self.survey, self.packets = Survey(), Packets(PES)
+        self.stages: list[Stage] = []
         self.file: File | None = None
+        self.kept = names.whole_path, names.whole  # the PES packets of a pipe
 
     def read(self, is_summed: bool, ending: Ending) -> None:
         """Reads it: a file to its end, a feed up to the last subtitle at least."""
@@ -81,7 +119,7 @@ class Recording:
                 if self.speech.progress.is_due():
                     self.speech.show(self.name)
         self.survey.refuse(process.returncode)
-        self.refuse()
+        refuse(self.survey, self.name)
         self.packets = self.chosen()
         self.file = files.all()[0] if files else None
 
@@ -90,24 +128,18 @@ class Recording:
         feed = Feed(self.name, self.asked, self.typed.program_path, self.names.folder, is_summed)
         feed.survey = self.survey
         with feed:
-            feed.follow(ending if self.is_feed else None, self.speech, self.stalled_after)
-            self.refuse()
+            feed.follow(ending if self.is_feed and not self.is_cut else None, self.speech,
+                        self.stalled_after)
+            refuse(self.survey, self.name)
             self.packets = self.chosen()
-            self.packets = feed.keep(self.packets, self.names.whole_path)
+            if not self.stages:
+                self.packets = feed.keep(self.packets, self.names.whole_path)
+            for pid in self.pids():
+                self.survey.by_pid[pid] = feed.keep(
+                    self.survey.by_pid[pid], self.names.temporary(ending_of(pid)))
+            if self.stages:  # by the numbers of what is kept
+                self.packets = self.chosen()
         self.file = feed.summed()
-
-    def refuse(self) -> None:
-        """What is no recording of Teletext is told so."""
-        head, name = self.survey.head, self.name
-        if not head:
-            raise Stop(f"{name} is empty")
-        if head[3:6] == b"STL":
-            raise Stop(f"{name} is a subtitle file: the recording stands after the subtitle file")
-        if self.survey.size is None and head.startswith(START[:3]) and head[3:4] != START[3:]:
-            raise Stop(f"{name} has PES packets of another kind than Teletext's: stream_id "
-                       f"{head[3]:02X} instead of BD")
-        if self.survey.size is None:
-            raise Unclear(f"{name}: no transport stream: packets of 188 bytes that begin with 47")
 
     def chosen(self) -> Packets:
         """The only PID that carries the page, or the one that was asked for."""
@@ -118,15 +150,37 @@ class Recording:
             one = by_pid.setdefault(self.asked.pid, Packets(self.asked.pid))
             if one.count:
                 return one
-            raise Unclear(self.said(f"{self.name}: {why_refused(one)}"), *self.other_pids())
+            why = "; ".join([f"{self.name}: {why_refused(one)}", *filter(None, [
+                self.header_words(one)])])
+            raise Unclear(self.said(why), *self.other_pids())
         found = [by_pid[pid] for pid in sorted(by_pid) if by_pid[pid].has_page]
         if len(found) == 1:
             return found[0]
         if not found:
-            raise Unclear(self.said(f"{self.name} has no header of page {page}"),
-                          *([self.again("--page", "P")] if by_pid else []))
+            why = "; ".join([f"{self.name} has no header of page {page}", *self.why_nothing()])
+            is_other = any(one.sent for one in by_pid.values())
+            raise Unclear(self.said(why), *([self.again("--page", "P")] if is_other else []))
+        if self.asked.pes is None:
+            self.stages = stages_of(self.survey, self.asked.page)
+        if self.stages:
+            return joined(self.stages)
         raise Unclear(self.said(f"page {page} is sent on {len(found)} PIDs of {self.name}"),
                       *(self.again("--pid", f"0x{one.pid:X}") for one in found))
+
+    def why_nothing(self) -> list[str]:
+        """Why nothing is given of each PID that should carry Teletext: scrambled, or not as it is.
+        """
+        silent = [one for pid, one in sorted(self.survey.by_pid.items())
+                  if not one.count and one.packets]
+        return [words for one in silent for words in (why_refused(one), self.header_words(one))
+                if words]
+
+    def header_words(self, packets: Packets) -> str:
+        """What is wrong with the PES header of a PID, where the file can be read once more."""
+        if not self.is_file or packets.pid != PES and not packets.packets:
+            return ""
+        return header_words(header_length(self.name, packets.pid, self.survey.size or 0),
+                            packets.pid)
 
     def say_read(self) -> list[str]:
         """What was read, and where something is missing."""
@@ -166,20 +220,49 @@ class Recording:
         stream = self.stream() if self.is_file else None
         return stream_words(*stream) if stream else []
 
+    def of(self, stage: Stage) -> Recording:
+        """The same of one PID, where the page moves to another one."""
+        one, ending = copy.copy(self), ending_of(stage.pid)
+        one.packets = stage.packets
+        one.kept = self.names.temporary(ending), self.names.typed(ending)
+        return one
+
+    def pids(self) -> list[int]:
+        """The PIDs between which the page moves."""
+        return [*dict.fromkeys(one.pid for one in self.stages)]
+
     def judged(self) -> tuple[str, str]:
         """The file that is judged, as it is given to the program and as it is typed."""
         if self.is_file:
             return self.names.as_program(self.name), self.name
-        return self.names.whole_path, self.names.whole
+        return self.kept
 
     def keep(self, path: str) -> None:
-        """Keeps the PES packets in a file, as `extract` gives them."""
+        """Keeps the PES packets in a file, as `extract` gives them: of a file those of several PIDs
+        one PID after another, of a pipe each of them in a file of its own, as it is judged."""
+        pids = self.pids()
         if not self.is_file:
-            shutil.copyfile(self.names.whole_path, path)
-        elif stream := self.stream():
-            subprocess.run([self.typed.program_path, "extract", *stream_words(*stream), "--",
-                            self.names.as_program(self.name), path], stdin=subprocess.DEVNULL,
-                           stdout=subprocess.DEVNULL, check=True)
+            for pid in pids:
+                ending = ending_of(pid)
+                shutil.copyfile(self.names.temporary(ending), self.names.place(ending))
+            if not pids:
+                shutil.copyfile(self.names.whole_path, path)
+        elif len(pids) > 1:
+            with open(path, "wb") as kept:
+                for pid in pids:
+                    own = self.names.temporary(f"{pid}.pes")
+                    self.extract(pid, own)
+                    with open(own, "rb") as file:
+                        shutil.copyfileobj(file, kept)
+        elif self.is_stream:
+            self.extract(self.packets.pid, path)
+
+    def extract(self, pid: int, path: str) -> None:
+        """Writes the PES packets of a PID."""
+        subprocess.run([self.typed.program_path, "extract",
+                        *stream_words(pid, self.survey.size or 0), "--",
+                        self.names.as_program(self.name), path], stdin=subprocess.DEVNULL,
+                       stdout=subprocess.DEVNULL, check=True)
 
     def places(self) -> list[Place]:
         """Where something is missing."""
@@ -204,7 +287,8 @@ class Recording:
             found.append(Warned("grew", f"{shown(self.name)} {word} while it was read, from "
                                 f"{self.size:,} bytes to {now:,}: judge it again when it is "
                                 "complete"))
-        if self.is_stream and self.packets.is_cut and not self.is_feed:
+        is_cut = self.packets.is_cut and not self.packets.refusal
+        if self.is_stream and is_cut and not self.is_feed:
             found.append(Warned("cut", f"{shown(self.name)} ends within a PES packet of the page's "
                                 "PID, which is left out"))
         if self.packets.damage and not self.is_feed:

@@ -4,7 +4,6 @@ from __future__ import annotations
 import collections
 from typing import NamedTuple, Sequence
 
-from ..core.manual import meanings, plain
 from ..core.national import BY_WORD
 from ..core.programme import Subtitle
 from ..core.times import time_of
@@ -12,6 +11,7 @@ from ..core.told import CONTROL, GAP, LOST_PACKETS, OFF_FRAME, WITH_CAUSE, Told
 from ..core.words import counted, range_words
 from .causes import (
     ATTRIBUTE, EARLY, LATE, NEVER, NOT_ERASED, OTHER, PLACE, TEXT, UNKNOWN, Cause)
+from .fault_words import WORDS
 from .lettering import text_of
 from .naming import Causes
 from .status import ACCEPTED, LOST, NOT_JUDGED, REFUSED, WAIVED, WARNED
@@ -44,6 +44,7 @@ class Seen(NamedTuple):
     warnings: Sequence[str] = ()
     reason: str | None = None
     is_file: bool = False  # a subtitle file alone
+    refused: str = ""  # which subtitles are refused, beside which the others are judged
     within: int = 0
     accepted_within: int | None = None
 
@@ -74,13 +75,33 @@ def what_is_good(seen: Seen) -> str:
     subtitles = counted(seen.subtitles, "subtitle")
     if seen.is_file:
         return f"nothing is wrong with {subtitles}"
-    when = f"within {counted(seen.within, 'frame')}" if seen.within else "from the first frame on"
-    return f"{subtitles}, {'each of them ' if seen.subtitles > 1 else ''}as it is due {when}"
+    each = "each of them " if seen.subtitles > 1 else ""
+    return f"{subtitles}, {each}as it is due {since(seen)}"
+
+
+def beside_refused(seen: Seen) -> str:
+    """Which subtitles are refused, and how the others stand, which are judged."""
+    others = f"{counted(seen.subtitles, 'other subtitle')} " \
+        f"{'was' if seen.subtitles == 1 else 'were'} judged"
+    sent = seen._replace(refused="")
+    if seen.first is None:
+        is_one = seen.subtitles == 1
+        how = f"{'it is' if is_one else 'each of them is'} as it is due {since(seen)}"
+    else:
+        how = what_is_wrong(sent)
+    return f"{seen.refused}; {others}: {how}"
+
+
+def since(seen: Seen) -> str:
+    """From when on a subtitle has to be as it is due."""
+    return f"within {counted(seen.within, 'frame')}" if seen.within else "from the first frame on"
 
 
 def what_is_wrong(seen: Seen) -> str:
     """What is wrong: the cause that most subtitles have, else the first fault; and what accepts
     it."""
+    if seen.refused:
+        return beside_refused(seen)
     told, causes = seen.first, seen.causes
     if causes and causes.named:
         words = of_causes(causes, seen.option)
@@ -102,8 +123,7 @@ def of_fault(seen: Seen) -> str:
     if told.number == LOST_PACKETS and seen.lost:
         more = f", and in {counted(len(seen.lost) - 1, 'more place')}" if len(seen.lost) > 1 else ""
         return f"{seen.lost[0]}{more}; that part was not recorded"
-    meaning = meanings().get(told.number)
-    words = plain_words(meaning.means) if meaning else told.name
+    words = WORDS.get(told.number, told.name)
     place = told.time or (f"PES packet {told.pes}" if told.pes is not None else
                           f"block {told.block}" if told.block is not None else "")
     if seen.hint and told.number in OF_ALL:
@@ -113,11 +133,6 @@ def of_fault(seen: Seen) -> str:
     place = place and f"{'at' if told.time else 'in'} {place} "
     more = f"; in all {counted(seen.faults, 'fault')}" if seen.faults > 1 else ""
     return f"{place}{words}{more}"
-
-
-def plain_words(text: str) -> str:
-    """A cell of the manual up to where it says more."""
-    return plain(text).partition(";")[0].partition(": ")[0]
 
 
 def of_causes(causes: Causes, option: str) -> str:

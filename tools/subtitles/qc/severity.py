@@ -9,7 +9,7 @@ ERROR, WARNING = "error", "warning"
 OTHERS = "others"  # the word for all numbers that are not named
 # The numbers that a command of the program refuses by: packets and files, texts, transmissions.
 REFUSALS = {3, 4, *range(10, 26), *range(30, 41), 44, LOST_PACKETS, *range(50, 58), *range(60, 75),
-            76, 77, 79, 82}
+            *range(76, 80), 82}
 
 
 class Severity:

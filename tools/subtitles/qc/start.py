@@ -21,6 +21,9 @@ OTHERS = {0x10: "MPEG-4 part 2", 0x1E: "MPEG-C", 0x1F: "SVC", 0x20: "MVC", 0x21:
 TCP_PLACE = slice(256, 264)  # of a GSI block
 FRAMES_NEAR = 25  # frames that the last PCR of a recording may be before its last picture
 LOOKED_AT = 1000  # PTS
+REORDERED = 16  # pictures, at most, that are sent before one that is shown before them
+LONGEST = 10 * 90_000  # ticks after which pictures are no longer listed
+PATIENCE = 60 * 90_000  # ticks of the PCR without a picture after which none is waited for
 
 
 class NoFirst(Exception):
@@ -74,6 +77,8 @@ def first_of(survey: Survey, teletext: int) -> First:
     PTS from the first with random_access_indicator to the next such one."""
     pid, kind = video_of(survey, teletext)
     name, one = f"{NAMES[kind]} of {pid_name(pid)}", survey.videos.get(pid)
+    if one is None and not survey.is_whole:
+        raise NoFirst(f"no PES packet of {name} has come with the random_access_indicator")
     if one is None:
         raise NoFirst(f"{pid_name(pid)}, which the PMT names as {NAMES[kind]}, has no PES packets "
                       "of video that can be read")
@@ -87,7 +92,21 @@ def first_of(survey: Survey, teletext: int) -> First:
     pts = [pts for pts in one.pictures if pts is not None]
     if len(pts) < len(one.pictures):
         raise NoFirst(f"a picture of {name} has no PTS")
+    if frames := left_out(pts, one.is_cut):
+        raise NoFirst(f"the PTS of the first pictures of {name} leave out "
+                      f"{counted(frames, 'frame')}: a PES packet has several pictures, or some are "
+                      "missing")
     return First(pid, kind, min(pts, key=lambda each: ticks_between(pts[0], each)), one.passed)
+
+
+def left_out(pts: list[int], is_cut: bool) -> int:
+    """How many frames the PTS of pictures leave out, of which each has one where a PES packet has
+    one picture. Of pictures that are cut off, some that are shown before the last are not told."""
+    shown_at = sorted(ticks_between(pts[0], one) for one in pts)
+    if is_cut or shown_at[-1] - shown_at[0] > LONGEST:
+        del shown_at[-REORDERED:]
+    steps = [second - first for first, second in zip(shown_at, shown_at[1:])]
+    return sum(round(step / TICKS) - 1 for step in steps if step > TICKS + EARLY)
 
 
 def is_known(survey: Survey, teletext: int) -> bool:
@@ -96,7 +115,9 @@ def is_known(survey: Survey, teletext: int) -> bool:
         pid, _ = video_of(survey, teletext)
     except NoFirst:
         return bool(survey.programmes_of(teletext))
-    return pid in survey.videos and survey.videos[pid].is_over
+    clock = survey.clock_of(teletext)
+    return survey.videos[pid].is_over if pid in survey.videos else \
+        clock is not None and ticks_between(*clock) > PATIENCE
 
 
 def after_frame(packets: Packets, pts: int, within: int) -> int:
@@ -116,7 +137,7 @@ def start_frame(asked: Asked) -> int:
         frame = frame_of(asked.start or "")
         assert frame is not None  # the words of the command line were looked at
         return frame
-    with open(asked.stl, "rb") as file:
+    with open(asked.stl_path, "rb") as file:
         code = file.read(GSI)[TCP_PLACE].decode("latin-1")
     is_code = code.isascii() and code.isdecimal() and len(code) == 8
     found = frame_of_code(int(code[at:at + 2]) for at in range(0, 8, 2)) if is_code else None

@@ -3,7 +3,7 @@ from __future__ import annotations
 
 import array
 import bisect
-from typing import Iterator, NamedTuple
+from typing import Collection, Iterator, NamedTuple
 
 from ..core.letters import ACCENTS, letters_of
 from ..core.stl import GSI, LAST, TTI, UNUSED, USER_DATA
@@ -23,9 +23,11 @@ class NamedSubtitle(NamedTuple):
 
 class SubtitleFile:
     """A subtitle file, read as far as there are blocks, whatever stands in them; of one of which
-    some frames are judged, subtitles that come in others are passed over as comments are."""
+    some frames are judged, subtitles that come in others are passed over as comments are. Those
+    that are `left_out`, by their places in the file, are not among those that are due."""
 
-    def __init__(self, path: str, between: Between = ALL_DAY) -> None:
+    def __init__(self, path: str, between: Between = ALL_DAY,
+                 left_out: Collection[int] = ()) -> None:
         self.between = between
         with open(path, "rb") as file:
             self.data = file.read()
@@ -43,7 +45,8 @@ class SubtitleFile:
             first, is_open = first if is_open else block, one[3] != LAST
             self.firsts.append(first)
             begin = frame_of_code(one[5:9])
-            if first == block and begin is not None and between.has(begin):
+            is_one = first == block and len(self.starts) not in left_out
+            if is_one and begin is not None and between.has(begin):
                 self.begins.append(begin)
                 self.blocks.append(block)
 

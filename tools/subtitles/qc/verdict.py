@@ -3,21 +3,27 @@ from __future__ import annotations
 
 import dataclasses
 import functools
-from typing import Callable, Sequence
+from typing import Callable, Collection, Sequence
 
+from ..core.national import BY_BITS, RESERVED
 from ..core.times import ALL_DAY, Between, time_of
-from ..core.told import EMPTY, LOST_PACKETS, PASSED_OVER
+from ..core.told import EMPTY, LOST_PACKETS, PASSED_OVER, STL_FAULTS
 from ..reading.gaps import Place
+from ..reading.receiver import national_option
 from ..reading.survey import PES, Packets, Range
 from ..reading.timeline import Timeline
 from . import sentence
 from .asked import Asked
+from .beside import Beside, Counts
+from .cells import headers_of
 from .checking import Answer
 from .clock import FITTED, FITTED_LATER, Clock
 from .delays import Spread, spread_of
 from .due_pages import DuePages
 from .layouts import Choice
+from .moved import Piece
 from .naming import Causes
+from .sentence import Seen as Spoken
 from .severity import Severity
 from .status import LOST, NOT_JUDGED, REFUSED, WAIVED, WARNED, Decision, Said, Seen, decide
 from .subtitle_file import SubtitleFile
@@ -59,10 +65,15 @@ class Part:
     accepted_within: int | None = None  # the least number of frames, of one that is refused
     was_read: bool = False  # something of its recording, or it has none
     hint: str = ""  # what to know of its first fault
+    of_header: str = ""  # what is wrong with its PES headers, where that is refused
     otherwise: str = ""  # how the house draws, where its content is refused for that
+    better: Collection[str] = ()  # national options that were tried, by which less is refused
     packets: Packets = dataclasses.field(default_factory=lambda: Packets(PES))
     asked: Asked | None = None
     due: Callable[[], DuePages] = no_pages
+    piece: Piece | None = None  # of one PID, where the page moves to another one
+    left_out: Collection[int] = ()  # subtitles that are not judged, by their places in the file
+    sent_hint: str = ""  # what to know of the first fault of its transmission
 
     @functools.cached_property
     def held(self) -> Timeline | None:
@@ -78,7 +89,7 @@ class Part:
 
     def subtitle_file(self) -> SubtitleFile:
         """Its subtitles by their blocks and frames."""
-        return SubtitleFile(self.stl_path, self.between)
+        return SubtitleFile(self.stl_path, self.between, self.left_out)
 
     def said(self) -> Said:
         """What the program said of it."""
@@ -93,7 +104,8 @@ class Part:
         """Whether one of its PES packets at least could be read."""
         if self.pes is None:
             return False
-        if not self.answer.numbers or self.answer.numbers - PASSED_OVER - {EMPTY}:
+        numbers = self.answer.numbers - STL_FAULTS
+        if not numbers or numbers - PASSED_OVER - {EMPTY}:
             return True
         count = min(self.pes[1] + 1, self.packets.count) - self.pes[0]
         return count > self.answer.passed.total()
@@ -101,6 +113,12 @@ class Part:
     def pts(self, does: str = "") -> list[int]:
         """The PTS of its PES packets, of those that do something."""
         return [*self.packets.pts(self.pes, does)] if self.pes else []
+
+    def options_sent(self) -> set[str]:
+        """The national options of its headers of the page."""
+        bits = {national_option(header) for run in self.packets.inside(*self.pes or (0, -1))
+                for header in headers_of(run)}
+        return {BY_BITS[one].word for one in bits if one != RESERVED}
 
     @property
     def pes_name(self) -> str | None:
@@ -159,6 +177,7 @@ class Verdict:
     was_fitted: bool = False
     count: int = 0  # of the subtitles
     layout: Choice | None = None  # that was found
+    beside: Beside | None = None  # where some subtitles are refused, and others are judged
 
     @property
     def is_lost(self) -> bool:
@@ -216,10 +235,33 @@ class Verdict:
             lost=[gap.line() for gap in self.gaps if gap.is_judged], warnings=self.seen().warnings,
             reason=self.why_not, is_file=self.asked.recording is None, within=self.asked.within,
             accepted_within=self.accepted_within)
-        if refused:
+        if refused and self.beside:
+            said = self.sent_beside(said, self.beside)
+        elif refused:
             said = said._replace(first=refused.answer.first, hint=refused.hint,
                                  causes=refused.causes)
         return sentence.sentence_of(said)
+
+    def sent_beside(self, said: Spoken, beside: Beside) -> Spoken:
+        """What the sentence is made of where subtitles are refused: that of the transmission, of
+        the first part of which something is."""
+        answers = [part.answer for part in self.parts]
+        part = next((part for part in self.parts if part.answer.first_sent), None)
+        said = said._replace(refused=beside.words(), subtitles=len(beside.judged), is_file=False,
+                             faults=sum(answer.count_sent for answer in answers))
+        return said._replace(first=part.answer.first_sent, hint=part.sent_hint,
+                             causes=part.causes) if part else said
+
+    @property
+    def counts(self) -> Counts | None:
+        """How many subtitles were judged, and how many are refused; `None` where neither is known.
+        """
+        if self.word == NOT_JUDGED:
+            return None
+        if self.beside:
+            return Counts(len(self.beside.judged), len(self.beside.left_out))
+        is_refused = any(part.answer.numbers & STL_FAULTS for part in self.parts)
+        return None if is_refused else Counts(self.count, 0)
 
     def of_part(self, part: Part, gaps: list[Gap]) -> Verdict:
         """The verdict on a part alone, with what is missing of it."""

@@ -84,7 +84,7 @@ def of_page(own: list[Announced], asked: Asked) -> Iterator[Warned]:
         kinds = " and ".join(dict.fromkeys(KINDS.get(one.kind, "of an unknown kind")
                                            for one in own))
         yield Warned("type", f"the PMT announces page {name} as {kinds}, and not as subtitles")
-    code = language_of(asked.stl)
+    code = language_of(asked.stl_path)
     wanted = {*names_of(code)}
     languages = dict.fromkeys(one.language.lower() for one in own)
     if wanted and not (wanted | ANY) & languages.keys():

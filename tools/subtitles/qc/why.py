@@ -29,21 +29,23 @@ def causes_of(asked: Asked, programme: DuePages, recording: Recording, found: Fo
 
 
 def reach(recording: Recording, found: Found) -> Span | None:
-    """The frames of which the recording is, by its PCR, where PTS do not go back."""
-    pts = recording.reach() if not found.packets else None
+    """The frames of which the recording is, by its PCR, where PTS do not go back, and the PID
+    carries Teletext to its end."""
+    pts = None if found.packets or recording.packets.refusal else recording.reach()
     if pts is None:
         return None
     first, last = (ticks_between(pts_of(found.begin, found.origin), one) for one in pts)
     return Span(found.begin - -first // TICKS, found.begin + last // TICKS)
 
 
-def unseen(places: Sequence[Place], origin: int, within: int) -> Iterator[Span]:
-    """The frames of which something is lost."""
+def unseen(places: Sequence[Place], origin: int, within: int, is_with_next: bool = True) \
+        -> Iterator[Span]:
+    """The frames of which something is lost, with that of the next PES packet or without."""
     for place in places:
         first, last = (None if pts is None else frame_in(pts, origin, within)
                        for pts in (place.before, place.after))
         yield Span(0 if first is None or first >= FRAMES_OF_A_DAY else first,
-                   FRAMES_OF_A_DAY if last is None else last)
+                   FRAMES_OF_A_DAY if last is None else last - (not is_with_next))
 
 
 def tell(speech: Speech, causes: Causes, option: str) -> None:

@@ -5,9 +5,11 @@ Nothing here judges, and no byte of a recording is read: `subttx survey` reads i
 survey       what `survey` tells of a recording, as values
 timeline     what a receiver holds of a page when
 streams      the PES packets of a PID, for the tools that are told it
+moving       a page that moves to another PID, as the PMT says
 gaps         where something is missing, and where the clock jumps
 timing       PTS against the PCR
 receiver     what a model receiver holds, and marks in its cells
+subcodes     sub-pages that alternate
 repeat       how often a page is repeated
 languages    languages of subtitle files as PMTs have them
 alignment    for which origins edges agree

@@ -6,17 +6,19 @@ N frames later.
 """
 from __future__ import annotations
 
+import bisect
 import collections
 import copy
 import functools
 import heapq
 import itertools
+import operator
 from typing import Hashable, Iterator, NamedTuple, Sequence
 
 from ..core.times import EARLY, TICKS, wrapped
 from .survey import HEADER, Change, Packets, Range, Texts
 
-VOTES = 2_000_000  # pairs of edges and changes; of longer files some changes vote for all
+VOTES = 1_000_000  # pairs of edges and changes; of longer files some changes vote for all
 REPEATED = 20  # subtitles with the same letters; where there are more, their text does not vote
 TRIED = 64  # origins that are held against all edges
 MOST_APART = 50  # frames between all beginnings and all ends
@@ -51,6 +53,7 @@ class Fit(NamedTuple):
     texts: int
     exact: int
     among: int
+    first: int | None
     first_other: int | None
     start: int
     late: Sequence[int] = ()
@@ -99,6 +102,7 @@ class Base:
     def __init__(self, edges: Sequence[Edge], changes: Sequence[Change], first: int, last: int,
                  packets: Range, within: int) -> None:
         self.edges, self.within, self.packets = edges, within, packets
+        self.frames = [edge.frame for edge in edges]
         self.first, self.sent = first, (first, last)
         if within:
             rests = [(wrapped(one.pts - first) + TICKS // 2) % TICKS - TICKS // 2
@@ -108,10 +112,10 @@ class Base:
             changes = list(self.at_ends(changes))
         most = min([AGAIN] + [third.frame - second.frame - 1 for one, second, third in zip(
             edges, edges[1:], edges[2:]) if one.letters == third.letters and not second.letters])
-        self.changes: dict[int, tuple[bytes, int]] = {}
+        self.changes: dict[int, Agreed] = {}
         for one in without_repeats(changes, most):
             frames, ticks = self.distance(one.pts)
-            self.changes[frames] = one.letters, ticks
+            self.changes[frames] = Agreed(0, one.letters, ticks)
         self.length = self.distance(last)[0]
 
     def at_ends(self, changes: Sequence[Change]) -> Iterator[Change]:
@@ -132,27 +136,30 @@ class Base:
         """Some of the edges, and the changes between two distances."""
         one = copy.copy(self)
         one.__dict__.pop("fits", None)
-        one.edges = edges
+        one.edges, one.frames = edges, [edge.frame for edge in edges]
         one.changes = {at: change for at, change in self.changes.items() if low < at < high}
         return one
 
     def agreed(self, edge: Edge, start: int) -> Agreed | None:
         """The change with which an edge agrees, where the first PTS has a frame."""
+        if not self.within:
+            return self.changes.get(edge.frame - start)
         for late in range(self.within + 1):
             change = self.changes.get(edge.frame - start + late)
-            if change and (not self.within or change[0] == edge.letters):
-                return Agreed(late, *change)
+            if change and change.letters == edge.letters:
+                return change._replace(late=late)
         return None
 
     @functools.cached_property
     def fits(self) -> list[Fit]:
-        """The best origins, falling: of two that are as good, the one with more texts."""
+        """The best origins, falling: of two that are as good, the one with more texts. Of several
+        that are the best, the one of the earliest text is the first."""
         if not self.edges or not self.changes:
             return []
         places = sorted(self.changes)
-        votes = collections.Counter(
-            edge.frame - at for at in places[::len(places) * len(self.edges) // VOTES + 1]
-            for edge in self.edges)
+        voting = places[::len(places) * len(self.edges) // VOTES + 1]
+        votes = collections.Counter(itertools.starmap(operator.sub, itertools.product(
+            self.frames, voting)))
         for start, count in self.alike().items():
             votes[start] += 2 * count
         if self.within:
@@ -162,8 +169,11 @@ class Base:
         best = heapq.nlargest(TRIED + 4 * self.within, votes, key=lambda one: (votes[one], -one))
         # Where all subtitles are alike, the first and the last tell more than those between.
         starts = {*best, self.edges[0].frame, self.edges[-1].frame - places[-1]}
-        return sorted((fit for fit in map(self.fit, starts) if fit.agree),
-                      key=lambda fit: (-fit.points(), -fit.texts, fit.start))
+        fits = [fit for fit in map(self.fit, starts) if fit.agree]
+        first = min(fits, default=None, key=lambda fit: (
+            -fit.points(), -fit.texts, fit.first or 0, fit.start))
+        return sorted(fits, key=lambda fit: (
+            fit is not first, -fit.points(), -fit.texts, fit.start))
 
     def alike(self) -> collections.Counter[int]:
         """How often each start is that of an edge and a change with the same letters."""
@@ -171,25 +181,28 @@ class Base:
         for edge in self.edges:
             frames[edge.letters].append(edge.frame)
         return collections.Counter(
-            frame - at for at, (letters, _) in self.changes.items()
+            frame - at for at, (_, letters, _) in self.changes.items()
             if letters and len(frames[letters]) <= REPEATED for frame in frames[letters])
 
     def fit(self, start: int) -> Fit:
         """How the edges agree with an origin."""
-        inside = [edge for edge in self.edges if start <= edge.frame <= start + self.length]
+        inside = self.edges[bisect.bisect_left(self.frames, start):
+                            bisect.bisect_right(self.frames, start + self.length)]
         found = [(edge, change) for edge in inside if (change := self.agreed(edge, start))]
-        least = min((change.late for _, change in found), default=0)
+        late = [change.late for _, change in found] if self.within else []
+        least = min(late, default=0)
         if least:
             return self.fit(start - least)  # what all share is no delay, but of the origin
         same = [edge for edge, change in found if change.letters == edge.letters]
-        ticks = sorted(change.ticks for _, change in found)
+        ticks = sorted([change.ticks for _, change in found])
         rest = ticks[len(ticks) // 2] if ticks and not self.within else 0
         agree = {edge.frame for edge, _ in found}
+        others = (edge.frame for edge in inside if edge.frame not in agree)
         return Fit(wrapped(self.first + rest - TICKS * start), len(found), len(same),
                    sum(edge.letters != b"" for edge in same),
                    len(ticks) if self.within else ticks.count(rest), len(inside),
-                   next((edge.frame for edge in inside if edge.frame not in agree), None), start,
-                   [change.late for _, change in found])
+                   next((edge.frame for edge in same if edge.letters), None),
+                   next(others, None) if len(found) < len(inside) else None, start, late)
 
     def apart(self, fit: Fit) -> Apart | None:
         """Whether beginnings and ends agree, but a constant number of frames apart."""
@@ -210,7 +223,8 @@ class Base:
         """How many beginnings, or ends, are late by so many frames, of those that may be."""
         own = [(at, edge.letters) for edge in self.edges if edge.is_begin == is_begin
                and 0 <= (at := edge.frame - fit.start + late) <= self.length]
-        agree = sum(self.changes.get(at, (None, 0))[0] == letters for at, letters in own)
+        agree = sum(at in self.changes and self.changes[at].letters == letters
+                    for at, letters in own)
         return Apart(is_begin, late, agree, len(own))
 
     def by_beginnings(self, fit: Fit) -> Fit:

@@ -2,7 +2,7 @@
 from __future__ import annotations
 
 import dataclasses
-from typing import Iterator, NamedTuple, Sequence
+from typing import Collection, Iterator, NamedTuple, Sequence
 
 from ..core.files import whole_bytes
 from ..core.stl import letters_on_page, readable, times_of
@@ -13,7 +13,8 @@ from ..core.times import (
 from ..core.words import Stop, counted, range_words
 from .alignment import MOST_APART, Base, Fit, Shown, bases_of
 from .stretches import IN_A_ROW, Part, Run, Stretch, by_breaks, find_row, parts_of, runs_of
-from .survey import Packets, Range
+from .subcodes import subcode_words, turns_of
+from .survey import STRAY, Packets, Range
 
 NEAR = 10 * FRAMES_A_SECOND  # to the origin 0
 NAMED = 5  # origins that are as good, or other pages
@@ -25,7 +26,7 @@ class Sought(NamedTuple):
     """What is looked for: the subtitle file, and the page with its national option, in a recording
     by its name; the origin that is known, the frames within which a page has to be whole, and how
     many breaks there are; of the PES packets with some numbers alone, and of the subtitles that come
-    in some frames."""
+    in some frames, but for those that are left out, by their places in the file."""
 
     stl: str
     name: str
@@ -36,6 +37,7 @@ class Sought(NamedTuple):
     breaks: int = 0
     inside: Range | None = None
     between: Between = ALL_DAY
+    left_out: Collection[int] = ()
 
 
 class OfPart(NamedTuple):
@@ -62,9 +64,9 @@ class Agreement(NamedTuple):
 @dataclasses.dataclass
 class Origin:
     """What is found: the status, as the tool ends with it; `parts`, where they are clear; the PES
-    packets of each time that the programme is there, where that is more than once; how many breaks, where others were said; by how many ticks the first
-    part is later than the origin that is known; from when on subtitles are late, first, and in
-    words. `printed` and `told` are all lines."""
+    packets of each time that the programme is there, where that is more than once; how many breaks,
+    where others were said; by how many ticks the first part is later than the origin that is known;
+    from when on subtitles are late, first, and in words. `printed` and `told` are all lines."""
 
     status: int = 1
     parts: list[OfPart] = dataclasses.field(default_factory=list)
@@ -78,12 +80,14 @@ class Origin:
     told: list[str] = dataclasses.field(default_factory=list)
 
 
-def subtitles_of(path: str, option: str, between: Between) -> list[Shown]:
+def subtitles_of(path: str, option: str, between: Between,
+                 left_out: Collection[int] = ()) -> list[Shown]:
     """The subtitles of a file that come in some frames, and go within the day."""
     found = []
-    for one in readable(path, whole_bytes(path)):
+    for place, one in enumerate(readable(path, whole_bytes(path)), 1):
         begin, end = times_of(one)
-        if begin is not None and end is not None and begin < end and between.has(begin):
+        is_one = begin is not None and between.has(begin) and place not in left_out
+        if is_one and begin is not None and end is not None and begin < end:
             found.append(Shown(begin, end, (one.row, one.justify, one.text),
                                letters_on_page(one.text, option)))
     if not found:
@@ -94,12 +98,12 @@ def subtitles_of(path: str, option: str, between: Between) -> list[Shown]:
 def find(asked: Sought, packets: Packets) -> Origin:
     """The origin of a recording, or why it is not clear."""
     origin = Origin()
-    subtitles = subtitles_of(asked.stl, asked.option, asked.between)
+    subtitles = subtitles_of(asked.stl, asked.option, asked.between, asked.left_out)
     if not is_sent(packets, asked, origin.told):
         return origin
     bases = bases_of(subtitles, packets, asked.within, asked.inside)
     if not bases:
-        origin.told.append("no edge agrees with any origin")
+        origin.told += [*other_words(packets, asked.page), "no edge agrees with any origin"]
         return origin
     runs = runs_of(bases)
     if len(runs) > 1:
@@ -111,6 +115,8 @@ def find(asked: Sought, packets: Packets) -> Origin:
         take_parts(origin, asked, bases, parts_of(subtitles, bases, by_breaks(row)))
     else:
         take_one(origin, asked, bases, row, parts_of(subtitles, bases, row))
+    if origin.status:
+        origin.told[:0] = other_words(packets, asked.page)
     return origin
 
 
@@ -214,6 +220,17 @@ def measure(origin: Origin, known: int | None, part: Part) -> None:
 
 
 # ---- words
+
+def other_words(packets: Packets, page: Page) -> Iterator[str]:
+    """What may be why edges do not agree: rows that no receiver of the page takes, or sub-pages."""
+    name = page_name(*page)
+    if packets.strays:
+        count = sum(run.length for run in packets.runs if STRAY in run.does)
+        yield f"rows came while {name} was not open, in {counted(count, 'PES packet')}"
+    subcodes = turns_of(packets)
+    if subcodes:
+        yield subcode_words(subcodes, name)
+
 
 def time_at(pts: int, origin: int) -> str:
     """The time of the day of a PTS, or that it is of none."""

@@ -6,7 +6,7 @@ from typing import Iterator, NamedTuple
 
 from ..core.times import TICKS, ticks_between, time_of, wrapped
 from ..core.words import counted, pid_name
-from .survey import Packets
+from .survey import Clocked, Packets
 
 SECOND = 90_000  # ticks
 TOLD = 20  # places that are told one by one
@@ -16,7 +16,8 @@ PAUSE = 10  # times as few packets as that time has usually are still a pause of
 @dataclasses.dataclass
 class Place:
     """A place at which something is missing, between the PTS of two PES packets: `lost` TS packets
-    by their counters, some that are `scrambled`, or those of `missing` ticks by the PCR. `mark` is
+    by their counters, some that are `scrambled`, and those of `missing` ticks by the PCR. A counter
+    goes up to 15: of more packets it tells what is left of them behind 16, 32 and so on. `mark` is
     the number of the mark that stands there, where one does."""
 
     before: int | None
@@ -44,9 +45,19 @@ def places_of(packets: Packets) -> list[Place]:
         following[run.first] = pts
     known = [Place(one.before, following[one.number], one.lost, one.scrambled, mark=one.number)
              for one in packets.marks]
-    holes = [Place(one.before, one.after, missing=one.ticks - round(one.usual))
-             for one in packets.clocked if one.counters == "broken" and one.ticks > 0]
+    holes = [*filter(None, map(hole_of, packets.clocked))]
+    for hole in holes:
+        for one in known:
+            if overlap(hole, one) and is_within(hole.missing, one):
+                one.missing = max(one.missing, hole.missing)
     return known + [hole for hole in holes if not any(overlap(hole, one) for one in known)]
+
+
+def hole_of(one: Clocked) -> Place | None:
+    """The hole that a PCR tells which comes late, where the counters of other PIDs are broken."""
+    if one.counters != "broken" or one.ticks <= 0:
+        return None
+    return Place(one.before, one.after, missing=one.ticks - round(one.usual))
 
 
 def jumps_of(packets: Packets) -> Iterator[Jump]:
@@ -55,6 +66,12 @@ def jumps_of(packets: Packets) -> Iterator[Jump]:
         if one.counters == "whole" and one.packets * PAUSE * one.usual < \
                 one.usual_packets * abs(one.ticks):
             yield Jump(one.before, one.ticks - round(one.usual))
+
+
+def is_within(ticks: int, place: Place) -> bool:
+    """Whether so much may be missing at a place: of more the clock went on elsewhere."""
+    return place.before is None or place.after is None or \
+        ticks <= ticks_between(place.before, place.after)
 
 
 def overlap(one: Place, other: Place) -> bool:
@@ -69,9 +86,11 @@ def is_after(one: Place, other: Place) -> bool:
 
 def what_of(place: Place) -> str:
     """What is missing at a place."""
-    said = [f"{counted(place.lost, 'TS packet')} lost"] if place.lost else []
-    said += [f"TS packets of {place.missing / SECOND:.2f} s are missing, by the PCR and the "
-             "counters of other PIDs"] if place.missing else []
+    said = [f"{counted(place.lost, 'TS packet')} lost"] if place.lost and not place.missing else []
+    by = f"their counter tells {place.lost} of them" if place.lost else \
+        "and the counters of other PIDs"
+    said += [f"TS packets of {place.missing / SECOND:.2f} s are missing, by the PCR"
+             f"{'; ' if place.lost else ' '}{by}"] if place.missing else []
     said += [f"{counted(place.scrambled, 'TS packet')} scrambled"] if place.scrambled else []
     return ", ".join(said) or "a break in the stream"
 

@@ -14,6 +14,7 @@ from .alignment import TRIED, Base, Edge, Fit, Shown, edges_of
 IN_A_ROW = 5  # edges that have to agree with an origin of their own
 NEW_TRACK = IN_A_ROW - 1  # points that another origin costs
 LACKED = 60 * FRAMES_A_SECOND  # frames, at least, by which the file's clock jumps on at a break
+OF_TEXT = 3  # points of an edge whose text is there
 Place = tuple[int, int]  # in a recording: a time base, and frames after its first PTS
 
 
@@ -26,7 +27,7 @@ class Track:
         self.base, self.start, self.within, self.edges = number, start, base.within, base.edges
         found = [base.agreed(edge, start) for edge in base.edges]
         self.points = [0 if not one else 1 if one.letters != edge.letters else
-                       2 + bool(edge.letters) for edge, one in zip(base.edges, found)]
+                       OF_TEXT if edge.letters else 2 for edge, one in zip(base.edges, found)]
         self.late = sum(one.late for one in found if one)
         self.places = [edge.frame - start + (one.late if one else 0)
                        for edge, one in zip(base.edges, found)]
@@ -37,6 +38,12 @@ class Track:
         rows = itertools.accumulate(reversed(self.points), lambda row, one: row + 1 if one else 0,
                                     initial=0)
         return list(rows)[:0:-1]
+
+    def rank(self) -> tuple[int, int, int]:
+        """By what the best comes first: of several that are as good, the one of the earliest text.
+        """
+        first = self.points.index(OF_TEXT) if OF_TEXT in self.points else len(self.edges)
+        return -sum(self.points), self.late, first
 
     def may_follow(self, before: Track, frames: int) -> bool:
         """Whether what is due so many frames later is sent later."""
@@ -71,7 +78,7 @@ def find_row(bases: Sequence[Base]) -> list[Stretch]:
         tracks += [track for start in sorted(starts) if max(
             (track := Track(number, start, base)).in_a_row, default=0) >= IN_A_ROW]
     found: list[Track] = []
-    for track in sorted(tracks, key=lambda one: (-sum(one.points), one.late)):
+    for track in sorted(tracks, key=Track.rank):
         if not track.within or not any(one.base == track.base and abs(
                 one.start - track.start) <= track.within for one in found):
             found.append(track)

@@ -102,23 +102,27 @@ class Announced(NamedTuple):
 
 @dataclasses.dataclass
 class Programme:
-    """What a PMT says: the stream_type of each PID, and its pages."""
+    """What a PMT says: the stream_type of each PID, and its pages. `after` is the PCR of the
+    programme that was told before it."""
 
     number: int
     pcr_pid: int
     kinds: dict[int, int] = dataclasses.field(default_factory=dict)
     pages: dict[int, list[Announced]] = dataclasses.field(default_factory=dict)
+    after: int | None = None
 
 
 @dataclasses.dataclass
 class Video:
-    """The PTS of pictures from the first that can be shown to the next such one."""
+    """The PTS of pictures from the first that can be shown to the next such one, or up to the end
+    of the recording, where they are cut."""
 
     passed: int = 0
     pictures: list[int | None] = dataclasses.field(default_factory=list)
     lost: int = 0
     scrambled: int = 0
     is_over: bool = False
+    is_cut: bool = False
 
 
 @dataclasses.dataclass
@@ -262,7 +266,10 @@ class Survey:
         self.size = int(size)
 
     def take_programme(self, number: str, clock: str, *_: str) -> None:
-        self.programmes.append(Programme(int(number), int(clock)))
+        pids = [int(clock), *(one.pcr_pid for one in reversed(self.programmes)
+                              if one.number == int(number))]
+        known = [self.clocks[pid][1] for pid in pids if pid in self.clocks]
+        self.programmes.append(Programme(int(number), int(clock), after=next(iter(known), None)))
 
     def take_stream(self, pid: str, kind: str, *_: str) -> None:
         self.programmes[-1].kinds[int(pid)] = int(kind)
@@ -330,10 +337,11 @@ class Survey:
     def take_picture(self, pid: str, pts: str, *_: str) -> None:
         self.videos[int(pid)].pictures.append(number_of(pts))
 
-    def take_pictures(self, pid: str, lost: str, scrambled: str, passed: str = "0",
+    def take_pictures(self, pid: str, lost: str, scrambled: str, passed: str = "",
                       *_: str) -> None:
-        one = self.videos.setdefault(int(pid), Video(int(passed)))
+        one = self.videos.setdefault(int(pid), Video(int(passed or 0)))
         one.lost, one.scrambled, one.is_over = int(lost), int(scrambled), True
+        one.is_cut = passed != ""
 
     def take_damaged(self, pid: str, number: str, why: str, *_: str) -> None:
         self.of(pid).damage = f"PES packet {number} " + {

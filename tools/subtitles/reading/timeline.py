@@ -71,6 +71,7 @@ class Timeline:
         """Holds nothing, and has heard nothing."""
         self.state = TUNED
         self.heard: list[Heard] = []
+        self.count = 0  # PES packets that are heard
         self.frames, self.pages = array.array("i"), list[Rows]()
         self.when: dict[Rows, array.array[int]] = {}  # the frames at which a page came
         self.states: list[Stored] = []
@@ -132,6 +133,7 @@ class Timeline:
             self.first = first if self.came == NO_FRAME else self.came
         self.pauses += pauses_in(self.last, one.frames)
         self.heard.append(one)
+        self.count += len(one.frames)
         if HEADER in one.run.does:
             self.sendings.extend(frame for frame in dict.fromkeys(one.frames)
                                  if not self.sendings or frame > self.sendings[-1])
@@ -228,7 +230,7 @@ class Timeline:
         """The frames around one in which no PES packet came, of what else sends one in each frame
         but few."""
         at = bisect.bisect_right(self.pauses, frame, key=lambda one: one.first) - 1
-        is_steady = len(self.pauses) * FEW <= sum(len(one.frames) for one in self.heard)
+        is_steady = len(self.pauses) * FEW <= self.count
         return self.pauses[at] if is_steady and at >= 0 and self.pauses[at].last >= frame else None
 
     def is_seen(self, first: int, last: int) -> bool:

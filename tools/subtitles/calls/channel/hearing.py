@@ -1,84 +1,379 @@
-"""The pages of a feed that programmes are waited for on: when the text of each changes."""
+"""The pages of a feed that programmes are waited for on, by what `subttx survey` tells of each."""
 from __future__ import annotations
 
-from typing import Iterable, NamedTuple
+import collections
+import contextlib
+import os
+import select
+import subprocess
+from typing import BinaryIO, Callable, Iterable, Iterator
 
-from ...core.pes import has_pts, pts_in
-from ...core.teletext import Page
+from ...core.teletext import Page, page_name
+from ...core.times import ticks_between, wrapped
+from ...core.words import Stop, counted, pid_name
 from ...qc.asked import Asked
-from .sent import Sent
+from ...qc.recording import refuse
+from ...reading.gaps import Place, hole_of, overlap, what_of, why_refused
+from ...reading import moving
+from ...reading.survey import HEADER, PES, Packets, Run, Survey, words_of
 from .awaited import Changes
-from .feed_clock import FeedClock
+from .feed_clock import MINUTE, SECOND, FeedClock, jump_of, times_of
+from .source import room_of, waiting_in
+
+STANDARD_INPUT = "/dev/stdin"  # as the program opens it
+BOTH = 5 * SECOND  # within which a second PID that sends the page is no later one
+SILENT = 8 * SECOND  # of the PCR after the last PES packet: that is told
+NEAR_PCR = 10 * SECOND  # PTS that are farther from the PCR have nothing to do with it
+PRUNED = 1000  # lines after which what is told is looked through for what is old
+KEPT = 64  # programmes of the stream, samples and places that are kept at most
+SOON = 0.001  # seconds after which it is looked again whether a part was taken
+ENOUGH = 1 << 16  # bytes of lines that are taken at a time
 
 
-class Way(NamedTuple):
-    """A page, and whether a text may come some frames after the page was erased for it."""
+class Heard(Survey):
+    """A page of a feed: what is sent of it, and the time. `clock` is that of its PES packets, and
+    `packets` are those of the PID that carries it now; `changes` are those of its text, also as
+    they are within some frames. `said` are lines for a person; `moves` are the times at which the
+    page went to another PID, and `anew` counts encoders that began anew."""
 
-    page: Page
-    is_within: bool
+    def __init__(self, page: Page, pid: int | None, clock: FeedClock | None = None) -> None:
+        super().__init__()
+        self.page, self.asked_pid, self.reference = page, pid, clock
+        self.pid: int | None = None
+        self.clock = FeedClock()
+        self.first: tuple[int, int] | None = None  # PTS, with its time
+        self.ahead: int | None = None  # the first ticks by which PTS are ahead of the PCR
+        self.changes = {is_within: Changes() for is_within in (False, True)}
+        self.said: list[str] = []
+        self.moves: list[int] = []
+        self.anew = self.count = 0
+        self.is_new_table = False
+        self.alive: int | None = None  # the last PTS of which something is told
+        self.still = 0  # ticks for which the PID is silent
+        self.moved = ""  # what the PMT says, until something comes of the new PID
+        self.found: int | None = None  # the PTS of the first header of the page
+        self.waiting: list[Place] = []  # places behind which no PTS has come yet
+        self.told: collections.deque[Place] = collections.deque(maxlen=KEPT)
+
+    @property
+    def packets(self) -> Packets:
+        """The PES packets of the PID that carries the page."""
+        return self.by_pid.get(PES if self.pid is None else self.pid, Packets(PES))
+
+    @property
+    def now(self) -> int:
+        """The time of the feed; by the PCR where the PID is silent."""
+        return self.clock.now + self.still
+
+    def take(self, line: str) -> None:
+        """Takes a line of the listing."""
+        word = line.partition(" ")[0]
+        if self.is_new_table and word not in ("stream", "announce"):
+            self.is_new_table = False
+            self.look_for_move()
+        super().take(line)
+        self.count += 1
+        if self.count % PRUNED == 0:
+            self.prune()
+
+    def take_size(self, size: str, *words: str) -> None:
+        super().take_size(size, *words)
+        if self.size == PES and self.asked_pid is not None:
+            raise Stop("it is PES packets, which have no PID")
+
+    # What comes of the page.
+
+    def take_pes(self, pid: str, *words: str) -> None:
+        super().take_pes(pid, *words)
+        own, run = int(pid), self.by_pid[int(pid)].runs[-1]
+        if HEADER in run.does and own != self.pid:
+            self.find(own, run)
+        if own == self.pid:
+            self.go_on(run)
+
+    def find(self, pid: int, run: Run) -> None:
+        """Takes the PID that carries the page: the first that sends a header of it. `Stop` where
+        another one sends it a little later."""
+        if self.pid is None:
+            self.pid, self.found = pid, run.pts
+            for earlier in self.by_pid[pid].runs[:-1]:
+                self.go_on(earlier)
+        elif self.asked_pid is None and not self.moves and None not in (self.found, run.pts) and \
+                abs(ticks_between(self.found or 0, run.pts or 0)) < BOTH:
+            raise Stop(f"page {page_name(*self.page)} is sent on {pid_name(self.pid)} and "
+                       f"{pid_name(pid)}: say which one by --pid")
+
+    def go_on(self, run: Run) -> None:
+        """Goes on with PES packets of the page's PID."""
+        for pts in times_of(run):
+            self.begin_clock(pts)
+            before = self.clock.pts
+            late = self.clock.take(pts)
+            self.tell_jump(before, pts, late)
+        if run.pts is not None and run.last is not None:
+            if self.moved:
+                self.said.append(f"{self.moved}, before PTS {run.pts}")
+                self.moved = ""
+            self.hear_of(run.pts)
+            self.hear_of(run.last)
+            for place in self.waiting:
+                place.after = run.pts
+                self.tell(place)
+            self.waiting.clear()
+
+    def begin_clock(self, pts: int) -> None:
+        """The first PTS is that of time 0, or the one that it is by a clock that is known."""
+        known = self.reference
+        if self.clock.pts is None and known and known.pts is not None:
+            self.clock.now = max(known.now + ticks_between(known.pts_at(known.now), pts), 0)
+        if self.clock.pts is None:
+            self.first = pts, self.clock.now
+
+    @property
+    def start(self) -> int:
+        """The time from which on all that was sent has come: of the first PCR, or the first PTS."""
+        if self.first is None:
+            return self.clock.now
+        pts, now = self.first
+        pcr = self.clock_of(self.pid or PES)
+        before = ticks_between(pcr[0] + max(self.ahead or 0, 0), pts) if pcr else 0
+        return now - before if 0 < before < 60 * MINUTE else now
+
+    def tell_jump(self, before: int | None, pts: int, late: int) -> None:
+        """Tells a gap, and an encoder that begins anew."""
+        jump = jump_of(before, pts, late)
+        if jump is None:
+            return
+        self.said.append(jump.line)
+        if jump.is_anew:
+            self.anew += 1
+            self.changes = {is_within: Changes() for is_within in (False, True)}
+
+    def take_rows(self, pid: str, *words: str) -> None:
+        one = self.of(pid)
+        count = len(one.changes)
+        super().take_rows(pid, *words)
+        if int(pid) == self.pid and len(one.changes) > count:
+            for is_within, changes in self.changes.items():
+                changes.add(self.clock.now, one.changes[-1].letters, is_within)
+
+    # What is missing.
+
+    def take_gap(self, pid: str, *words: str) -> None:
+        super().take_gap(pid, *words)
+        if int(pid) == self.pid:
+            mark = self.packets.marks[-1]
+            self.waiting.append(Place(mark.before, None, mark.lost, mark.scrambled))
+
+    def take_clock(self, pid: str, *words: str) -> None:
+        super().take_clock(pid, *words)
+        hole = hole_of(self.of(pid).clocked[-1]) if int(pid) == self.pid else None
+        if hole and not any(overlap(hole, place) for place in [*self.told, *self.waiting]):
+            self.tell(hole)
+
+    def tell(self, place: Place) -> None:
+        """Tells where something is missing."""
+        self.told.append(place)
+        self.said.append(f"{what_of(place)}, before PTS {place.after}")
+
+    # A PID that is silent, and one that is another.
+
+    def take_ahead(self, pid: str, *words: str) -> None:
+        super().take_ahead(pid, *words)
+        if int(pid) == self.pid:
+            pts, ahead = self.packets.samples[-1]
+            self.ahead = ahead if self.ahead is None else self.ahead
+            self.hear_of(pts)
+
+    def take_pcr(self, pid: str, pcr: str, *words: str) -> None:
+        super().take_pcr(pid, pcr, *words)
+        known = self.programmes_of(self.pid) if self.pid is not None else []
+        if self.alive is None or not known or known[-1].pcr_pid != int(pid):
+            return
+        samples = self.packets.samples
+        ahead = samples[-1][1] if samples else 0
+        still = ticks_between(self.alive, wrapped(int(pcr) + ahead))
+        if abs(ahead) > NEAR_PCR or not SILENT < still < 60 * MINUTE:
+            return
+        if not self.still:
+            self.said.append(f"nothing of {pid_name(self.pid or 0)} for "
+                             f"{counted(round(still / SECOND), 'second')} of the stream, after PTS "
+                             f"{self.alive}")
+        self.still = still - SECOND
+
+    def hear_of(self, pts: int) -> None:
+        """Takes a PTS of which something is told. A PID that was silent goes on with one that is
+        much later than the one before; what came before it fell silent may be told then."""
+        late = 0 if self.alive is None else ticks_between(self.alive, pts)
+        if self.still and abs(late) >= SILENT // 2:
+            self.still = 0
+            self.said.append(f"{pid_name(self.pid or 0)} goes on at PTS {pts}")
+        if self.alive is None or late > 0 or not self.still and late < -SILENT:
+            self.alive = pts
+
+    def take_programme(self, *words: str) -> None:
+        super().take_programme(*words)
+        self.is_new_table = True
+
+    def look_for_move(self) -> None:
+        """Follows the page to another PID, where the PMT says that it is there now."""
+        if self.pid in (None, PES) or self.asked_pid is not None:
+            return
+        before, self.pid = self.pid, moving.way_of(self.programmes, self.page, self.pid or 0)[-1]
+        if self.pid == before:
+            return
+        self.moved = moving.words_of(page_name(*self.page), before or 0, self.pid)
+        self.moves.append(self.clock.now)
+        for run in self.packets.runs:
+            if self.alive is not None and run.pts is not None and \
+                    ticks_between(self.alive, run.pts) >= 0:
+                self.go_on(run)
+
+    # What is not needed any more.
+
+    def prune(self) -> None:
+        """Forgets what is told of PES packets that came long ago, since memory is to stay."""
+        for packets in self.by_pid.values():
+            floor = self.floor_of(packets)
+            if floor > 0:
+                first = packets.runs[floor].first
+                del packets.runs[:floor]
+                for several in (packets.held, packets.strays):
+                    several[:] = [one for one in several if one[0] >= first]
+                packets.changes[:] = [one for one in packets.changes[:-1] if one.number >= first] \
+                    + packets.changes[-1:]
+                packets.marks[:] = [one for one in packets.marks if one.number >= first]
+            del packets.samples[:-KEPT], packets.clocked[:-KEPT], packets.sets[:-KEPT]
+        del self.programmes[:-KEPT]
+
+    def floor_of(self, packets: Packets) -> int:
+        """How many runs of a PID are not needed any more."""
+        if packets.pid != self.pid:
+            return len(packets.runs) - 1
+        before = self.clock.now - self.kept_since
+        return next((at for at, run in enumerate(packets.runs) if run.last is not None and
+                     ticks_between(run.last, self.clock.pts or 0) <= before),
+                    len(packets.runs) - 1)
+
+    kept_since = 0  # the time from which on PES packets are asked for
 
 
-def way_of(asked: Asked) -> Way:
-    """How the page of a programme is heard."""
-    return Way(asked.page, asked.within > 0)
+class Listening:
+    """A call of `survey` that hears a feed: its lines go to what is heard of a page."""
 
+    def __init__(self, program: str, heard: Heard) -> None:
+        self.heard, self.rest = heard, b""
+        words = words_of(program, STANDARD_INPUT, heard.page, heard.asked_pid)
+        self.process = subprocess.Popen(words, stdin=subprocess.PIPE, stdout=subprocess.PIPE,
+                                        bufsize=0, start_new_session=True)
+        assert self.process.stdin and self.process.stdout
+        self.into: BinaryIO = self.process.stdin  # type: ignore[assignment]
+        self.out = self.process.stdout
+        self.room = room_of(self.into)
+        self.has_ended = False
 
-class HeardPage:
-    """A page: what is sent of it, and its changes."""
+    def fileno(self) -> int:
+        """What can be waited for."""
+        return self.out.fileno()
 
-    def __init__(self, way: Way) -> None:
-        self.way, self.sent, self.changes = way, Sent(way.page), Changes()
+    def hand(self, data: bytes) -> None:
+        """Hands bytes of the feed on, as long as they are wanted; none at its end."""
+        left = memoryview(data)
+        with contextlib.suppress(OSError, ValueError):
+            while left:
+                left = left[self.into.write(left):]
+            if not data:
+                self.into.close()
 
-    def take(self, data: bytes, now: int) -> None:
-        """Hears a PES packet that came at a time."""
-        self.sent.take_all([data])
-        for change in self.sent.changes:
-            self.changes.add(now, change.letters, self.way.is_within)
-        self.sent.changes.clear()
+    def is_ready(self) -> bool:
+        """Whether it has taken all that was handed on."""
+        return self.has_ended or self.into.closed or not waiting_in(self.into)
+
+    def catch_up(self, data: bytes) -> None:
+        """Hears what came before; nobody is told of it."""
+        for at in range(0, len(data), self.room):
+            self.hand(data[at:at + self.room])
+            while not self.is_ready():
+                if select.select([self], [], [], SOON)[0]:
+                    collections.deque(self.lines(), 0)
+        self.heard.said.clear()
+
+    def lines(self) -> Iterator[str]:
+        """The lines that have come, each taken."""
+        data = os.read(self.fileno(), ENOUGH)
+        *lines, self.rest = (self.rest + data).split(b"\n")
+        self.has_ended = not data
+        for line in lines:
+            text = line.decode("ascii", "replace")
+            self.heard.take(text)
+            yield text
+
+    def refuse(self, name: str) -> None:
+        """`Stop` or `Unclear` where the feed has ended since it could not be read on."""
+        refuse(self.heard, name)
+        self.heard.refuse(self.process.wait())
+        packets = self.heard.packets
+        why = packets.damage or (why_refused(packets) if packets.refusal else None)
+        if why:
+            raise Stop(why)
+
+    def close(self) -> None:
+        """Ends it."""
+        self.process.kill()
+        self.process.wait()
+        self.out.close()
+        with contextlib.suppress(OSError):
+            self.into.close()
 
 
 class Hearing:
-    """All pages that are heard now."""
+    """All pages that are heard, each by a call of `survey` of its own; what begins to be heard
+    hears first what `begin` hands to it."""
 
-    def __init__(self) -> None:
-        self.by_way: dict[Way, HeardPage] = {}
+    def __init__(self, program: str, pid: int | None, begin: Callable[[], Iterable[bytes]]) -> None:
+        self.program, self.pid, self.begin = program, pid, begin
+        self.by_page: dict[Page, Heard] = {}
+        self.calls: list[Listening] = []
+        self.anew = 0
 
-    def pages(self) -> list[Page]:
-        """Which these are."""
-        return sorted({way.page for way in self.by_way})
+    def of(self, asked: Asked) -> Heard:
+        """What is heard of the page of a programme."""
+        return self.by_page[asked.page]
 
-    def changes(self, way: Way) -> Changes:
-        """The changes of one of them."""
-        return self.by_way[way].changes
+    def turn_to(self, pages: Iterable[Page]) -> None:
+        """Hears these pages, too."""
+        for page in pages:
+            if page not in self.by_page:
+                known = next(iter(self.by_page.values()), None)
+                heard = self.by_page[page] = Heard(page, self.pid, known.clock if known else None)
+                call = Listening(self.program, heard)
+                self.calls.append(call)
+                for data in self.begin():
+                    call.catch_up(data)
 
-    def take(self, data: bytes, now: int) -> None:
-        """Hears a PES packet that came at a time."""
-        for heard in self.by_way.values():
-            heard.take(data, now)
+    def open(self) -> list[Listening]:
+        """The calls that still hear the feed."""
+        return [call for call in self.calls if not call.has_ended]
 
-    def turn_to(self, ways: Iterable[Way], kept: Iterable[bytes], clock: FeedClock) -> None:
-        """Hears these pages, and none beside them: what is new, also in the PES packets that are
-        kept, of which the last came at the time of a clock."""
-        wanted = dict.fromkeys(ways)
-        self.by_way = {way: heard for way, heard in self.by_way.items() if way in wanted}
-        new = [HeardPage(way) for way in wanted if way not in self.by_way]
-        if not new:
-            return
-        before = FeedClock()
-        for data in kept:
-            if has_pts(data):
-                before.take(pts_in(data))
-            for heard in new:
-                heard.take(data, before.now)
-        for heard in new:  # both clocks are at the last PES packet
-            heard.changes.move(clock.now - before.now)
-            self.by_way[heard.way] = heard
+    def take_said(self) -> Iterator[str]:
+        """What was told of the feed since it was asked last."""
+        for heard in self.by_page.values():
+            while heard.said:
+                yield heard.said.pop(0)
+
+    def take_anew(self) -> bool:
+        """Whether an encoder has begun anew since then."""
+        before, self.anew = self.anew, sum(heard.anew for heard in self.by_page.values())
+        return self.anew > before
 
     def drop(self, before: int) -> None:
-        """Forgets changes before a time."""
-        for heard in self.by_way.values():
-            heard.changes.drop(before)
+        """Forgets what came before a time."""
+        for heard in self.by_page.values():
+            heard.kept_since = before
+            for changes in heard.changes.values():
+                changes.drop(before)
 
-    def begin_anew(self) -> None:
-        """Nothing that was heard counts any more."""
-        self.by_way = {way: HeardPage(way) for way in self.by_way}
+    def close(self) -> None:
+        """Ends all calls."""
+        for call in self.calls:
+            call.close()

@@ -1,73 +1,182 @@
-"""The programmes of a channel, by the lines of a list that grows."""
+"""The programmes of a channel, by the entries of a list that is edited while the channel runs."""
 from __future__ import annotations
 
 import argparse
-import collections
+import dataclasses
 import os
 import shlex
-from typing import Iterator, NamedTuple
+import time
+from typing import NamedTuple, Sequence
 
-from ...core.words import Stop, Words
+from ...core.words import Stop, Words, line_of, shown
 from ...qc.asked import AUTO_OF_FEED, Asked, add_pair_options, asked_of, pair_options
 from ..modes import CHANNEL_LINE, refuse_options
 from ..pairs import OwnNames
 
+MISSING = 60.0  # seconds for which a list that is not there is waited for
 
-class PlannedProgramme(NamedTuple):
-    """A programme of the list; or, without what is asked of it, why a line is none."""
+
+class Line(NamedTuple):
+    """A line of the list that is neither empty nor a comment: its number, and its words; of one
+    that has none, as where a quote does not end, all of it and why."""
+
+    number: int
+    words: tuple[str, ...]
+    fault: str = ""
+
+
+@dataclasses.dataclass(eq=False)
+class Programme:
+    """A programme of the list, from the first reading that had it on; or, without what is asked of
+    it, why a line is none. `has_ended`: it has its result, or gets it now."""
 
     name: str
+    line: Line
     asked: Asked | None
     reason: str | None
+    has_ended: bool = False
+
+
+class Edits(NamedTuple):
+    """What became of a list: the programmes in its order, for lines that are new `None`, and which
+    others are gone; those of which a line has other options."""
+
+    rows: Sequence[tuple[Programme | None, Line]]
+    gone: Sequence[Programme]
+    changed: Sequence[Programme]
+
+
+def lines_in(text: str) -> list[Line]:
+    """The lines of a list that are to be programmes."""
+    found = []
+    for number, line in enumerate(text.split("\n"), 1):
+        try:
+            if words := shlex.split(line, comments=True):
+                found.append(Line(number, tuple(words)))
+        except ValueError as reason:
+            found.append(Line(number, (line,), str(reason)))
+    return found
+
+
+def edits_of(known: Sequence[Programme], lines: Sequence[Line]) -> Edits:
+    """Which line is which programme: first those whose words are the same, then those of the same
+    subtitle file. Of several that are alike the first is the first; where there are fewer than
+    before, those stay that have no result yet."""
+    left = list(known)
+    rows: dict[int, Programme] = {}
+    changed: list[Programme] = []
+    for count in (None, 1):  # of the words
+        for words in dict.fromkeys(line.words[:count] for line in lines):
+            open_lines = [at for at, line in enumerate(lines)
+                          if at not in rows and line.words[:count] == words]
+            alike = [one for one in left if one.line.words[:count] == words]
+            while len(alike) > len(open_lines) and any(one.has_ended for one in alike):
+                alike.remove(next(one for one in alike if one.has_ended))
+            for at, one in zip(open_lines, alike):
+                rows[at] = one
+                left.remove(one)
+                if one.line.words != lines[at].words:
+                    changed.append(one)
+    return Edits([(rows.get(at), line) for at, line in enumerate(lines)], left, changed)
 
 
 class Planned:
-    """The programmes of a list, each with a name of its own, in their order."""
+    """The programmes of a list, each with a name of its own, in the order of its lines.
+
+    A list that is being written is not taken at its word: what is more than lines at its end counts
+    once it stood there at two looks. `said` is what is to be told of it; `gone` are programmes that
+    have left it and never had a result.
+    """
 
     def __init__(self, path: str, defaults: argparse.Namespace) -> None:
         self.path, self.defaults = path, defaults
-        self.place = self.lines = 0
-        self.rest, self.is_old = b"", False
+        self.programmes: list[Programme] = []
+        self.gone: list[Programme] = []
+        self.said: list[str] = []
         self.names = OwnNames()
-        self.waiting: collections.deque[PlannedProgramme] = collections.deque()
+        self.taken: str | None = None  # the text that is known
+        self.seen: str | None = None  # that of the last look
+        self.first: str | None = None  # that of the first one
+        self.missing: float | None = None  # since when the file is not there
+        self.is_missed = False  # for so long that it was said
 
-    def next(self, is_whole: bool = False) -> PlannedProgramme | None:
-        """The next programme, if the list names one by now."""
-        if not self.waiting:
-            self.waiting.extend(self.new(is_whole))
-        return self.waiting.popleft() if self.waiting else None
+    def open(self) -> list[Programme]:
+        """Those that have no result."""
+        return [one for one in self.programmes if not one.has_ended]
 
-    def new(self, is_whole: bool) -> Iterator[PlannedProgramme]:
-        """The programmes that have come since the last call. A last line without an end is one of
-        them where it stood there at the last call too, or the list is whole."""
-        with open(self.path, "rb") as file:
-            file.seek(self.place)
-            data = file.read()
-        self.place += len(data)
-        *whole, rest = (self.rest + data).split(b"\n")
-        is_same = rest == self.rest and not data
-        is_without_end = bool(rest) and (is_whole or is_same and self.is_old)
-        if is_without_end:
-            whole, rest = [*whole, rest], b""
-        self.is_old, self.rest = is_same, rest
-        for line in whole:
-            self.lines += 1
-            yield from self.of_line(line.decode("utf-8", "surrogateescape"))
-        self.lines -= is_without_end  # its end is still to come
+    def look(self, is_whole: bool = False) -> bool:
+        """Looks into the list; whether there is something else in it. `is_whole`: nobody writes to
+        it any more."""
+        text = self.read()
+        if text is None:
+            return False
+        is_same, self.seen = text == self.seen, text
+        self.first = text if self.first is None else self.first
+        if not is_same and not is_whole:
+            text = text[:text.rfind("\n") + 1]  # the last line may be half of one
+            if self.taken is not None and not text.startswith(self.taken):
+                return False
+        if text == self.taken:
+            return False
+        is_first, self.taken = self.taken is None or text == self.first, text
+        self.take(edits_of(self.programmes, lines_in(text)), is_first)
+        return True
 
-    def of_line(self, line: str) -> Iterator[PlannedProgramme]:
-        """The programme of a line, if it has one."""
+    def read(self) -> str | None:
+        """The text of the list; `None` as long as it is not there."""
         try:
-            words = shlex.split(line, comments=True)
-            if not words:
-                return
-            asked = self.asked_of(words)
-        except (Stop, ValueError) as reason:
-            yield PlannedProgramme(self.names.of(f"line-{self.lines}"), None,
-                                   f"{self.path}, line {self.lines}: {reason}")
+            with open(self.path, encoding="utf-8", errors="surrogateescape", newline="") as file:
+                text = file.read()
+        except OSError as error:
+            if self.taken is None:
+                raise
+            self.missing = time.monotonic() if self.missing is None else self.missing
+            if not self.is_missed and time.monotonic() - self.missing >= MISSING:
+                self.is_missed = True
+                self.said.append(f"{line_of(error)}: the list is not there for a minute; what it "
+                                 "had is waited for")
+            return None
+        if self.is_missed:
+            self.said.append(f"{self.path} is there again")
+        self.missing, self.is_missed = None, False
+        return text
+
+    def take(self, edits: Edits, is_first: bool) -> None:
+        """Takes what became of the list."""
+        rows = [(one or self.programme(line), line, one is None) for one, line in edits.rows]
+        before = [one for one, _, is_new in rows if not is_new]
+        kept = [one for one in self.programmes if one not in edits.gone]
+        for one, line, is_new in rows:
+            if one in edits.changed and not one.has_ended:
+                one.asked, one.reason = self.read_line(line)
+            one.line = line
+        self.programmes = [one for one, _, _ in rows]
+        lost = [one for one in edits.gone if not one.has_ended]
+        self.gone += lost
+        if is_first:
             return
-        name = os.path.splitext(os.path.basename(asked.stl))[0]
-        yield PlannedProgramme(self.names.of(name), asked, None)
+        told = {"new": [one for one, _, is_new in rows if is_new], "changed": edits.changed,
+                "gone": edits.gone}
+        said = [f"{word}: {', '.join(shown(one.name) for one in several)}"
+                for word, several in told.items() if several]
+        said += ["in another order"] if before != kept else []
+        self.said += [f"{self.path}: {'; '.join(said)}"] if said else []
+
+    def programme(self, line: Line) -> Programme:
+        """The programme of a line that is new."""
+        asked, reason = self.read_line(line)
+        name = os.path.splitext(os.path.basename(asked.stl))[0] if asked else f"line-{line.number}"
+        return Programme(self.names.of(name), line, asked, reason)
+
+    def read_line(self, line: Line) -> tuple[Asked | None, str | None]:
+        """What a line asks, or why that is nothing."""
+        fault = line.fault
+        try:
+            if not fault:
+                return self.asked_of([*line.words]), None
+        except (Stop, ValueError) as reason:
+            fault = str(reason)
+        return None, f"{self.path}, line {line.number}: {fault}"
 
     def asked_of(self, line: list[str]) -> Asked:
         """What the words of a line ask."""

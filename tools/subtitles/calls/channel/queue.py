@@ -1,16 +1,15 @@
-"""The programmes of a channel that are waited for: the first of the list that has no verdict, and
+"""The programmes of a channel that are waited for: the first of the list that has no result, and
 the next three."""
 from __future__ import annotations
 
 import time
-from typing import Iterator, NamedTuple, Union
+from typing import Iterable, NamedTuple, Union
 
 from ...core.words import Stop, line_of
 from ...qc.asked import Asked
 from .awaited import Awaited, Timed
-from .feed_clock import FeedClock
-from .hearing import Hearing, Way, way_of
-from .planned import Planned, PlannedProgramme
+from .hearing import Hearing
+from .planned import Planned, Programme
 
 AT_ONCE = 4  # programmes that are looked for at the same time
 LOOK = 1.0  # seconds between two looks into the list
@@ -26,10 +25,10 @@ class Seen(NamedTuple):
 class Waiting:
     """A programme that is waited for; `reason` is why that can't be done now."""
 
-    def __init__(self, programme: PlannedProgramme) -> None:
+    def __init__(self, programme: Programme) -> None:
         self.programme = programme
+        self.line = programme.line.words
         self.awaited: Union[Awaited, Timed, None] = None
-        self.way: Way | None = None
         self.reason = programme.reason
 
     @property
@@ -48,17 +47,17 @@ class Waiting:
             self.awaited = Awaited(asked.stl, asked.option, since, until, asked.within,
                                    asked.between) if asked.origin is None else \
                 Timed(asked.stl, asked.option, asked.origin, since, asked.between)
-            self.way = way_of(asked)
         except (Stop, OSError) as reason:
             self.reason = line_of(reason)
 
-    def midnight(self, hearing: Hearing, clock: FeedClock) -> int | None:
+    def midnight(self, hearing: Hearing) -> int | None:
         """The time of its midnight, once it is there."""
-        if isinstance(self.awaited, Timed):
-            return self.awaited.midnight(clock)
-        if self.awaited is None or self.way is None:
+        if self.awaited is None:
             return None
-        return self.awaited.midnight(hearing.changes(self.way))
+        heard = hearing.of(self.asked)
+        if isinstance(self.awaited, Timed):
+            return self.awaited.midnight(heard.clock)
+        return self.awaited.midnight(heard.changes[self.asked.within > 0])
 
 
 class Queue:
@@ -80,43 +79,44 @@ class Queue:
         return self.since + self.patience
 
     def fill(self, now: int) -> None:
-        """Waits for as many as can be waited for."""
-        while len(self.waiting) < AT_ONCE and time.monotonic() >= self.next_look:
-            programme = self.planned.next(self.is_whole)
-            if programme is None:
-                self.next_look = time.monotonic() + LOOK
-            else:
-                self.add(programme)
-        if not self.waiting:
+        """Looks into the list each second, and waits for as many as can be waited for. Where there
+        was nothing to wait for, patience begins now."""
+        was_empty = not self.waiting
+        if time.monotonic() >= self.next_look:
+            self.planned.look(self.is_whole)
+            self.next_look = time.monotonic() + LOOK
+        if was_empty:
             self.since = now
+        self.take(self.planned.open()[:AT_ONCE])
 
-    def add(self, programme: PlannedProgramme) -> None:
-        """Waits for one more."""
-        self.waiting.append(Waiting(programme))
-        self.waiting[-1].begin(self.ended, self.until)
+    def take(self, programmes: Iterable[Programme]) -> None:
+        """Waits for these; for one for which it does already, as long as its line is the same."""
+        known = {one.programme: one for one in self.waiting}
+        self.waiting = []
+        for programme in programmes:
+            one = known.get(programme)
+            if one is None or one.line != programme.line.words:
+                one = Waiting(programme)
+                one.begin(self.ended, self.until)
+            self.waiting.append(one)
 
     def end(self) -> None:
         """Takes that nothing more comes to the list, and looks into it at once."""
         self.is_whole, self.next_look = True, 0.0
 
-    def rest(self) -> Iterator[PlannedProgramme]:
-        """All that are left then."""
-        while self.waiting:
-            yield self.waiting.pop(0).programme
-        while programme := self.planned.next(self.is_whole):
-            yield programme
-
-    def seen(self, hearing: Hearing, clock: FeedClock) -> Seen | None:
+    def seen(self, hearing: Hearing) -> Seen | None:
         """The first of them that is there."""
         for place, one in enumerate(self.waiting):
-            midnight = one.midnight(hearing, clock)
+            midnight = one.midnight(hearing)
             if midnight is not None:
                 return Seen(place, midnight)
         return None
 
     def leave(self) -> Waiting:
         """Takes the first one away, for which nothing is waited any more."""
-        return self.waiting.pop(0)
+        one = self.waiting.pop(0)
+        one.programme.has_ended = True
+        return one
 
     def wait_anew(self, since: int, ended: int | None = None) -> None:
         """The first one is another one than before, and is waited for since a time; its subtitle
@@ -125,7 +125,3 @@ class Queue:
         self.ended = self.ended if ended is None else ended
         for one in self.waiting:
             one.begin(self.ended, self.until)
-
-    def ways(self) -> list[Way]:
-        """The pages of all of them."""
-        return [one.way for one in self.waiting if one.way]

@@ -1,69 +1,62 @@
-"""The bytes of a feed, as they come."""
+"""The bytes of a feed as they come, handed on at the pace of those that hear them.
+
+What is told of a feed is behind what came of it by two parts at most: one that was just handed on,
+and the one before, of which the lines may be still to come. So its times tell where in it they are.
+"""
 from __future__ import annotations
 
+import array
+import contextlib
+import fcntl
 import select
+import termios
 import time
-from typing import BinaryIO, Callable, Sequence
+from typing import BinaryIO
 
-from .handed import Answering
+from ...core.files import STANDARD, naming
 
-STANDARD_INPUT = "-"
-PATIENCE = 1.0  # seconds after which a feed that stands still is told
+PART = 1 << 18  # bytes that are handed on at a time, at most
+PIPE = 1 << 19  # bytes that a pipe to a listener holds
 
 
 class Source:
-    """A feed: `count` bytes of it are read.
-
-    `read` gives what has come, without waiting for more. `wait` hears how many seconds a feed has
-    stood still, and ends it where it answers True; `gone_on` hears that it goes on after that. What
-    `calls` have to tell comes when it comes: `hear` takes it meanwhile and answers whether nothing
-    more is wanted.
-    """
+    """A feed that is read: the last bytes `came` then, and `is_over` once nothing more does."""
 
     def __init__(self, name: str) -> None:
-        self.name = name
-        self.file: BinaryIO = open(0, "rb", buffering=0, closefd=False) \
-            if name == STANDARD_INPUT else open(name, "rb", buffering=0)
-        self.count, self.ahead = 0, b""
-        self.wait: Callable[[float], bool | None] | None = None
-        self.gone_on: Callable[[], None] | None = None
-        self.calls: Callable[[], Sequence[Answering]] = tuple
-        self.hear: Callable[[], bool] = bool
+        is_standard = name == STANDARD
+        with naming(name):
+            self.file: BinaryIO = open(0 if is_standard else name, "rb", buffering=0,
+                                       closefd=not is_standard)
+        self.came, self.is_over = time.monotonic(), False
 
-    def look(self, count: int) -> bytes:
-        """The next bytes, which `read` gives once more; fewer at the end alone."""
-        while len(self.ahead) < count:
-            more = self.file.read(count - len(self.ahead))
-            if not more:
-                break
-            self.ahead += more
-        return self.ahead
+    def fileno(self) -> int:
+        """What can be waited for."""
+        return self.file.fileno()
 
-    def read(self, most: int = -1) -> bytes:
-        """Some bytes, `most` where there are as many; none at the end."""
-        if not self.ahead and not self.waits_for_more():
-            return b""
-        data, self.ahead = self.ahead or self.file.read(most) or b"", b""
-        self.count += len(data)
+    def read(self, most: int) -> bytes:
+        """Some of what is there, once there is something; nothing at the end."""
+        data: bytes | None = self.file.read(most)
+        while data is None:  # somebody has set the pipe to answer at once
+            select.select([self.file], [], [])
+            data = self.file.read(most)
+        self.came, self.is_over = time.monotonic(), not data
         return data
 
-    def waits_for_more(self) -> bool:
-        """Waits until something has come or the feed has ended, unless nobody wants more."""
-        began, has_stood = time.monotonic(), False
-        while self.file not in (ready := self.ready()):
-            if ready and self.hear():
-                return False
-            if not ready:
-                has_stood = True
-                if self.wait and self.wait(time.monotonic() - began):
-                    return False
-        if has_stood and self.gone_on:
-            self.gone_on()
-        return True
-
-    def ready(self) -> Sequence[object]:
-        """What has come, of the feed and of the calls, within a while."""
-        return select.select([self.file, *self.calls()], [], [], PATIENCE)[0]
-
     def close(self) -> None:
+        """Reads nothing more."""
         self.file.close()
+
+
+def room_of(pipe: BinaryIO) -> int:
+    """How many bytes an empty pipe takes at once: those of a part, where it may hold more than
+    pipes do."""
+    with contextlib.suppress(OSError):
+        fcntl.fcntl(pipe, fcntl.F_SETPIPE_SZ, PIPE)
+    return min(fcntl.fcntl(pipe, fcntl.F_GETPIPE_SZ) // 2, PART)
+
+
+def waiting_in(pipe: BinaryIO) -> int:
+    """How many bytes nobody has read yet of what was written to a pipe."""
+    count = array.array("i", [0])
+    fcntl.ioctl(pipe, termios.FIONREAD, count)
+    return count[0]

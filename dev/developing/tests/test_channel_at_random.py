@@ -1,0 +1,240 @@
+"""Channels at random: lists that are edited, signals, stalls, while thirty programmes are sent, and
+what each has to come to is known; and a day of a feed that is handed on fast."""
+from __future__ import annotations
+
+import os
+import random
+import subprocess
+from unittest import mock
+
+from subtitles.calls.channel import channel as channels
+from subtitles.calls.channel.channel import BEFORE_IT
+from subtitles.calls.channel.queue import AT_ONCE
+from subtitles.core.times import CLOCK, TICKS
+from .bench import Case, alone, packets, tool_path
+from .listings import LAST, SECOND, Judging, Lines, Told, files_of, texts_of
+from .muxed import in_frames
+from .test_qc_channel import BEGIN, WITH_BLANK, blank, make_programme, memory_of, verdicts
+
+SENT, FILES = 30, 90
+LENGTH = TICKS * LAST + 25 * SECOND  # of a programme, and what is sent behind it
+DAY = 1440  # minutes
+GONE, UNSEEN, OPEN, ACCEPTED, CUT = "gone", "not seen", "open", "accepted", "cut"
+
+
+class Truth:
+    """What has to come of a list: `waiting` are the programmes that have no result, in their order,
+    `done` the others of the list; `told` the results of this call. `sent` are programmes that were
+    sent whole since the last that was judged: what comes among the first four is found there."""
+
+    def __init__(self, names: list[str], chance: random.Random) -> None:
+        self.fresh, self.chance = names[::-1], chance
+        self.rows = [self.fresh.pop() for _ in range(12)]
+        self.options: dict[str, str] = {}
+        self.done: set[str] = set()
+        self.told: list[tuple[str, str]] = []
+        self.sent: list[str] = []
+        self.listed = set(self.rows)
+
+    def waiting(self) -> list[str]:
+        return [name for name in self.rows if name not in self.done]
+
+    def end(self, name: str, what: str) -> None:
+        """A programme has its result."""
+        self.told.append((name, what))
+        self.done.add(name)
+
+    def edit(self) -> None:
+        """Somebody edits the list."""
+        rows, chance = list(self.rows), self.chance
+        for _ in range(chance.randrange(1, 5)):
+            kind, at = chance.choice("+++--sro"), chance.randrange(len(rows) + 1)
+            if kind == "+":
+                rows.insert(at, self.fresh.pop())
+            elif at < len(rows) and kind == "-" and len(rows) > 4:
+                del rows[at]
+            elif at < len(rows) and kind == "r":
+                rows[at] = self.fresh.pop()
+            elif at < len(rows) and kind == "s":
+                other = chance.randrange(len(rows))
+                rows[at], rows[other] = rows[other], rows[at]
+            elif at < len(rows) and rows[at] not in self.done:
+                self.options[rows[at]] = f" --every {chance.randrange(250, 300)}"
+        gone = [name for name in self.rows if name not in rows]
+        self.rows = rows
+        self.listed |= set(rows)
+        for name in gone:
+            if name not in self.done:
+                self.end(name, GONE)
+
+    def text(self, files: dict[str, str]) -> str:
+        """The list, with lines that are no programmes."""
+        lines = [files[name] + self.options.get(name, "") for name in self.rows]
+        for _ in range(self.chance.randrange(3)):
+            lines.insert(self.chance.randrange(len(lines) + 1), self.chance.choice(
+                ["", "# a comment", "   ", f"# {lines[0]}"]))
+        return "\n".join(lines) + "\n"
+
+    def settle(self, now: str | None = None) -> bool:
+        """What was sent is judged, if it waits; whether one that is sent now is seen: those before
+        it were not."""
+        while True:
+            waiting = self.waiting()
+            name = next((one for one in waiting[:AT_ONCE] if one in self.sent or one == now), None)
+            if name is None:
+                return False
+            for other in waiting[:waiting.index(name)]:
+                self.end(other, UNSEEN)
+            self.done.add(name)
+            if name == now:
+                return True
+            self.told.append((name, ACCEPTED))
+            self.sent = self.sent[self.sent.index(name) + 1:]
+
+    def stop(self) -> None:
+        """The channel ends: all that have no result are open, and wait again in another call."""
+        for name in self.waiting():
+            self.told.append((name, OPEN))
+
+
+def kind_of(line: str) -> tuple[str, str]:
+    """A programme and what came of it, of a line that a channel says."""
+    name, _, words = line.partition("  ")
+    for what, some in ((GONE, "is gone from"), (UNSEEN, "not seen: "), (CUT, "in mid-programme"),
+                       (OPEN, "not judged: "), (ACCEPTED, "accepted 5 frames")):
+        if some in words:
+            return name, what
+    return name, words
+
+
+@mock.patch.object(channels, "Call", Judging)
+class Lists(Case):
+    """Lists at random."""
+
+    is_alone = True  # what a channel calls is replaced, which threads share
+
+    def test_each_programme_has_one_result(self) -> None:
+        """In its order, whatever is written to the list meanwhile, and where signals end a channel
+        with which another one goes on."""
+        files = files_of(self, *(f"p{number}" for number in range(FILES)))
+        for seed in range(12):
+            os.makedirs(self.path(f"out{seed}"))
+            self.story(seed, files, self.path(f"out{seed}"))
+
+    def story(self, seed: int, files: dict[str, str], out: str) -> None:
+        """A channel, or some one after another."""
+        chance = random.Random(seed)
+        truth, lines, begin = Truth(list(files), chance), Lines(), 900_000
+        channel = self.begin(truth, files, out, False)
+        for number in range(SENT):
+            if chance.random() < 0.6:
+                self.edit(channel, truth, files)
+            waiting = truth.waiting()
+            name = chance.choice([*waiting[:1] * 6, *waiting[1:6], *truth.fresh[:1]])
+            told = list(lines.sent(texts_of(name), begin, 20))
+            begin += LENGTH
+            middle = chance.choice((4, 12))
+            channel.give(told[:middle])
+            now = name if middle == 12 else None
+            is_seen = truth.settle(now)
+            if chance.random() < 0.3:
+                is_seen = self.edit(channel, truth, files, "" if is_seen else now) or is_seen
+            if chance.random() < 0.2:
+                channel.stall(99)
+                channel.stall(0)
+                channel.give([lines.gap(chance.randrange(16))])
+            if chance.random() < 0.1:
+                if is_seen:
+                    truth.told.append((name, CUT))
+                    truth.done.discard(name)
+                    self.end(channel, truth, f"{seed}, {number}", name)
+                else:
+                    self.end(channel, truth, f"{seed}, {number}")
+                channel = self.begin(truth, files, out, True)
+                lines = Lines()  # another call counts anew
+                channel.give([lines.pes(begin - SECOND)])
+            else:
+                channel.give(told[middle:])
+                if is_seen:
+                    truth.told.append((name, ACCEPTED))
+                    truth.sent.clear()
+                else:
+                    truth.sent.append(name)
+                truth.settle()
+        channel.stop(BEFORE_IT)
+        truth.stop()
+        self.compare(channel, truth, f"{seed}, the end")
+        known = {name.removesuffix(".json") for name in os.listdir(out) if name.endswith(".json")}
+        self.must(f"{seed}: one object each", known == truth.listed, known ^ truth.listed)
+
+    def begin(self, truth: Truth, files: dict[str, str], out: str, is_resumed: bool) -> Told:
+        """Begins a channel, which waits for each programme as long as it takes."""
+        truth.told, truth.sent = [], []
+        return Told(self, truth.text(files), out, is_resumed=is_resumed, patience=DAY)
+
+    def edit(self, channel: Told, truth: Truth, files: dict[str, str],
+             now: str | None = None) -> bool:
+        """Edits the list; whether a programme that is sent now is seen by that. While another one
+        is, nothing is."""
+        truth.edit()
+        channel.edit(truth.text(files))
+        return now != "" and truth.settle(now)
+
+    def end(self, channel: Told, truth: Truth, name: str, cut: str | None = None) -> None:
+        """A signal ends a channel."""
+        channel.is_stopped = True
+        channel.stop("stopped at 00:00:00:00 of the feed")
+        for one in truth.waiting():
+            if one != cut:
+                truth.told.append((one, OPEN))
+        self.compare(channel, truth, name)
+
+    def compare(self, channel: Told, truth: Truth, name: str) -> None:
+        """Whether each result is there, once and in its order."""
+        found = [kind_of(line) for line in channel.said if line.split("  ")[0] in truth.done |
+                 set(truth.rows) | {one for one, _ in truth.told}]
+        self.must(name, found == truth.told, [pair for pair in zip(found, truth.told)
+                                              if pair[0] != pair[1]][:2] or (
+                                                  len(found), len(truth.told)))
+
+
+class Days(Case):
+    """A day of a feed."""
+
+    @alone
+    def test_holds_no_more_after_a_day(self) -> None:
+        """60 programmes in 24 hours of a transport stream of over 4 GB (with --speed; else three in
+        an hour): memory, open files and temporary files stay."""
+        count, each, folder = 60 if self.bench.is_timed else 3, 1440, self.path("temporary")
+        os.mkdir(folder)
+        pes: list[bytes] = []
+        for number in range(count):
+            begin = BEGIN + SECOND * each * number
+            made = make_programme(self, f"p{number}", 1_000_000, f"Number {number} of day",
+                                  (begin + SECOND * 60) % CLOCK)
+            pes += packets(blank(made, begin, 59) + made
+                           + blank(made, begin + SECOND * 72, each - 73))
+        self.write("list", b"".join(b"p%d.stl\n" % number for number in range(count)))
+        words = [tool_path("qc"), "--channel", "list", "-", "--patience", "30", "-p",
+                 self.bench.program]
+        seen: list[tuple[int, ...]] = []
+        size, frames = 0, count * each * 25
+        with subprocess.Popen(words, cwd=self.folder, stdin=subprocess.PIPE, stdout=subprocess.PIPE,
+                              env=dict(os.environ, TMPDIR=folder)) as process:
+            assert process.stdin and process.stdout
+            for number, data in enumerate(in_frames(pes, BEGIN, frames, 1)):
+                process.stdin.write(data)
+                size += len(data)
+                if number in (frames * 5 // 9, frames * 8 // 9):  # none is sent there
+                    seen.append((*memory_of(process, folder),
+                                 len(os.listdir(f"/proc/{process.pid}/fd"))))
+            process.stdin.close()
+            lines = verdicts(process.stdout.read().decode().splitlines())
+        self.must("all are accepted", lines == [
+            f"p{number}  {WITH_BLANK}" for number in range(count)], lines)
+        self.must("memory, files and open files", all(
+            later <= before * 1.1 for before, later in zip(*seen)), seen)
+        self.must("its size", size > 4e9 or not self.bench.is_timed, size)
+        if self.bench.is_timed:
+            print(f"a channel of a day, {size / 1e9:.1f} GB: memory, temporary files and open "
+                  f"files {seen}")

@@ -1,0 +1,307 @@
+"""What a channel hears of a feed, line by line: its PID, holes, silence, jumps; and what it keeps.
+"""
+from __future__ import annotations
+
+import collections
+import os
+from typing import Iterable
+
+from subtitles.calls.channel.feed_clock import ANEW, BACK, GAP, MINUTE, jump_of, times_of
+from subtitles.calls.channel.hearing import Heard, Hearing
+from subtitles.calls.channel.spool import LEAST, PARTS, Spool
+from subtitles.core.pes import MARK, pes_packet
+from subtitles.core.stl import gsi_block
+from subtitles.core.teletext import packet
+from subtitles.core.times import CLOCK, TICKS
+from subtitles.core.words import Stop
+from subtitles.qc.unclear import Unclear
+from subtitles.reading.moving import way_of
+from subtitles.reading.survey import Announced, Programme, Run
+from .bench import Case
+from .listings import SECOND, Lines
+from .parts import CLOSING, HEADER, PAGE, row
+
+PID, OTHER, PCR = 0x101, 0x102, 0x200
+TABLE = [f"programme 1 {PCR}", f"stream {PCR} 2", f"stream {PID} 6", f"announce {PID} 888 656e67 2"]
+MOVED = [f"programme 1 {PCR}", f"stream {PCR} 2", f"stream {OTHER} 6",
+         f"announce {OTHER} 888 656e67 2"]
+
+
+def heard_of(lines: Iterable[str], pid: int | None = None) -> Heard:
+    """What is heard of page 888 by some lines."""
+    heard = Heard(PAGE, pid)
+    for line in lines:
+        heard.take(line)
+    return heard
+
+
+class Pids(Case):
+    """The PID that carries the page."""
+
+    def test_of_the_page(self) -> None:
+        """The first that sends its header; another one at about the same time is one too many, a
+        later one is left, and so is what came on it; what came before the header is of the time."""
+        own, other = Lines(PID), Lines(OTHER)
+        heard = heard_of([own.pes(0, ""), other.pes(0, ""), own.pes(SECOND), own.rows("one")])
+        self.must("the first", (heard.pid, heard.now, heard.first) == (PID, SECOND, (0, 0)))
+        for line in (other.pes(7 * SECOND), other.rows("two")):
+            heard.take(line)
+        self.must("a later one", heard.pid == PID and heard.changes[False].letters == [b"one"])
+        for pts, is_refused in ((4, True), (-4, True), (6, False)):
+            lines = [Lines(PID).pes(9 * SECOND), Lines(OTHER).pes((9 + pts) * SECOND)]
+            for pid in (None, PID):
+                try:
+                    heard_of(lines, pid)
+                    said = ""
+                except Stop as reason:
+                    said = str(reason)
+                self.must(f"{pts} {pid}", said == "page 888 is sent on PID 0x101 and PID 0x102: "
+                          "say which one by --pid" * (is_refused and pid is None), said)
+
+    def test_moves(self) -> None:
+        """By the PMT: it is told when, and what comes on the other PID counts from then on."""
+        for is_early in (False, True):
+            own, other = Lines(PID), Lines(OTHER)
+            lines = [*TABLE, own.pes(0), own.rows("one"), own.pes(20 * SECOND, "hec"),
+                     other.pes(21 * SECOND), other.rows("two"), *MOVED, other.pes(22 * SECOND),
+                     other.rows("three")]
+            if not is_early:
+                lines[-8:-2] = MOVED
+            heard = heard_of(lines)
+            self.must(f"{is_early}: said", heard.said == [
+                f"the PMT moves page 888 from PID 0x101 to PID 0x102, before PTS "
+                f"{(21 if is_early else 22) * SECOND}"], heard.said)
+            self.must(f"{is_early}: on", (heard.pid, heard.now) == (OTHER, 22 * SECOND))
+            self.must(f"{is_early}: when", heard.moves == [20 * SECOND], heard.moves)
+        stays = heard_of([*TABLE, Lines(PID).pes(0), *MOVED, *MOVED], PID)
+        self.must("one that is asked for", stays.pid == PID and not stays.said)
+
+    def test_moves_of_tables(self) -> None:
+        """The last PMT of the programme that named the PID."""
+        def table(number: int, **pids: str) -> Programme:
+            found = Programme(number, PCR)
+            for pid, page in pids.items():
+                found.kinds[int(pid[1:])] = 6
+                if page:
+                    found.pages[int(pid[1:])] = [Announced((0, int(page, 16)), "eng", 2)]
+            return found
+
+        first, second = table(1, p1="88", p9=""), table(1, p2="88")
+        rows: list[tuple[str, list[Programme], list[int]]] = [
+            ("moved", [first, second], [1, 2]),
+            ("both", [first, table(1, p1="88", p2="88")], [1]),
+            ("still there", [first, table(1, p1="", p2="88")], [1]),
+            ("another programme", [first, table(2, p2="88")], [1]),
+            ("and back", [first, second, table(1, p1="88")], [1, 2, 1]),
+            ("and on", [first, second, second, table(1, p3="88")], [1, 2, 3]),
+            ("another page", [first, table(1, p2="87")], [1]),
+            ("two", [first, table(1, p2="88", p3="88")], [1]),
+            ("two, and then one", [first, table(1, p2="88", p3="88"), second], [1, 2]),
+            ("never named", [second], [1]), ("named later", [second, first], [1]),
+            ("none", [], [1])]
+        for name, tables, way in rows:
+            self.must(name, way_of(tables, PAGE, 1) == way, way_of(tables, PAGE, 1))
+
+
+class Pages(Case):
+    """Pages that are heard by `survey`."""
+
+    def test_page_that_is_new(self) -> None:
+        """It is heard of what came before too, however much it is, at the times of the feed; nobody
+        is told of that again."""
+        other = packet(0, 0, [7, 8, 0, 8, 0, 8, 1, 0], b" " * 32)
+        sent = [pes_packet(SECOND * at, [HEADER, row(20, b"%d" % at), other, row(20, b"x%d" % at),
+                                         CLOSING]) for at in range(3000)]
+        sent.insert(5, pes_packet(99 * MINUTE, [CLOSING]))
+        before = b"".join(sent[:2001])
+        hearing = Hearing(self.bench.program, None, lambda: [before[:9], before[9:]])
+        try:
+            hearing.turn_to([PAGE])
+            hearing.turn_to([PAGE, (0, 0x87)])
+            for call in hearing.calls:
+                call.hand(b"".join(sent[2001:]))
+                call.hand(b"")
+                while not call.has_ended:
+                    collections.deque(call.lines(), 0)
+                call.refuse("-")
+            for page, letters in ((PAGE, b"%d"), ((0, 0x87), b"x%d")):
+                changes = hearing.by_page[page].changes[False]
+                self.must(f"{page}", changes.count == 2995 and changes.letters ==
+                          [letters % at for at in range(5, 3000)], changes.letters[:9])
+                self.must("times", changes.times[-1] - changes.times[0] == 2994 * SECOND)
+            times = [heard.changes[False].times[0] for heard in hearing.by_page.values()]
+            self.must("one time", times[0] == times[1], times)
+            self.must("told", not list(hearing.take_said()))
+            self.must("calls", hearing.open() == [] and len(hearing.calls) == 2)
+        finally:
+            hearing.close()
+
+    def test_feeds_that_are_none(self) -> None:
+        """Why a feed can't be read."""
+        for data, pid, why in (
+                (b"", None, "- is empty"), (b"x" * 2000, None, "no transport stream"),
+                (b"\0\0\1\xe0" + b"\0" * 99, None, "stream_id E0 instead of BD"),
+                (gsi_block(b"", 0, 0), None, "- is a subtitle file"),
+                (pes_packet(0, [HEADER]) + b"x" * 999, None, "PES packet 1 does not begin"),
+                (pes_packet(0, [HEADER]), PID, "it is PES packets, which have no PID")):
+            hearing = Hearing(self.bench.program, pid, lambda: ())
+            try:
+                hearing.turn_to([PAGE])
+                call = hearing.calls[0]
+                call.hand(data)
+                call.hand(b"")
+                while not call.has_ended:
+                    collections.deque(call.lines(), 0)
+                call.refuse("-")
+                said = ""
+            except (Stop, Unclear) as reason:
+                said = str(reason) or getattr(reason, "reason", "")
+            finally:
+                hearing.close()
+            self.must(why, why in said, said)
+
+
+class Missing(Case):
+    """What is missing, as it is told."""
+
+    def test_losses(self) -> None:
+        """The first, the second and the third of the page's PID, none of another; one that the PCR
+        tells, unless its counter did."""
+        own, other = Lines(PID), Lines(OTHER)
+        heard = heard_of([own.pes(0), own.gap(3), own.pes(SECOND), other.pes(SECOND, ""),
+                          other.gap(1), other.pes(2 * SECOND, ""), own.gap(0)])
+        self.must("one", heard.said == ["3 TS packets lost, before PTS 90000"], heard.said)
+        hole = "clock 257 180000 360000 135000 90 3600 3 broken"
+        for line in (own.pes(2 * SECOND), own.gap(1), own.gap(2), own.pes(3 * SECOND),
+                     "clock 257 180000 270000 93600 90 3600 3 broken", own.pes(4 * SECOND), hole,
+                     hole.replace("180000 360000", "270000 360000"),
+                     hole.replace("broken", "whole"), hole.replace("257", "258")):
+            heard.take(line)
+        self.must("all", heard.said[1:] == [
+            "a break in the stream, before PTS 180000", "1 TS packet lost, before PTS 270000",
+            "2 TS packets lost, before PTS 270000", "TS packets of 1.46 s are missing, by the PCR "
+            "and the counters of other PIDs, before PTS 360000"], heard.said)
+
+    def test_silence(self) -> None:
+        """More than eight seconds of the PCR without a PES packet; told once, and that it goes on.
+        The time goes on meanwhile."""
+        own = Lines(PID)
+        lines = [*TABLE, own.pes(SECOND), f"ahead {PID} {SECOND} 18000"]
+        heard = heard_of(lines)
+        for turn in range(2):
+            begin = SECOND * (1 + 40 * turn)
+            for second, count in ((1, 0), (8, 0), (9, 1), (10, 1), (30, 1)):
+                heard.take(f"pcr {PCR} {begin - 18000 + SECOND * second}")
+                self.must(f"{turn}: {second}", len(heard.said) == count, heard.said)
+            self.must("the time", heard.now == begin - SECOND + 29 * SECOND, heard.now)
+            heard.take(own.pes(begin - SECOND // 2, "", 3, SECOND // 2))  # of before
+            self.must("not yet", len(heard.said) == 1, heard.said)
+            heard.take(own.pes(begin + 40 * SECOND))
+            self.must("told", heard.said == [
+                f"nothing of PID 0x101 for 9 seconds of the stream, after PTS {begin}",
+                f"PID 0x101 goes on at PTS {begin + 40 * SECOND}"], heard.said)
+            heard.said.clear()
+        for line in (f"ahead {PID} {SECOND * 90} 18000", f"pcr {PCR} {SECOND * 97}",
+                     f"pcr 5 {SECOND * 300}"):
+            heard.take(line)
+        self.must("what is told of it in between", not heard.said, heard.said)
+        far = heard_of([*lines[:-1], f"ahead {PID} {SECOND} -99000000", f"pcr {PCR} {SECOND * 40}"])
+        self.must("PTS that have nothing to do with it", not far.said, far.said)
+
+    def test_jumps(self) -> None:
+        """A gap, and an encoder that begins anew, wherever PTS begin again."""
+        for late, is_anew in ((0, None), (-BACK, None), (GAP, None), (GAP + 1, False),
+                              (ANEW, False), (ANEW + 1, True), (-BACK - 1, True)):
+            jump = jump_of(5, (5 + late) % CLOCK, late)
+            self.must(f"{late}", (jump and jump.is_anew) == is_anew, jump)
+        self.must("no first", jump_of(None, 7, 99 * MINUTE) is None)
+        for words, late in (("nothing came for 00:01:01:00, between PTS 5 and 9", 61 * SECOND),
+                            ("nothing came for 01:01:00:00, or an encoder begins anew: PTS 9 "
+                             "after 5", 61 * MINUTE),
+                            ("an encoder begins anew: PTS 9 after 5", -SECOND)):
+            jump = jump_of(5, 9, late)
+            self.must(words, jump and jump.line == words, jump)
+        for run, count in ((Run(0, 1, 7, 0, "", ""), 1), (Run(0, 9, 7, TICKS, "", ""), 2),
+                           (Run(0, 9000, 7, TICKS, "", ""), 7), (Run(3, 3, 7, GAP + 1, "", ""), 3),
+                           (Run(3, 4, 7, -1, "", ""), 4), (Run(0, 1, None, 0, "", ""), 0)):
+            found = list(times_of(run))
+            self.must(f"{run}", len(found) == count and found[-1:] == [run.last] * bool(count) and
+                      found[:1] == [run.pts] * bool(count), found)
+
+    def test_beginning(self) -> None:
+        """The feed is heard from the first PTS on, or from the first PCR on by which one would have
+        come."""
+        own = Lines(PID)
+        for lines, start in (
+                ([own.pes(SECOND)], 0),
+                ([*TABLE, f"pcr {PCR} {SECOND}", own.pes(9 * SECOND)], -8 * SECOND),
+                ([*TABLE, f"pcr {PCR} {SECOND}", own.pes(9 * SECOND), f"ahead {PID} 7 18000"],
+                 18000 - 8 * SECOND),
+                ([*TABLE, f"pcr {PCR} {10 * SECOND}", own.pes(9 * SECOND)], 0)):
+            heard = heard_of(lines)
+            self.must(f"{lines}", heard.start == start, heard.start)
+
+
+class Kept(Case):
+    """What came of a feed lately."""
+
+    def test_all_is_there(self) -> None:
+        """From a time on, and little more, though what is told is behind what came; what nobody
+        asks for is gone."""
+        size, length = LEAST // 4, 20 * SECOND
+        for behind in (0, 3):  # parts by which what is told is behind
+            spool = Spool(self.folder, length)
+            for second in range(100):
+                spool.write(bytes([second]) * size, max(second - behind, 0) * SECOND)
+            for first, last in ((0, 99), (50, 99), (50, 60), (97, 99)):
+                paths = spool.between(first * SECOND, last * SECOND)
+                data = b"".join(open(path, "rb").read() for path in paths)
+                found = sorted(set(data))
+                self.must(f"{behind}: {first} to {last}", set(range(first, last + 1)) <= set(found)
+                          and first - found[0] <= 2 * length // SECOND // PARTS + 10
+                          and list(data[::size]) == found, (found[0], found[-1]))
+            spool.drop(50 * SECOND)
+            left = spool.between(0, 10**12)
+            self.must("dropped", 5 <= len(left) == len(spool.segments) <= 20, left)
+            self.must("lately", b"".join(spool.lately(size))[-size:] == bytes([99]) * size)
+            self.must("no names", os.listdir(self.folder) == [])
+            spool.close()
+            self.must("closed", spool.between(0, 10**12) == [])
+
+    def test_whole_pes_packets(self) -> None:
+        """Of PES packets in pieces of any size each is whole in one file; what is none ends them.
+        """
+        pes = [pes_packet(SECOND * at, [HEADER, CLOSING]) for at in range(9)] + [MARK]
+        for size in (1, 5, 183, 184, 500):
+            for data, count in ((b"".join(pes), 10), (b"".join(pes[:4]) + b"x" * 300 + pes[5], 4)):
+                spool = Spool(self.folder, SECOND)
+                for at in range(0, len(data), size):
+                    spool.write(data[at:at + size], SECOND * at)
+                    spool.end()
+                found = [open(path, "rb").read() for path in spool.between(0, 10**12)]
+                self.must(f"{size}, {count}", b"".join(found) == b"".join(pes[:count]) and
+                          not any(len(one) % 184 for one in found), found)
+                spool.close()
+
+    def test_other_bytes(self) -> None:
+        """A transport stream is kept as it comes, also one that begins with 00 00 01 BD 47."""
+        for data in (b"G" + bytes(187), b"\0\0\1\xbdG" + bytes(187), b"G"):
+            spool = Spool(self.folder, SECOND)
+            spool.write(data[:4], 0)
+            spool.write(data[4:], 0)
+            found = b"".join(open(path, "rb").read() for path in spool.between(0, 9))
+            self.must(f"{data[:5]!r}", found == data * (len(data) > 5), found)
+            spool.close()
+
+    def test_no_room(self) -> None:
+        """It is known since when, and why; it may have room again."""
+        spool = Spool(self.path("nowhere"), SECOND)
+        for second in range(5):
+            spool.write(bytes(188), second * SECOND)
+        self.must("why", "No such file" in (spool.failure(SECOND) or ""), spool.failures)
+        self.must("since then", spool.failure(9 * SECOND) is None and len(spool.failures) <= 3)
+        os.mkdir(self.path("nowhere"))
+        spool.write(bytes(188), 9 * SECOND)
+        self.must("again", len(spool.between(0, 10**12)) == 1)
+        spool.drop(5 * SECOND)
+        self.must("forgotten", spool.failure(0) is None)

@@ -1,0 +1,309 @@
+"""tools/qc --channel on transport streams in which something is missing, changes, or ends."""
+from __future__ import annotations
+
+import contextlib
+import json
+import os
+import signal
+import subprocess
+import time
+from typing import Any, Sequence
+
+from subtitles.core.pes import pts_bytes
+from subtitles.core.stl import boxed, gsi_block, subtitle_blocks
+from subtitles.core.times import CLOCK, FRAMES_A_SECOND, TICKS
+from .bench import Case, packets, tool_path
+from .muxed import TELETEXT_PID, Sent, stream_of
+from .test_qc_channel import SOON, verdicts
+
+SECOND = TICKS * FRAMES_A_SECOND
+BEGIN = CLOCK - 20 * SECOND  # of a feed: PTS begin again within it
+FIRST = 900_000  # the frame of the first subtitle, at 10:00:00:00
+EACH, LASTS = 75, 50  # frames from one subtitle to the next one, and of each
+BEFORE, AFTER = 5, 20  # seconds of a feed before its first TCI, and after its last TCO
+OTHER_PID = 0x102
+NULL = b"\x47\x1f\xff\x10" + b"\xff" * 184
+MUCH = NULL * (17 * 2 ** 20 // len(NULL))  # more than what is looked through for a first TS packet
+FITTED = "; the clock was fitted to the recording"
+
+
+class Feed:
+    """A feed of a programme, which is sent in each frame: `count` subtitles, the first of them at
+    a PTS."""
+
+    def __init__(self, case: Case, name: str = "one", count: int = 20, begin: int = BEGIN) -> None:
+        self.begin, frames = begin, EACH * (count - 1) + LASTS
+        self.first = (begin + SECOND * BEFORE) % CLOCK
+        self.end = begin + SECOND * (BEFORE + AFTER) + TICKS * frames
+        blocks = [subtitle_blocks(at, FIRST + EACH * at, FIRST + EACH * at + LASTS, 20, 2,
+                                  boxed(b"%s %d" % (name.encode(), at))) for at in range(count)]
+        stl = case.write(f"{name}.stl", gsi_block(name.encode(), count, count, FIRST)
+                         + b"".join(blocks))
+        case.schedule(stl, f"{name}.pes", "--origin", str((self.first - TICKS * FIRST) % CLOCK),
+                      "--every", "1")
+        own = packets(case.read(f"{name}.pes"))
+        self.pes = blank(own[-1], begin, BEFORE * FRAMES_A_SECOND) + own + blank(
+            own[-1], self.at(frames + 1), AFTER * FRAMES_A_SECOND)
+
+    def at(self, frame: int) -> int:
+        """The PTS of a frame, from the first TCI on."""
+        return (self.first + TICKS * frame) % CLOCK
+
+    def stream(self) -> list[Sent]:
+        """It as a transport stream."""
+        return stream_of(self.pes, self.begin, self.end)[0]
+
+    def moved(self, frame: int, gap: int = 0) -> list[Sent]:
+        """The same, where the page goes to another PID at a frame, and is there so many later."""
+        number = BEFORE * FRAMES_A_SECOND + frame
+        middle = self.begin + SECOND * BEFORE + TICKS * frame
+        before, maker = stream_of(self.pes[:number], self.begin, middle)
+        after, _ = stream_of(self.pes[number + gap:], middle, self.end, pid=OTHER_PID,
+                             before=maker)
+        return before + after
+
+
+def blank(last: bytes, begin: int, frames: int) -> list[bytes]:
+    """A PES packet again in some frames."""
+    return [last[:9] + pts_bytes((begin + TICKS * at) % CLOCK) + last[14:] for at in range(frames)]
+
+
+def bytes_of(sent: Sequence[Sent]) -> bytes:
+    return b"".join(one.data for one in sent)
+
+
+def without(sent: Sequence[Sent], frame: int, count: int) -> list[Sent]:
+    """All but what was sent from the Teletext of a frame on to that of so many frames later."""
+    own = [at for at, one in enumerate(sent) if one.pid == TELETEXT_PID]
+    first = BEFORE * FRAMES_A_SECOND + frame
+    return [*sent[:own[first]], *sent[own[first + count]:]]
+
+
+class Streams(Case):
+    """Feeds of a programme."""
+
+    def channel(self, data: bytes, *more: str, names: Sequence[str] = ("one",)) -> tuple[
+            int, list[str], list[dict[str, Any]]]:
+        """The status, what is said, and the objects, of programmes in a feed."""
+        self.write("list", "".join(f"{name}.stl\n" for name in names).encode())
+        done = self.tool("qc", "--channel", "list", "-", "-o", "out", "-p", self.bench.program,
+                         *more, data=data)
+        self.must("nothing on standard error", not done.told, done.told)
+        return done.status, verdicts(done.out.decode().splitlines()), [
+            json.loads(self.read(f"out/{name}.json")) for name in names]
+
+    def pair(self, data: bytes, *more: str) -> tuple[int, dict[str, Any], bytes]:
+        """The status, the object and what is said of the same as a recording."""
+        self.write("one.ts", data)
+        done = self.tool("qc", "one.stl", "one.ts", "--json", "one.json", "-p",
+                         self.bench.program, *more)
+        return done.status, json.loads(self.read("one.json")), done.out
+
+    def test_holes(self) -> None:
+        """Holes of the whole stream: 16 packets of the PID, or a multiple, leave its counter as it
+        was. A channel says what `qc` says of the recording, also behind 17 MiB of something else.
+        """
+        sent = Feed(self).stream()
+        for count, word in ((0, "accepted"), (16, "lost"), (17, "refused"), (32, "refused"),
+                            (96, "refused"), (160, "refused")):
+            data = bytes_of(without(sent, 55, count))
+            status, lines, [known] = self.channel((MUCH if count in (0, 16) else b"") + data)
+            _, pair, _ = self.pair(data)
+            self.must(f"{count}: verdict", (known["verdict"], known["status"], status) == (
+                word, int(word != "accepted"), int(word != "accepted")), known["line"])
+            self.must(f"{count}: as of the recording", [known[name] for name in (
+                "verdict", "line", "lost", "trusted")] == [pair[name] for name in (
+                    "verdict", "line", "lost", "trusted")], (known["lost"], pair["lost"]))
+            self.must(f"{count}: told", len(lines) == 1 + (count > 0) and len(known["lost"]) == (
+                count > 0), lines)
+            if count:
+                self.must(f"{count}: what", f"{count / 25:.2f} s are missing, by the PCR" in
+                          lines[0] or lines[0].startswith("1 TS packet lost"), lines)
+
+    def test_five_minutes(self) -> None:
+        """They are told, and no frame of them is trusted, whatever the counter says."""
+        feed = Feed(self, count=140)
+        sent, first, last = feed.stream(), "10:00:10:10", "10:05:1"
+        for count in (7504, 7500):
+            status, lines, [known] = self.channel(bytes_of(without(sent, 260, count)))
+            [lost] = known["lost"]
+            self.must(f"{count}: lost", status == 1 and lost["judged"] and
+                      lost["after"] == "10:00:10:09" and lost["before"].startswith(last), lost)
+            said = "\n".join(lines)
+            self.must(f"{count}: told", "nothing came for 00:05:0" in said and (
+                "TS packets of 300.16 s are missing" in said or "12 TS packets lost" in said), said)
+            self.must(f"{count}: causes", known["causes"][0]["words"].startswith("not received"),
+                      known["causes"][:1])
+            self.must(f"{count}: trusted", known["trusted"] and not any(
+                one["from"] < lost["before"] and one["to"] >= first for one in known["trusted"]),
+                known["trusted"])
+
+    def test_page_that_moves(self) -> None:
+        """To another PID, by the PMT: between two subtitles, and within one, which is whole on
+        neither; in a recording, a pipe and a feed. Both parts are judged by calls of their own."""
+        feed = Feed(self)
+        for frame, gap, word in (
+                (EACH * 7 + 60, 0, "accepted"), (EACH * 7 + 60, 9, "accepted"),
+                (EACH * 7 + 20, 0, "refused"), (EACH * 7 + 20, 25, "refused")):
+            data = bytes_of(feed.moved(frame, gap))
+            name = f"{frame} {gap}"
+            status, pair, out = self.pair(data)
+            calls = [line for line in out.decode().splitlines() if line.startswith("+ ")]
+            self.must(f"{name}: calls", len(calls) == 2 and all(
+                f"--pid 0x{pid:x} --pes " in call and " --from 10:00:" in call and " --to 10:00:"
+                in call for call, pid in zip(calls, (TELETEXT_PID, OTHER_PID))), calls)
+            self.must(f"{name}: verdict", (pair["verdict"], status) == (
+                word, int(word == "refused")) and not pair["lost"], pair["line"])
+            moved = [one["line"] for one in pair["warnings"] if one["kind"] == "pid"]
+            self.must(f"{name}: the change", len(moved) == 1 and moved[0].startswith(
+                "the PMT moves page 888 from PID 0x101 to PID 0x102 between 10:00:2"), moved)
+            self.must(f"{name}: trusted", word == "accepted" or [
+                one["from"] in moved[0] for one in pair["trusted"]] == [False, True] and
+                f"between {pair['trusted'][0]['to']} and " in moved[0], pair["trusted"])
+            piped = self.tool("qc", "one.stl", "-", "-o", "piped", "--keep", "-p",
+                              self.bench.program, data=data)
+            self.must(f"{name}: through a pipe", piped.status == status and
+                      piped.out.splitlines()[-1].decode() == pair["line"], piped)
+            kept, came = (packets(self.read(f"piped/one.{pid:x}.recording.pes"))
+                          for pid in (TELETEXT_PID, OTHER_PID))
+            at = len(kept)
+            self.must(f"{name}: kept of the pipe", at == BEFORE * FRAMES_A_SECOND + frame and
+                      kept + came == feed.pes[:at] + feed.pes[at + gap:at + gap + len(came)],
+                      (at, len(came), len(feed.pes)))
+            status, lines, [known] = self.channel(data)
+            hint = "; page 888 moves to PID 0x102 then" * (word == "refused")
+            self.must(f"{name}: a feed", known["verdict"] == word and lines == [
+                f"the PMT moves page 888 from PID 0x101 to PID 0x102, before PTS "
+                f"{feed.at(frame + gap)}", f"one  {known['line']}{hint}{FITTED}"], lines)
+            self.must(f"{name}: as of the recording", [known[name] for name in (
+                "line", "lost", "trusted", "warnings")] == [pair[name] for name in (
+                    "line", "lost", "trusted", "warnings")], known["warnings"])
+            self.must(f"{name}: its PIDs", [part["pid"] for part in pair["parts"]] == [
+                TELETEXT_PID, OTHER_PID], pair["parts"])
+
+    def test_pids_that_both_send(self) -> None:
+        """A page on two PIDs at once is on none: say which one. Each programme has its result."""
+        feed = Feed(self, count=4)
+        maker_pes = [one for one in feed.pes]
+        first, _ = stream_of(maker_pes, feed.begin, feed.end)
+        second, _ = stream_of(maker_pes, feed.begin, feed.end, pid=OTHER_PID)
+        both = bytes_of([one for one in first] + [one for one in second if one.pid == OTHER_PID])
+        data = bytes_of([one for pair in zip(first, second) for one in (
+            pair[0], pair[1]) if one is pair[0] or one.pid == OTHER_PID])
+        status, lines, [known] = self.channel(data)
+        why = "page 888 is sent on PID 0x101 and PID 0x102: say which one by --pid"
+        self.must("none", status == 2 and lines == [
+            f"the feed can't be read any further: {why}", f"one  not judged: {why}"], lines)
+        for pid in ("0x101", "0x102"):
+            status, lines, [known] = self.channel(data, "--pid", pid)
+            self.must(pid, status == 0 and known["parts"][0]["pid"] == int(pid, 16), lines)
+        self.must("one after another", self.channel(both)[0] in (0, 2))
+
+    def test_silence(self) -> None:
+        """A PID that sends nothing while the stream goes on is told within ten seconds of it, and
+        that it goes on."""
+        feed = Feed(self, count=20)
+        del feed.pes[400:800]  # sixteen seconds
+        status, lines, _ = self.channel(bytes_of(feed.stream()))
+        self.must("told", status == 1 and len(lines) == 3 and lines[0] ==
+                  f"nothing of PID 0x101 for 9 seconds of the stream, after PTS {feed.at(250)}" and
+                  lines[1] == f"PID 0x101 goes on at PTS {feed.at(675)}", lines)
+
+
+class Ends(Case):
+    """Feeds that end, and channels that are ended, in mid-programme."""
+
+    def run_channel(self, data: bytes, *wanted: bytes) -> subprocess.Popen[bytes]:
+        """A channel to which bytes were handed, once they were heard, and it has said something."""
+        command = [tool_path("qc"), "--channel", "list", "-", "-o", "out", "--stall", "2", "-p",
+                   self.bench.program]
+        log = open(self.path("log"), "wb")
+        with log:
+            process = subprocess.Popen(command, cwd=self.folder, stdin=subprocess.PIPE, stdout=log,
+                                       stderr=log)
+        assert process.stdin
+        process.stdin.write(data)
+        process.stdin.flush()
+        end = time.monotonic() + SOON
+        for words in wanted:
+            while words not in self.read("log") and time.monotonic() < end:
+                time.sleep(0.1)
+        time.sleep(1)  # it goes on at once with what it has heard
+        return process
+
+    def lines(self) -> list[str]:
+        """What it said of programmes."""
+        return [line for line in verdicts(self.read("log").decode().splitlines())
+                if not line.startswith(("nothing", "the feed goes on", "PID 0x101 goes on"))]
+
+    def test_feed_that_ends(self) -> None:
+        """In mid-programme: it is not judged, with what is known of it up to there, also what was
+        refused; and is judged anew with --resume. Its last TCO is no middle."""
+        feed = Feed(self, count=8)
+        sent = feed.stream()
+        own = [at for at, one in enumerate(sent) if one.pid == TELETEXT_PID]
+        self.write("list", b"one.stl\n")
+        for frame, missing, why in (
+                (EACH * 5 + 60, 0, "the feed ended at 10:00:17:09, in mid-programme; up to "
+                 "10:00:17:00 it was as it is due"),
+                (EACH * 5 + 20, 0, "the feed ended at 10:00:15:19, in mid-programme; up to "
+                 "10:00:14:00 it was as it is due"),
+                (EACH * 5 + 60, 17, "the feed ended at 10:00:17:09, in mid-programme; up to "
+                 "10:00:17:00 it was refused 45 Lost pes 175"),
+                (EACH * 7 + 51, 0, "")):
+            number = own[BEFORE * FRAMES_A_SECOND + frame - 1] + 1
+            part = sent[:number]
+            part = without(part, 50, missing) if missing else part
+            done = self.tool("qc", "--channel", "list", "-", "-o", "out", "-p",
+                             self.bench.program, data=bytes_of(part))
+            lines = verdicts(done.out.decode().splitlines())
+            known = json.loads(self.read("out/one.json"))
+            if why:
+                self.must(f"{frame} {missing}", done.status == 2 and lines[-1] ==
+                          f"one  not judged: {why}" and known["open"], lines)
+            else:
+                self.must(f"{frame}", done.status == 0 and known["verdict"] == "accepted", lines)
+            if missing == 0 and why:
+                again = self.tool("qc", "--channel", "list", "-", "-o", "out", "--resume", "-p",
+                                  self.bench.program, data=bytes_of(sent))
+                self.must("again", again.status == 0 and b"one  accepted" in again.out, again)
+
+    def test_signals(self) -> None:
+        """In mid-programme: what ends a channel is said, and what is known of the programme; the
+        others are open. A channel that was killed says nothing, and one that goes on with it does
+        not judge what nobody heard."""
+        feed, second = Feed(self, count=8), Feed(self, "two", 8, BEGIN + 60 * SECOND)
+        sent = [*feed.stream(), *second.stream()]
+        own = [at for at, one in enumerate(sent) if one.pid == TELETEXT_PID]
+        middle = own[len(feed.pes) + BEFORE * FRAMES_A_SECOND + EACH * 3 + 60]
+        first, rest = bytes_of(sent[:middle]), bytes_of(sent[middle:])
+        self.write("list", b"one.stl\ntwo.stl\nthree.stl\n")
+        self.write("three.stl", self.read("two.stl"))
+        heard = b"one  accepted", b"nothing has come for 2 seconds"
+        accepted = f"one  accepted 577 frames 577 transmissions{FITTED}"
+        for number in (signal.SIGTERM, signal.SIGINT, signal.SIGHUP):
+            with self.run_channel(first, *heard) as process:
+                process.send_signal(number)
+                self.must(f"{number}: status", process.wait(SOON) == 2, process.returncode)
+            lines = self.lines()
+            self.must(f"{number}: said", lines[:2] == [
+                accepted, "two  not judged: stopped at 10:00:11:10, in mid-programme; up to "
+                "10:00:11:00 it was as it is due"] and
+                lines[2].startswith("three  not judged: stopped at 00:0"), lines)
+            self.must("open", [json.loads(self.read(f"out/{name}.json")).get("open") for name in (
+                "one", "two", "three")] == [None, True, True])
+        for name in os.listdir(self.path("out")):
+            with contextlib.suppress(OSError):
+                os.unlink(self.path(f"out/{name}"))
+        with self.run_channel(first, *heard) as process:
+            process.kill()
+        self.must("killed", self.lines() == [accepted] and
+                  not os.path.exists(self.path("out/two.json")), self.lines())
+        self.write("list", b"one.stl\ntwo.stl\n")
+        done = self.tool("qc", "--channel", "list", "-", "-o", "out", "--resume", "-p",
+                         self.bench.program, data=rest)
+        lines = verdicts(done.out.decode().splitlines())
+        self.must("it goes on", done.status == 2 and lines == [
+            "1 programme of an earlier call kept", "two  not judged: its beginning was missed: "
+            "the feed was heard from 10:00:11:11 on; from 10:00:12:00 up to 10:00:23:00 it was as "
+            "it is due"], lines)

@@ -1,0 +1,240 @@
+"""A page that moves to another PID while it is recorded: judged on both, each for its time."""
+from __future__ import annotations
+
+from typing import Callable, Sequence
+
+from subtitles.core.pes import pts_in
+from subtitles.core.programme import Subtitle
+from subtitles.core.times import TICKS, Between
+from subtitles.qc.clock import RECORDING, Clock
+from subtitles.qc.fitting import Found
+from subtitles.qc.moved import pieces_of
+from subtitles.reading.moving import Stage, joined, part_inside, stages_of
+from subtitles.reading.survey import Packets, Run, survey
+from .bench import Case, moved, packets
+from .judged import in_pipe, judged, programme
+from .muxed import MPEG_2, PRIVATE, TELETEXT_PID, VIDEO_PID, Maker, teletext_descriptor
+from .test_holes import Sent as Packet, Shape, sent_of
+from .test_pairs_in_parts import times
+
+OLD, NEW, THIRD = 0x101, 0x111, 0x121
+WORDS = "--every", "100"
+# The PES packets that come in the place of one, by its number, each with its PID.
+Sent = Callable[[int], Sequence[tuple[int, bytes]]]
+
+
+def in_turn(pes: Sequence[bytes], plan: Sequence[tuple[int, int]], sent: Sent | None = None,
+            is_announced: bool = True, is_clocked: bool = True) -> bytes:
+    """A stream whose PMT names a PID from the PES packet with a number on, for each of a plan; they
+    come on it, or on those that are said."""
+    made, pid = Maker([]), 0
+    for number, one in enumerate(pes):
+        for begin, named in plan:
+            if begin == number:
+                pid = named
+                descriptor = teletext_descriptor() if is_announced else b""
+                made.tables = Maker([(VIDEO_PID, MPEG_2, b""), (pid, PRIVATE, descriptor)]).tables
+                made.put_tables()
+        if is_clocked:
+            made.put_pcr(pts_in(one) - 18_000)
+        for each, data in sent(number) if sent else [(pid, one)]:
+            made.put(each, data)
+    return made.data
+
+
+def moved_to(pid: int, one: Packet) -> bytes:
+    """A TS packet on another PID."""
+    return one.data[:1] + bytes([one.data[1] & 0xE0 | pid >> 8, pid & 255]) + one.data[3:]
+
+
+class Moves(Case):
+    """Ten subtitles, with a page transmission a second."""
+
+    def setUp(self) -> None:
+        super().setUp()
+        self.stl = programme(self, times(10))
+        self.schedule(self.stl, "sent.pes", "--every", "25")
+        self.pes = packets(self.read("sent.pes"))
+        self.path_of = self.path("one.ts")
+
+    def stages(self, data: bytes) -> list[tuple[int, tuple[int, int]]]:
+        found = survey(self.bench.program, self.write("one.ts", data), (0, 0x88))
+        return [(one.pid, one.inside) for one in stages_of(found, (0, 0x88))]
+
+    def test_stages(self) -> None:
+        """By what the PMT names when, with what may have come in that time."""
+        def on(*pids: int) -> Sent:
+            return lambda at: [(pid, self.pes[at]) for pid in pids]
+
+        for name, plan, sent, wanted in (
+                ("one PID", [(0, OLD)], None, []),
+                ("the same once more", [(0, OLD), (20, OLD)], None, []),
+                ("another one", [(0, OLD), (20, NEW)], None, [(OLD, (0, 19)), (NEW, (0, 28))]),
+                ("and back", [(0, OLD), (20, NEW), (30, OLD)], None,
+                 [(OLD, (0, 19)), (NEW, (0, 9)), (OLD, (20, 38))]),
+                ("three", [(0, OLD), (20, NEW), (30, THIRD)], None,
+                 [(OLD, (0, 19)), (NEW, (0, 9)), (THIRD, (0, 18))]),
+                ("on both", [(0, OLD), (20, NEW)], on(OLD, NEW),
+                 [(OLD, (0, 20)), (NEW, (19, 48))]),
+                ("one that no PMT names", [(0, OLD)], on(OLD, NEW), []),
+                ("a third one that no PMT names", [(0, OLD), (20, NEW)],
+                 on(OLD, NEW, THIRD), []),
+                ("named, and never sent", [(0, OLD), (20, NEW)], on(OLD), [])):
+            found = self.stages(in_turn(self.pes, plan, sent))
+            self.must(name, found == wanted, found)
+        found = self.stages(in_turn(self.pes, [(0, OLD), (20, NEW)], None, False))
+        self.must("not announced", found == [(OLD, (0, 19)), (NEW, (0, 28))], found)
+        found = self.stages(in_turn(self.pes, [(0, OLD), (20, NEW)], on(OLD, NEW),
+                                    is_clocked=False))
+        self.must("no clock", found == [], found)
+        elsewhere = [*self.pes[:20], *packets(moved(b"".join(self.pes[20:]), lambda _, pts: pts
+                                                    + 7200 * 90_000))]
+        for name, pes in (("on elsewhere", elsewhere), ("back", self.pes[20:] + self.pes[:20])):
+            found = self.stages(in_turn(pes, [(0, OLD), (20 if name[0] == "o" else 29, NEW)]))
+            self.must(name, found == [], found)
+
+    def test_in_a_pause(self) -> None:
+        """Accepted where each PID has what is due: two calls, and what is said of the move."""
+        for at, last, first in ((20, "00:00:19:10", "00:00:20:00"),
+                                (24, "00:00:22:10", "00:00:23:10")):
+            path = self.write("one.ts", in_turn(self.pes, [(0, OLD), (at, NEW)]))
+            out = self.path(f"out{at}")
+            found = judged(self, self.stl, path, *WORDS, "-o", out, "--keep")
+            self.must(f"{at}: kept", self.read(f"{out}/one.recording.pes") == b"".join(self.pes))
+            self.must(f"{at}", found.word == "accepted" and
+                      found.parts("pid", "from", "to", "verdict") == [
+                          (OLD, "00:00:04:00", last, "accepted"),
+                          (NEW, first, "00:00:42:10", "accepted")], found.said)
+            calls = [line.partition(" one.ts ")[2] or line for line in found.lines("+ ")]
+            self.must(f"{at}: calls", len(calls) == 2 and f"--pid 0x101 --pes 0-{at - 1} " in
+                      calls[0] and f"--pid 0x111 --pes 0-{48 - at} " in calls[1] and all(
+                          " --from " in one and " --to " in one for one in calls), calls)
+            moved = f"the PMT moves page 888 from PID 0x101 to PID 0x111 between {last} and " \
+                f"{first}: what was sent between is not trusted"
+            warnings = [(one["kind"], one["line"], one["time"])
+                        for one in found.result["warnings"] if one["kind"] == "pid"]
+            self.must(f"{at}: said", warnings == [("pid", moved, first)] and
+                      f"warning: {moved}" in found.told, found.told)
+            strict = judged(self, self.stl, path, *WORDS, "--strict")
+            self.must(f"{at}: strict", strict.word == "warned")
+
+    def test_while_a_subtitle_is_due(self) -> None:
+        """On neither PID it is whole, and both say so."""
+        path = self.write("one.ts", in_turn(self.pes, [(0, OLD), (22, NEW)]))
+        found = judged(self, self.stl, path, *WORDS)
+        faults = [one for one in found.listed if one.startswith("refused ")]
+        self.must("refused", found.word == "refused" and faults == [
+            "refused 74 Late frame 00:00:21:00", "refused 63 Early frame 00:00:22:00"], faults)
+        self.must("hints", found.result["hints"] == [
+            "74: page 888 moves to PID 0x111 then", "63: page 888 was on PID 0x101 before"],
+            found.result["hints"])
+
+    def test_faults_of_each(self) -> None:
+        """What is wrong on the one or on the other is told of it, and of no PID at a time at which
+        the PMT does not name it."""
+        other = packets(self.read(self.schedule(
+            programme(self, times(10), text=b"Nummer %d", name="other.stl"), "other.pes",
+            "--every", "25")))
+        plan = [(0, OLD), (24, NEW)]
+        for number, word, place in ((10, "refused", "00:00:12:00"), (30, "refused", "00:00:28:00"),
+                                    (None, "accepted", "")):
+            sent = [other[at] if at == number else one for at, one in enumerate(self.pes)]
+            path = self.write("one.ts", in_turn(sent, plan))
+            found = judged(self, self.stl, path, *WORDS)
+            self.must(f"{number}", found.word == word and place in (found.verdict.line or ""),
+                      found.said)
+        path = self.write("one.ts", in_turn(self.pes, plan, lambda at: [
+            (OLD, other[at] if at > 40 else self.pes[at]),
+            (NEW, other[at] if at < 10 else self.pes[at])]))
+        found = judged(self, self.stl, path, *WORDS, "--origin", "0")
+        self.must("at other times", found.word == "accepted", found.said)
+
+    def test_there_and_back(self) -> None:
+        """Three parts, of two PIDs; what is before all subtitles is none."""
+        path = self.write("one.ts", in_turn(self.pes, [(0, OLD), (20, NEW), (30, OLD)]))
+        found = judged(self, self.stl, path, *WORDS)
+        self.must("back", found.word == "accepted" and [
+            one for one, in found.parts("pid")] == [OLD, NEW, OLD] and
+            sum(one["kind"] == "pid" for one in found.result["warnings"]) == 2, found.said)
+        late = programme(self, times(10)[5:], first=6, name="late.stl")
+        found = judged(self, late, self.write("one.ts", in_turn(
+            self.pes, [(0, OLD), (20, NEW)])), *WORDS, "--origin", "0")
+        self.must("before all", found.parts("pid", "from") == [(NEW, "00:00:24:00")] and
+                  not any(one["kind"] == "pid" for one in found.result["warnings"]) and
+                  "--from" not in found.lines("+ ")[-1] and found.word == "accepted", found.said)
+
+    def test_a_hole_where_it_moves(self) -> None:
+        """What is lost of the whole stream between the two is lost of what is judged."""
+        made = sent_of(self.pes, Shape())
+        own = [at for at, one in enumerate(made) if one.pid == TELETEXT_PID]
+        at = own[sum(-(-len(one) // 184) for one in self.pes[:24])]
+        after = [moved_to(NEW, one) if one.pid == TELETEXT_PID else one.data for one in made[at:]]
+        tables = in_turn(self.pes[24:25], [(0, NEW)])[:2 * 188]
+        for lost, word in ((0, "accepted"), (400, "lost")):
+            before = [one.data for one in made[:at - lost]]
+            path = self.write("one.ts", b"".join([*before, tables, *after]))
+            found = judged(self, self.stl, path, *WORDS, "--origin", "0")
+            self.must(f"{lost}", found.word == word and len(found.parts("pid")) == 2 and
+                      [one["judged"] for one in found.result["lost"]] == [True] * bool(lost),
+                      found.said)
+
+    def test_one_that_is_asked_for(self) -> None:
+        """With --pid its PES packets alone are judged; with --pes it has to be said of which."""
+        path = self.write("one.ts", in_turn(self.pes, [(0, OLD), (24, NEW)]))
+        found = judged(self, self.stl, path, *WORDS, "--pid", "0x101", "--origin", "0")
+        self.must("one", found.word == "refused" and found.parts("pid") == [(OLD,)], found.said)
+        found = judged(self, self.stl, path, *WORDS, "--pes", "0-9")
+        self.must("numbers", found.word == "not judged" and
+                  "page 888 is sent on 2 PIDs of " in found.told[0], found.told)
+        found = judged(self, self.stl, in_pipe(self, self.read("one.ts")), *WORDS)
+        self.must("a feed", found.word == "accepted" and found.parts("pid") == [(OLD,), (NEW,)],
+                  found.said)
+
+
+class Pieces(Case):
+    """What is judged on which PID."""
+
+    def test_pieces(self) -> None:
+        """The frames of each, and those in which its subtitles come."""
+        def stage(pid: int, first: int, count: int) -> Stage:
+            run = Run(0, count, TICKS * first, TICKS, "heb", "00000000")
+            return Stage(Packets(pid, [run]), (0, count - 1))
+
+        def subtitle(begin: int, end: int) -> Subtitle:
+            return Subtitle(1, 1, begin, end, 20, 2, b"")
+
+        stages = [stage(OLD, 0, 100), stage(NEW, 120, 200)]
+        for name, subtitles, wanted in (
+                ("apart", [(10, 90), (130, 200)], [
+                    (OLD, 10, 99, (10, 100), None, NEW), (NEW, 120, 200, (100, 200), OLD, None)]),
+                ("between", [(10, 90), (110, 200)], [
+                    (OLD, 10, 99, (10, 100), None, NEW), (NEW, 120, 200, (100, 200), OLD, None)]),
+                ("over it", [(10, 90), (95, 130), (130, 200)], [
+                    (OLD, 10, 99, (10, 100), None, NEW), (NEW, 120, 200, (95, 200), OLD, None)]),
+                ("up to the last", [(10, 99), (130, 200)], [
+                    (OLD, 10, 99, (10, 100), None, NEW), (NEW, 120, 200, (100, 200), OLD, None)]),
+                ("behind the last", [(10, 100), (130, 200)], [
+                    (OLD, 10, 99, (10, 100), None, NEW), (NEW, 120, 200, (10, 200), OLD, None)]),
+                ("first alone", [(10, 50), (60, 90)], [(OLD, 10, 90, (10, 90), None, None)]),
+                ("second alone", [(130, 150), (160, 190)], [
+                    (NEW, 130, 190, (130, 190), None, None)])):
+            own = [subtitle(*one) for one in subtitles]
+            found = Found(own[0].begin, own[-1].end, Clock(0, RECORDING))
+            made = [(one.stage.pid, one.found.begin, one.found.end, tuple(one.between), one.came,
+                     one.goes) for one in pieces_of(found, stages, own, 0)]
+            self.must(name, made == wanted, made)
+            self.must(f"{name}: each", all(any(Between(*one[3]).has(each.begin) for one in made)
+                                           for each in own))
+
+    def test_joined(self) -> None:
+        """By numbers of their own, and back again."""
+        one = Packets(OLD, [Run(0, 10, 0, TICKS, "h", "")], marks=[])
+        other = Packets(NEW, [Run(0, 4, TICKS * 20, TICKS, "h", "")])
+        stages = [Stage(one, (2, 7)), Stage(other, (1, 3))]
+        whole = joined(stages)
+        self.must("numbers", [(run.first, run.length, run.pts) for run in whole.runs] == [
+            (0, 6, 2 * TICKS), (6, 3, 21 * TICKS)], whole.runs)
+        for inside, wanted in ((None, [(2, 7), (1, 3)]), ((0, 8), [(2, 7), (1, 3)]),
+                               ((3, 6), [(5, 7), (1, 1)]), ((0, 2), [(2, 4), (1, -3)])):
+            made = [part_inside(stages, place, inside) for place in range(2)]
+            self.must(f"{inside}", made == wanted, made)
