@@ -9,7 +9,6 @@ from __future__ import annotations
 from subtitles.core.stl import GSI, TTI, subtitle_blocks
 from .as_houses import TAKES_KEEPING
 from .calls import ALL, Answer, Call, KnownCall, check_of
-from .definitions import JUDGES_BESIDE
 from .known import (
     HELLO, HI, SENT, accepted, ended, poked, refused, stands, told, trusted, wrong)
 from .one_file import CS, JC, TCO
@@ -184,4 +183,4 @@ OF_PARTS = [
 ]
 
 # What the program answers by now.
-BESIDE = [*OF_PARTS, *OF_REFUSED * JUDGES_BESIDE, *OF_KEEPING * (JUDGES_BESIDE and TAKES_KEEPING)]
+BESIDE = [*OF_PARTS, *OF_REFUSED, *OF_KEEPING * TAKES_KEEPING]

@@ -29,8 +29,6 @@ NAMES = dict(
     |71 NoFirstHeader|72 Content|73 Gap|74 Late|77 Incomplete|78 Undecided|79 Silent
     """.split("|")))
 ERASE, SERIAL = 4, 11
-# Whether the program judges a transmission beside a subtitle file that is refused: not yet.
-JUDGES_BESIDE = False
 
 
 class Packet(NamedTuple):
@@ -500,7 +498,7 @@ def check_all(stl: bytes, pes: bytes, options: Options, is_failing: bool = False
     """
     subtitles = subtitles_in(stl, options)
     told = subtitles.lines
-    if subtitles.records is None or told and not JUDGES_BESIDE:
+    if subtitles.records is None:
         return [*told, f"{len(told)} faults"]
     read = read_by(pes, options)
     pieces, broken = pieces_of(read.data)

@@ -14,7 +14,6 @@ from subtitles.core.stl import (
 from subtitles.core.teletext import packet
 from subtitles.core.times import TICKS
 from .calls import KnownCall, known_pair
-from .definitions import JUDGES_BESIDE
 from .known import HI, poked, told
 from .one_rule import CLOSING, FIRST, HEADER, header
 from .reading import OF_FIRST_BLOCK
@@ -29,9 +28,9 @@ def refused(fault: str) -> list[str]:
 
 
 def refused_first(fault: str) -> list[str]:
-    """The lines of what the first block of a subtitle says: the other subtitle is judged beside it,
-    where that is done."""
-    is_read = JUDGES_BESIDE and int(fault.split()[0]) in OF_FIRST_BLOCK
+    """The lines of what the first block of a subtitle says: the other subtitle is judged beside it.
+    """
+    is_read = int(fault.split()[0]) in OF_FIRST_BLOCK
     return told(f"refused {fault}", *["refused 60 Empty"] * is_read)
 
 

@@ -23,7 +23,6 @@ from subtitles.qc.beside import Counts, beside_of, due_beside, is_judged_beside
 from subtitles.qc.subtitle_file import SubtitleFile
 from .bench import Case, packets
 from .judged import Judged, joined, judged, late, sendings
-from .stand_in import stand_in
 from .test_pairs_in_parts import times
 from .test_pairs_judged import UNREAD, broken
 
@@ -55,7 +54,6 @@ class Beside(Case):
         self.stl = self.write("good.stl", stl_of(self.blocks))
         self.sent = sendings(self, self.stl)
         self.pes = self.write("one.pes", joined(self.sent))
-        self.by = stand_in(self)
 
     def file(self, *bad: int) -> str:
         """It with a letter that level 1 lacks in some subtitles."""
@@ -64,7 +62,7 @@ class Beside(Case):
             for number, (begin, end, text) in enumerate(self.blocks, 1)]))
 
     def judge(self, stl: str, *words: str) -> Judged:
-        return judged(self, stl, *words, *WORDS, by=self.by)
+        return judged(self, stl, *words, *WORDS)
 
     def test_sentence(self) -> None:
         """How many were judged, how they stand, and which are refused, with letter and cure."""
@@ -116,7 +114,7 @@ class Beside(Case):
         for more, counts in (((self.stl, self.pes, *WORDS), {"judged": 10, "refused": 0}),
                              ((self.stl,), {"judged": 10, "refused": 0}),
                              ((self.file(3),), None)):
-            result = judged(self, *more, by=self.by).result
+            result = judged(self, *more).result
             self.must(f"{more}", result["subtitle_counts"] == counts, result)
 
     def test_severities(self) -> None:
@@ -159,8 +157,7 @@ class Beside(Case):
         moved = [(pts + 3600 * 500 * (pts >= 3600 * 480), some) for pts, some in self.sent]
         path = self.write("two.pes", joined(moved))
         for bad in ((7,), (2, 7)):
-            found = judged(self, self.file(*bad), path, "--breaks", "1", "--every", "100",
-                           by=self.by)
+            found = judged(self, self.file(*bad), path, "--breaks", "1", "--every", "100")
             self.must(f"{bad}", found.word == "refused" and len(found.result["parts"]) == 2 and
                       found.verdict.counts == Counts(10 - len(bad), len(bad)) and
                       "each of them is as it is due" in found.verdict.sentence, found.said)
@@ -173,7 +170,7 @@ class Beside(Case):
             out, stl = self.path(f"out{number}"), self.file(*bad)
             self.judge(stl, pes, "-o", out)
             done = self.tool("preview", stl, pes, "--every", "100", "--complete", "-o",
-                             self.path("alone.html"), "-p", self.by)
+                             self.path("alone.html"), "-p", self.bench.program)
             self.must(f"{bad}: alone", done.status == 1, done)
             for name in (f"{out}/one.html", "alone.html"):
                 page = self.read(name).decode()

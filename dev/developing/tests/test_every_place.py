@@ -6,9 +6,7 @@ import unittest
 from concurrent.futures import ThreadPoolExecutor
 from functools import partial
 from random import Random
-from unittest import mock
 
-from developing.every_place import definitions
 from developing.every_place.beside import OF_KEEPING, OF_PARTS, OF_REFUSED
 from developing.every_place.calls import KnownCall, answer_to
 from developing.every_place.carried_laws import LAWS, random_packets
@@ -35,9 +33,7 @@ class Known(unittest.TestCase):
         self.have_answers(RECORDED)
 
     def test_beside_refused_subtitles(self) -> None:
-        """Whether the program judges beside them or not yet."""
-        with mock.patch.object(definitions, "JUDGES_BESIDE", True):
-            self.have_answers([*OF_REFUSED, *OF_KEEPING, *OF_PARTS])
+        self.have_answers([*OF_REFUSED, *OF_KEEPING, *OF_PARTS])
 
 
 class Statuses(unittest.TestCase):
