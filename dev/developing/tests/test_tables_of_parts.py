@@ -49,9 +49,6 @@ class Named(Case):
                     os.path.join(here, f"{name}.txt")))
                 self.must(f"{out} {name}: object", one.machine == (f"{typed}.json" if out else
                                                                    None))
-            line = f"{self.folder}/one.stl and {self.folder}/x"
-            self.must(f"{out}: a line", names.as_typed(line) == line.replace(
-                self.folder + "/", "out/" if out else ""))
 
     def test_what_an_earlier_call_left(self) -> None:
         """Files of the pair and of its parts, and of no other pair."""

@@ -30,7 +30,7 @@ class Names:
             self.here = os.path.join(folder, LINK)
             if not os.path.lexists(self.here):
                 os.symlink(os.path.abspath(out), self.here)
-        self.given = self.given_typed = ""  # the subtitle file, for the program and as it is typed
+        self.given = ""  # the subtitle file, for the program
         self.whole, self.whole_path = self.typed("recording.pes"), self.temporary("recording.pes")
         self.list_path = self.place("txt")
         self.report = self.typed("html")
@@ -79,7 +79,7 @@ class Names:
 
     def give(self, stl: str) -> None:
         """Takes the subtitle file."""
-        self.given, self.given_typed = self.as_program(stl), stl
+        self.given = self.as_program(stl)
 
     def as_program(self, name: str) -> str:
         """A file by a name that is UTF-8, as the program asks."""
@@ -89,14 +89,6 @@ class Names:
         if not os.path.lexists(path):
             os.symlink(os.path.abspath(name), path)
         return path
-
-    def as_typed(self, line: str) -> str:
-        """A line of a tool, in which files have the names that a person types."""
-        if self.given != self.given_typed:
-            line = line.replace(self.given, self.given_typed)
-        if self.out and self.here and self.out != self.here:
-            line = line.replace(self.here, self.out)
-        return line.replace(os.path.join(self.folder, ""), os.path.join(self.out or "", ""))
 
 
 def again(asked: Asked, typed: Typed, *more: str) -> str:
