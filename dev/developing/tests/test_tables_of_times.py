@@ -6,7 +6,8 @@ import unittest
 from types import SimpleNamespace
 from typing import Any, Sequence
 
-from subtitles.core.times import CLOCK
+from subtitles.core.times import CLOCK, TICKS
+from subtitles.reading.cutting import cut_of
 from subtitles.reading.gaps import SECOND, Jump, jumps_of, places_of
 from subtitles.reading.stretches import LACKED, Stretch, by_breaks
 from subtitles.reading.survey import Clocked, Mark, Packets, Run, Survey
@@ -91,6 +92,17 @@ class Times(unittest.TestCase):
             packets = packets_with([100, None, 200, 600], clocked=several, marks=[
                 Mark(number, 100, 3, 0) for number in marks])
             self.assertEqual([(one.before, one.missing) for one in places_of(packets)], wanted)
+
+    def test_marks_at_the_ends_of_a_cut(self) -> None:
+        """A mark just behind the last frame, up to the first PES packet of a later one, is judged;
+        one before the first frame is not."""
+        for frames, wanted in (
+                ([0, 50, None, 75], (0, 2)), ([0, 50, None, None, 75], (0, 3)),
+                ([0, 50, None], (0, 2)), ([0, 50, 75, None], (0, 1)), ([None, 0, 50, 75], (1, 2)),
+                ([0, None, 50, 75], (0, 2))):
+            pts = [None if one is None else TICKS * one for one in frames]
+            found = cut_of(packets_with(pts), 0, 50, 0, 25).range
+            self.assertEqual(found, wanted, frames)
 
     def test_jumps(self) -> None:
         """Where nothing is missing, and more packets than a tenth of those of that time would be
