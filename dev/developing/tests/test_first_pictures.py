@@ -58,7 +58,7 @@ class Pictures(unittest.TestCase):
     def test_none(self) -> None:
         """Each reason."""
         two = programme((VIDEO, MPEG_2), (0x201, H_264))
-        for lines, is_whole, words in (
+        rows: list[tuple[list[str], bool, str]] = [
                 ([], True, "no PMT names PID 0x101"),
                 (programme(), True, "has no video: PID 0x101 stream_type 06"),
                 (two, True, "has several video PIDs: PID 0x101 stream_type 06, PID 0x200 MPEG-2, "
@@ -74,7 +74,8 @@ class Pictures(unittest.TestCase):
                 (shown([0, None]), True, "a picture of MPEG-2 of PID 0x200 has no PTS"),
                 (shown([None]), True, "a picture of MPEG-2 of PID 0x200 has no PTS"),
                 # Two pictures in each PES packet: the first that is shown has no PTS.
-                (shown(GROUP[::2] + [9]), True, "leave out 3 frames: a PES packet has several")):
+                (shown(GROUP[::2] + [9]), True, "leave out 3 frames: a PES packet has several")]
+        for lines, is_whole, words in rows:
             self.assertIn(words, self.said(lines, is_whole))
 
     def test_left_out(self) -> None:
@@ -96,12 +97,13 @@ class Pictures(unittest.TestCase):
     def test_feed(self) -> None:
         """Nothing more tells it: they are over; there is no video; or no picture comes."""
         waits = [*programme((VIDEO, MPEG_2)), f"pcr {VIDEO} 5"]
-        for lines, wanted in (
+        rows: list[tuple[list[str], bool]] = [
                 ([], False), (programme(), True), (programme((VIDEO, MPEG_2)), False),
                 (waits, False), ([*waits, f"pcr {VIDEO} {5 + PATIENCE}"], False),
                 ([*waits, f"pcr {VIDEO} {6 + PATIENCE}"], True),
                 ([*waits, f"video {VIDEO} 3", f"pcr {VIDEO} {6 + PATIENCE}"], False),
-                (shown([0])[:-1], False), (shown([0]), True)):
+                (shown([0])[:-1], False), (shown([0]), True)]
+        for lines, wanted in rows:
             self.assertEqual(is_known(surveyed(lines), TELETEXT), wanted, lines)
 
 

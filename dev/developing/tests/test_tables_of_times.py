@@ -68,11 +68,12 @@ class Times(unittest.TestCase):
     def test_strange(self) -> None:
         """From which PTS on, how many, and the worst of them, early or late."""
         usual = [(SECOND * at, 1000) for at in range(9)]
-        for more, wanted in (
+        rows: list[tuple[list[int], list[tuple[str, int, int]]]] = [
                 ([], []), ([-5, -700, -20], [("behind", 3, -700)]), ([-1], [("behind", 1, -1)]),
                 ([SECOND, SECOND + 1], [("early", 1, SECOND + 1), ("changed", 2, SECOND - 999)]),
                 ([1000 + SECOND // 2], []), ([1001 + SECOND // 2], [("changed", 1, 45_001)]),
-                ([-45_000, 47_000], [("behind", 1, -45_000), ("changed", 2, -46_000)])):
+                ([-45_000, 47_000], [("behind", 1, -45_000), ("changed", 2, -46_000)])]
+        for more, wanted in rows:
             samples = [*usual, *((SECOND * at, ahead) for at, ahead in enumerate(more, 9))]
             found = list(strange_of(packets_with([], samples=samples)))
             self.assertEqual([(one.kind, one.number, one.worst) for one in found], wanted, more)
@@ -83,12 +84,13 @@ class Times(unittest.TestCase):
         """Marks, and what the PCR and the counters of other PIDs alone tell elsewhere; a clock that
         goes back is no hole."""
         hole, back = clocked(500, 99_000, "broken"), clocked(500, -99_000, "broken")
-        for marks, several, wanted in (
-                ([], [hole], [(500, 90_000)]), ([], [back], []), ([], [hole, hole], [(500, 90_000)]
-                                                                  * 2),
+        rows: list[tuple[list[int], list[Clocked], list[tuple[int, int]]]] = [
+                ([], [hole], [(500, 90_000)]), ([], [back], []),
+                ([], [hole, hole], [(500, 90_000)] * 2),
                 ([1], [], [(100, 0)]), ([1], [hole], [(100, 0), (500, 90_000)]),
                 ([1], [clocked(150, 99_000, "broken")], [(100, 0)]),
-                ([], [clocked(500, 99_000, "whole")], [])):
+                ([], [clocked(500, 99_000, "whole")], [])]
+        for marks, several, wanted in rows:
             packets = packets_with([100, None, 200, 600], clocked=several, marks=[
                 Mark(number, 100, 3, 0) for number in marks])
             self.assertEqual([(one.before, one.missing) for one in places_of(packets)], wanted)
