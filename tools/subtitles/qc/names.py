@@ -20,7 +20,7 @@ PID = re.compile(rf"[0-9a-f]+\.{re.escape(KEPT)}")
 
 
 def of_pid(pid: int) -> str:
-    """What the file with the PES packets of a PID ends with, where the page moves to another one."""
+    """What the file with the PES packets of a PID ends with, where the page moves."""
     return f"{pid:x}.{KEPT}"
 
 
