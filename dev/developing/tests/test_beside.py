@@ -21,8 +21,10 @@ from subtitles.core.times import ALL_DAY, Between
 from subtitles.core.told import told_of
 from subtitles.qc.beside import Counts, beside_of, due_beside, is_judged_beside
 from subtitles.qc.subtitle_file import SubtitleFile
+from subtitles.reading.survey import Packets, Run
 from .bench import Case, packets
 from .judged import Judged, joined, judged, late, sendings
+from .parts import answer, part_with
 from .test_pairs_in_parts import times
 from .test_pairs_judged import UNREAD, broken
 
@@ -239,6 +241,22 @@ class Judgeable(unittest.TestCase):
             ({72, 60}, False), ({57, 78, 60}, True)]
         for numbers, wanted in rows:
             self.assertEqual(is_judged_beside(numbers), wanted, numbers)
+
+
+    def test_was_read(self) -> None:
+        """Of a recording something was read where a line of the list is of it."""
+        refused, trusted = "refused 50 Character block 1 at 4", "trusted frames 10:00:00:00 " \
+            "10:00:01:24"
+        rows: list[tuple[list[str], bool]] = [
+            ([refused, "1 faults"], False), ([refused, trusted, "1 faults"], True),
+            ([refused, "refused 78 Undecided frame 10:00:02:00", "2 faults"], True),
+            ([refused, "refused 33 Flags pes 0", "2 faults"], True),
+            ([refused, "refused 33 Flags pes 0", "ended 33 Flags pes 1", "2 faults"], False),
+            (["accepted 51 frames 2 transmissions"], True)]
+        for lines, wanted in rows:
+            part = part_with(0, 9, 0, answer(lines))
+            part.pes, part.packets = (0, 1), Packets(0, [Run(0, 2, 0, 0, "h", "")])
+            self.assertEqual(part.is_read(), wanted, lines)
 
 
 class AtRandom(Case):

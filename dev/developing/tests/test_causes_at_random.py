@@ -19,8 +19,8 @@ from subtitles.qc.delays import frames_of
 from subtitles.qc.due_pages import DuePages
 from subtitles.qc.naming import Causes
 from subtitles.reading.receiver import BLANK_PAGE, Rows
-from subtitles.reading.survey import Packets, Run
-from subtitles.reading.timeline import Heard, Span, Timeline
+from subtitles.reading.survey import Packets
+from subtitles.reading.timeline import Span, Timeline
 from .. import DEV
 from .parts import PAGE
 
@@ -51,7 +51,7 @@ def empty(within: int = 0) -> Timeline:
 
 def steady(held: Timeline) -> None:
     """Makes it one of 500 PES packets, so that a pause is one."""
-    held.heard = [Heard(Run(0, 500, 0, 3600, "", ""), range(500))]
+    held.count = 500
 
 
 def told(spans: list[tuple[int, int]], *edges: tuple[int, int]) -> Any:

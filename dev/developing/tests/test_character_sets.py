@@ -10,7 +10,7 @@ import unittest
 from subtitles.core.built import TOP
 from subtitles.core.national import FRENCH, OPTIONS
 from subtitles.core.pes import data_field, pes_packet, pts_in, teletext_packets
-from subtitles.core.teletext import CODE_WORDS, DATA_BITS, packet
+from subtitles.core.teletext import CODE_WORDS, packet
 from subtitles.qc.asked import Asked
 from subtitles.qc.warned import of_character_sets, of_option
 from .bench import Case, example_bytes, packets
@@ -25,6 +25,11 @@ ASKED = Asked(stl="a.stl", recording="a.ts", page=PAGE, every=250, option="engli
 HEADER, OTHER, CLOSING = (packet(0, 0, numbers, b" " * 32) for numbers in (
     (8, 8, 0, 8, 0, 8, 1, 0), (1, 0, 0, 0, 0, 0, 0, 0), (15, 15, 15, 7, 15, 3, 0, 0)))
 ROW = packet(0, 20, (), b"a row".ljust(40))
+
+
+# The places of the 18 bits among those of three Hamming 24/18 bytes, counted from 1: all but powers
+# of 2, which are checks, and the last.
+DATA_BITS = tuple(at for at in range(1, 24) if at & at - 1)
 
 
 def triplet(value: int) -> bytes:

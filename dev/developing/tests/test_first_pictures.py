@@ -58,23 +58,23 @@ class Pictures(unittest.TestCase):
     def test_none(self) -> None:
         """Each reason."""
         two = programme((VIDEO, MPEG_2), (0x201, H_264))
-        rows: list[tuple[Sequence[str], bool, str]] = [
-            ([], True, "no PMT names PID 0x101"),
-            (programme(), True, "has no video: PID 0x101 stream_type 06"),
-            (two, True, "has several video PIDs: PID 0x101 stream_type 06, PID 0x200 MPEG-2, "
-                        "PID 0x201 H.264"),
-            (programme((VIDEO, 0x33)), True, "pictures of VVC are not read"),
-            (programme((VIDEO, MPEG_2)), True, "MPEG-2, has no PES packets of video"),
-            (programme((VIDEO, MPEG_2)), False, "no PES packet of MPEG-2 of PID 0x200 has come "
-                                                "with the random_access_indicator"),
-            ([*programme((VIDEO, MPEG_2)), f"pictures {VIDEO} 0 0 7 0"], True,
-             "none of 7 PES packets of MPEG-2 of PID 0x200 has the random_access_indicator"),
-            (shown([0, 1], "2 0"), True, "2 TS packets of MPEG-2 of PID 0x200 lost among"),
-            (shown([0, 1], "1 1"), True, "is scrambled"),
-            (shown([0, None]), True, "a picture of MPEG-2 of PID 0x200 has no PTS"),
-            (shown([None]), True, "a picture of MPEG-2 of PID 0x200 has no PTS"),
-            # Two pictures in each PES packet: the first that is shown has no PTS.
-            (shown(GROUP[::2] + [9]), True, "leave out 3 frames: a PES packet has several")]
+        rows: list[tuple[list[str], bool, str]] = [
+                ([], True, "no PMT names PID 0x101"),
+                (programme(), True, "has no video: PID 0x101 stream_type 06"),
+                (two, True, "has several video PIDs: PID 0x101 stream_type 06, PID 0x200 MPEG-2, "
+                            "PID 0x201 H.264"),
+                (programme((VIDEO, 0x33)), True, "pictures of VVC are not read"),
+                (programme((VIDEO, MPEG_2)), True, "MPEG-2, has no PES packets of video"),
+                (programme((VIDEO, MPEG_2)), False, "no PES packet of MPEG-2 of PID 0x200 has come "
+                                                    "with the random_access_indicator"),
+                ([*programme((VIDEO, MPEG_2)), f"pictures {VIDEO} 0 0 7 0"], True,
+                 "none of 7 PES packets of MPEG-2 of PID 0x200 has the random_access_indicator"),
+                (shown([0, 1], "2 0"), True, "2 TS packets of MPEG-2 of PID 0x200 lost among"),
+                (shown([0, 1], "1 1"), True, "is scrambled"),
+                (shown([0, None]), True, "a picture of MPEG-2 of PID 0x200 has no PTS"),
+                (shown([None]), True, "a picture of MPEG-2 of PID 0x200 has no PTS"),
+                # Two pictures in each PES packet: the first that is shown has no PTS.
+                (shown(GROUP[::2] + [9]), True, "leave out 3 frames: a PES packet has several")]
         for lines, is_whole, words in rows:
             self.assertIn(words, self.said(lines, is_whole))
 
@@ -97,12 +97,12 @@ class Pictures(unittest.TestCase):
     def test_feed(self) -> None:
         """Nothing more tells it: they are over; there is no video; or no picture comes."""
         waits = [*programme((VIDEO, MPEG_2)), f"pcr {VIDEO} 5"]
-        rows: list[tuple[Sequence[str], bool]] = [
-            ([], False), (programme(), True), (programme((VIDEO, MPEG_2)), False),
-            (waits, False), ([*waits, f"pcr {VIDEO} {5 + PATIENCE}"], False),
-            ([*waits, f"pcr {VIDEO} {6 + PATIENCE}"], True),
-            ([*waits, f"video {VIDEO} 3", f"pcr {VIDEO} {6 + PATIENCE}"], False),
-            (shown([0])[:-1], False), (shown([0]), True)]
+        rows: list[tuple[list[str], bool]] = [
+                ([], False), (programme(), True), (programme((VIDEO, MPEG_2)), False),
+                (waits, False), ([*waits, f"pcr {VIDEO} {5 + PATIENCE}"], False),
+                ([*waits, f"pcr {VIDEO} {6 + PATIENCE}"], True),
+                ([*waits, f"video {VIDEO} 3", f"pcr {VIDEO} {6 + PATIENCE}"], False),
+                (shown([0])[:-1], False), (shown([0]), True)]
         for lines, wanted in rows:
             self.assertEqual(is_known(surveyed(lines), TELETEXT), wanted, lines)
 

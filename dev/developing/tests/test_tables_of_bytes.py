@@ -130,28 +130,6 @@ class Codes(unittest.TestCase):
                 self.assertEqual([one for one in places if teletext.has_bit(header, one) == is_set],
                                  [bit])
 
-    def test_triplets(self) -> None:
-        """18 bits in 24, each bit wrong by itself, and two of them (EN 300 706, 8.3)."""
-        for value in (0, 1, 0x20000, 0x3FFFF, 0x15555, 0x2AAAA, 0x12345):
-            bits = [0] * 25
-            data = iter(bits_of(value, 18)[::-1])
-            for at in range(1, 24):
-                bits[at] = 0 if at & at - 1 == 0 else int(next(data))
-            for check in range(5):
-                bits[1 << check] = 1 ^ sum(bits[at] for at in range(1, 24) if at >> check & 1) & 1
-            bits[24] = 1 ^ sum(bits[1:24]) & 1
-            word = sum(bit << at for at, bit in enumerate(bits[1:]))
-            self.assertEqual(teletext.triplet_of(word.to_bytes(3, "little")), value)
-            for one in range(24):
-                self.assertEqual(teletext.triplet_of((word ^ 1 << one).to_bytes(3, "little")),
-                                 value)
-                for two in range(one):
-                    wrong = word ^ 1 << one ^ 1 << two
-                    self.assertIsNone(teletext.triplet_of(wrong.to_bytes(3, "little")), (one, two))
-            for low in range(8):  # three, whose checks name the places 24 to 31
-                wrong = word ^ 1 << 7 ^ 1 << 15 + low ^ 1 << 23
-                self.assertIsNone(teletext.triplet_of(wrong.to_bytes(3, "little")), low)
-
     def test_pages(self) -> None:
         """Names of pages, and what is none."""
         for text, page in (("888", (0, 0x88)), ("100", (1, 0)), ("7fE", (7, 0xFE)),

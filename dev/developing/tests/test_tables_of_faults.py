@@ -28,7 +28,7 @@ from subtitles.qc.sentence import Seen, of_causes, what_is_wrong
 from subtitles.qc.speech import Speech
 from subtitles.qc.unclear import Unclear
 from subtitles.qc.why import tell
-from subtitles.reading.receiver import OLD
+from subtitles.reading.receiver import BLANK_PAGE, OLD
 from .bench import Case, alone
 from .judged import Heard
 from .parts import (
@@ -137,6 +137,8 @@ class Words(Case):
             for text in (b"one", b"two")]
         due = DuePages([Subtitle(1, 1, 10, 50, 20, 2, b""), Subtitle(2, 2, 100, 150, 20, 2, b"")],
                        pages)
+        nothing = DuePages(due.subtitles[:1], [BLANK_PAGE])
+        self.assertIsNone(nothing.of_page(BLANK_PAGE, 5))  # erased, or that of an empty text
         owners = {frame: Namer(due, held).owner(frame) for frame in (5, 20, 55, 60, 99, 100, 149)}
         self.assertEqual(owners, {5: 0, 20: 0, 55: 0, 60: 1, 99: 1, 100: 1, 149: 1})
 

@@ -44,17 +44,15 @@ class Named(Case):
                     os.path.join(here, f"{name}.txt")))
                 self.must(f"{out} {name}: object", one.machine == (f"{typed}.json" if out else
                                                                    None))
-            line = f"{self.folder}/one.stl and {self.folder}/x"
-            self.must(f"{out}: a line", names.as_typed(line) == line.replace(
-                self.folder + "/", "out/" if out else ""))
 
     def test_what_an_earlier_call_left(self) -> None:
         """Files of the pair and of its parts, and of no other pair."""
         out = self.path("out")
         os.mkdir(out)
-        own = ["one.1.txt", "one.12.cut.pes", "one.3.txt", "one.9.html"]
+        own = ["one.1.txt", "one.12.cut.pes", "one.3.txt", "one.9.html", "one.10f.recording.pes"]
         others = ["one.0.txt", "one.x.txt", "one.1x.txt", "two.1.txt", "one.1.a.txt", "one.01.txt",
-                  "one.txt.1", "one.1.stl", "one.5.html", "one.5.json"]
+                  "one.txt.1", "one.1.stl", "one.5.html", "one.5.json", "one.5.recording.pes",
+                  "one.x.recording.pes"]
         for name in [*own, *others]:
             with open(os.path.join(out, name), "wb"):
                 pass

@@ -6,7 +6,8 @@ import unittest
 from types import SimpleNamespace
 from typing import Any, Sequence
 
-from subtitles.core.times import CLOCK
+from subtitles.core.times import CLOCK, TICKS
+from subtitles.reading.cutting import cut_of
 from subtitles.reading.gaps import SECOND, Jump, jumps_of, places_of
 from subtitles.reading.stretches import LACKED, Stretch, by_breaks
 from subtitles.reading.survey import Clocked, Mark, Packets, Run, Survey
@@ -68,10 +69,10 @@ class Times(unittest.TestCase):
         """From which PTS on, how many, and the worst of them, early or late."""
         usual = [(SECOND * at, 1000) for at in range(9)]
         rows: list[tuple[list[int], list[tuple[str, int, int]]]] = [
-            ([], []), ([-5, -700, -20], [("behind", 3, -700)]), ([-1], [("behind", 1, -1)]),
-            ([SECOND, SECOND + 1], [("early", 1, SECOND + 1), ("changed", 2, SECOND - 999)]),
-            ([1000 + SECOND // 2], []), ([1001 + SECOND // 2], [("changed", 1, 45_001)]),
-            ([-45_000, 47_000], [("behind", 1, -45_000), ("changed", 2, -46_000)])]
+                ([], []), ([-5, -700, -20], [("behind", 3, -700)]), ([-1], [("behind", 1, -1)]),
+                ([SECOND, SECOND + 1], [("early", 1, SECOND + 1), ("changed", 2, SECOND - 999)]),
+                ([1000 + SECOND // 2], []), ([1001 + SECOND // 2], [("changed", 1, 45_001)]),
+                ([-45_000, 47_000], [("behind", 1, -45_000), ("changed", 2, -46_000)])]
         for more, wanted in rows:
             samples = [*usual, *((SECOND * at, ahead) for at, ahead in enumerate(more, 9))]
             found = list(strange_of(packets_with([], samples=samples)))
@@ -84,15 +85,26 @@ class Times(unittest.TestCase):
         goes back is no hole."""
         hole, back = clocked(500, 99_000, "broken"), clocked(500, -99_000, "broken")
         rows: list[tuple[list[int], list[Clocked], list[tuple[int, int]]]] = [
-            ([], [hole], [(500, 90_000)]), ([], [back], []),
-            ([], [hole, hole], [(500, 90_000)] * 2), ([1], [], [(100, 0)]),
-            ([1], [hole], [(100, 0), (500, 90_000)]),
-            ([1], [clocked(150, 99_000, "broken")], [(100, 0)]),
-            ([], [clocked(500, 99_000, "whole")], [])]
+                ([], [hole], [(500, 90_000)]), ([], [back], []),
+                ([], [hole, hole], [(500, 90_000)] * 2),
+                ([1], [], [(100, 0)]), ([1], [hole], [(100, 0), (500, 90_000)]),
+                ([1], [clocked(150, 99_000, "broken")], [(100, 0)]),
+                ([], [clocked(500, 99_000, "whole")], [])]
         for marks, several, wanted in rows:
             packets = packets_with([100, None, 200, 600], clocked=several, marks=[
                 Mark(number, 100, 3, 0) for number in marks])
             self.assertEqual([(one.before, one.missing) for one in places_of(packets)], wanted)
+
+    def test_marks_at_the_ends_of_a_cut(self) -> None:
+        """A mark just behind the last frame, up to the first PES packet of a later one, is judged;
+        one before the first frame is not."""
+        for frames, wanted in (
+                ([0, 50, None, 75], (0, 2)), ([0, 50, None, None, 75], (0, 3)),
+                ([0, 50, None], (0, 2)), ([0, 50, 75, None], (0, 1)), ([None, 0, 50, 75], (1, 2)),
+                ([0, None, 50, 75], (0, 2))):
+            pts = [None if one is None else TICKS * one for one in frames]
+            found = cut_of(packets_with(pts), 0, 50, 0, 25).range
+            self.assertEqual(found, wanted, frames)
 
     def test_jumps(self) -> None:
         """Where nothing is missing, and more packets than a tenth of those of that time would be

@@ -61,7 +61,7 @@ def judge(words: argparse.Namespace, called: str) -> int:
     with temporary_folder("subttx-qc-") as folder, claimed(out, name):
         names = Names(name, folder, out)
         keep_stl(asked, folder)
-        names.give(asked.stl_path, asked.stl)
+        names.give(asked.stl_path)
         files = Files(words, verdict, typed, names)
         files.prepare()
         verdict.found = found(asked)

@@ -16,10 +16,6 @@ CONTROL_BITS = {4: (3, 8), 5: (5, 4), 6: (5, 8), **{7 + bit: (6, 1 << bit) for b
 ERASE, NEWSFLASH, SUBTITLE, SUPPRESS, INHIBIT, SERIAL = 4, 5, 6, 7, 10, 11
 NATIONAL = 12, 13, 14
 
-# The places of the 18 bits among those of three Hamming 24/18 bytes, counted from 1: all but powers
-# of 2, which are checks, and the last.
-DATA_BITS = tuple(at for at in range(1, 24) if at & at - 1)
-
 # Each byte with its bits in reverse: a data unit sends bit 1 first.
 MIRROR = bytes(int(f"{byte:08b}"[::-1], 2) for byte in range(256))
 
@@ -70,23 +66,6 @@ def has_bit(header: bytes, bit: int) -> bool:
 def page_in(header: bytes) -> int:
     """The page number of a header's eight numbers, two hexadecimal digits."""
     return header[0] + 16 * header[1]
-
-
-def triplet_of(data: bytes) -> int | None:
-    """The 18 bits of three Hamming 24/18 bytes, bit 1 the lowest (EN 300 706, 8.3); one wrong bit
-    is corrected, `None` where two are wrong."""
-    word = int.from_bytes(data, "little")
-    places = [at for at in range(1, 25) if word >> at - 1 & 1]
-    wrong = 31  # the place of a wrong bit: each of the five checks has an odd number of bits set
-    for at in places:
-        wrong ^= at if at < 24 else 0
-    if len(places) % 2 == 0:  # the last bit makes the number of those that are set odd
-        if wrong > 23:
-            return None
-        word ^= 1 << wrong - 1 if wrong else 0
-    elif wrong:
-        return None
-    return sum((word >> at - 1 & 1) << bit for bit, at in enumerate(DATA_BITS))
 
 
 def headers_in(packets: Iterable[bytes]) -> list[Header]:

@@ -3,6 +3,7 @@ from __future__ import annotations
 
 import glob
 import os
+import re
 from typing import Iterator
 
 from ..core.files import is_utf_8
@@ -14,6 +15,13 @@ from .typed import Typed, line_of
 
 LINK = ".out"  # in the temporary folder
 ENDINGS = ("cut.pes", "txt", "html")  # of what is made of a part
+KEPT = "recording.pes"  # the PES packets of a recording
+PID = re.compile(rf"[0-9a-f]+\.{re.escape(KEPT)}")
+
+
+def of_pid(pid: int) -> str:
+    """What the file with the PES packets of a PID ends with, where the page moves."""
+    return f"{pid:x}.{KEPT}"
 
 
 class Names:
@@ -30,8 +38,8 @@ class Names:
             self.here = os.path.join(folder, LINK)
             if not os.path.lexists(self.here):
                 os.symlink(os.path.abspath(out), self.here)
-        self.given = self.given_typed = ""  # the subtitle file, for the program and as it is typed
-        self.whole, self.whole_path = self.typed("recording.pes"), self.temporary("recording.pes")
+        self.given = ""  # the subtitle file, for the program
+        self.whole, self.whole_path = self.typed(KEPT), self.temporary(KEPT)
         self.list_path = self.place("txt")
         self.report = self.typed("html")
         self.machine = self.typed("json") if out else None
@@ -58,8 +66,8 @@ class Names:
         One beside a JSON result is of another pair."""
         if self.out is None:
             return []
-        own = [self.place("cut.pes"), self.place("recording.pes"), self.list_path, self.report,
-               self.typed("json")]
+        own = [self.place("cut.pes"), self.place(KEPT), self.list_path, self.report,
+               self.typed("json"), *self.of_pids()]
         return own + [path for ending in ENDINGS for path, stem in self.of_parts(ending)
                       if not os.path.exists(f"{stem}.json")]
 
@@ -73,13 +81,19 @@ class Names:
                 if stem.removeprefix(begin).isdecimal():
                     yield path, stem
 
+    def of_pids(self) -> list[str]:
+        """Files in the folder with the PES packets of a PID of a feed whose page moves."""
+        begin = glob.escape(self.typed(""))
+        return [path for path in glob.glob(f"{begin}*.{KEPT}") if PID.fullmatch(
+            path[len(self.typed("")):]) and not os.path.exists(f"{path[:-len(KEPT)]}json")]
+
     def written(self) -> list[str]:
         """What is there of the files that may be written."""
         return self.kept() + [path for ending in ENDINGS for path, _ in self.of_parts(ending)]
 
-    def give(self, stl: str, typed: str = "") -> None:
-        """Takes the subtitle file, by a name that can be read and as it is typed."""
-        self.given, self.given_typed = self.as_program(stl), typed or stl
+    def give(self, stl: str) -> None:
+        """Takes the subtitle file."""
+        self.given = self.as_program(stl)
 
     def as_program(self, name: str) -> str:
         """A file by a name that is UTF-8, as the program asks."""
@@ -89,14 +103,6 @@ class Names:
         if not os.path.lexists(path):
             os.symlink(os.path.abspath(name), path)
         return path
-
-    def as_typed(self, line: str) -> str:
-        """A line of a tool, in which files have the names that a person types."""
-        if self.given != self.given_typed:
-            line = line.replace(self.given, self.given_typed)
-        if self.out and self.here and self.out != self.here:
-            line = line.replace(self.here, self.out)
-        return line.replace(os.path.join(self.folder, ""), os.path.join(self.out or "", ""))
 
 
 def again(asked: Asked, typed: Typed, *more: str) -> str:

@@ -18,7 +18,7 @@ from ..reading.timing import reach_of
 from .asked import Asked
 from .ending import Ending
 from .feed import Feed
-from .names import Names, again
+from .names import Names, again, of_pid
 from .pes_header import header_length, header_words
 from .speech import Speech
 from .start import NoFirst
@@ -54,11 +54,6 @@ def size_of(name: str) -> int | None:
     """The bytes of a file; `None` for one that can be read only once."""
     about = os.fstat(0) if name == STANDARD_INPUT else os.stat(name)
     return about.st_size if stat.S_ISREG(about.st_mode) else None
-
-
-def ending_of(pid: int) -> str:
-    """What the name of the file with the PES packets of a PID ends with."""
-    return f"{pid:x}.recording.pes"
 
 
 def refuse(survey: Survey, name: str) -> None:
@@ -136,7 +131,7 @@ class Recording:
                 self.packets = feed.keep(self.packets, self.names.whole_path)
             for pid in self.pids():
                 self.survey.by_pid[pid] = feed.keep(
-                    self.survey.by_pid[pid], self.names.temporary(ending_of(pid)))
+                    self.survey.by_pid[pid], self.names.temporary(of_pid(pid)))
             if self.stages:  # by the numbers of what is kept
                 self.packets = self.chosen()
         self.file = feed.summed()
@@ -222,7 +217,7 @@ class Recording:
 
     def of(self, stage: Stage) -> Recording:
         """The same of one PID, where the page moves to another one."""
-        one, ending = copy.copy(self), ending_of(stage.pid)
+        one, ending = copy.copy(self), of_pid(stage.pid)
         one.packets = stage.packets
         one.kept = self.names.temporary(ending), self.names.typed(ending)
         return one
@@ -243,7 +238,7 @@ class Recording:
         pids = self.pids()
         if not self.is_file:
             for pid in pids:
-                ending = ending_of(pid)
+                ending = of_pid(pid)
                 shutil.copyfile(self.names.temporary(ending), self.names.place(ending))
             if not pids:
                 shutil.copyfile(self.names.whole_path, path)

@@ -105,7 +105,9 @@ class Part:
         if self.pes is None:
             return False
         numbers = self.answer.numbers - STL_FAULTS
-        if not numbers or numbers - PASSED_OVER - {EMPTY}:
+        if not numbers:  # beside refused subtitles it was read where something is told of it
+            return not self.answer.numbers or len(self.answer.trusted) > 0
+        if numbers - PASSED_OVER - {EMPTY}:
             return True
         count = min(self.pes[1] + 1, self.packets.count) - self.pes[0]
         return count > self.answer.passed.total()

@@ -5,16 +5,8 @@ import bisect
 import itertools
 from typing import Iterable, Sequence
 
-from ..core.teletext import CODE_WORDS, Page, mirrored
-
 FEWEST = 3  # repeats that are measured
 NEAR = 5  # frames before an edge in which its own sending may come, by a clock that is late
-
-
-def coded_header(page: Page) -> bytes:
-    """The first bytes of a page's header without a wrong bit, as a data unit sends them."""
-    magazine, number = page
-    return mirrored(bytes(CODE_WORDS[one] for one in (magazine, 0, number & 15, number >> 4)))
 
 
 def longest_gap(frames: Iterable[int]) -> int:
