@@ -204,6 +204,16 @@ class Beside(Case):
                       found.result["layout"] and words in found.verdict.sentence and
                       " --layout " in found.lines("+ ")[-1], found.said)
 
+    def test_not_judged(self) -> None:
+        """Where the others can't be judged the subtitle file is refused, and a note says why."""
+        empty = self.write("empty.pes", b"")
+        found = judged(self, self.file(3), empty, *WORDS)
+        self.must("refused", found.word == "refused" and found.listed == [
+            "refused 50 Character block 3 at 11", "1 faults"] and
+            found.result["subtitle_counts"] is None and
+            f"the other subtitles were not judged: {empty} is empty" in found.verdict.notes and
+            found.verdict.sentence.startswith("Refused: in block 3 a letter "), found.said)
+
     def test_many(self) -> None:
         """800 subtitles, of which 1, 5 and 40 are refused: judged in little time more."""
         blocks = [(200 * at, 200 * at + 100, b"Number %d" % at) for at in range(1, 801)]

@@ -9,7 +9,7 @@ from ..core.national import BY_WORD
 from ..core.programme import Subtitle
 from ..core.times import ALL_DAY, time_of
 from ..core.told import CONTENT, CONTROL, EMPTY, LOST_PACKETS, WITH_CAUSE
-from ..core.words import counted, pid_name
+from ..core.words import Stop, counted, pid_name
 from ..reading.finding import runs_line
 from ..reading.survey import HEADER
 from ..reading.timeline import Span, timeline_near
@@ -97,6 +97,8 @@ class Pair:
         is_refused = answer.numbers != {EMPTY}
         if asked.recording is None or is_refused and not self.verdict.beside:
             self.judge_alone(answer, is_refused)
+        elif is_refused:
+            self.judge_beside(answer)
         else:
             self.judge_transmission()
         for part in self.verdict.parts:
@@ -196,6 +198,18 @@ class Pair:
         self.verdict.recording = recording.file
         given = given or self.by_start(recording)
         return Heard(recording, self.found(recording, given), subtitles)
+
+    def judge_beside(self, answer: Answer) -> None:
+        """Judges how the subtitles were sent that are not refused. Where that can't be judged the
+        subtitle file is refused all the same, and a note says why."""
+        try:
+            self.judge_transmission()
+        except (Stop, Unclear) as why:
+            if self.begun:
+                raise
+            self.verdict.beside, self.verdict.count, self.steps.left_out = None, 0, ()
+            self.verdict.notes.append(f"the other subtitles were not judged: {why}")
+            self.judge_alone(answer, True)
 
     def judge_transmission(self) -> None:
         """Judges what was recorded, part by part."""
