@@ -72,3 +72,12 @@ def time_at(pts: int | None, origin: int) -> str | None:
         return None
     frame = frame_in(pts, origin)
     return time_of(frame) if frame < FRAMES_OF_A_DAY else None
+
+
+def unsent_in(part: Part) -> list[str]:
+    """That the last subtitles of a feed did not come: it is not read long enough to tell a break.
+    """
+    frame = part.causes.unsent_from() if part.causes else None
+    return [] if frame is None else [
+        f"from {time_of(frame)} on no subtitle was sent while the feed was read; if the programme "
+        "has a break there, say --breaks 1"]

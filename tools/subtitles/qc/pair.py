@@ -26,7 +26,7 @@ from .fitting import Found, found_in, with_delay
 from .hints import OF_HEADERS, words_of
 from .layouts import layout_of_sent
 from .midnight import title_words
-from .missing import gap_of, gaps_in, is_in
+from .missing import gap_of, gaps_in, is_in, unsent_in
 from .moved import moves_told
 from .names import Names
 from .options import FROM, LAYOUT
@@ -239,7 +239,7 @@ class Pair:
             self.verdict.warnings += [one for one in recording.strange() if one.kind == "grew"]
         self.verdict.gaps += gaps_in(recording, stretches, self.verdict.parts)
         if recording.is_feed and not asked.breaks and not self.is_shifted:
-            self.note_unsent(self.verdict.parts[-1])
+            self.verdict.notes += unsent_in(self.verdict.parts[-1])
 
     def given(self) -> Clock | None:
         """The clock that was given, `None` where it is to be found."""
@@ -397,12 +397,3 @@ class Pair:
         if part.is_refused and not (recording.is_feed or is_lost or one.piece):
             part.accepted_within = Trying(self.steps, recording, one, part.number, count).least(
                 answer.numbers, part.causes)
-
-    def note_unsent(self, part: Part) -> None:
-        """That the last subtitles of a feed did not come: it is not read long enough to tell a
-        break."""
-        frame = part.causes.unsent_from() if part.causes else None
-        if frame is not None:
-            self.verdict.notes.append(
-                f"from {time_of(frame)} on no subtitle was sent while the feed was read; if the "
-                "programme has a break there, say --breaks 1")
