@@ -29,7 +29,7 @@ FIELDS = {16: (CS, 0), 18: (JC, 2), 19: (VP, 22)}
 
 @dataclasses.dataclass
 class Fault:
-    """A line `refused`: its number, and the numbers of its place. `until` is, for 72, 73 and 77,
+    """A line `refused`: its number, and the numbers of its place. `until` is, for 72, 73, 77 to 79,
     the last frame at whose end it stood, and the last one of PES packets of which it is told."""
 
     number: int
@@ -59,9 +59,12 @@ def faults_in(lines: Iterable[str]) -> list[Fault]:
 # Subtitle files
 
 def mended_subtitles(data: bytes, faults: Iterable[Fault]) -> bytes:
-    """A subtitle file whose subtitles have a block each, mended by its list."""
+    """A subtitle file whose subtitles have a block each, mended by its list; what is told beside
+    of the transmission is left."""
     blocks = [bytearray(data[at:at + TTI]) for at in range(GSI, len(data), TTI)]
     for fault in faults:
+        if "block" not in fault.place:
+            continue
         number = fault.place["block"] - 1
         if fault.number == 10:
             del blocks[number:]  # what stands after the last block
