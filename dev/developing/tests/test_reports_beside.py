@@ -61,6 +61,8 @@ class Beside:
         pieces = ["--pes", "{}-{}".format(*asked.pes)] if asked.pes else []
         self.told = run("check", *options, "--every", str(asked.every), *more, *pieces, "--all",
                         "--", asked.stl, asked.recording or os.devnull)
+        if not asked.recording:  # that there is no PES packet is no fault of a subtitle file alone
+            self.told = [line for line in self.told if line != "refused 60 Empty"]
         times = [line.split()[1:3] for line in run("show", asked.stl) if " vp " in line]
         self.times = [(frame_of(first) or 0, frame_of(end) or 0) for first, end in times]
         self.due = asked.stl + ".due"
