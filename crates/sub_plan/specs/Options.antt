@@ -5,8 +5,9 @@ use Rattle.ttx_packet.specs.PageId.{PageIdValue}
 
 -- What options are to their callers: the page that is sent, the repeat bound in frames, the PTS of
 -- frame 0, whether complete pages are asked for, each ended by a header after its own, within how
--- many frames the page that is due has to be whole: at the end of each one for 0; and how many
--- frames apart PES packets are at most, where that is asked.
+-- many frames the page that is due has to be whole: at the end of each one for 0; how many frames
+-- apart PES packets are at most, where that is asked; and whether repeats may keep the page, with
+-- C4, erase page, clear in their headers.
 pub record OptionsValue : Type 0 where
   pub page : PageIdValue
   pub every : ℕ
@@ -14,6 +15,7 @@ pub record OptionsValue : Type 0 where
   pub asks_complete : Bool
   pub within : ℕ
   pub pace : Option ℕ
+  pub keeps : Bool
 
 -- A magazine 0 to 7, and a page number other than FF. So the closing header, page FF, is never one
 -- of the page.

@@ -31,10 +31,10 @@ const MOST_WITHIN: u64 = 50;
 const TICKS_EARLY: u64 = 900;
 
 /// The page on which subtitles are sent, how often they are repeated, the PTS of frame 0, whether
-/// complete pages are asked for, within how many frames the page that is due has to be whole, and
-/// how many frames apart PES packets are at most.
+/// complete pages are asked for, within how many frames the page that is due has to be whole, how
+/// many frames apart PES packets are at most, and whether repeats may keep the page.
 ///
-/// Contracts see the six as an `OptionsValue`.
+/// Contracts see the seven as an `OptionsValue`.
 #[derive(Clone, Copy, Debug, PartialEq, Eq)]
 pub struct Options {
     page: PageId,
@@ -43,6 +43,7 @@ pub struct Options {
     asks_complete: bool,
     within: u64,
     pace: Option<u64>,
+    keeps: bool,
 }
 
 impl Model for Options {
@@ -57,6 +58,7 @@ impl Model for Options {
       asks_complete = o.asks_complete;
       within = o.within;
       pace = o.pace;
+      keeps = o.keeps;
     } };
 
     ghost invariant = { λ o. IsOptions (record {
@@ -66,6 +68,7 @@ impl Model for Options {
       asks_complete = o.asks_complete;
       within = o.within;
       pace = o.pace;
+      keeps = o.keeps;
     }) };
 
     ghost inverse = { λ v. record {
@@ -75,6 +78,7 @@ impl Model for Options {
       asks_complete = v.asks_complete;
       within = v.within;
       pace = v.pace;
+      keeps = v.keeps;
     } };
 }
 
@@ -82,8 +86,8 @@ impl Options {
     ghost use Rattle.sub_plan.specs.Options.{IsOptions};
 
     /// The options of a page, a repeat bound and the PTS of frame 0. They don't ask for complete
-    /// pages, the page that is due has to be whole at the end of each frame, and PES packets may be
-    /// as far apart as they like.
+    /// pages, the page that is due has to be whole at the end of each frame, PES packets may be as
+    /// far apart as they like, and each header of the page has to erase it.
     ///
     /// `every` is in frames, 1 to 2,160,000, a day: in that many frames the page's header is sent
     /// at least once (own). `origin` is in ticks of 90 kHz, below 2^33 (EN 300 472, PTS).
@@ -100,6 +104,7 @@ impl Options {
               asks_complete = false;
               within = 0;
               pace = None;
+              keeps = false;
             }) }
         ensures options { IfOk result IsOptions }
         ensures every { (result ≡ Err Every) ↔ ((every < 1) ⊎ (day < every)) }
@@ -122,6 +127,7 @@ impl Options {
             asks_complete: false,
             within: 0,
             pace: None,
+            keeps: false,
         })
     }
 
@@ -200,6 +206,24 @@ impl Options {
         ensures options { IsOptions self.now }
     {
         self.pace
+    }
+
+    /// The same options, by which repeats may keep the page: a header of it that repeats it may
+    /// have C4, erase page, clear (own).
+    pub fn keeping(self) -> Options
+        ensures { result ≡ record self { keeps = true } }
+    {
+        Options {
+            keeps: true,
+            ..self
+        }
+    }
+
+    /// Whether repeats may keep the page.
+    pub fn may_keep(&self) -> bool
+        ensures value { result ≡ self.now.keeps }
+    {
+        self.keeps
     }
 
     /// The page that is sent.

@@ -15,11 +15,12 @@ use Rattle.ttx_packet.specs.OneBit.{first_below}
 use Rattle.ttx_packet.specs.PageId.{PageIdValue}
 use Rattle.ttx_page.specs.Page.{Rows, cell, space}
 use Rattle.ttx_page.specs.PacketKind.{kind}
-use Rattle.ttx_page.specs.Shown.{shown}
+use Rattle.ttx_page.specs.Shown.{kept}
 use Rattle.ttx_page.specs.Span.{holds_header, is_open_after}
 use Rattle.sub_rules.specs.FrameRules.{Task, Unread, end_frame, frame_at, packets_before}
 use Rattle.sub_rules.specs.FrameRules.{packets_of_frame}
 use Rattle.sub_rules.specs.FrameRules.Unread.{BadPacket, NoFrame}
+use Rattle.sub_rules.specs.Kept.{has_row}
 use Rattle.sub_rules.specs.PacketTests.{broken_rules}
 use Rattle.sub_rules.specs.Transmission.{SentFrame, Transmission}
 use Rattle.sub_rules.specs.declared.end_rule.EndRule.{EndRule}
@@ -69,18 +70,24 @@ first_cell test =
     (λ above. option_map (λ column. (above + 1, column)) (first_below 40 (test (above + 1))))
     (first_below 24 (λ above. is_some (first_below 40 (test (above + 1)))))
 
--- The first cell that shows another code after these packets than a page has there.
-unfoldable pub wrong_after : PageIdValue → List (List ℕ) → Rows → Option (ℕ × ℕ)
-wrong_after page packets due =
-    first_cell (λ row column. not (shown page packets row column == cell due row column))
+-- A cell is right after these packets, where a page is due: as `IsRight`.
+abbrev pub is_right : Bool → PageIdValue → List (List ℕ) → Rows → ℕ → ℕ → Bool
+is_right keeps page packets due row column =
+    kept keeps page packets row column == cell due row column
+    && (cell due row column == space || has_row page packets row)
 
--- The first cell that shows another code after n frames of the list than is due at frame f. Where
--- it is not known what is due, any code may be in any cell.
+-- The first cell that is not right after these packets, where a page is due.
+unfoldable pub wrong_after : Bool → PageIdValue → List (List ℕ) → Rows → Option (ℕ × ℕ)
+wrong_after keeps page packets due =
+    first_cell (λ row column. not (is_right keeps page packets due row column))
+
+-- The first cell that is not right after n frames of the list, at the end of frame f. Where it is
+-- not known what is due, any code may be in any cell.
 abbrev pub wrong_cell : Task → Transmission → ℕ → ℕ → Option (ℕ × ℕ)
 wrong_cell g frames n f =
     if g.undecided f
     then None
-    else wrong_after g.watched.page (packets_before frames n) (g.due f)
+    else wrong_after g.watched.keeps g.watched.page (packets_before frames n) (g.due f)
 
 -- A header of the page in this frame is one of the last `every` frames up to f, or of a later one.
 abbrev pub covers : Task → ℕ → SentFrame → Bool
@@ -99,8 +106,8 @@ is_incomplete g frames n =
 
 -- ---- within how many frames the page has to be whole
 
--- The end of frame f, after n frames of the list, is unfinished: a cell shows another code than is
--- due, or the page is open where complete pages are asked for.
+-- The end of frame f, after n frames of the list, is unfinished: a cell is not right, or the page is
+-- open where complete pages are asked for.
 abbrev pub is_unfinished : Task → Transmission → ℕ → ℕ → Bool
 is_unfinished g frames n f = is_some (wrong_cell g frames n f) || is_incomplete g frames n
 
@@ -183,14 +190,15 @@ was_due due first f (suc n) row column code =
     was_due due first f n row column code
     || (nat_le (first + suc n) f && (cell (due (f - suc n)) row column == code))
 
--- The first cell that shows after these packets, at the end of frame f, neither a space nor a code
--- that was due there at that frame or one of the last n, from the first frame on.
-unfoldable pub undue_after : PageIdValue → List (List ℕ) → (ℕ → Rows) → ℕ → ℕ → ℕ → Option (ℕ × ℕ)
-undue_after page packets due first f n =
+-- The first cell in which after these packets, at the end of frame f, neither a space is kept nor a
+-- code that was due there at that frame or one of the last n, from the first frame on.
+unfoldable pub undue_after :
+    Bool → PageIdValue → List (List ℕ) → (ℕ → Rows) → ℕ → ℕ → ℕ → Option (ℕ × ℕ)
+undue_after keeps page packets due first f n =
     first_cell
     (λ row column.
-    not (shown page packets row column == space)
-    && not (was_due due first f n row column (shown page packets row column)))
+    not (kept keeps page packets row column == space)
+    && not (was_due due first f n row column (kept keeps page packets row column)))
 
 -- It is not known what was due at frame f, or at one of the n frames before it, from the first
 -- frame of the list on.
@@ -203,16 +211,19 @@ was_undecided undecided first f (suc n) =
 abbrev pub undecided_within : Task → Transmission → ℕ → Bool
 undecided_within g frames f = was_undecided g.undecided (frame_at frames 0) f g.within
 
--- The first cell that shows, after n frames of the list, what was not due within these frames.
+-- The first cell in which is kept, after n frames of the list, what was not due within these
+-- frames.
 -- Where it is not known of one of them what was due, it may have been any code.
 abbrev pub undue_cell : Task → Transmission → ℕ → ℕ → Option (ℕ × ℕ)
 undue_cell g frames n f =
     if undecided_within g frames f
     then None
-    else undue_after g.watched.page (packets_before frames n) g.due (frame_at frames 0) f g.within
+    else
+      undue_after g.watched.keeps g.watched.page (packets_before frames n) g.due (frame_at frames 0)
+      f g.within
 
 -- What of the page's content stands broken at the end of frame f, after n frames of the list: where
--- it is late each cell has to show what is due, and else what was due within these frames.
+-- it is late each cell has to be right, and else what is kept there was due within these frames.
 abbrev pub broken_cell : Task → Transmission → ℕ → ℕ → Option (ℕ × ℕ)
 broken_cell g frames n f =
     if is_late g frames n f then wrong_cell g frames n f else undue_cell g frames n f

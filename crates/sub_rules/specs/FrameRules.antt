@@ -3,9 +3,8 @@
 use Rattle.std.specs.Prelude.{◌≡◌, ℕ, ◌+◌, ◌-◌, ◌<◌, ◌⊎◌, ◌&&◌, Bool, false, true, List, []}
 use Rattle.std.specs.Prelude.{Option, Some, map, take, length, IsTrue, IsFalse}
 use Rattle.std.specs.Prelude.{slice_index, slice_index_or, flat_map}
-use Rattle.ttx_page.specs.Page.{Rows, cell}
+use Rattle.ttx_page.specs.Page.{Rows}
 use Rattle.ttx_page.specs.PacketKind.{kind}
-use Rattle.ttx_page.specs.Shown.{shown}
 use Rattle.ttx_page.specs.Span.{holds_header, is_open_after}
 use Rattle.ttx_pes.specs.declared.fault.PesFault.{PesFault}
 use Rattle.stl_rows.specs.DuePage.{tci_of_ending}
@@ -13,6 +12,7 @@ use Rattle.stl_rows.specs.Judged.{JudgedValue, is_beside, is_undecided_in}
 use Rattle.stl_rows.specs.Programme.{ProgrammeValue, first_in, last_out}
 use Rattle.sub_plan.specs.Options.{OptionsValue}
 use Rattle.sub_plan.specs.Schedule.{due_in}
+use Rattle.sub_rules.specs.Kept.{IsRight}
 use Rattle.sub_rules.specs.Transmission.{SentFrame, Transmission}
 use Rattle.sub_rules.specs.declared.packet_rule.Watched.{Watched}
 
@@ -41,13 +41,14 @@ pub record Task : Type 0 where
   pub undecided : ℕ → Bool
   pub unread : Option Unread
 
--- The page and the national option that a programme is watched with, and whether complete pages
--- are asked for.
+-- The page and the national option that a programme is watched with, whether complete pages are
+-- asked for, and whether repeats may keep the page.
 abbrev pub watched_of : ProgrammeValue → OptionsValue → Watched
 watched_of programme options = record {
   page = options.page;
   national = programme.drawing.national;
   complete = options.asks_complete;
+  keeps = options.keeps;
 }
 
 -- The task of a programme of a file in which nothing is refused, where this is watched with this
@@ -106,10 +107,10 @@ end_frame frames = frame_at frames (length frames - 1)
 abbrev pub HasHeader : Task → Transmission → ℕ → Type 0
 HasHeader g frames i = holds_header (kind g.watched.page) (packets_of_frame frames i) ≡ true
 
--- After n frames of the list, at the end of frame f of the day, the cell shows what is due.
+-- After n frames of the list, at the end of frame f of the day, the cell is right.
 abbrev pub ShowsDue : Task → Transmission → ℕ → ℕ → ℕ → ℕ → Type 0
 ShowsDue g frames n f row column =
-    shown g.watched.page (packets_before frames n) row column ≡ cell (g.due f) row column
+    IsRight g.watched.keeps g.watched.page (packets_before frames n) (g.due f) row column
 
 -- Of the frames of the day that end with f, as many as the repeat bound, one is before the first
 -- frame of the list, or has a header of the page.

@@ -3,6 +3,7 @@ pub mod Fault
 pub mod FrameRules
 pub mod Good
 pub mod GoodWithin
+pub mod Kept
 pub mod PacketRules
 pub mod PacketTests
 pub mod PesFrames

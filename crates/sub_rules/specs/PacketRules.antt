@@ -13,8 +13,9 @@ use Rattle.ttx_page.specs.declared.packet_kind.PacketKind.TheVariants.{Row}
 use Rattle.ttx_packet.specs.PageId.{PageIdValue}
 use Rattle.ttx_page.specs.Noise.{IsOddRow}
 use Rattle.ttx_page.specs.PacketKind.{is_this_page, kind}
-use Rattle.ttx_page.specs.Span.{is_open_after, span}
-use Rattle.sub_rules.specs.Good.{IsControlled, IsEnhancement}
+use Rattle.ttx_page.specs.Span.{is_open_after, text_span}
+use Rattle.sub_rules.specs.Good.{IsEnhancement}
+use Rattle.sub_rules.specs.Kept.{IsControlledBy}
 use Rattle.sub_rules.specs.declared.packet_rule.PacketRule.{PacketRule}
 use Rattle.sub_rules.specs.declared.packet_rule.PacketRule.TheVariants as rule
 use Rattle.sub_rules.specs.declared.packet_rule.Watched.{Watched}
@@ -46,17 +47,20 @@ KeepsRule rule.Mode w before p =
     → header p ≡ Some h
     → first_header before ≡ Some first
     → c11 h ≡ c11 first
--- A header of the page is a subtitle's.
-KeepsRule rule.Control w before p = IsControlled w.national w.page p
+-- A header of the page is a subtitle's; it erases the page or, where repeats may keep it, repeats
+-- it.
+KeepsRule rule.Control w before p = IsControlledBy w before p
 -- While the page is open a row of it has 40 bytes of odd parity.
 KeepsRule rule.Parity w before p =
     IsTrue (is_open_after (kind w.page) before) → IsOddRow w.page p
--- While the page is open a row equals each packet of its row since the last header of the page.
+-- While the page is open a row equals each packet of its row since the last header of the page;
+-- where repeats may keep the page, since the last one that erases it.
 KeepsRule rule.RowChanged w before p =
     IsTrue (is_open_after (kind w.page) before)
     → (row : ℕ)
     → kind w.page p ≡ Row row
-    → AllByRecursion (λ q. kind w.page q ≡ Row row → q ≡ p) (span (kind w.page) before)
+    → AllByRecursion (λ q. kind w.page q ≡ Row row → q ≡ p)
+    (text_span w.keeps (kind w.page) before)
 -- While the page is open no packet X/25 to X/28 of its magazine comes.
 KeepsRule rule.Enhancement w before p =
     IsTrue (is_open_after (kind w.page) before) → IsEnhancement w.page p → ⊥

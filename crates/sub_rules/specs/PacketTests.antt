@@ -12,13 +12,14 @@ use Rattle.ttx_packet.specs.RowPacket.{first_even_byte}
 use Rattle.ttx_packet.specs.declared.header.Header.{Header}
 use Rattle.ttx_page.specs.Differing.{row_differing}
 use Rattle.ttx_page.specs.PacketKind.{is_row, is_some_row, kind}
-use Rattle.ttx_page.specs.Span.{is_open_after, span}
+use Rattle.ttx_page.specs.Span.{is_open_after, text_span}
 use Rattle.ttx_page.specs.declared.packet_kind.PacketKind.{PacketKind}
 use Rattle.ttx_page.specs.declared.packet_kind.PacketKind.TheVariants.{Row, ThisPage}
 use Rattle.stl_rows.specs.declared.national.National.{National}
 use Rattle.stl_rows.specs.declared.national.NationalBits.{NationalBits}
 use Rattle.stl_rows.specs.SubSets.{sub_set}
 use Rattle.sub_plan.specs.Sending.{national_bits}
+use Rattle.sub_rules.specs.Kept.{last_header}
 use Rattle.sub_rules.specs.PacketRules.{codes_of, first_header}
 use Rattle.sub_rules.specs.declared.packet_rule.PacketRule.{PacketRule}
 use Rattle.sub_rules.specs.declared.packet_rule.PacketRule.TheVariants as rule
@@ -57,16 +58,36 @@ abbrev pub is_same_option : NationalBits → NationalBits → Bool
 is_same_option one other =
     is_same_bit one.c12 other.c12 && is_same_bit one.c13 other.c13 && is_same_bit one.c14 other.c14
 
--- The control bits are a subtitle's, of the national option.
-abbrev pub is_subtitle_header : National → Header → Bool
-is_subtitle_header national h =
-    c4 h && not (c5 h) && c6 h && c7 h && not (c10 h)
+-- The control bits are a subtitle's, of the national option, whatever C4 is.
+abbrev pub has_subtitle_bits : National → Header → Bool
+has_subtitle_bits national h =
+    not (c5 h) && c6 h && c7 h && not (c10 h)
     && is_same_option (national_bits h) (sub_set national).bits
 
+-- The subcode of a header is that of another one, where there is one.
+abbrev pub is_same_subcode : Option Header → Header → Bool
+is_same_subcode None h = true
+is_same_subcode (Some last) h = h.subcode == last.subcode
+
+-- A header of the page that is sent after these packets repeats the page.
+abbrev pub is_repeat : Bool → PageIdValue → List (List ℕ) → Header → Bool
+is_repeat complete page before h =
+    is_same_subcode (last_header page before) h
+    && not (complete && is_open_after (kind page) before)
+
+-- A header of the page that is sent after these packets erases it or, where repeats may keep it,
+-- repeats it.
+abbrev pub may_come : Watched → List (List ℕ) → Header → Bool
+may_come w before h = c4 h || (w.keeps && is_repeat w.complete w.page before h)
+
+-- It is a subtitle's.
+abbrev pub is_subtitle_header : Watched → List (List ℕ) → Header → Bool
+is_subtitle_header w before h = may_come w before h && has_subtitle_bits w.national h
+
 -- A header of the page, and no subtitle's.
-abbrev pub is_wrong_header : National → PacketKind → Bool
-is_wrong_header national (ThisPage h) = not (is_subtitle_header national h)
-is_wrong_header national _ = false
+abbrev pub is_wrong_header : Watched → List (List ℕ) → PacketKind → Bool
+is_wrong_header w before (ThisPage h) = not (is_subtitle_header w before h)
+is_wrong_header w before _ = false
 
 -- The codes of a packet, where there is one, are others than these.
 abbrev pub is_other_text : Option (List ℕ) → List ℕ → Bool
@@ -95,13 +116,13 @@ breaks rule.HeaderCode w before p = is_of_header (address p) && not (are_code_wo
 breaks rule.Mode w before p =
     is_other_mode (option_map (λ (h : Header). c11 h) (first_header before))
     (option_map (λ (h : Header). c11 h) (header p))
-breaks rule.Control w before p = is_wrong_header w.national (kind w.page p)
+breaks rule.Control w before p = is_wrong_header w before (kind w.page p)
 breaks rule.Parity w before p =
     is_open_after (kind w.page) before && is_some_row (kind w.page p)
     && is_some (first_even_byte p)
 breaks rule.RowChanged w before p =
     is_open_after (kind w.page) before
-    && is_other_row w.page (span (kind w.page) before) p (kind w.page p)
+    && is_other_row w.page (text_span w.keeps (kind w.page) before) p (kind w.page p)
 breaks rule.Enhancement w before p =
     is_open_after (kind w.page) before && is_of_enhancement w.page (address p)
 

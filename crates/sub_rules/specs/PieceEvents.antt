@@ -10,7 +10,7 @@ use Rattle.std.specs.Prelude.{ℕ, zero, suc, ◌+◌, ◌-◌, ◌&&◌, ◌||�
 use Rattle.std.specs.Prelude.{List, []}
 use Rattle.std.specs.Prelude.{◌∷◌, ◌++◌, length, map, Option, Some, None, is_some, if◌then◌else◌}
 use Rattle.ttx_page.specs.PacketKind.{kind}
-use Rattle.ttx_page.specs.Span.{holds_header}
+use Rattle.ttx_page.specs.Span.{holds_beginning}
 use Rattle.sub_rules.specs.Events.{closing_events, events_at_end, first_header_events}
 use Rattle.sub_rules.specs.Events.{first_told, gap_length, is_late, latest, order_events}
 use Rattle.sub_rules.specs.Events.{packet_events, packets_told, since_before, standing_at}
@@ -82,7 +82,8 @@ abbrev pub marks_of_ending : Task → Transmission → ℕ → List Mark
 marks_of_ending g frames i =
     map Says (first_header_events g frames i)
     ++ marks_at_end g frames i (suc i) (frame_at frames i)
-    ++ Ends (frame_at frames i) (holds_header (kind g.watched.page) (packets_of_frame frames i))
+    ++ Ends (frame_at frames i)
+    (holds_beginning g.watched.keeps (kind g.watched.page) (packets_of_frame frames i))
     (stands_none (standing_at g frames (suc i) (frame_at frames i))) ∷ []
 
 -- Within frames a frame ends where a PES packet of another one comes, or none: what comes at the

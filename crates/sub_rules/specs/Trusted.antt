@@ -8,7 +8,8 @@
 -- stands broken at its end. Where frames do not rise, none is quiet from there on; and what comes
 -- then, or stands in bytes that can't be read on, may have been sent in the last frame before it:
 -- so that one is not trusted either. Of each run of quiet frames the frames from the first one with
--- a header of the page on are trusted. That is told where the run is over, before what ends it.
+-- a header of the page on are trusted: where repeats may keep the page, with one that erases it.
+-- That is told where the run is over, before what ends it.
 --
 -- Where the page need not be whole at each end, what is trusted is so only where it was at one of
 -- them; and where a run is over at a late end, those are not since which the page is not whole.
@@ -29,9 +30,9 @@ use Rattle.sub_rules.specs.declared.standing.Standing.{Standing}
 -- What follows is told of this PES packet; this is told; the packets of a frame with this number
 -- follow; what follows is told at the end of a frame, up to which the ends are unfinished since
 -- this one, and which is late or is not; a frame of PES packets ends, with this number, by whether
--- it has a header of the page and whether nothing stands broken; the file ends, by whether bytes
--- are left that may have been sent in the last frame, and whether what is trusted is told whatever
--- came before; up to the end before the frame that comes, or whose end comes, the ends are
+-- it has such a header of the page and whether nothing stands broken; the file ends, by whether
+-- bytes are left that may have been sent in the last frame, and whether what is trusted is told
+-- whatever came before; up to the end before the frame that comes, or whose end comes, the ends are
 -- unfinished since this one.
 pub data Mark : Type 0 where
   AtPes : ℕ → Mark
@@ -108,9 +109,9 @@ stands_none s = not (list_any (λ rule. is_some (broken_at rule s)) end_rules)
 
 -- ---- a run of quiet frames
 
--- The run of quiet frames that goes on here, by the first of them that has a header of the page, if
--- one has. A frame without a PES packet goes with those around it: what is told at its end may end
--- the run.
+-- The run of quiet frames that goes on here, by the first of them that has such a header, if one
+-- has. A frame without a PES packet goes with those around it: what is told at its end may end the
+-- run.
 unfoldable pub run_of : List Mark → Option ℕ
 run_of [] = None
 run_of (Says e ∷ past) = if is_none (doubted_by past e) then run_of past else None

@@ -36,4 +36,6 @@ pub struct Watched {
     pub national: National,
     /// Whether complete pages are asked for.
     pub complete: bool,
+    /// Whether repeats may keep the page.
+    pub keeps: bool,
 }
