@@ -559,11 +559,6 @@ programme-kept {k = k} kept enough = elim (cases_Bool (is_whole k)) [
 
 -- ---- how it is asked
 
--- Nothing is there where there are none.
-pub none_is : (bits : List Bool) → are_none bits ≡ (length bits == 0)
-none_is [] = refl
-none_is (bit ∷ bits) = grind (arith, nat_tests)
-
 -- And whether they are in order.
 pub enough-some : (k : KeptRecords)
     → is_whole k ≡ false
