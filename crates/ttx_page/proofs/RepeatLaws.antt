@@ -59,12 +59,6 @@ module _ (class : ReceiverClass) (w : PageIdValue) (sent : List (List ℕ)) (mar
   span-items : span (kind w) sent ≡ map sent_of (span (kind_of_item w) items)
   span-items = ap (span (kind w)) sent-items ∙ span-map (kind w) sent_of items
 
-  -- The packet of an item in the span is in the span.
-  sent-in_span : (item : Item)
-      → Contains (span (kind_of_item w) items) item
-      → Contains (span (kind w) sent) item.0
-  sent-in_span item within = grind (arith, nat_tests, span-items, length-map, get_or-map)
-
   -- And so it is of the long span.
   text-items : (keeps : Bool)
       → text_span keeps (kind w) sent ≡ map sent_of (text_span keeps (kind_of_item w) items)

@@ -1,11 +1,7 @@
 -- The law of receivers with a screen, `law_of_screen`.
-use Rattle.std.proofs.Common.{◌≡◌, ℕ, Bool, true, false, List, [], ◌∷◌, Some, IsFalse, refl, arith}
-use Rattle.std.specs.List.{AllByRecursion, AllZip, items_where_true}
+use Rattle.std.proofs.Common.{◌≡◌, ℕ, Bool, false, List, [], ◌∷◌, Some, IsFalse, refl, arith}
 use Rattle.std.proofs.lemmas.Bool.Decides.{nat_tests}
-use Rattle.ttx_packet.specs.OneBit.{AreNear}
-use Rattle.ttx_packet.specs.PageHeader.{HasExactWords}
 use Rattle.ttx_packet.specs.PageId.{PageIdValue}
-use Rattle.ttx_page.specs.LostRows.{MayBeMarked}
 use Rattle.ttx_page.specs.PacketKind.{kind}
 use Rattle.ttx_page.specs.Receiver.{ReceiverClass}
 use Rattle.ttx_page.specs.Span.{holds_header}
@@ -13,7 +9,6 @@ use Rattle.ttx_page.specs.Repeats.{HearsForgetting, LawOfForgettingScreen, Shows
 use Rattle.ttx_page.specs.Repeats.{StepForgetting}
 use Rattle.ttx_page.specs.Screen.{Display, ShowsBy, LawOfScreen}
 use Rattle.ttx_page.proofs.RepeatLaws.{forgets}
-use Rattle.ttx_page.proofs.NoiseSteps.{lost_is_no_header, kind-near}
 use Rattle.ttx_page.proofs.RunLemmas.{RunsBy-as}
 
 -- ---- a run
@@ -65,14 +60,3 @@ pub held_forgetting :
 held_forgetting class anew w packets old new run =
     RunsBy-as _ (StepForgetting class anew w) (λ (d : Display). d.held) packets old new
     (λ before packet after step. step.0) run
-
--- Where a header of the page is sent, one is got.
-pub header_got : (w : PageIdValue) (sent : List (List ℕ)) (marks : List Bool) (got : List (List ℕ))
-    → AllByRecursion HasExactWords sent
-    → AllZip MayBeMarked sent marks
-    → AllZip AreNear (items_where_true marks sent) got
-    → holds_header (kind w) sent ≡ true
-    → holds_header (kind w) got ≡ true
-header_got w [] marks got exact may near holds = grind arith
-header_got w (p ∷ ps) marks got exact may near holds =
-    grind (arith, nat_tests, lost_is_no_header, kind-near, header_got w ps)
