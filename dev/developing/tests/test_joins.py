@@ -1,25 +1,9 @@
-"""What a mark is, and what is said of a place where something is missing."""
+"""What is said of a place where something is missing."""
 from __future__ import annotations
 
-from subtitles.core.pes import MARK, has_pts, is_mark, pes_packet, pts_or_none
 from subtitles.core.times import CLOCK
 from subtitles.reading.gaps import Place, line_of, what_of
 from .bench import Case
-from .parts import CLOSING, HEADER
-
-
-class Marks(Case):
-    """What a mark is, and where marks stand."""
-
-    def test_are_no_pes_packets(self) -> None:
-        sent = pes_packet(0, [HEADER, CLOSING])
-        for name, data, is_one in [
-                ("a mark", MARK, True), ("a longer one", b"\0\0\1\xbd\1\x6a" + b"\xff" * 362, True),
-                ("less its last byte", MARK[:-1] + b"\0", False), ("a PES packet", sent, False),
-                ("byte 6 alone", sent[:6] + b"\xff" + sent[7:], False), ("a head", MARK[:6], False),
-                ("nothing", b"", False)]:
-            self.must(name, is_mark(data) == is_one)
-        self.must("its PTS", not has_pts(MARK) and pts_or_none(MARK) is None and has_pts(sent))
 
 
 class Places(Case):

@@ -2,14 +2,11 @@
 last TCO, rows that come when the page is not open, two subtitles that are sent as one."""
 from __future__ import annotations
 
-from subtitles.core.pes import pes_packet
 from subtitles.core.teletext import packet
 from subtitles.core.times import TICKS
-from subtitles.reading.receiver import (
-    OLD_PAGE, Receiver, control_words, lines_of, national_option, strays)
+from subtitles.reading.receiver import control_words, lines_of, national_option
 from .bench import Case
 from .judged import Judged, Sent, joined, judged, late, programme, sendings
-from .parts import CLOSING, HEADER, PAGE, row
 
 BEGIN, EACH, LENGTH, COUNT = 900_000, 60, 40, 6  # frames, and subtitles of the first programme
 OWN = [(BEGIN + EACH * at, BEGIN + EACH * at + LENGTH) for at in range(COUNT)]
@@ -64,46 +61,6 @@ class Pages(Case):
             causes = self.judge(sent).lines("cause: ")
             self.must(f"{count}", len(causes) == count and all(line.endswith(
                 ": rows came while 888 was not open") for line in causes), causes)
-
-    def test_rows_that_nobody_takes(self) -> None:
-        """Those behind a header that ends the page, and of its magazine alone."""
-        text, other = row(20, b"text"), packet(1, 20, (), b"\x0b\x0b" + b"other".ljust(38))
-        for name, several, wanted in (
-                ("none", [HEADER, text, CLOSING], []), ("behind", [HEADER, OTHER, text], [20]),
-                ("both", [HEADER, text, CLOSING, row(22, b"more")], [22]),
-                ("another magazine", [HEADER, CLOSING, other], []),
-                ("before it is opened", [text, HEADER, CLOSING], []),
-                ("opened once more", [HEADER, OTHER, HEADER, text], []),
-                ("the first and the last", [HEADER, OTHER, row(1, b"a"), row(24, b"b"), row(
-                    25, b"c"), packet(0, 26, (), b"d".ljust(40))], [1, 24])):
-            found = strays(pes_packet(0, several), PAGE)
-            self.must(name, sorted(found) == wanted, found)
-
-    def test_rows_that_are_taken(self) -> None:
-        """By a receiver: rows 1 to 24 of the page while it is open, a byte of even parity as a
-        space that was hit; a header that erases, one that does not, and one that ends the page."""
-        receiver = Receiver(PAGE)
-        again = packet(0, 0, [8, 8, 0, 0, 0, 8, 1, 0], b" " * 32)
-        hit = row(12, b"hit")[:4] + bytes([row(12, b"hit")[4] ^ 1]) + row(12, b"hit")[5:]
-        rows: list[tuple[list[bytes], dict[int, bytes], bool, int | None]] = [
-            ([row(3, b"early")], {}, False, None), ([again], {}, True, None),
-            ([HEADER, row(1, b"a"), hit, row(24, b"b"), row(25, b"c")],
-             {1: b"\x0b\x0ba", 12: b"\x0b\x0b\xa0it", 24: b"\x0b\x0bb"}, True, None),
-            ([again, row(2, b"d")], {1: b"\x0b\x0ba", 2: b"\x0b\x0bd", 12: b"\x0b\x0b\xa0it",
-                                     24: b"\x0b\x0bb"}, True, None),
-            ([HEADER, row(5, b"e"), CLOSING, row(6, b"f")], {5: b"\x0b\x0be"}, False, 5),
-            ([HEADER], {}, True, 5), ([packet(1, 0, [0] * 8, b" " * 32)], {}, True, 5),
-            ([packet(1, 0, [0] * 7 + [1], b" " * 32)], {}, False, None)]
-        for number, (several, wanted, is_open, shown) in enumerate(rows):
-            receiver.hear_pes(pes_packet(number, several))
-            state = receiver.state
-            blank = OLD_PAGE[0] if number < 2 else b" " * 40
-            self.must(f"{number}", state.rows == tuple(
-                wanted.get(at, blank).ljust(40) for at in range(1, 25)), state.rows)
-            known = [at for at, one in enumerate(state.screen[0], 1) if one.strip()] \
-                if state.screen else []
-            self.must(f"{number}: open", (state.is_open, known) == (
-                is_open, [shown] if shown else []), (state, known))
 
     def test_two_that_are_sent_as_one(self) -> None:
         """A subtitle that is not erased before one that is the same: up to that, not beyond it."""

@@ -1,8 +1,7 @@
-"""Recordings read and written, in process: why nothing is given, what is handed on, pictures."""
+"""Transport streams that are written, read again; languages of subtitle files."""
 from __future__ import annotations
 
 import random
-from typing import Optional, Sequence, Tuple
 
 from subtitles.core.pes import pes_packet
 from subtitles.core.times import CLOCK, TICKS
@@ -52,12 +51,3 @@ class Written(Case):
                 ("1E", "nor nob nno"), ("22", "ron rum"), ("26", "slv"), ("29", "tur"),
                 ("7f", ""), ("00", ""), ("x", ""), ("", "")):
             self.must(code, names_of(code) == wanted.split(), names_of(code))
-
-
-Sendings = Sequence[Tuple[Optional[int], int]]  # of pictures the PTS, and whether one has the flag
-
-
-def exp(value: int) -> str:
-    """A number as H.264 has it (Exp-Golomb)."""
-    digits = f"{value + 1:b}"
-    return "0" * (len(digits) - 1) + digits

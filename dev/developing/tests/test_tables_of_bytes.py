@@ -1,4 +1,4 @@
-"""Times, codes, PES packets and their units, held against what is said of each byte and bit alone:
+"""Times, codes and PES packets, held against what is said of each byte and bit alone:
 at each bound, of the first, the second and the last, and where the clock begins again.
 """
 from __future__ import annotations
@@ -7,9 +7,8 @@ import io
 import itertools
 import random
 import unittest
-from typing import Callable, Sequence
 
-from subtitles.core import pes, teletext, times, units
+from subtitles.core import pes, teletext, times
 from subtitles.core.files import Damaged
 from .parts import CLOSING, HEADER, row
 
@@ -141,19 +140,10 @@ class Codes(unittest.TestCase):
             self.assertIsNone(teletext.page_of(text), text)
 
 
-def unit(magazine: int, number: int, kind: int = 3, second: int | None = None) -> bytes:
+def unit(number: int, kind: int = 3) -> bytes:
     """A data unit with a Teletext packet, 46 bytes."""
-    made = teletext.packet(magazine, number, [8, 8, 0, 8, 0, 8, 1, 0] if number == 0 else (),
-                           b"x" * (32 if number == 0 else 40))
-    made = made if second is None else made[:1] + bytes([second]) + made[2:]
+    made = teletext.packet(0, number, (), b"x" * 40)
     return bytes([kind, 0x2C, 0xE7, 0xE4]) + teletext.mirrored(made)
-
-
-def packet_of(several: Sequence[bytes], length: int = 0x24) -> bytes:
-    """A PES packet with some data units, a data_identifier before them."""
-    body = b"\x84\x80" + bytes([length]) + pes.pts_bytes(7) + b"\xff" * (length - 5) + b"\x10"
-    body += b"".join(several)
-    return START + len(body).to_bytes(2, "big") + body
 
 
 class Packets(unittest.TestCase):
@@ -166,7 +156,7 @@ class Packets(unittest.TestCase):
             wanted = int(f"0010{bits[:3]}1{bits[3:18]}1{bits[18:]}1", 2).to_bytes(5, "big")
             self.assertEqual(pes.pts_bytes(pts), wanted)
             data = pes.pes_packet(pts, [])
-            self.assertEqual((pes.pts_in(data), pes.pts_or_none(data)), (pts, pts))
+            self.assertEqual(pes.pts_in(data), pts)
 
     def test_made(self) -> None:
         """Of no Teletext packet to 16: on lines from 7 on, in as few blocks of 184 bytes as hold
@@ -193,35 +183,22 @@ class Packets(unittest.TestCase):
                              (has_pts, field), size)
         for flags, has_pts in ((0x00, False), (0x40, False), (0x80, True), (0xC0, True)):
             data = good[:7] + bytes([flags]) + good[8:]
-            self.assertEqual((pes.has_pts(data), pes.pts_or_none(data)),
-                             (has_pts, 5 if has_pts else None))
-        for data, is_mark in ((pes.MARK, True), (START + b"\0\1\xff", True), (START, False),
-                              (START + b"\0\0", False), (pes.MARK[:-1] + b"\xfe", False),
-                              (good, False),
-                              (START + b"\0\2\xff\xfe", False), (START + b"\0\2\xfe\xff", False),
-                              (START + b"\0\2\0\xff", False)):
-            self.assertEqual(pes.is_mark(data), is_mark, data)
-            self.assertFalse(pes.has_pts(pes.MARK))
+            self.assertEqual(pes.has_pts(data), has_pts)
+        self.assertFalse(pes.has_pts(pes.MARK))
         self.assertEqual((len(pes.MARK), pes.begins_in(pes.MARK)), (184, range(0, 185, 184)))
 
     def test_data_units(self) -> None:
         """Teletext packets of a data field: of both kinds, between others, and cut."""
-        one, two = unit(0, 1), unit(0, 2, 2)
+        one, two = unit(1), unit(2, 2)
         packets = [teletext.mirrored(some[4:]) for some in (one, two)]
         of_fields: list[tuple[bytes, list[bytes]]] = [
             (b"\x10" + one + two, packets), (b"\x10" + one + two[:-1], packets[:1]),
-            (b"\x10" + unit(0, 3, 1) + unit(0, 3, 4) + two, packets[1:]),
+            (b"\x10" + unit(3, 1) + unit(3, 4) + two, packets[1:]),
             (b"\x10\x03\x01\x00" + one + b"\xff\x00" + two, packets),
             (b"\x10\x03\x2d" + b"\x00" * 45 + two, packets[1:]), (b"", []), (b"\x10", []),
             (one, [])]
         for field, wanted in of_fields:
             self.assertEqual(pes.teletext_packets(field), wanted)
-            if wanted:
-                field = field[1:]
-                found = list(units.units_one_by_one(field, 0))
-                self.assertEqual([some for some in found if some[0] in (2, 3)],
-                                 [some for some in (one, two)
-                                  if teletext.mirrored(some[4:]) in wanted])
 
     def test_begins(self) -> None:
         """Runs of one length, of several, and more than are looked for in a step; then what is cut,
@@ -275,76 +252,3 @@ class Slow(io.BytesIO):
     def read(self, size: int | None = -1, /) -> bytes:
         assert size is not None and size > 0
         return super().read(min(size, self.most))
-
-
-class Units(unittest.TestCase):
-    """Data units, all at once and one by one."""
-
-    def units(self) -> list[list[bytes]]:
-        """Of some PES packets."""
-        chance = random.Random(4)
-        kinds: list[Callable[[], bytes]] = [
-            lambda: unit(chance.randrange(8), chance.choice((0, 0, 1, 8, 16, 17, 31))),
-            lambda: unit(chance.randrange(8), 0, chance.choice((0, 1, 2, 4, 255))),
-            lambda: unit(chance.randrange(2), 0, 3, chance.randrange(256)),
-            lambda: pes.STUFFING_UNIT, lambda: unit(0, 0), lambda: unit(0, 25)]
-        return [[chance.choice(kinds)() for _ in range(count)]
-                for count in (0, 1, 2, 3, 7, 7, 7, 11, 15) for _ in range(6)]
-
-    def test_one_by_one(self) -> None:
-        """Each unit: its packet, its header, whether it may be one; of each magazine; also where
-        there are units of another length among them, and bytes behind them."""
-        for several in self.units():
-            short = [b"\x03\x01\x00", *several[:2], b"\xff\x00", *several[2:], b"\xff\x03ab"]
-            for number, data in enumerate((packet_of(several), packet_of(several, 9),
-                                           packet_of(several) + b"x" * 3, packet_of(short))):
-                made = units.Units(data)
-                self.assertEqual(made.data[made.first:made.end], b"".join(several), number)
-                packets = [teletext.mirrored(one[4:]) for one in several]
-                addresses = list(map(teletext.address_of, packets))
-                is_text = [one[0] in (2, 3) for one in several]
-                self.assertEqual(list(made.may_be_headers()),
-                                 [int(one is not None and one[1] == 0) for one in addresses])
-                for magazine in range(8):
-                    self.assertEqual(list(made.marks(4, units.of_magazine(magazine))), [
-                        int((low := teletext.NUMBER[one[0]]) is not None and low & 7 == magazine)
-                        for one in packets])
-                headers = [next(iter(teletext.headers_in([some] * is_one)), None)
-                           for is_one, some in zip(is_text, packets)]
-                self.assertEqual([made.header(at) for at in range(len(several))], headers)
-                self.assertEqual(list(made.headers()), [one for one in headers if one])
-                self.assertEqual([made.packet(at) for at in range(len(several))],
-                                 [one * is_one for one, is_one in zip(packets, is_text)])
-                self.assertEqual(list(made.coded_headers()), [
-                    one[4:14] for one, address in zip(several, addresses)
-                    if address and address[1] == 0])
-        for size in (0, 8, 9):
-            self.assertEqual(units.Units(packet_of([])[:size]).may_be_headers(), b"")
-
-    def test_heard(self) -> None:
-        """Headers alone while the page is not open; while it is, its magazine too."""
-        for several in self.units():
-            made = units.Units(packet_of(several))
-            addresses = [teletext.address_of(teletext.mirrored(one[4:])) for one in several]
-            for opens in (set[int](), {0}, {1, 2}, {2, 3, 4, 5}, set(range(20))):
-                found, asked = list[int](), list[int]()
-                for number in made.heard(units.of_magazine(0), lambda: len(found) in opens):
-                    found.append(number)
-                wanted = asked
-                for number, (address, one) in enumerate(zip(addresses, several)):
-                    low = teletext.NUMBER[teletext.mirrored(one[4:])[0]]
-                    is_own = low is not None and low & 7 == 0
-                    if address and address[1] == 0 or len(wanted) in opens and is_own:
-                        wanted.append(number)
-                self.assertEqual(found, wanted, opens)
-
-    def test_header(self) -> None:
-        """Ten coded bytes: a header, another packet, and with a byte that means nothing."""
-        coded = unit(3, 0)[4:14]
-        found = units.header_in(coded)
-        self.assertEqual(found, (3, 0x88, bytes([8, 8, 0, 8, 0, 8, 1, 0])))
-        self.assertIsNone(units.header_in(unit(3, 1)[4:14]))
-        for at in range(10):
-            wrong = coded[:at] + teletext.mirrored(NOTHING) + coded[at + 1:]
-            self.assertIsNone(units.header_in(wrong), at)
-        self.assertEqual(units.both(b"\1\0\1\3", b"\1\1\0\2"), b"\1\0\0\2")

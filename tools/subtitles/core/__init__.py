@@ -9,7 +9,6 @@ characters the characters of the national options
 national   the national options, a row for each
 pes        PES packets
 spans      spans of frames, or of PES packets
-units      the data units in them
 stl        blocks of subtitle files
 gsi        the texts of the first of them
 letters    the letters of the others

@@ -32,11 +32,6 @@ def pts_in(packet: bytes) -> int:
             | packet[12] << 7 | packet[13] >> 1)
 
 
-def pts_or_none(data: bytes) -> int | None:
-    """The PTS of a PES packet, `None` where it has none."""
-    return pts_in(data) if has_pts(data) else None
-
-
 def pes_packet(pts: int, packets: Sequence[bytes]) -> bytes:
     """A PES packet with up to 16 Teletext packets, on lines from 7 of the first field on."""
     blocks = len(packets) // 4 + 1
@@ -113,11 +108,6 @@ def pes_packets(file: Source) -> Iterator[bytes]:
     """The PES packets of a file one after another; `Damaged` where it holds something else."""
     for batch in pes_batches(file):
         yield from batch
-
-
-def is_mark(data: bytes) -> bool:
-    """Whether it is a mark, or another PES packet of which all is lost, however long it is."""
-    return len(data) > HEAD and data[HEAD] == LOST[0] and not data[HEAD:].strip(LOST)
 
 
 def has_pts(data: bytes) -> bool:

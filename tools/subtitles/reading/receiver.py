@@ -1,4 +1,4 @@
-"""The model receiver: one step of it, and what it reads of a PES packet.
+"""What a model receiver holds, and marks in its cells.
 
 A cell is its 7-bit code. With bit 8 set it is one that says more than its code: 3F of the old page,
 which nobody sent since the receiver was tuned in, or a space whose byte had even parity.
@@ -8,12 +8,9 @@ from __future__ import annotations
 import functools
 from typing import NamedTuple
 
-from ..core.teletext import CONTROL_BITS, ERASE, SERIAL, Page, address_of, has_bit, is_odd
-from ..core.units import Units, of_magazine
+from ..core.teletext import CONTROL_BITS, has_bit, is_odd
 
 OLD, HIT = 0xBF, 0xA0
-ROWS = range(1, 25)
-NOWHERE = 0, 0  # for the address of a packet that has none
 
 Rows = tuple[bytes, ...]  # rows 1 to 24, a byte for each cell
 
@@ -37,70 +34,6 @@ class State(NamedTuple):
 
 
 TUNED = State(False, False, None, OLD_PAGE, None)
-
-
-class Packet(NamedTuple):
-    """A packet that a receiver may act on: the eight numbers of a header, or a row as stored."""
-
-    magazine: int
-    number: int
-    content: bytes
-
-
-def hear(state: State, packet: Packet, page: Page) -> State:
-    """One step of a receiver that stores a space at a byte of even parity (EN 300 706)."""
-    magazine, number, content = packet
-    _, is_open, header, rows, screen = state
-    if number == 0:
-        if (magazine, content[0] + 16 * content[1]) == page:
-            return State(True, True, content, BLANK_PAGE if has_bit(content, ERASE) else rows,
-                         screen)
-        if is_open and header and (magazine == page[0] or has_bit(content, SERIAL)):
-            return State(True, False, header, rows, (rows, header))
-    elif is_open and magazine == page[0]:
-        rows = rows[:number - 1] + (content,) + rows[number:]
-        return State(True, True, header, rows, screen)
-    return state
-
-
-class Receiver:
-    """A receiver of a page, tuned in before the first packet."""
-
-    def __init__(self, page: Page) -> None:
-        self.page, self.own, self.state = page, of_magazine(page[0]), TUNED
-
-    def hear_pes(self, pes: bytes) -> None:
-        """Hears a PES packet."""
-        units = Units(pes)
-        for number in units.heard(self.own, lambda: self.state.is_open):
-            packet = self.packet(units, number)
-            if packet:
-                self.state = hear(self.state, packet, self.page)
-
-    def packet(self, units: Units, number: int) -> Packet | None:
-        """A header, or a row of the page's magazine; nothing is done about other packets."""
-        header = units.header(number)
-        if header:
-            return Packet(header[0], 0, header[2])
-        data = units.packet(number)
-        magazine, row = data and address_of(data) or NOWHERE
-        is_row = magazine == self.page[0] and row in ROWS
-        return Packet(magazine, row, data[2:].translate(STORED)) if is_row else None
-
-
-def strays(pes: bytes, page: Page) -> dict[int, bytes]:
-    """The rows of a page's magazine in a PES packet that came after the page had been opened there
-    and ended again, as they would be stored: a receiver of the page takes none of them."""
-    receiver, units = Receiver(page), Units(pes)
-    found: dict[int, bytes] = {}
-    state = TUNED
-    for number in units.heard(receiver.own, lambda: state.is_heard):
-        packet = receiver.packet(units, number)
-        if packet and packet.number and not state.is_open:
-            found[packet.number] = packet.content
-        elif packet:
-            state = hear(state, packet, page)
-    return found
 
 
 def control_bits(header: bytes) -> list[str]:
