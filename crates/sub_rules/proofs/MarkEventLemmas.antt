@@ -23,7 +23,7 @@ use Rattle.sub_rules.specs.Trusted.Mark.{AtEnd, AtPes, Begins, Closes, Ends, Goe
 use Rattle.sub_rules.specs.declared.event.Event.{Event}
 use Rattle.sub_rules.specs.declared.event.Event.TheVariants.{Told}
 use Rattle.ttx_page.specs.PacketKind.{kind}
-use Rattle.ttx_page.specs.Span.{holds_header}
+use Rattle.ttx_page.specs.Span.{holds_beginning}
 use Rattle.sub_rules.proofs.AnyToldLemmas.{own_frame, own_names}
 use Rattle.sub_rules.proofs.JoinedLemmas.{goes_on-none}
 use Rattle.sub_rules.specs.Trusted.{Mark, at_pes, back_of, closing_at, doubted_by, is_said}
@@ -174,7 +174,8 @@ module _ (pes : ℕ) where
         let end = events_at_end g frames i (suc i) (frame_at frames i) in
         let marks = marks_at_end g frames i (suc i) (frame_at frames i) in
         saying_tail (map Says header ++ marks)
-        (Ends (frame_at frames i) (holds_header (kind g.watched.page) (packets_of_frame frames i))
+        (Ends (frame_at frames i)
+        (holds_beginning g.watched.keeps (kind g.watched.page) (packets_of_frame frames i))
         (stands_none (standing_at g frames (suc i) (frame_at frames i))) ∷ []) (header ++ end)
         (λ more. refl)
         (saying_two (map Says header) marks header end (saying_says header)

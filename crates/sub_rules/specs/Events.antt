@@ -219,8 +219,8 @@ undue_cell g frames n f =
     if undecided_within g frames f
     then None
     else
-      undue_after g.watched.keeps g.watched.page (packets_before frames n) g.due (frame_at frames 0)
-      f g.within
+    undue_after g.watched.keeps g.watched.page (packets_before frames n) g.due (frame_at frames 0)
+    f g.within
 
 -- What of the page's content stands broken at the end of frame f, after n frames of the list: where
 -- it is late each cell has to be right, and else what is kept there was due within these frames.
