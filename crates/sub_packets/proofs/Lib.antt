@@ -1,3 +1,4 @@
+pub mod KeptLemmas
 pub mod ListenerLemmas
 pub mod PacketEventLemmas
 pub mod PacketRuleLemmas

@@ -11,7 +11,7 @@ use Rattle.ttx_packet.specs.RowPacket.{first_even_byte}
 use Rattle.ttx_packet.specs.declared.header.Header.{Header}
 use Rattle.ttx_page.specs.Differing.{row_differing}
 use Rattle.ttx_page.specs.PacketKind.{kind}
-use Rattle.ttx_page.specs.Span.{is_open_after, span}
+use Rattle.ttx_page.specs.Span.{is_open_after, text_span}
 use Rattle.ttx_page.specs.declared.packet_kind.PacketKind.TheVariants.{EndsPage, Other, Row}
 use Rattle.ttx_page.specs.declared.packet_kind.PacketKind.TheVariants.{ThisPage}
 use Rattle.sub_packets.specs.Listener.{held, rule_set}
@@ -19,7 +19,7 @@ use Rattle.sub_rules.specs.PacketRules.{codes_of, first_header}
 use Rattle.sub_rules.proofs.CodeWordLemmas.{address_decided, header_decided}
 use Rattle.sub_rules.specs.PacketTests.{are_code_words, breaks, first_of_row, is_of_enhancement}
 use Rattle.sub_rules.specs.PacketTests.{is_of_header, is_other_mode, is_other_text, packet_rules}
-use Rattle.sub_rules.specs.PacketTests.{is_subtitle_header}
+use Rattle.sub_rules.specs.PacketTests.{is_same_subcode, is_subtitle_header}
 use Rattle.sub_rules.specs.declared.packet_rule.Watched.{Watched}
 
 -- ---- code words
@@ -43,6 +43,19 @@ pub header_is_zero :
     (p : List ℕ) (h : Header) → header p ≡ Some h → is_of_header (address p) ≡ true
 unfolding header
 header_is_zero p h e = grind (arith, nat_tests)
+
+-- ---- the subcode of the last header
+
+-- That of a header is the same where there was one, or none was. For `is_same_subcode`.
+pub same_some : (o : Option Header) (h : Header) (subcode : ℕ)
+    → Some subcode ≡ option_map (λ (x : Header). x.subcode) o
+    → (h.subcode == subcode) ≡ is_same_subcode o h
+same_some o h subcode e = grind (arith, nat_tests)
+
+pub same_none : (o : Option Header) (h : Header)
+    → None ≡ option_map (λ (x : Header). x.subcode) o
+    → true ≡ is_same_subcode o h
+same_none o h e = grind (arith, nat_tests)
 
 -- ---- a packet by what it is
 
@@ -72,7 +85,7 @@ module _ (w : Watched) (heard : List (List ℕ)) (p : List ℕ) where
   -- A header of the page breaks no later rule but that of its control bits.
   pub later_this : (h : Header) → kind w.page p ≡ ThisPage h
       → rule_set (λ r. breaks r w heard p) (drop 3 packet_rules)
-      ≡ cond (not (is_subtitle_header w.national h)) 1 0
+      ≡ cond (not (is_subtitle_header w heard h)) 1 0
   unfolding breaks rule_set packet_rules
   later_this h k =
       let none = no_enhancement w p (λ e. let both = sym k ∙ e in cc) in
@@ -95,7 +108,7 @@ module _ (w : Watched) (heard : List (List ℕ)) (p : List ℕ) where
 
   -- A row may have an even byte, and other codes than those that are held of it.
   pub later_row : (y : ℕ) (o : Option (List ℕ)) → kind w.page p ≡ Row y
-      → o ≡ first_of_row w.page (span (kind w.page) heard) y
+      → o ≡ first_of_row w.page (text_span w.keeps (kind w.page) heard) y
       → rule_set (λ r. breaks r w heard p) (drop 3 packet_rules)
       ≡ 2 * cond (is_open_after (kind w.page) heard && is_some (first_even_byte p)) 1 0
       + 4 * cond

@@ -10,7 +10,7 @@ use Rattle.ttx_packet.specs.PacketAddress.{HasExactAddress, PacketAddress, addre
 use Rattle.ttx_packet.specs.PageHeader.{HasExactHeader, c11, coded_header, header}
 use Rattle.ttx_packet.specs.declared.header.Header.{Header}
 use Rattle.ttx_page.specs.PacketKind.{is_this_page, kind}
-use Rattle.ttx_page.specs.Span.{span}
+use Rattle.ttx_page.specs.Span.{text_span}
 use Rattle.ttx_page.specs.declared.packet_kind.PacketKind.TheVariants.{EndsPage, Other, Row}
 use Rattle.sub_packets.specs.Listener.{IsPassed, Knows, is_passed_header, rule_set}
 use Rattle.sub_packets.specs.declared.listener.Listener.{Listener}
@@ -68,8 +68,8 @@ module _
                 let shut : s.is_open ≡ false = grind (arith, nat_tests) in
                 rw (
                   later_row s.watched heard p a.packet_number
-                      (first_of_row s.watched.page (span (kind s.watched.page) heard)
-                      a.packet_number) (is ∙ cond-true _ _ _ row) refl,
+                      (first_of_row s.watched.page
+                      (text_span s.watched.keeps (kind s.watched.page) heard) a.packet_number) (is ∙ cond-true _ _ _ row) refl,
                   ← known.open_is,
                   shut,
                 ) refl
@@ -97,7 +97,7 @@ module _
             knows =
                 knows_still heard p s None s.serial known (sym is.0) (grind (arith, nat_tests))
                 (grind (arith, nat_tests)) s.is_open (grind (arith, nat_tests))
-                (λ row low high opened is_row. grind (arith, nat_tests));
+                (λ row low high opened. grind (arith, nat_tests));
           }
 
     -- A header of the mode of the first one that is none of the page, and does not end it.
@@ -137,5 +137,5 @@ module _
                 knows_still heard p s (Some h) s.serial known (sym header_is)
                 (grind (arith, nat_tests)) (grind (arith, nat_tests)) s.is_open
                 (grind (arith, nat_tests))
-                (λ row low high opened is_row. grind (arith, nat_tests));
+                (λ row low high opened. grind (arith, nat_tests));
           }

@@ -1,5 +1,5 @@
 -- Packets of a frame that are passed, one after another, leave all as it is: `passed_run`,
--- `no_headers_passed`.
+-- `no_headers_passed`, `no_beginning_passed`.
 use Rattle.std.proofs.lemmas.Bool.Decides.{nat_tests}
 use Rattle.std.proofs.lemmas.Bool.{cases_lt}
 use Rattle.std.proofs.lemmas.List.{take_more}
@@ -7,6 +7,8 @@ use Rattle.std.proofs.Common.{◌≡◌, ℕ, zero, suc, ◌+◌, ◌-◌, ◌<�
 use Rattle.std.proofs.Common.{ap, false, length, subst, sym}
 use Rattle.std.proofs.Common.{get_or, take, refl, ◌∙◌, arith, append_assoc, inl, inr}
 use Rattle.ttx_page.specs.PacketKind.{is_this_page, kind}
+use Rattle.ttx_page.specs.Span.{holds_beginning}
+use Rattle.sub_packets.proofs.KeptLemmas.{beginning-more, begins_not}
 use Rattle.sub_packets.specs.Listener.{BreakNone, IsAlwaysPassed, Knows, rule_set}
 use Rattle.sub_rules.specs.PacketTests.{breaks, packet_rules}
 use Rattle.sub_packets.specs.declared.listener.Listener.{Listener}
@@ -58,6 +60,30 @@ module _ (w : Watched) (ps : List (List ℕ)) (s : Listener) (same : s.watched �
       (grind (arith, nat_tests)) in
       ap (λ k. header_count w.page (take k ps)) (sym next) ∙ step
 
+  -- So the text begins with none of them.
+  no_beginning : (n : ℕ) → n + a ≤ length ps
+      → ((k : ℕ) → a ≤ k → k < n + a → IsAlwaysPassed (get_or ps k []) s)
+      → holds_beginning w.keeps (kind w.page) (take (n + a) ps)
+      ≡ holds_beginning w.keeps (kind w.page) (take a ps)
+  no_beginning zero l passes =
+      let none : 0 + a ≡ a = omega arith in
+      ap (λ k. holds_beginning w.keeps (kind w.page) (take k ps)) none
+  no_beginning (suc n) l passes =
+      let p = get_or ps (n + a) [] in
+      let before = no_beginning n (omega arith) (λ k low high. passes k low (omega arith)) in
+      let none : is_this_page (kind w.page p) ≡ false =
+      rw (← same) ((passes (n + a) (omega arith) (omega arith)).no_header) in
+      let next : n + a + 1 ≡ suc n + a = omega arith in
+      let step : holds_beginning w.keeps (kind w.page) (take (n + a + 1) ps)
+      ≡ holds_beginning w.keeps (kind w.page) (take a ps) =
+      rw (
+        take_more ps (n + a) [] (omega arith),
+        beginning-more w (take (n + a) ps) p,
+        begins_not w.keeps (kind w.page p) none,
+      )
+      (grind (arith, nat_tests)) in
+      ap (λ k. holds_beginning w.keeps (kind w.page) (take k ps)) (sym next) ∙ step
+
   module _ (frame from : ℕ) (heard : List (List ℕ)) where
     -- One packet more.
     passed_one : (k : ℕ) → k < length ps → IsAlwaysPassed (get_or ps k []) s
@@ -99,6 +125,16 @@ module _ (w : Watched) (ps : List (List ℕ)) (s : Listener) (same : s.watched �
         let to : b - a + a ≡ b = omega arith in
         subst (λ k. header_count w.page (take k ps) ≡ header_count w.page (take a ps)) to
         (no_headers (b - a) (omega arith) (λ k l h. passes k l (omega arith)))
+
+    -- For `hear_all`.
+    pub no_beginning_passed :
+        holds_beginning w.keeps (kind w.page) (take b ps)
+        ≡ holds_beginning w.keeps (kind w.page) (take a ps)
+    no_beginning_passed =
+        let to : b - a + a ≡ b = omega arith in
+        subst (λ k. holds_beginning w.keeps (kind w.page) (take k ps)
+        ≡ holds_beginning w.keeps (kind w.page) (take a ps)) to
+        (no_beginning (b - a) (omega arith) (λ k l h. passes k l (omega arith)))
 
     -- For `hear_all`.
     pub passed_run : (frame from : ℕ) (heard : List (List ℕ)) → Knows (heard ++ take a ps) s

@@ -1,19 +1,23 @@
 -- Packets that are sent again break the same rules again, and what is kept stays:
 -- `law_of_sent_again`, `heard_again`, `kept_last`.
 use Rattle.std.proofs.lemmas.Bool.Decides.{nat_tests}
-use Rattle.std.proofs.Common.{◌≡◌, ℕ, zero, suc, ◌<◌, Bool, true, ◌&&◌, cond, List, [], ◌∷◌}
+use Rattle.std.proofs.Common.{◌≡◌, ℕ, zero, suc, ◌<◌, Bool, true, not, ◌&&◌, ◌||◌, cond, List, []}
+use Rattle.std.proofs.Common.{◌∷◌}
 use Rattle.std.proofs.Common.{◌++◌, Option, Some, None, option_map, length, get_or}
 use Rattle.std.proofs.Common.{refl, sym, ap, ◌∙◌, subst, arith, append-nil}
 use Rattle.std.specs.List.{filter}
 use Rattle.std.specs.Option.{option_or}
 use Rattle.std.proofs.lemmas.Bool.{or_left}
-use Rattle.ttx_packet.specs.PageHeader.{c11, header}
+use Rattle.ttx_packet.specs.PageHeader.{c4, c11, header}
 use Rattle.ttx_packet.specs.declared.header.Header.{Header}
 use Rattle.ttx_page.specs.declared.packet_kind.PacketKind.TheVariants.{ThisPage}
-use Rattle.ttx_page.specs.PacketKind.{kind, is_this_page}
-use Rattle.ttx_page.specs.Span.{before_end}
+use Rattle.ttx_page.specs.PacketKind.{begins_text, is_this_page, kind}
+use Rattle.ttx_page.specs.Span.{before_end, holds_beginning}
 use Rattle.ttx_page.proofs.SpanLists.{after-append, holds-append_right}
-use Rattle.sub_packets.specs.Listener.{BreakNone, Knows, KnowsLast, WereJudged}
+use Rattle.ttx_page.proofs.TextSpan.{begins_is_header}
+use Rattle.sub_packets.proofs.KeptLemmas.{last_header-append, text_span-begins}
+use Rattle.sub_packets.specs.Listener.{AreFound, BreakNone, Knows, KnowsLast, WereJudged}
+use Rattle.sub_rules.specs.Kept.{last_header}
 use Rattle.sub_rules.specs.PacketRules.{first_header, header_count}
 use Rattle.sub_rules.specs.PacketTests.{broken_rules, breaks, is_other_mode, packet_rules}
 use Rattle.sub_packets.specs.SentAgain.{BeginsWithHeader, BreakAlike, LawOfSentAgain, LookAlike}
@@ -24,13 +28,16 @@ use Rattle.sub_rules.specs.declared.packet_rule.Watched.{Watched}
 use Rattle.sub_packets.proofs.PacketRuleLemmas.{no_enhancement}
 use Rattle.sub_rules.proofs.PacketLists.{first_header-append}
 
--- ---- a header of the page
+-- ---- a header with which the text begins
 
--- A header of the page is a page header.
+-- A header with which the text begins is a page header.
 header_of :
     (w : Watched) (p : List ℕ)
-    → is_this_page (kind w.page p) ≡ true
-    → (h : Header) × (header p ≡ Some h) × (kind w.page p ≡ ThisPage h)
+    → begins_text w.keeps (kind w.page p) ≡ true
+    → (h : Header)
+    × (header p ≡ Some h)
+    × (kind w.page p ≡ ThisPage h)
+    × ((c4 h || not w.keeps) ≡ true)
 unfolding kind
 header_of w p e = grind (arith, nat_tests)
 
@@ -47,7 +54,7 @@ rules_alike w b c p same = ap (λ test. filter test packet_rules) (λ k r. same 
 -- A packet breaks the same rules after two lists that look alike.
 breaks_alike :
     (w : Watched) (b c : List (List ℕ)) (p : List ℕ)
-    → LookAlike w.page b c
+    → LookAlike w b c
     → (r : PacketRule)
     → breaks r w b p ≡ breaks r w c p
 unfolding breaks
@@ -55,7 +62,7 @@ breaks_alike w b c p same x = grind (arith, nat_tests)
 
 -- What is kept after one list is what is kept after another that looks alike.
 knows_alike :
-    (b c : List (List ℕ)) (s : Listener) → LookAlike s.watched.page b c → Knows b s → Knows c s
+    (b c : List (List ℕ)) (s : Listener) → LookAlike s.watched b c → Knows b s → Knows c s
 knows_alike b c s same k = grind (arith, nat_tests)
 
 -- With the same header again, the first stays.
@@ -72,7 +79,7 @@ same_mode (Some x) h = refl
 
 module _
     (w : Watched) (heard : List (List ℕ)) (first : List ℕ)
-    (is : is_this_page (kind w.page first) ≡ true)
+    (is : begins_text w.keeps (kind w.page first) ≡ true)
   where
     -- The first page header after a header of the page and others.
     first_after :
@@ -81,14 +88,26 @@ module _
         → first_header (xs ++ first ∷ others) ≡ option_or (first_header xs) (Some h)
     first_after xs others h e = grind (arith, first_header-append)
 
-    -- After a header of the page what came before it does not matter, but for the first header,
-    -- which is then there.
+    -- It is one of the page.
+    is_header : is_this_page (kind w.page first) ≡ true
+    is_header = begins_is_header w.keeps (kind w.page first) is
+
+    -- The last header of the page after it, whatever came before.
+    last_after : (xs more : List (List ℕ)) (h : Header)
+        → kind w.page first ≡ ThisPage h
+        → last_header w.page (xs ++ first ∷ more) ≡ option_or (last_header w.page more) (Some h)
+    last_after xs more h e =
+        let both = last_header-append w.page xs (first ∷ more) in grind (arith, nat_tests)
+
+    -- After a header with which the text begins what came before it does not matter, but for the
+    -- first header, which is then there.
     alike :
         (others more : List (List ℕ))
-        → LookAlike w.page (heard ++ first ∷ more) ((heard ++ first ∷ others) ++ first ∷ more)
+        → LookAlike w (heard ++ first ∷ more) ((heard ++ first ∷ others) ++ first ∷ more)
     alike others more =
         let h = header_of w first is in
-        let held = or_left _ _ is in
+        let held = or_left _ _ is_header in
+        let begun = or_left _ _ is in
         let after =
         after-append (kind w.page) heard (first ∷ more) held
         ∙ sym (after-append (kind w.page) (heard ++ first ∷ others) (first ∷ more) held) in
@@ -99,8 +118,13 @@ module _
               ∙ sym
               (first_after (heard ++ first ∷ others) more h.0 h.1
               ∙ ap (λ o. option_or o (Some h.0)) (first_after heard others h.0 h.1));
+          last_is =
+              last_after heard more h.0 h.2 ∙ sym (last_after (heard ++ first ∷ others) more h.0 h.2);
           open_is = grind (arith, nat_tests, holds-append_right);
           span_is = ap (before_end (kind w.page)) after;
+          text_is =
+              text_span-begins w.keeps w.page heard (first ∷ more) begun
+              ∙ sym (text_span-begins w.keeps w.page (heard ++ first ∷ others) (first ∷ more) begun);
         }
 
     -- The header itself breaks the same rules again.
@@ -113,7 +137,10 @@ module _
     first_again others rule.Mode =
         let h = header_of w first is in
         rw (first_after heard others h.0 h.1, h.1) (same_mode (first_header heard) h.0)
-    first_again others rule.Control = refl
+    first_again others rule.Control =
+        let h = header_of w first is in
+        let begins = h.3 in
+        rw h.2 (grind (arith, nat_tests))
     first_again others rule.Parity =
         let h = header_of w first is in rw h.2 (grind (arith, nat_tests))
     first_again others rule.RowChanged =
@@ -129,19 +156,27 @@ module _
         rw (append-nil heard, append-nil (heard ++ first ∷ others)) (sym (first_again others r)))
     breaks_again others (suc k) l = grind (arith, nat_tests, rules_alike, breaks_alike, alike)
 
--- Packets that begin with a header of the page break the same rules again.
+-- Packets that begin with such a header break the same rules again.
 pub law_of_sent_again : LawOfSentAgain
 law_of_sent_again w heard packets begins =
     let first = begins.first in
     let others = begins.others in
     subst
     (λ ps. BreakAlike w heard (heard ++ ps) ps
-    × LookAlike w.page (heard ++ ps) ((heard ++ ps) ++ ps)) (sym begins.packets_are) (
+    × LookAlike w (heard ++ ps) ((heard ++ ps) ++ ps)) (sym begins.packets_are) (
       breaks_again w heard first begins.is_header others,
       alike w heard first begins.is_header others others,
     )
 
 -- ---- what is kept of the packets heard last
+
+-- The text begins with one of them, where it does with the first.
+begun_by : (w : Watched) (ps : List (List ℕ))
+    → BeginsWithHeader w ps
+    → holds_beginning w.keeps (kind w.page) ps ≡ true
+begun_by w ps begins =
+    subst (λ (xs : List (List ℕ)). holds_beginning w.keeps (kind w.page) xs ≡ true)
+    (sym begins.packets_are) (or_left _ _ begins.is_header)
 
 -- The packets heard last, sent again. For `hear_sending`.
 pub heard_again :
@@ -151,15 +186,17 @@ pub heard_again :
     → last ≡ ps
     → BreakNone s.watched heard ps (length ps)
     × KnowsLast (heard ++ ps) ps s
-    × (headers ≡ header_count s.watched.page ps)
+    × AreFound s.watched ps (record { count = headers; begins = true })
 heard_again heard last ps headers s known is same =
     let j = known.last_is headers is in
     let law = law_of_sent_again s.watched j.before last j.begins in
     let clean : BreakNone s.watched heard last (length last) =
     subst (λ xs. BreakNone s.watched xs last (length last)) (sym j.heard_is)
     (λ k l. sym (law.0 k l) ∙ j.clean k l) in
-    let alike : LookAlike s.watched.page heard (heard ++ last) =
-    subst (λ xs. LookAlike s.watched.page xs (xs ++ last)) (sym j.heard_is) law.1 in
+    let alike : LookAlike s.watched heard (heard ++ last) =
+    subst (λ xs. LookAlike s.watched xs (xs ++ last)) (sym j.heard_is) law.1 in
+    let begun = begun_by s.watched last j.begins in
+    let count = j.count in
     grind (arith, nat_tests, knows_alike, alike)
 
 -- What is kept of the packets heard last, where they were heard just now. For `hear_all`.
@@ -168,29 +205,33 @@ pub kept_last :
     → s.watched ≡ w
     → Knows (heard ++ ps) s
     → headers ≡ header_count w.page ps
-    → (begins ≡ true → (0 < length ps) × (is_this_page (kind w.page (get_or ps 0 [])) ≡ true))
+    → (begins ≡ true
+    → (0 < length ps) × (begins_text w.keeps (kind w.page (get_or ps 0 [])) ≡ true))
     → (clean ≡ true → BreakNone w heard ps (length ps))
     → KnowsLast (heard ++ ps) ps (record s { last = cond (begins && clean) (Some headers) None })
 kept_last w heard ps headers begins clean s same known count is none = record {
   knows = record {
     serial_is = known.serial_is;
     open_is = known.open_is;
+    subcode_is = known.subcode_is;
     sent_is = known.sent_is;
     page_is = known.page_is;
+    again_is = known.again_is;
   };
   last_is = λ m e.
       subst (λ v. WereJudged v (heard ++ ps) ps m) (sym same) (go begins clean is none m e);
 }
   where
     first : (xs : List (List ℕ)) → 0 < length xs
-        → is_this_page (kind w.page (get_or xs 0 [])) ≡ true
-        → BeginsWithHeader w.page xs
+        → begins_text w.keeps (kind w.page (get_or xs 0 [])) ≡ true
+        → BeginsWithHeader w xs
     first [] some e = absurd (omega arith)
     first (x ∷ xs) some e = grind arith
 
     go :
         (b q : Bool)
-        → (b ≡ true → (0 < length ps) × (is_this_page (kind w.page (get_or ps 0 [])) ≡ true))
+        → (b ≡ true
+        → (0 < length ps) × (begins_text w.keeps (kind w.page (get_or ps 0 [])) ≡ true))
         → (q ≡ true → BreakNone w heard ps (length ps))
         → (m : ℕ)
         → cond (b && q) (Some headers) None ≡ Some m

@@ -4,8 +4,8 @@ use Rattle.std.proofs.lemmas.Bool.Decides.{nat_tests}
 use Rattle.std.proofs.lemmas.Bool.{cases_lt}
 use Rattle.std.proofs.lemmas.List.{get_or-replicate}
 use Rattle.std.proofs.Common.{◌≡◌, ℕ, zero, suc, ◌+◌, ◌-◌, ◌<◌, ◌≤◌}
-use Rattle.std.proofs.Common.{List, [], Option, Some, None, MatchOption}
-use Rattle.std.proofs.Common.{replicate, refl, sym, ap, ◌∙◌, subst, arith, inl, inr}
+use Rattle.std.proofs.Common.{List, Option, None, MatchOption}
+use Rattle.std.proofs.Common.{refl, sym, ◌∙◌, subst, arith, inl, inr}
 use Rattle.stl_rows.specs.DuePage.{IsEdge}
 use Rattle.stl_rows.specs.Programme.{ProgrammeValue}
 use Rattle.stl_rows.proofs.DuePageLemmas.{due_back}
@@ -17,7 +17,8 @@ use Rattle.sub_plan.specs.Schedule.{due_in}
 use Rattle.sub_packets.specs.Listener.{Knows}
 use Rattle.sub_packets.specs.Undue.{IsLeft, unless_due}
 use Rattle.sub_packets.specs.declared.listener.Listener.{Listener}
-use Rattle.sub_packets.proofs.WrongCellLemmas.{first_cell-none, first_difference, shown_is}
+use Rattle.sub_packets.proofs.WrongCellLemmas.{by_cells, cell-blank, first_cell-none}
+use Rattle.sub_packets.proofs.WrongCellLemmas.{first_difference, shown_is}
 use Rattle.sub_rules.specs.Events.{undue_after, was_due}
 
 -- ---- frames at which the same page is due
@@ -113,21 +114,6 @@ module _ (page : ℕ → Rows) (first f : ℕ) where
 
 -- ---- the first cell that is left
 
--- A cell of the blank page is a space.
-cell-blank : (row column : ℕ) → IsCell row column → cell blank row column ≡ space
-unfolding blank blank_row
-cell-blank row column is =
-    rw (get_or-replicate 24 (row - 1) (replicate 40 space) [] (omega (arith, is.0, is.1)))
-    (get_or-replicate 40 column space 0 is.2)
-
--- Equal pages show the same in each cell.
-by_cells : (a b : Rows) (o : Option (ℕ × ℕ)) (P : ℕ × ℕ → Type 0)
-    → MatchOption o (a ≡ b) P
-    → MatchOption o
-    ((row column : ℕ) → IsCell row column → cell a row column ≡ cell b row column) P
-by_cells a b None P same = λ row column is. ap (λ page. cell page row column) same
-by_cells a b (Some place) P differ = differ
-
 -- The first cell that is left shows a code that was not due. For `first_undue`.
 pub undue_is :
     (heard : List (List ℕ)) (s : Listener) (page : ℕ → Rows) (first f n : ℕ) (left : Rows)
@@ -135,7 +121,7 @@ pub undue_is :
     → Knows heard s
     → IsLeft page first f n s.comparison.page left
     → MatchOption o (left ≡ blank) (λ place. DiffersFirst left blank place.0 place.1)
-    → o ≡ undue_after s.watched.page heard page first f n
+    → o ≡ undue_after s.watched.keeps s.watched.page heard page first f n
 unfolding undue_after
 undue_is heard s page first f n left o known is_left found =
     first_difference _ left blank o
@@ -151,7 +137,7 @@ pub undue_none :
     (heard : List (List ℕ)) (s : Listener) (page : ℕ → Rows) (first f n : ℕ)
     → Knows heard s
     → differing blank s.comparison.page ≡ 0
-    → undue_after s.watched.page heard page first f n ≡ None
+    → undue_after s.watched.keeps s.watched.page heard page first f n ≡ None
 unfolding undue_after
 undue_none heard s page first f n known same =
     first_cell-none _

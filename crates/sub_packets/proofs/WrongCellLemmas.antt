@@ -1,23 +1,29 @@
--- What is kept is what is shown, `shown_is`; the first cell that shows another code, `wrong_is`.
+-- What is kept is what the packets say, `shown_is`; the first cell that is not right: `wrong_is`,
+-- `known_right`, and where repeats may keep, `wrong_keeping`.
+use Rattle.std.proofs.lemmas.Bool.{cases_Bool}
 use Rattle.std.proofs.lemmas.Bool.Decides.{nat_tests}
-use Rattle.std.proofs.Common.{◌≡◌, ℕ, ◌+◌, ◌<◌, ◌==◌, Bool, true, false, not}
-use Rattle.std.proofs.Common.{List, Option, None, Some, MatchOption, option_map, unwrap_or}
-use Rattle.std.proofs.Common.{is_some, get_or, refl, sym, ap, arith}
+use Rattle.std.proofs.Common.{◌≡◌, ℕ, ◌+◌, ◌-◌, ◌<◌, ◌≤◌, ◌⊎◌, ◌||◌, ◌==◌, Bool, true, false, not}
+use Rattle.std.proofs.Common.{List, [], Option, None, Some, MatchOption, option_map, unwrap_or}
+use Rattle.std.proofs.Common.{is_some, get_or, cond, replicate, refl, sym, ap, ◌∙◌, subst, inl, inr}
+use Rattle.std.proofs.Common.{arith}
 use Rattle.std.proofs.lemmas.List.{get_or-drop, get_or-replicate}
 use Rattle.ttx_packet.specs.OneBit.{first_below}
 use Rattle.ttx_packet.proofs.OneBitLemmas.{first_below-at, first_below-none}
 use Rattle.ttx_packet.specs.Parity.{code_of}
 use Rattle.ttx_packet.specs.RowPacket.{text_byte}
-use Rattle.ttx_page.specs.Page.{DiffersFirst, IsCell, Rows, blank_row, cell, space}
-use Rattle.ttx_page.specs.Shown.{shown}
+use Rattle.ttx_page.specs.Page.{DiffersFirst, IsCell, Rows, blank, blank_row, cell, space}
+use Rattle.ttx_page.specs.Shown.{kept}
 use Rattle.sub_rules.proofs.CodesLemmas.{code_at}
-use Rattle.sub_rules.specs.Events.{first_cell, wrong_after}
+use Rattle.sub_rules.specs.Events.{first_cell, is_right, wrong_after}
+use Rattle.sub_rules.specs.Kept.{has_row}
+use Rattle.sub_packets.proofs.KeptLemmas.{row_of_code}
 use Rattle.sub_packets.specs.Listener.{Knows, held}
+use Rattle.sub_packets.specs.Missing.{earlier, is_not_after}
 use Rattle.sub_packets.specs.declared.listener.Listener.{Listener}
 
--- ---- what is kept is what is shown
+-- ---- what is kept is what the packets say
 
--- What is held of a row is what is shown of it.
+-- What is held of a row is what is kept of it.
 code_held :
     (o : Option (List ℕ)) (column : ℕ)
     → column < 40
@@ -27,14 +33,31 @@ unfolding blank_row
 code_held None column l = get_or-replicate 40 column space 0 l
 code_held (Some p) column l = grind (arith, nat_tests, code_at, get_or-drop)
 
--- A cell of the page that is kept is what the packets show.
+-- A cell of the page is what is kept of the packets.
 pub shown_is :
     (heard : List (List ℕ)) (s : Listener)
     → Knows heard s
     → (row column : ℕ)
     → IsCell row column
-    → cell s.comparison.page row column ≡ shown s.watched.page heard row column
+    → cell s.comparison.page row column ≡ kept s.watched.keeps s.watched.page heard row column
 shown_is heard s known row column is = grind (arith, nat_tests, code_held)
+
+-- ---- equal pages
+
+-- A cell of the blank page is a space.
+pub cell-blank : (row column : ℕ) → IsCell row column → cell blank row column ≡ space
+unfolding blank blank_row
+cell-blank row column is =
+    rw (get_or-replicate 24 (row - 1) (replicate 40 space) [] (omega (arith, is.0, is.1)))
+    (get_or-replicate 40 column space 0 is.2)
+
+-- Equal pages show the same in each cell.
+pub by_cells : (a b : Rows) (o : Option (ℕ × ℕ)) (P : ℕ × ℕ → Type 0)
+    → MatchOption o (a ≡ b) P
+    → MatchOption o
+    ((row column : ℕ) → IsCell row column → cell a row column ≡ cell b row column) P
+by_cells a b None P same = λ row column is. ap (λ page. cell page row column) same
+by_cells a b (Some place) P differ = differ
 
 -- ---- the first cell that passes a test
 
@@ -71,8 +94,54 @@ module _ (test : ℕ → ℕ → Bool) where
       → first_cell test ≡ Some (row, column)
   first_cell-at row column is passes rows cells = grind (arith, nat_tests, first_cell-below)
 
--- The first cell in which two pages differ is the first that passes a test, where exactly those
--- pass it in which they do. For `wrong_is` and `undue_is`.
+-- A cell is the first that passes a test.
+pub record PassesFirst (test : ℕ → ℕ → Bool) (row column : ℕ) : Type 0 where
+  pub is_cell : IsCell row column
+  pub passes : test row column ≡ true
+  pub rows_above : (r c : ℕ) → IsCell r c → r < row → test r c ≡ false
+  pub cells_before : (c : ℕ) → c < column → test row c ≡ false
+
+-- It is found, or none passes.
+abbrev pub FindsFirst : (ℕ → ℕ → Bool) → Option (ℕ × ℕ) → Type 0
+FindsFirst test o =
+    MatchOption o ((row column : ℕ) → IsCell row column → test row column ≡ false)
+    (λ place. PassesFirst test place.0 place.1)
+
+-- So it is the first cell.
+found_first : (test : ℕ → ℕ → Bool) (o : Option (ℕ × ℕ)) → FindsFirst test o → o ≡ first_cell test
+found_first test None none = sym (first_cell-none test none)
+found_first test (Some place) first =
+    sym
+    (first_cell-at test place.0 place.1 first.is_cell first.passes first.rows_above
+    first.cells_before)
+
+-- The first cell in which two pages differ passes a test first, where exactly those pass it in which
+-- they do.
+differing_found :
+    (test : ℕ → ℕ → Bool) (a b : Rows) (o : Option (ℕ × ℕ))
+    → ((row column : ℕ)
+    → IsCell row column
+    → test row column ≡ not (cell a row column == cell b row column))
+    → MatchOption o
+    ((row column : ℕ) → IsCell row column → cell a row column ≡ cell b row column)
+    (λ place. DiffersFirst a b place.0 place.1)
+    → FindsFirst test o
+differing_found test a b None is same =
+    λ row column at.
+    let here = is row column at in let equal = same row column at in grind (arith, nat_tests)
+differing_found test a b (Some place) is d = record {
+  is_cell = d.is_cell;
+  passes = let here = is place.0 place.1 d.is_cell in let other = d.differ in grind (arith, nat_tests);
+  rows_above = λ r c at less.
+      let here = is r c at in
+      let above = ap (λ xs. get_or xs c 0) (d.rows_above r at.0 less) in grind (arith, nat_tests);
+  cells_before = λ c less.
+      let cell_is = d.is_cell in
+      let here = is place.0 c (cell_is.0, cell_is.1, omega (arith, less, cell_is.2)) in
+      let before = d.cells_before c less in grind (arith, nat_tests);
+}
+
+-- For `wrong_is` and `undue_is`.
 pub first_difference :
     (test : ℕ → ℕ → Bool) (a b : Rows) (o : Option (ℕ × ℕ))
     → ((row column : ℕ)
@@ -82,38 +151,195 @@ pub first_difference :
     ((row column : ℕ) → IsCell row column → cell a row column ≡ cell b row column)
     (λ place. DiffersFirst a b place.0 place.1)
     → o ≡ first_cell test
-first_difference test a b None is same =
-    sym
-    (first_cell-none test
-    (λ row column at.
-    let here = is row column at in let equal = same row column at in grind (arith, nat_tests)))
-first_difference test a b (Some place) is d =
-    sym
-    (first_cell-at test place.0 place.1 d.is_cell
-    (let here = is place.0 place.1 d.is_cell in
-    let other = d.differ in grind (arith, nat_tests))
-    (λ r c at less.
-    let here = is r c at in
-    let above = ap (λ xs. get_or xs c 0) (d.rows_above r at.0 less) in grind (arith, nat_tests))
-    (λ c less.
-    let cell_is = d.is_cell in
-    let here = is place.0 c (cell_is.0, cell_is.1, omega (arith, less, cell_is.2)) in
-    let before = d.cells_before c less in grind (arith, nat_tests)))
+first_difference test a b o is found = found_first test o (differing_found test a b o is found)
 
--- ---- the first cell that shows another code
+-- ---- the earlier of two cells
 
--- A comparison of two pages finds it, where the one holds what is shown. For `first_wrong`.
-pub wrong_is :
-    (heard : List (List ℕ)) (s : Listener) (o : Option (ℕ × ℕ))
-    → Knows heard s
-    → MatchOption o
-    ((row column : ℕ)
-    → IsCell row column
-    → cell s.comparison.page row column ≡ cell s.comparison.due row column)
-    (λ place. DiffersFirst s.comparison.page s.comparison.due place.0 place.1)
-    → o ≡ wrong_after s.watched.page heard s.comparison.due
-unfolding wrong_after
-wrong_is heard s o known found =
-    first_difference _ s.comparison.page s.comparison.due o
-    (λ row column is. let kept = shown_is heard s known row column is in rw kept refl)
-    found
+module _ (ta tb test : ℕ → ℕ → Bool) (one : (r c : ℕ) → ta r c ≡ true → test r c ≡ true)
+    (none : (r c : ℕ) → ta r c ≡ false → tb r c ≡ false → test r c ≡ false) where
+  -- Of two tests the cell that passes the one first passes either first, where no cell passes the
+  -- other.
+  first_alone : (row column : ℕ)
+      → PassesFirst ta row column
+      → ((r c : ℕ) → IsCell r c → tb r c ≡ false)
+      → PassesFirst test row column
+  first_alone row column a fails = record {
+    is_cell = a.is_cell;
+    passes = one row column a.passes;
+    rows_above = λ r c at less. none r c (a.rows_above r c at less) (fails r c at);
+    cells_before = λ c less.
+        none row c (a.cells_before c less)
+        (fails row c (a.is_cell.0, a.is_cell.1, omega (arith, less, a.is_cell.2)));
+  }
+
+  -- And where it is not after the cell that passes the other first.
+  first_of : (row column y x : ℕ)
+      → PassesFirst ta row column
+      → PassesFirst tb y x
+      → (row < y) ⊎ ((row ≡ y) × (column ≤ x))
+      → PassesFirst test row column
+  first_of row column y x a b before = record {
+    is_cell = a.is_cell;
+    passes = one row column a.passes;
+    rows_above = λ r c at less.
+        none r c (a.rows_above r c at less) (b.rows_above r c at (above r less before));
+    cells_before = λ c less.
+        none row c (a.cells_before c less) (left c less before);
+  }
+    where
+      above : (r : ℕ) → r < row → (row < y) ⊎ ((row ≡ y) × (column ≤ x)) → r < y
+      above r less (inl before) = omega (arith, less, before)
+      above r less (inr same) = omega (arith, less, same.0)
+
+      left : (c : ℕ) → c < column → (row < y) ⊎ ((row ≡ y) × (column ≤ x)) → tb row c ≡ false
+      left c less (inl before) =
+          b.rows_above row c (a.is_cell.0, a.is_cell.1, omega (arith, less, a.is_cell.2)) before
+      left c less (inr same) =
+          subst (λ (r : ℕ). tb r c ≡ false) (sym same.0)
+          (b.cells_before c (omega (arith, less, same.1)))
+
+-- The earlier of two cells passes either test first.
+earlier_found : (ta tb : ℕ → ℕ → Bool) (a b : Option (ℕ × ℕ))
+    → FindsFirst ta a
+    → FindsFirst tb b
+    → FindsFirst (λ row column. ta row column || tb row column) (earlier a b)
+earlier_found ta tb None None na nb =
+    λ row column is.
+    let one = na row column is in let other = nb row column is in grind (arith, nat_tests)
+earlier_found ta tb None (Some q) na b =
+    first_alone tb ta (λ row column. ta row column || tb row column)
+    (λ r c passes. grind (arith, nat_tests)) (λ r c one other. grind (arith, nat_tests))
+    q.0 q.1 b na
+earlier_found ta tb (Some p) None a nb =
+    first_alone ta tb (λ row column. ta row column || tb row column)
+    (λ r c passes. grind (arith, nat_tests)) (λ r c one other. grind (arith, nat_tests))
+    p.0 p.1 a nb
+earlier_found ta tb (Some p) (Some q) a b = go (is_not_after p q) refl
+  where
+    go : (before : Bool)
+        → is_not_after p q ≡ before
+        → FindsFirst (λ row column. ta row column || tb row column)
+        (cond before (Some p) (Some q))
+    go true e =
+        first_of ta tb (λ row column. ta row column || tb row column)
+        (λ r c passes. grind (arith, nat_tests)) (λ r c one other. grind (arith, nat_tests))
+        p.0 p.1 q.0 q.1 a b (grind (arith, nat_tests))
+    go false e =
+        first_of tb ta (λ row column. ta row column || tb row column)
+        (λ r c passes. grind (arith, nat_tests)) (λ r c one other. grind (arith, nat_tests))
+        q.0 q.1 p.0 p.1 b a (grind (arith, nat_tests))
+
+-- ---- the first cell that is not right
+
+module _ (heard : List (List ℕ)) (s : Listener) (known : Knows heard s) where
+  -- It is not what is due.
+  abbrev other : ℕ → ℕ → Bool
+  other row column =
+      not (kept s.watched.keeps s.watched.page heard row column
+      == cell s.comparison.due row column)
+
+  -- It is text that is due, and its row did not come.
+  abbrev lacks : ℕ → ℕ → Bool
+  lacks row column =
+      not (cell s.comparison.due row column == space || has_row s.watched.page heard row)
+
+  -- It is not right.
+  abbrev wrong : ℕ → ℕ → Bool
+  wrong row column =
+      not (is_right s.watched.keeps s.watched.page heard s.comparison.due row column)
+
+  -- So it is one of both.
+  wrong_as : (row column : ℕ) → wrong row column ≡ (other row column || lacks row column)
+  wrong_as row column = grind (arith, nat_tests)
+
+  -- A comparison of two pages finds the first that is other than due.
+  other_found : (o : Option (ℕ × ℕ))
+      → MatchOption o
+      ((row column : ℕ)
+      → IsCell row column
+      → cell s.comparison.page row column ≡ cell s.comparison.due row column)
+      (λ place. DiffersFirst s.comparison.page s.comparison.due place.0 place.1)
+      → FindsFirst other o
+  other_found o found =
+      differing_found other s.comparison.page s.comparison.due o
+      (λ row column is. let kept_is = shown_is heard s known row column is in rw kept_is refl) found
+
+  -- Where repeats may not keep, the one is the other. For `first_wrong`.
+  pub wrong_is : (o : Option (ℕ × ℕ))
+      → s.watched.keeps ≡ false
+      → MatchOption o
+      ((row column : ℕ)
+      → IsCell row column
+      → cell s.comparison.page row column ≡ cell s.comparison.due row column)
+      (λ place. DiffersFirst s.comparison.page s.comparison.due place.0 place.1)
+      → o ≡ wrong_after s.watched.keeps s.watched.page heard s.comparison.due
+  unfolding wrong_after
+  wrong_is o none found =
+      first_difference wrong s.comparison.page s.comparison.due o
+      (λ row column is.
+      let kept_is = shown_is heard s known row column is in
+      let came = row_of_code s.watched.keeps s.watched.page heard row column none in
+      grind (arith, nat_tests)) found
+
+  -- Where each cell is what is due, and repeats may not keep or no row lacks, none is wrong. For
+  -- `is_known_right`.
+  pub known_right :
+      ((row column : ℕ)
+      → IsCell row column
+      → cell s.comparison.page row column ≡ cell s.comparison.due row column)
+      → (s.watched.keeps ≡ true
+      → (row column : ℕ)
+      → IsCell row column
+      → get_or s.again (row - 1) false ≡ false
+      → cell s.comparison.due row column ≡ space)
+      → wrong_after s.watched.keeps s.watched.page heard s.comparison.due ≡ None
+  unfolding wrong_after
+  known_right same rows =
+      first_cell-none wrong
+      (λ row column is.
+      let kept_is = shown_is heard s known row column is in
+      let equal = same row column is in
+      let came = row_of_code s.watched.keeps s.watched.page heard row column in
+      let again = known.again_is row is.0 is.1 in
+      elim (cases_Bool s.watched.keeps) [
+        | inl may ↦ let none = rows may row column is in grind (arith, nat_tests)
+        | inr never ↦ let row_came = came never in grind (arith, nat_tests)
+      ])
+
+  -- The page that is due, without the rows that came.
+  abbrev pub IsMissing : Rows → Type 0
+  IsMissing missing =
+      (row column : ℕ)
+      → IsCell row column
+      → cell missing row column
+      ≡ cond (get_or s.again (row - 1) false) space (cell s.comparison.due row column)
+
+  -- It finds the first cell whose row lacks.
+  lacks_found : (missing : Rows) (o : Option (ℕ × ℕ))
+      → IsMissing missing
+      → MatchOption o (missing ≡ blank) (λ place. DiffersFirst missing blank place.0 place.1)
+      → FindsFirst lacks o
+  lacks_found missing o cells found =
+      differing_found lacks missing blank o
+      (λ row column is.
+      let here = cells row column is in
+      let blank_is = cell-blank row column is in
+      let again = known.again_is row is.0 is.1 in
+      grind (arith, nat_tests))
+      (by_cells missing blank o (λ place. DiffersFirst missing blank place.0 place.1) found)
+
+  -- Where repeats may keep, the earlier of both. For `first_wrong`.
+  pub wrong_keeping : (missing : Rows) (a b : Option (ℕ × ℕ))
+      → IsMissing missing
+      → MatchOption a
+      ((row column : ℕ)
+      → IsCell row column
+      → cell s.comparison.page row column ≡ cell s.comparison.due row column)
+      (λ place. DiffersFirst s.comparison.page s.comparison.due place.0 place.1)
+      → MatchOption b (missing ≡ blank) (λ place. DiffersFirst missing blank place.0 place.1)
+      → earlier a b ≡ wrong_after s.watched.keeps s.watched.page heard s.comparison.due
+  unfolding wrong_after
+  wrong_keeping missing a b cells one two =
+      found_first (λ row column. other row column || lacks row column) (earlier a b)
+      (earlier_found other lacks a b (other_found a one) (lacks_found missing b cells two))
+      ∙ sym (ap first_cell (λ k row column. wrong_as row column k))

@@ -8,11 +8,13 @@ use Rattle.ttx_packet.specs.PageHeader.{c11}
 use Rattle.ttx_packet.specs.declared.header.Header.{Header}
 use Rattle.ttx_page.specs.Page.{blank_row, row_at}
 use Rattle.ttx_page.specs.PacketKind.{is_this_page, kind}
-use Rattle.ttx_page.specs.Span.{is_open_after, span}
+use Rattle.ttx_page.specs.Span.{holds_beginning, is_open_after, text_span}
+use Rattle.sub_rules.specs.Kept.{has_row, last_header}
 use Rattle.sub_rules.specs.PacketRules.{codes_of, first_header, header_count}
 use Rattle.sub_rules.specs.PacketTests.{breaks, broken_rules, first_of_row, is_same_bit}
 use Rattle.sub_rules.specs.PacketTests.{packet_rules}
 use Rattle.sub_packets.specs.SentAgain.{BeginsWithHeader}
+use Rattle.sub_packets.specs.declared.last_heard.Headers.{Headers}
 use Rattle.sub_packets.specs.declared.listener.Listener.{Listener}
 use Rattle.sub_rules.specs.declared.packet_rule.PacketRule.{PacketRule}
 use Rattle.sub_rules.specs.declared.packet_rule.Watched.{Watched}
@@ -35,27 +37,40 @@ held (Some p) = codes_of p
 pub record Knows (heard : List (List ℕ)) (s : Listener) : Type 0 where
   pub serial_is : s.serial ≡ option_map (λ (h : Header). c11 h) (first_header heard)
   pub open_is : s.is_open ≡ is_open_after (kind s.watched.page) heard
-  -- The rows that the span holds, and of each the codes of its first packet.
+  pub subcode_is :
+      s.subcode ≡ option_map (λ (h : Header). h.subcode) (last_header s.watched.page heard)
+  -- The rows that the long span holds, and of each the codes of its first packet.
   pub sent_is : (row : ℕ) → 1 ≤ row → row ≤ 24
       → slice_index_or s.sent (row - 1) false
-      ≡ is_some (first_of_row s.watched.page (span (kind s.watched.page) heard) row)
+      ≡ is_some
+      (first_of_row s.watched.page (text_span s.watched.keeps (kind s.watched.page) heard) row)
   pub page_is : (row : ℕ) → 1 ≤ row → row ≤ 24
       → row_at s.comparison.page row
-      ≡ held (first_of_row s.watched.page (span (kind s.watched.page) heard) row)
+      ≡ held
+      (first_of_row s.watched.page (text_span s.watched.keeps (kind s.watched.page) heard) row)
+  -- The rows that the span holds.
+  pub again_is : (row : ℕ) → 1 ≤ row → row ≤ 24
+      → slice_index_or s.again (row - 1) false ≡ has_row s.watched.page heard row
 
 -- The first n packets of a frame, sent after these, break no rule.
 abbrev pub BreakNone : Watched → List (List ℕ) → List (List ℕ) → ℕ → Type 0
 BreakNone w before packets n =
     (k : ℕ) → k < n → broken_rules w (before ++ take k packets) (slice_index_or packets k []) ≡ []
 
--- The packets heard last begin with a header of the page, hold `headers` of them, and break no
--- rule.
+-- The packets heard last begin with a header with which the text begins, hold `headers` headers of
+-- the page, and break no rule.
 pub record WereJudged (w : Watched) (heard last : List (List ℕ)) (headers : ℕ) : Type 0 where
   pub before : List (List ℕ)
   pub heard_is : heard ≡ before ++ last
-  pub begins : BeginsWithHeader w.page last
+  pub begins : BeginsWithHeader w last
   pub clean : BreakNone w before last (length last)
   pub count : header_count w.page last ≡ headers
+
+-- What is found of the headers of the page among packets: how many they are, and whether the text
+-- begins with one of them.
+pub record AreFound (w : Watched) (packets : List (List ℕ)) (found : Headers) : Type 0 where
+  pub count : found.count ≡ header_count w.page packets
+  pub begins : found.begins ≡ holds_beginning w.keeps (kind w.page) packets
 
 -- What is kept of all packets heard, and of those heard last.
 pub record KnowsLast (heard last : List (List ℕ)) (s : Listener) : Type 0 where

@@ -1,4 +1,4 @@
-//! The page that is shown beside the page that is due, and in how many cells they differ.
+//! The page that is kept beside the page that is due, and in how many cells they differ.
 ghost use Rattle.std.specs.Prelude.{◌≡◌, ◌↔◌, ℕ, ◌-◌, ◌≤◌, ◌==◌, not, IfSome, IsTrue, MatchOption};
 ghost use Rattle.std.specs.Prelude.{Some, slice_set};
 ghost use Rattle.ttx_page.specs.Differing.{row_differing};
@@ -107,6 +107,13 @@ impl Comparison {
         ensures { result.now ≡ self.now.page }
     {
         &self.page
+    }
+
+    /// The page that is due.
+    pub(crate) fn due(&self) -> &Page
+        ensures { result.now ≡ self.now.due }
+    {
+        &self.due
     }
 
     /// The first cell that differs from the due page, found by the count where there is one.

@@ -1,7 +1,16 @@
-//! What is found of the packets heard last: how many headers of the page they hold, whether the
-//! first is one, and whether none breaks a rule.
-ghost use Rattle.std.specs.Prelude.{◌≡◌, ◌+◌, ◌<◌, ◌&&◌, ◌==◌, if◌then◌else◌, None, Some};
+//! What is found of the packets heard last: how many headers of the page they hold, whether the text
+//! begins with one of them, or with the first packet, and whether none breaks a rule.
+ghost use Rattle.std.specs.Prelude.{◌≡◌, ◌+◌, ◌<◌, ◌&&◌, ◌||◌, ◌==◌, if◌then◌else◌, None, Some};
 ghost use Rattle.ttx_pes.specs.PesPacket.{most_units};
+
+/// What is found of the headers of the page among packets.
+#[derive(Clone, Copy)]
+pub struct Headers {
+    /// How many they are.
+    pub count: u8,
+    /// With one of them at least the text begins: it erases the page, or repeats may not keep it.
+    pub begins: bool,
+}
 
 /// One header more, or none.
 pub(crate) fn counted(headers: u8, is_header: bool) -> u8
@@ -11,11 +20,18 @@ pub(crate) fn counted(headers: u8, is_header: bool) -> u8
     if is_header { headers + 1 } else { headers }
 }
 
-/// Whether the first packet is a header, at packet `k` on.
-pub(crate) fn begins_with(begins: bool, k: usize, is_header: bool) -> bool
-    ensures { result ≡ (if k == 0 then is_header else begins) }
+/// Whether the text begins with the first packet, at packet `k` on, with which it does or not.
+pub(crate) fn begins_with(first: bool, k: usize, begins: bool) -> bool
+    ensures { result ≡ (if k == 0 then begins else first) }
 {
-    if k == 0 { is_header } else { begins }
+    if k == 0 { begins } else { first }
+}
+
+/// Whether the text begins with a packet, one packet on.
+pub(crate) fn has_begun(begun: bool, begins: bool) -> bool
+    ensures { result ≡ (begun || begins) }
+{
+    begun || begins
 }
 
 /// Whether no rule was broken, at a packet that breaks none or some.
@@ -25,11 +41,11 @@ pub(crate) fn stays_clean(is_clean: bool, breaks_none: bool) -> bool
     is_clean && breaks_none
 }
 
-/// How many headers there are, where the first packet is one and none breaks a rule.
-pub(crate) fn last_headers(begins: bool, is_clean: bool, headers: u8) -> Option<u8>
-    ensures { result ≡ (if begins && is_clean then Some headers else None) }
+/// How many headers there are, where the text begins with the first packet and none breaks a rule.
+pub(crate) fn last_headers(first: bool, is_clean: bool, headers: u8) -> Option<u8>
+    ensures { result ≡ (if first && is_clean then Some headers else None) }
 {
-    if begins && is_clean {
+    if first && is_clean {
         Some(headers)
     } else {
         None

@@ -6,11 +6,12 @@
 //!
 //! ```text
 //! let mut listener = Listener::new(watched, due);
-//! listener.hear_sending(&units, false, 250, 0, &mut audience)?; // 2 headers of the page
+//! listener.hear_sending(&units, false, 250, 0, &mut audience)?; // count: 2, begins: true
 //! listener.first_wrong(); // Some((22, 7))
 //! ```
 #![tactic(auto)]
 
+mod breaking;
 mod comparison;
 mod last_heard;
 mod laws;
@@ -19,8 +20,10 @@ mod packet_rules;
 mod rule_set;
 mod telling;
 mod undue;
+mod wrong_cell;
 
 pub use comparison::Comparison;
+pub use last_heard::Headers;
 pub use laws::law_of_sent_again;
 pub use listener::Listener;
 pub use telling::tell_if;

@@ -1,32 +1,26 @@
 //! What is kept of the packets that were heard, and the rules that the next packet breaks.
 ghost use Rattle.std.specs.Prelude.{◌≡◌, ◌≢◌, ℕ, ◌+◌, ◌-◌, ◌<◌, ◌≤◌, ◌++◌, List, [], ◌∷◌};
 ghost use Rattle.std.specs.Prelude.{MatchResult};
-ghost use Rattle.std.specs.Prelude.{drop, length, IfOk, IsTrue, OnOk, true, false, is_err, map};
+ghost use Rattle.std.specs.Prelude.{length, IfOk, IsTrue, OnOk, true, false, is_err, map};
 ghost use Rattle.std.specs.Prelude.{replicate};
-ghost use Rattle.std.specs.Prelude.{if◌then◌else◌, ◌&&◌, ◌==◌, not, Some, None, is_some};
+ghost use Rattle.std.specs.Prelude.{◌&&◌, ◌==◌, not, Some};
 ghost use Rattle.std.specs.Prelude.{slice_index_or, slice_set};
 ghost use Rattle.std.specs.List.{filter};
 ghost use Rattle.sub_io.specs.Telling.{Tells, TellsPrefix, TellsSome, TellsUntilStopped};
-ghost use Rattle.ttx_packet.specs.PacketAddress.{address};
 ghost use Rattle.ttx_packet.specs.PageHeader.{HasExactHeader, coded_header, header};
-ghost use Rattle.ttx_packet.specs.RowPacket.{first_even_byte};
-ghost use Rattle.ttx_page.specs.Differing.{row_differing};
-ghost use Rattle.ttx_page.specs.Page.{AreCodes, IsPage, IsRow, blank, row_at};
-ghost use Rattle.ttx_page.specs.PacketKind.{is_this_page, kind};
+ghost use Rattle.ttx_page.specs.Page.{AreCodes, IsPage, IsRow, blank};
+ghost use Rattle.ttx_page.specs.PacketKind.{begins_text, is_this_page, kind};
 ghost use Rattle.ttx_page.specs.Span.{is_open_after};
 ghost use Rattle.ttx_pes.specs.PesPacket.{most_units};
-ghost use Rattle.sub_rules.specs.Events.{packets_told, wrong_after};
-ghost use Rattle.sub_rules.specs.PacketRules.{codes_of, header_count, packets_of_units};
+ghost use Rattle.sub_rules.specs.Events.{packets_told};
+ghost use Rattle.sub_rules.specs.PacketRules.{packets_of_units};
 ghost use Rattle.sub_rules.specs.Events.{packet_fault};
-ghost use Rattle.sub_rules.specs.PacketTests.{breaks, is_of_enhancement, packet_rules};
+ghost use Rattle.sub_rules.specs.PacketTests.{breaks, packet_rules};
 
 use crate::comparison::Comparison;
-use crate::last_heard::{begins_with, counted, last_headers, stays_clean};
-use crate::packet_rules::{
-    first_serial, has_even_byte, has_wrong_address, has_wrong_codes, is_enhancement, is_of_mode,
-    is_other_mode, is_serial, is_subtitle_header, text_codes,
-};
-use crate::rule_set::{RuleSet, tell_rules};
+use crate::last_heard::{Headers, begins_with, counted, has_begun, last_headers, stays_clean};
+use crate::packet_rules::{begins_text, first_serial, is_of_mode, is_serial, text_codes};
+use crate::rule_set::tell_rules;
 use sub_io::{Audience, Stopped};
 use sub_rules::{Event, Watched};
 use ttx_packet::{Header, Packet, SentPacket};
@@ -36,21 +30,28 @@ use ttx_pes::SentUnits;
 /// What is kept of the packets that were heard.
 ///
 /// Which rules a packet breaks depends on the packets before it: on the first page header, on
-/// whether the page is open, and on the rows sent since its last header. So much is kept of them,
-/// and the page that they show beside the page that is due.
+/// whether the page is open, on the subcode of its last header, and on the rows sent since the last
+/// one with which its text begins. So much is kept of them, and the page that they show beside the
+/// page that is due.
 #[derive(Drop)]
 pub struct Listener {
-    /// The page, its national option, and whether complete pages are asked for.
+    /// The page, its national option, whether complete pages are asked for, and whether repeats may
+    /// keep the page.
     pub watched: Watched,
     // C11 of the first header.
-    serial: Option<bool>,
+    pub(crate) serial: Option<bool>,
     // The page is open for rows.
-    is_open: bool,
-    // The rows that were sent since the last header of the page.
-    sent: [bool; 24],
+    pub(crate) is_open: bool,
+    // The subcode of the last header of the page.
+    pub(crate) subcode: Option<u16>,
+    // The rows that were sent since the last header of the page with which its text begins.
+    pub(crate) sent: [bool; 24],
+    // Those that were sent since its last header.
+    pub(crate) again: [bool; 24],
     /// The page that the packets show, beside the page that is due.
     pub comparison: Comparison,
-    // How many headers of the page the packets heard last hold, where the first of these is one.
+    // How many headers of the page the packets heard last hold, where the text begins with the first
+    // of these.
     last: Option<u8>,
 }
 
@@ -59,12 +60,15 @@ pub struct Listener {
 struct Heard {
     // A header of the page.
     is_header: bool,
+    // The text begins with it.
+    begins: bool,
     // It breaks no rule.
     is_clean: bool,
 }
 
 impl Listener {
-    ghost use Rattle.sub_packets.specs.Listener.{IsPassed, Knows, KnowsLast, IsAlwaysPassed};
+    ghost use Rattle.sub_packets.specs.Listener.{AreFound, IsPassed, Knows, KnowsLast};
+    ghost use Rattle.sub_packets.specs.Listener.{IsAlwaysPassed};
     ghost use Rattle.sub_packets.specs.Listener.{is_passed_header, rule_set};
 
     /// Nothing was heard, and this page is due.
@@ -77,7 +81,9 @@ impl Listener {
             watched,
             serial: None,
             is_open: false,
+            subcode: None,
             sent: [false; 24],
+            again: [false; 24],
             comparison: Comparison::new(due),
             last: None,
         }
@@ -100,29 +106,12 @@ impl Listener {
         self.watched.complete && self.is_open
     }
 
-    /// Whether it is known without looking that no cell shows another code than is due.
-    #[inline(always)]
-    pub fn is_known_right(&self) -> bool
-        ensures { (heard : List (List ℕ)) → Knows heard self.now → IsTrue result
-            → wrong_after self.now.watched.page heard self.now.comparison.due ≡ None }
-    {
-        self.comparison.is_known_right()
-    }
-
-    /// The first cell that shows another code than is due.
-    pub fn first_wrong(&self) -> Option<(u8, u8)>
-        ensures { (heard : List (List ℕ)) → Knows heard self.now → result
-            ≡ wrong_after self.now.watched.page heard self.now.comparison.due }
-    {
-        self.comparison.first_wrong()
-    }
-
-    /// Hears packets of a frame, tells which rules they break, and says how many headers of the
-    /// page are among them. `again` says that they are those heard last. `from` is the number of
-    /// the first of them in its frame: 0, but after PES packets of the same frame.
+    /// Hears packets of a frame, tells which rules they break, and says which headers of the page
+    /// are among them. `again` says that they are those heard last. `from` is the number of the
+    /// first of them in its frame: 0, but after PES packets of the same frame.
     ///
-    /// Packets that begin with a header of the page and broke no rule break none again, and leave
-    /// what is kept as it is: no packet is looked at.
+    /// Packets that begin with a header with which the text begins and broke no rule break none
+    /// again, and leave what is kept as it is: no packet is looked at.
     ///
     /// # Errors
     ///
@@ -136,7 +125,7 @@ impl Listener {
         frame: u32,
         from: u32,
         audience: &mut A,
-    ) -> Result<u8, Stopped>
+    ) -> Result<Headers, Stopped>
         requires few { length units.now ≤ most_units }
         requires from { from + most_units ≤ u32.MAX }
         requires goes_on { A.has_stopped audience.old ≡ false }
@@ -148,7 +137,7 @@ impl Listener {
             → (again ≡ true → last ≡ packets_of_units units.now) → MatchResult result
             (λ headers. KnowsLast (heard ++ packets_of_units units.now)
             (packets_of_units units.now) self.new
-            × (headers ≡ header_count self.old.watched.page (packets_of_units units.now))
+            × AreFound self.old.watched (packets_of_units units.now) headers
             × Tells A.is_told audience.old audience.new
             (packets_told self.old.watched frame from heard (packets_of_units units.now)
             (length (packets_of_units units.now))))
@@ -157,8 +146,11 @@ impl Listener {
             (length (packets_of_units units.now)))) }
     {
         if again {
-            if let Some(headers) = self.last {
-                return Ok(headers);
+            if let Some(count) = self.last {
+                return Ok(Headers {
+                    count,
+                    begins: true,
+                });
             }
         }
         self.hear_all(units, frame, from, audience)
@@ -173,7 +165,7 @@ impl Listener {
         frame: u32,
         from: u32,
         audience: &mut A,
-    ) -> Result<u8, Stopped>
+    ) -> Result<Headers, Stopped>
         requires few { length units.now ≤ most_units }
         requires from { from + most_units ≤ u32.MAX }
         requires goes_on { A.has_stopped audience.old ≡ false }
@@ -184,7 +176,7 @@ impl Listener {
         ensures knows { (heard : List (List ℕ)) → Knows heard self.old → MatchResult result
             (λ headers. KnowsLast (heard ++ packets_of_units units.now)
             (packets_of_units units.now) self.new
-            × (headers ≡ header_count self.old.watched.page (packets_of_units units.now))
+            × AreFound self.old.watched (packets_of_units units.now) headers
             × Tells A.is_told audience.old audience.new
             (packets_told self.old.watched frame from heard (packets_of_units units.now)
             (length (packets_of_units units.now))))
@@ -193,7 +185,8 @@ impl Listener {
             (length (packets_of_units units.now)))) }
     {
         let mut headers = 0;
-        let mut begins = false;
+        let mut first = false;
+        let mut begun = false;
         let mut is_clean = true;
         let mut k = 0;
         while k < units.len() {
@@ -202,14 +195,18 @@ impl Listener {
                 k = self.next_heard(units, k + 1);
             } else {
                 let heard = self.judge(&sent.packet(), frame, from + k as u32, audience)?;
-                begins = begins_with(begins, k, heard.is_header);
+                first = begins_with(first, k, heard.begins);
+                begun = has_begun(begun, heard.begins);
                 headers = counted(headers, heard.is_header);
                 is_clean = stays_clean(is_clean, heard.is_clean);
                 k += 1;
             }
         }
-        self.last = last_headers(begins, is_clean, headers);
-        Ok(headers)
+        self.last = last_headers(first, is_clean, headers);
+        Ok(Headers {
+            count: headers,
+            begins: begun,
+        })
     }
 
     // The number of the first packet that is not passed, from a number on; how many packets there
@@ -323,6 +320,8 @@ impl Listener {
         ensures some { TellsSome A.is_told audience.old audience.new }
         ensures header { IfOk result (λ was. was.is_header
             ≡ is_this_page (kind self.old.watched.page packet.now)) }
+        ensures begins { IfOk result (λ was. was.begins
+            ≡ begins_text self.old.watched.keeps (kind self.old.watched.page packet.now)) }
         ensures clean { (heard : List (List ℕ)) → Knows heard self.old → IfOk result (λ was.
             was.is_clean ≡ true
             → rule_set (λ r. breaks r self.old.watched heard packet.now) packet_rules ≡ 0) }
@@ -337,79 +336,13 @@ impl Listener {
         let rules = self.broken_rules(packet, found, page_header);
         tell_rules(rules, frame, number, audience)?;
         let is_header = self.hear(packet, found, page_header);
+        let begins = begins_text(self.watched.keeps, &found);
         let is_clean = rules.has_none();
         Ok(Heard {
             is_header,
+            begins,
             is_clean,
         })
-    }
-
-    // The rules that a packet of this kind, with this page header, breaks which comes now. They are
-    // put into the set from the last of their order to the first.
-    #[inline(always)]
-    fn broken_rules(
-        &self,
-        packet: &Packet,
-        found: PacketKind,
-        page_header: Option<Header>,
-    ) -> RuleSet
-        requires kind { found ≡ kind self.now.watched.page packet.now }
-        requires page_header { page_header ≡ header packet.now }
-        requires row { (row : ℕ) → found ≡ PacketKind.Row row → (1 ≤ row) × (row ≤ 24) }
-        ensures { (heard : List (List ℕ)) → Knows heard self.now
-            → result.0 ≡ rule_set (λ r. breaks r self.now.watched heard packet.now) packet_rules }
-    {
-        self.broken_later(packet, found)
-            .with_before(is_other_mode(self.serial, page_header))
-            .with_before(has_wrong_codes(packet, page_header))
-            .with_before(has_wrong_address(packet))
-    }
-
-    // Those after the third of their order, which a packet breaks by what it is.
-    #[inline(always)]
-    fn broken_later(&self, packet: &Packet, found: PacketKind) -> RuleSet
-        requires kind { found ≡ kind self.now.watched.page packet.now }
-        requires row { (row : ℕ) → found ≡ PacketKind.Row row → (1 ≤ row) × (row ≤ 24) }
-        ensures small { result.0 < 0x10 }
-        ensures rules { (heard : List (List ℕ)) → Knows heard self.now → result.0
-            ≡ rule_set (λ r. breaks r self.now.watched heard packet.now) (drop 3 packet_rules) }
-    {
-        let none = RuleSet::none();
-        match found {
-            PacketKind::ThisPage(header) => {
-                none.with_before(!is_subtitle_header(self.watched.national, &header))
-            }
-            PacketKind::EndsPage => none,
-            PacketKind::Row(row) => {
-                RuleSet::of_row(self.has_even_row(packet), self.has_changed(row, packet))
-            }
-            PacketKind::Other => RuleSet::of_enhancement(self.is_enhanced(packet)),
-        }
-    }
-
-    // Whether the page is open, and a row's packet has an even byte.
-    fn has_even_row(&self, packet: &Packet) -> bool
-        ensures { result ≡ (self.now.is_open && is_some (first_even_byte packet.now)) }
-    {
-        self.is_open && has_even_byte(packet)
-    }
-
-    // Whether the page is open, and a row that was sent has other codes than a packet.
-    fn has_changed(&self, row: u8, packet: &Packet) -> bool
-        requires { IsRow row }
-        ensures { result ≡ (self.now.is_open && slice_index_or self.now.sent (row - 1) false
-            && not (row_differing (row_at self.now.comparison.page row) (codes_of packet.now)
-            == 0)) }
-    {
-        self.is_open && self.sent[row as usize - 1] && self.comparison.differs_from(row, packet)
-    }
-
-    // Whether the page is open, and a packet is X/25 to X/28 of its magazine.
-    fn is_enhanced(&self, packet: &Packet) -> bool
-        ensures { result
-            ≡ (self.now.is_open && is_of_enhancement self.now.watched.page (address packet.now)) }
-    {
-        self.is_open && is_enhancement(self.watched.page, packet)
     }
 
     // Hears a packet of this kind, and says whether it is a header of the page. Of a row that was
@@ -427,8 +360,12 @@ impl Listener {
     {
         self.serial = first_serial(self.serial, page_header);
         match found {
-            PacketKind::ThisPage(_) => {
-                self.start();
+            PacketKind::ThisPage(header) => {
+                if begins_text(self.watched.keeps, &found) {
+                    self.start(header.subcode);
+                } else {
+                    self.repeat(header.subcode);
+                }
                 true
             }
             PacketKind::EndsPage => {
@@ -438,6 +375,8 @@ impl Listener {
             PacketKind::Row(row) => {
                 if self.is_new(row) {
                     self.store(row, &text_codes(packet));
+                } else if self.is_open {
+                    self.mark(row);
                 }
                 false
             }
@@ -454,17 +393,34 @@ impl Listener {
         self.is_open && !self.sent[row as usize - 1]
     }
 
-    // A header of the page: it is blank, and no row was sent.
-    fn start(&mut self)
+    // A header of the page with which its text begins: it is blank, and no row was sent.
+    fn start(&mut self, subcode: u16)
         ensures { self.new ≡ record self.old {
           is_open = true;
+          subcode = Some subcode;
           sent = replicate 24 false;
+          again = replicate 24 false;
           comparison = record self.old.comparison { page = blank };
         } }
     {
         self.is_open = true;
+        self.subcode = Some(subcode);
         self.sent = [false; 24];
+        self.again = [false; 24];
         self.comparison.clear();
+    }
+
+    // A header of the page that keeps it: each row is to come again.
+    fn repeat(&mut self, subcode: u16)
+        ensures { self.new ≡ record self.old {
+          is_open = true;
+          subcode = Some subcode;
+          again = replicate 24 false;
+        } }
+    {
+        self.is_open = true;
+        self.subcode = Some(subcode);
+        self.again = [false; 24];
     }
 
     // A row is sent.
@@ -473,6 +429,7 @@ impl Listener {
         requires codes { AreCodes codes.now }
         ensures kept { self.new ≡ record self.old {
           sent = slice_set self.old.sent (row - 1) true;
+          again = slice_set self.old.again (row - 1) true;
           comparison = record self.old.comparison {
             page = slice_set self.old.comparison.page (row - 1) codes.now;
           };
@@ -480,6 +437,17 @@ impl Listener {
         ensures page { IsPage self.old.comparison.page }
     {
         self.sent[row as usize - 1] = true;
+        self.again[row as usize - 1] = true;
         self.comparison.set_row(row, codes);
+    }
+
+    // A row that was sent is sent again.
+    fn mark(&mut self, row: u8)
+        requires { (1 ≤ row) × (row ≤ 24) }
+        ensures { self.new ≡ record self.old {
+          again = slice_set self.old.again (row - 1) true;
+        } }
+    {
+        self.again[row as usize - 1] = true;
     }
 }

@@ -2,19 +2,22 @@
 ghost use Rattle.std.specs.Prelude.{◌≡◌, ◌&&◌, Bool, not, Option, is_some, option_map};
 ghost use Rattle.std.specs.Option.{option_or};
 ghost use Rattle.ttx_packet.specs.PacketAddress.{IsPacket, address};
-ghost use Rattle.ttx_packet.specs.PageHeader.{c11, header, is_set};
+ghost use Rattle.ttx_packet.specs.PageHeader.{c4, c11, header, is_set};
 ghost use Rattle.ttx_packet.specs.RowPacket.{first_even_byte};
 ghost use Rattle.ttx_packet.specs.declared.header.Header.{Header};
 ghost use Rattle.ttx_page.specs.Page.{AreCodes};
+ghost use Rattle.ttx_page.specs.PacketKind.{begins_text};
 ghost use Rattle.sub_packets.specs.Listener.{is_of_mode};
 ghost use Rattle.sub_plan.specs.Sending.{national_bits};
 ghost use Rattle.sub_rules.specs.PacketRules.{codes_of};
 ghost use Rattle.sub_rules.specs.PacketTests.{are_code_words, is_of_enhancement, is_of_header};
-ghost use Rattle.sub_rules.specs.PacketTests.{is_other_mode, is_same_bit, is_subtitle_header};
+ghost use Rattle.sub_rules.specs.PacketTests.{has_subtitle_bits, is_other_mode, is_same_bit};
+ghost use Rattle.sub_rules.specs.PacketTests.{is_same_subcode};
 
 use bitflags::Flags;
 use stl_rows::{National, NationalBits};
 use ttx_packet::{Control, Header, Packet, PageId};
+use ttx_page::PacketKind;
 
 // Whether a packet is X/0.
 fn is_header_packet(packet: &Packet) -> bool
@@ -118,14 +121,42 @@ pub(crate) fn is_of_mode(serial: Option<bool>, is_serial: bool) -> bool
     }
 }
 
-/// Whether a header is a subtitle's: C4, C6 and C7 are set, C5 and C10 are clear, and C12, C13 and
-/// C14 are those of the national option.
-pub(crate) fn is_subtitle_header(national: National, header: &Header) -> bool
-    ensures { result ≡ is_subtitle_header national header.now }
+/// Whether a header erases the page: C4 is set.
+pub(crate) fn is_erasing(header: &Header) -> bool
+    ensures { result ≡ c4 header.now }
+{
+    is_bit(header.control, Control::C4)
+}
+
+/// Whether the text of the page begins with a packet of this kind: with a header of it that erases
+/// it, or any, where repeats may not keep it.
+pub(crate) fn begins_text(keeps: bool, found: &PacketKind) -> bool
+    ensures { result ≡ begins_text keeps found.now }
+{
+    match found {
+        PacketKind::ThisPage(header) => is_erasing(header) || !keeps,
+        _ => false,
+    }
+}
+
+/// Whether a header has the subcode of the last one, where there was one.
+pub(crate) fn is_same_subcode(last: Option<u16>, header: &Header) -> bool
+    ensures { (o : Option Header) → last ≡ option_map (λ (h : Header). h.subcode) o
+        → result ≡ is_same_subcode o header.now }
+{
+    match last {
+        Some(subcode) => header.subcode == subcode,
+        None => true,
+    }
+}
+
+/// Whether a header is a subtitle's, whatever C4 is: C6 and C7 are set, C5 and C10 are clear, and
+/// C12, C13 and C14 are those of the national option.
+pub(crate) fn has_subtitle_bits(national: National, header: &Header) -> bool
+    ensures { result ≡ has_subtitle_bits national header.now }
 {
     let control = header.control;
-    is_bit(control, Control::C4)
-        && !is_bit(control, Control::C5)
+    !is_bit(control, Control::C5)
         && is_bit(control, Control::C6)
         && is_bit(control, Control::C7)
         && !is_bit(control, Control::C10)

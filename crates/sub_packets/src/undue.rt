@@ -26,7 +26,8 @@ impl Listener {
         within: u32,
     ) -> Option<(u8, u8)>
         ensures { (heard : List (List ℕ)) → Knows heard self.now → result
-            ≡ undue_after self.now.watched.page heard (due_in programme.now) first frame within }
+            ≡ undue_after self.now.watched.keeps self.now.watched.page heard (due_in programme.now)
+            first frame within }
     {
         let shown = self.comparison.shown();
         // Most often a header has erased the page, and its rows come in a later frame.
@@ -87,8 +88,8 @@ fn excuse(left: &mut Page, due: &Page)
     }
 }
 
-// Makes a space of each such cell of a row. Most rows are blank.
-fn excuse_row(left: &mut Page, due: &Page, row: u8)
+/// Makes a space of each cell of a row that shows the code that is due there. Most rows are blank.
+pub(crate) fn excuse_row(left: &mut Page, due: &Page, row: u8)
     requires { IsRow row }
     ensures { (r column : ℕ) → IsCell r column → cell left.new r column
         ≡ (if r == row

@@ -1,12 +1,14 @@
 -- What a packet is decides which rules it may break: PacketRuleLemmas.
 use Rattle.std.proofs.Common.{refl, sym, ◌∙◌, arith}
+use Rattle.std.proofs.lemmas.Bool.Decides.{nat_tests}
 use Rattle.sub_packets.proofs.PacketRuleLemmas.{later_ends, later_other, later_row, later_this}
 use Rattle.sub_packets.proofs.listener.Listener.broken_later.Goals as goal
 
 pub returns-in-ThisPage-clause-rules : goal.returns-in-ThisPage-clause-rules
 returns-in-ThisPage-clause-rules c heard known =
+    let is = c.is_subtitle.ensures heard known in
     rw (later_this c.args.self.now.watched heard c.args.packet.now
-    c.in-ThisPage.header (sym c.requires.kind ∙ c.in-ThisPage.is)) (grind arith)
+    c.in-ThisPage.header (sym c.requires.kind ∙ c.in-ThisPage.is)) (grind (arith, nat_tests))
 
 pub returns-in-EndsPage-clause-rules : goal.returns-in-EndsPage-clause-rules
 returns-in-EndsPage-clause-rules c heard known =

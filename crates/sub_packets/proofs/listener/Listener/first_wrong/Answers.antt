@@ -1,6 +1,18 @@
--- What is kept is what is shown: WrongCellLemmas.
-use Rattle.sub_packets.proofs.WrongCellLemmas.{wrong_is}
+-- What is kept is what the packets say: WrongCellLemmas.
+use Rattle.std.proofs.Common.{◌≡◌, ◌∙◌, MatchOption, subst}
+use Rattle.ttx_page.specs.Page.{DiffersFirst, Rows}
+use Rattle.sub_packets.proofs.WrongCellLemmas.{wrong_is, wrong_keeping}
 use Rattle.sub_packets.proofs.listener.Listener.first_wrong.Goals as goal
 
+pub returns-then-not-self : goal.returns-then-not-self
+returns-then-not-self c heard known =
+    wrong_is heard c.args.self.now known _ c.if-not-self.true c.first_wrong-differing.ensures
+
 pub returns : goal.returns
-returns c heard known = wrong_is heard c.args.self.now _ known c.first_wrong.ensures
+returns c heard known =
+    c.earlier.ensures
+    ∙ wrong_keeping heard c.args.self.now known c.missing-missing.result c.first_wrong-differing.result
+    c.first_difference.result c.missing-missing.ensures c.first_wrong-differing.ensures
+    (subst (λ (page : Rows). MatchOption c.first_difference.result (c.missing-missing.result ≡ page)
+    (λ place. DiffersFirst c.missing-missing.result page place.0 place.1)) c.blank.ensures
+    c.first_difference.ensures)

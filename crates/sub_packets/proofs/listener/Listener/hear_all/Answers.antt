@@ -1,13 +1,14 @@
 -- One packet on: PacketEventLemmas.
 use Rattle.std.proofs.lemmas.Bool.Decides.{nat_tests}
-use Rattle.std.proofs.Common.{◌≡◌, ℕ, ◌+◌, ◌<◌, ◌≤◌, ◌++◌, ◌&&◌, List, [], ◌∷◌, length, take}
+use Rattle.std.proofs.Common.{◌≡◌, ℕ, ◌+◌, ◌<◌, ◌≤◌, ◌++◌, ◌&&◌, ◌||◌, List, [], ◌∷◌, length, take}
 use Rattle.std.proofs.Common.{get_or, cond, true, refl, sym, ap, ap₂, ◌∙◌, subst, rules}
 use Rattle.std.proofs.Common.{append_assoc, append-nil, arith}
 use Rattle.std.proofs.Common.{map}
 use Rattle.std.specs.List.{filter}
 use Rattle.std.proofs.lemmas.List.{length-map, take_all, take_more}
 use Rattle.ttx_pes.specs.DataUnit.{UnitValue}
-use Rattle.ttx_page.specs.PacketKind.{is_this_page, kind}
+use Rattle.ttx_page.specs.PacketKind.{begins_text, is_this_page, kind}
+use Rattle.ttx_page.specs.Span.{holds_beginning}
 use Rattle.sub_io.specs.Telling.{Tells, TellsPrefix}
 use Rattle.sub_io.proofs.TellingLemmas.{TellsSome-none, TellsSome-trans, Tells-none}
 use Rattle.sub_rules.specs.Events.{packets_told}
@@ -17,7 +18,9 @@ use Rattle.sub_rules.specs.Events.{packet_fault}
 use Rattle.sub_rules.specs.PacketTests.{breaks, packet_rules}
 use Rattle.sub_rules.specs.declared.event.Event.TheVariants.{Told}
 use Rattle.sub_packets.proofs.PacketEventLemmas.{clean_one, told_one, told_part}
-use Rattle.sub_packets.proofs.PassedRunLemmas.{no_headers_passed, passed_run, passes_from}
+use Rattle.sub_packets.proofs.KeptLemmas.{beginning-more}
+use Rattle.sub_packets.proofs.PassedRunLemmas.{no_beginning_passed, no_headers_passed, passed_run}
+use Rattle.sub_packets.proofs.PassedRunLemmas.{passes_from}
 use Rattle.sub_rules.proofs.PacketLists.{header_count-push}
 use Rattle.sub_packets.proofs.RuleSetLemmas.{stopped}
 use Rattle.sub_packets.proofs.SentAgainLemmas.{kept_last}
@@ -33,7 +36,8 @@ loop-k-init g c = record {
   within = omega arith;
   few = omega arith;
   header = refl;
-  begins = λ e. cc;
+  first = λ e. cc;
+  begun = refl;
   known = λ heard known. (
     subst (λ xs. Knows xs c.args.self.now) (sym (append-nil heard)) known,
     Tells-none c.args.audience.now,
@@ -59,6 +63,8 @@ loop-k-preserved-then-is_passed g c =
     })) next.passed in
     let none =
     no_headers_passed w ps c.loop-k.self i.same k c.next_heard-k.result low high passes in
+    let no_beginning =
+    no_beginning_passed w ps c.loop-k.self i.same k c.next_heard-k.result low high passes in
     record {
       same = i.same;
       due = i.due;
@@ -67,7 +73,8 @@ loop-k-preserved-then-is_passed g c =
       within = next.within;
       few = omega (arith, i.few, low);
       header = i.header ∙ sym none;
-      begins = λ e. let b = i.begins e in (omega (arith, b.0, low), b.1);
+      first = λ e. let b = i.first e in (omega (arith, b.0, low), b.1);
+      begun = i.begun ∙ sym no_beginning;
       known = λ heard known.
           let before = i.known heard known in
           let run = passed_run w ps c.loop-k.self i.same k c.next_heard-k.result low high passes
@@ -93,8 +100,17 @@ loop-k-preserved g c =
     take_more ps k [] (omega (arith, l, long)) ∙ ap (λ x. take k ps ++ x ∷ []) at in
     let one = c.counted-headers.ensures in
     let heard_one = c.in_ok-heard.ensures in
+    let begins_here : c.in_ok-heard.heard.begins ≡ begins_text w.keeps (kind w.page p) =
+    heard_one.begins ∙ ap (λ v. begins_text v.keeps (kind v.page p)) i.same in
+    let begun_more : c.has_begun-begun.result
+    ≡ holds_beginning w.keeps (kind w.page) (take (k + 1) ps) =
+    c.has_begun-begun.ensures
+    ∙ ap₂ (λ a b. a || b) i.begun begins_here
+    ∙ sym (beginning-more w (take k ps) p)
+    ∙ sym (ap (holds_beginning w.keeps (kind w.page)) more) in
     record {
-      begins = grind arith;
+      first = grind arith;
+      begun = begun_more;
       same = heard_one.watched ∙ i.same;
       due = heard_one.due ∙ i.due;
       goes_on = grind arith;
@@ -166,10 +182,13 @@ returns-clause-knows g c heard known =
     i.header ∙ ap (header_count w.page) all in (
       subst (λ m. KnowsLast (heard ++ ps) ps (record c.loop-k.self { last = m }))
           (sym c.last_headers-self.ensures)
-          (kept_last w heard ps c.loop-k.headers c.loop-k.begins c.loop-k.is_clean c.loop-k.self
-          i.same knows count (λ e. let b = i.begins e in (omega (arith, b.0, k), b.1))
+          (kept_last w heard ps c.loop-k.headers c.loop-k.first c.loop-k.is_clean c.loop-k.self
+          i.same knows count (λ e. let b = i.first e in (omega (arith, b.0, k), b.1))
           (λ e. subst (BreakNone w heard ps) k (r.2 e))),
-      count,
+      record {
+        count = count;
+        begins = i.begun ∙ ap (holds_beginning w.keeps (kind w.page)) all;
+      },
       subst
           (λ n. Tells g.A.Audience.is_told c.args.audience.now c.loop-k.audience
           (packets_told w c.args.frame c.args.from heard ps n)) k r.1,

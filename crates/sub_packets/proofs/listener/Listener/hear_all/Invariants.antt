@@ -1,7 +1,8 @@
 -- The rules that the packets so far break are told, and what is kept is what they say.
 use Rattle.std.proofs.Common.{◌≡◌, ◌≤◌, ◌<◌, ℕ, List, [], ◌++◌, take, get_or, length}
 use Rattle.std.proofs.Common.{◌-◌, true, false}
-use Rattle.ttx_page.specs.PacketKind.{is_this_page, kind}
+use Rattle.ttx_page.specs.PacketKind.{begins_text, kind}
+use Rattle.ttx_page.specs.Span.{holds_beginning}
 use Rattle.sub_io.specs.Telling.{Tells, TellsSome}
 use Rattle.sub_rules.specs.Events.{packets_told}
 use Rattle.sub_packets.specs.Listener.{BreakNone, Knows}
@@ -21,11 +22,16 @@ invariant-loop-k g l = record {
   few : l.headers ≤ l.k;
   header :
       l.headers ≡ header_count l.initial.self.watched.page (take l.k (packets_of_units l.units));
-  begins :
-      l.begins ≡ true
+  first :
+      l.first ≡ true
       → (0 < l.k)
-      × (is_this_page (kind l.initial.self.watched.page (get_or (packets_of_units l.units) 0 []))
+      × (begins_text l.initial.self.watched.keeps
+      (kind l.initial.self.watched.page (get_or (packets_of_units l.units) 0 []))
       ≡ true);
+  begun :
+      l.begun
+      ≡ holds_beginning l.initial.self.watched.keeps (kind l.initial.self.watched.page)
+      (take l.k (packets_of_units l.units));
   known :
       (heard : List (List ℕ))
       → Knows heard l.initial.self

@@ -5,6 +5,6 @@ use Rattle.sub_packets.proofs.listener.Listener.new.Goals as goal
 
 pub returns-clause-knows : goal.returns-clause-knows
 returns-clause-knows c last = record {
-  knows = knows_none _ refl refl refl (grind arith);
+  knows = knows_none _ refl refl refl refl refl (grind arith);
   last_is = λ headers e. cc;
 }

@@ -1,0 +1,141 @@
+-- What is kept of packets where repeats may keep, one packet on: the last header, `last_header-push`
+-- and `last_header-append`; whether a row is in the span, `has_row-push`; the first of a row in the
+-- long span, `first_of_row-push`; and that a code that is no space came in a row, `row_of_code`.
+use Rattle.std.proofs.Common.{◌≡◌, ℕ, Bool, true, false, not, ◌&&◌, ◌||◌, ◌==◌, cond, List, [], ◌∷◌}
+use Rattle.std.proofs.Common.{◌++◌, Some, None, find, option_map, unwrap_or, refl, sym, ap}
+use Rattle.std.proofs.Common.{◌∙◌, arith}
+use Rattle.std.specs.List.{list_any}
+use Rattle.std.specs.Option.{option_or}
+use Rattle.std.proofs.lemmas.Bool.Decides.{nat_tests}
+use Rattle.std.proofs.lemmas.List.Folds.{find-append, list_any-append}
+use Rattle.ttx_packet.specs.PageId.{PageIdValue}
+use Rattle.ttx_packet.specs.Parity.{code_of}
+use Rattle.ttx_packet.specs.RowPacket.{text_byte}
+use Rattle.ttx_page.specs.Page.{space}
+use Rattle.ttx_page.specs.PacketKind.{begins_text, ends_page, is_row, is_this_page, kind}
+use Rattle.ttx_page.specs.Shown.{kept}
+use Rattle.ttx_page.specs.Span.{from_beginning, holds_beginning, is_open_after, span, text_span}
+use Rattle.ttx_page.specs.Span.{while_open}
+use Rattle.ttx_page.specs.declared.packet_kind.PacketKind.{PacketKind}
+use Rattle.ttx_page.proofs.RepeatLaws.{kept_shown}
+use Rattle.ttx_page.proofs.SpanPush.{list_any-push, span-push}
+use Rattle.ttx_page.proofs.TextSpan.{text_span-push}
+use Rattle.sub_rules.specs.Kept.{has_row, header_of_page, last_header}
+use Rattle.sub_rules.specs.PacketTests.{first_of_row}
+use Rattle.sub_rules.specs.declared.packet_rule.Watched.{Watched}
+use Rattle.sub_rules.proofs.PacketLists.{or-none, or_assoc}
+
+-- ---- the last header of the page
+
+-- Of two lists, joined.
+pub last_header-append :
+    (page : PageIdValue) (xs ys : List (List ℕ))
+    → last_header page (xs ++ ys) ≡ option_or (last_header page ys) (last_header page xs)
+last_header-append page [] ys = sym (or-none (last_header page ys))
+last_header-append page (x ∷ xs) ys =
+    ap (λ o. option_or o (header_of_page (kind page x))) (last_header-append page xs ys)
+    ∙ sym (or_assoc (last_header page ys) (last_header page xs) (header_of_page (kind page x)))
+
+-- One packet on.
+pub last_header-push :
+    (page : PageIdValue) (xs : List (List ℕ)) (x : List ℕ)
+    → last_header page (xs ++ x ∷ [])
+    ≡ option_or (header_of_page (kind page x)) (last_header page xs)
+last_header-push page xs x = last_header-append page xs (x ∷ [])
+
+-- ---- rows
+
+-- Whether a test passes in a span, one packet on.
+any-push :
+    (k : PacketKind) (row : ℕ) (opened : Bool) (xs : List (List ℕ)) (p : List ℕ)
+    (f : List ℕ → Bool)
+    → f p ≡ is_row row k
+    → list_any f (cond (is_this_page k) [] (cond (opened && not (ends_page k)) (xs ++ p ∷ []) xs))
+    ≡ cond (is_this_page k) false (list_any f xs || (opened && is_row row k))
+any-push k row opened xs p f e = grind (arith, nat_tests, list_any-append)
+
+-- Whether a row is in the span, one packet on.
+pub has_row-push :
+    (page : PageIdValue) (heard : List (List ℕ)) (p : List ℕ) (row : ℕ)
+    → has_row page (heard ++ p ∷ []) row
+    ≡ cond (is_this_page (kind page p)) false
+    (has_row page heard row || (is_open_after (kind page) heard && is_row row (kind page p)))
+has_row-push page heard p row = grind (arith, nat_tests, span-push, any-push)
+
+-- The first that passes a test in a long span, one packet on.
+find-push :
+    (keeps : Bool) (k : PacketKind) (row : ℕ) (opened : Bool) (xs : List (List ℕ)) (p : List ℕ)
+    (f : List ℕ → Bool)
+    → f p ≡ is_row row k
+    → find f
+    (cond (begins_text keeps k) []
+    (cond (opened && not (is_this_page k) && not (ends_page k)) (xs ++ p ∷ []) xs))
+    ≡ cond (begins_text keeps k) None
+    (cond (opened && is_row row k) (option_or (find f xs) (Some p)) (find f xs))
+find-push keeps k row opened xs p f e = grind (arith, nat_tests, find-append)
+
+-- The first packet of a row in the long span, one packet on.
+pub first_of_row-push :
+    (keeps : Bool) (page : PageIdValue) (heard : List (List ℕ)) (p : List ℕ) (row : ℕ)
+    → first_of_row page (text_span keeps (kind page) (heard ++ p ∷ [])) row
+    ≡ cond (begins_text keeps (kind page p)) None
+    (cond (is_open_after (kind page) heard && is_row row (kind page p))
+    (option_or (first_of_row page (text_span keeps (kind page) heard) row) (Some p))
+    (first_of_row page (text_span keeps (kind page) heard) row))
+first_of_row-push keeps page heard p row =
+    ap (λ (ps : List (List ℕ)). find (λ q. is_row row (kind page q)) ps)
+    (text_span-push (kind page) keeps heard p)
+    ∙ find-push keeps (kind page p) row (is_open_after (kind page) heard)
+    (text_span keeps (kind page) heard) p (λ q. is_row row (kind page q)) refl
+
+-- ---- where the text begins
+
+-- It begins with no packet that is no header of the page.
+pub begins_not : (keeps : Bool) (k : PacketKind)
+    → is_this_page k ≡ false
+    → begins_text keeps k ≡ false
+begins_not keeps k e = grind (arith, nat_tests)
+
+-- Whether it begins, one packet on.
+pub beginning-more : (w : Watched) (xs : List (List ℕ)) (x : List ℕ)
+    → holds_beginning w.keeps (kind w.page) (xs ++ x ∷ [])
+    ≡ (holds_beginning w.keeps (kind w.page) xs || begins_text w.keeps (kind w.page x))
+beginning-more w xs x = list_any-push (kind w.page) (λ y. begins_text w.keeps (kind w.page y)) xs x
+
+-- From its beginning on what came before does not matter.
+from_begins : (keeps : Bool) (page : PageIdValue) (xs ys : List (List ℕ))
+    → holds_beginning keeps (kind page) ys ≡ true
+    → from_beginning keeps (kind page) (xs ++ ys) ≡ from_beginning keeps (kind page) ys
+from_begins keeps page [] ys e = refl
+from_begins keeps page (x ∷ xs) ys e =
+    let rest = from_begins keeps page xs ys e in
+    let both = list_any-append (λ y. begins_text keeps (kind page y)) xs ys in
+    grind (arith, nat_tests)
+
+pub text_span-begins : (keeps : Bool) (page : PageIdValue) (xs ys : List (List ℕ))
+    → holds_beginning keeps (kind page) ys ≡ true
+    → text_span keeps (kind page) (xs ++ ys) ≡ text_span keeps (kind page) ys
+text_span-begins keeps page xs ys e =
+    ap (while_open (kind page) false) (from_begins keeps page xs ys e)
+
+-- ---- where repeats may not keep
+
+-- What was found passes.
+any_found : (test : List ℕ → Bool) (ps : List (List ℕ)) (code : List ℕ → ℕ)
+    → (unwrap_or (option_map code (find test ps)) space == space) ≡ false
+    → list_any test ps ≡ true
+any_found test [] code e = grind (arith, nat_tests)
+any_found test (p ∷ ps) code e =
+    let rest = any_found test ps code in grind (arith, nat_tests)
+
+-- A code that is no space came in a row of the span.
+pub row_of_code :
+    (keeps : Bool) (page : PageIdValue) (heard : List (List ℕ)) (row column : ℕ)
+    → keeps ≡ false
+    → (kept keeps page heard row column == space) ≡ false
+    → has_row page heard row ≡ true
+row_of_code true page heard row column none e = grind (arith, nat_tests)
+row_of_code false page heard row column none e =
+    any_found (λ p. is_row row (kind page p)) (span (kind page) heard)
+    (λ p. code_of (text_byte p column))
+    (ap (λ code. code == space) (sym (kept_shown page heard row column)) ∙ e)

@@ -1,0 +1,10 @@
+-- By the last header: PacketRuleLemmas.
+use Rattle.std.proofs.Common.{sym, ◌∙◌}
+use Rattle.sub_packets.proofs.PacketRuleLemmas.{same_none, same_some}
+use Rattle.sub_packets.proofs.packet_rules.is_same_subcode.Goals as goal
+
+pub returns-in-Some : goal.returns-in-Some
+returns-in-Some c o is = same_some o c.args.header.now c.in-Some.subcode (sym c.in-Some.is ∙ is)
+
+pub returns-in-None : goal.returns-in-None
+returns-in-None c o is = same_none o c.args.header.now (sym c.in-None.is ∙ is)

@@ -1,0 +1,13 @@
+-- The earlier of two cells. Of the crates above, private functions alone cite this.
+use Rattle.std.specs.Prelude.{ℕ, ◌==◌, ◌&&◌, ◌||◌, Option, Some, None, nat_le, nat_lt, Bool}
+use Rattle.std.specs.Prelude.{if◌then◌else◌}
+
+-- The one cell is not after the other: by its row, and then by its column.
+abbrev pub is_not_after : ℕ × ℕ → ℕ × ℕ → Bool
+is_not_after a b = nat_lt a.0 b.0 || (a.0 == b.0 && nat_le a.1 b.1)
+
+-- The earlier of two cells, where there are any.
+abbrev pub earlier : Option (ℕ × ℕ) → Option (ℕ × ℕ) → Option (ℕ × ℕ)
+earlier None other = other
+earlier (Some a) None = Some a
+earlier (Some a) (Some b) = if is_not_after a b then Some a else Some b

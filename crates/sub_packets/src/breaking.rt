@@ -1,0 +1,116 @@
+//! The rules that a packet breaks, by what is kept of the packets before it.
+ghost use Rattle.std.specs.Prelude.{◌≡◌, ℕ, ◌-◌, ◌<◌, ◌≤◌, ◌&&◌, ◌==◌, List, drop, false, is_some};
+ghost use Rattle.std.specs.Prelude.{not, slice_index_or};
+ghost use Rattle.ttx_packet.specs.PacketAddress.{address};
+ghost use Rattle.ttx_packet.specs.PageHeader.{header};
+ghost use Rattle.ttx_packet.specs.RowPacket.{first_even_byte};
+ghost use Rattle.ttx_page.specs.Differing.{row_differing};
+ghost use Rattle.ttx_page.specs.Page.{IsRow, row_at};
+ghost use Rattle.ttx_page.specs.PacketKind.{kind};
+ghost use Rattle.sub_packets.specs.Listener.{rule_set};
+ghost use Rattle.sub_rules.specs.PacketRules.{codes_of};
+ghost use Rattle.sub_rules.specs.PacketTests.{breaks, is_of_enhancement, is_repeat, may_come};
+ghost use Rattle.sub_rules.specs.PacketTests.{is_subtitle_header, packet_rules};
+
+use crate::listener::Listener;
+use crate::packet_rules::{
+    has_even_byte, has_subtitle_bits, has_wrong_address, has_wrong_codes, is_enhancement,
+    is_erasing, is_other_mode, is_same_subcode,
+};
+use crate::rule_set::RuleSet;
+use ttx_packet::{Header, Packet};
+use ttx_page::PacketKind;
+
+impl Listener {
+    ghost use Rattle.sub_packets.specs.Listener.{Knows};
+
+    /// The rules that a packet of this kind, with this page header, breaks which comes now. They are
+    /// put into the set from the last of their order to the first.
+    #[inline(always)]
+    pub(crate) fn broken_rules(
+        &self,
+        packet: &Packet,
+        found: PacketKind,
+        page_header: Option<Header>,
+    ) -> RuleSet
+        requires kind { found ≡ kind self.now.watched.page packet.now }
+        requires page_header { page_header ≡ header packet.now }
+        requires row { (row : ℕ) → found ≡ PacketKind.Row row → (1 ≤ row) × (row ≤ 24) }
+        ensures { (heard : List (List ℕ)) → Knows heard self.now
+            → result.0 ≡ rule_set (λ r. breaks r self.now.watched heard packet.now) packet_rules }
+    {
+        self.broken_later(packet, found)
+            .with_before(is_other_mode(self.serial, page_header))
+            .with_before(has_wrong_codes(packet, page_header))
+            .with_before(has_wrong_address(packet))
+    }
+
+    // Those after the third of their order, which a packet breaks by what it is.
+    #[inline(always)]
+    fn broken_later(&self, packet: &Packet, found: PacketKind) -> RuleSet
+        requires kind { found ≡ kind self.now.watched.page packet.now }
+        requires row { (row : ℕ) → found ≡ PacketKind.Row row → (1 ≤ row) × (row ≤ 24) }
+        ensures small { result.0 < 0x10 }
+        ensures rules { (heard : List (List ℕ)) → Knows heard self.now → result.0
+            ≡ rule_set (λ r. breaks r self.now.watched heard packet.now) (drop 3 packet_rules) }
+    {
+        let none = RuleSet::none();
+        match found {
+            PacketKind::ThisPage(header) => { none.with_before(!self.is_subtitle(&header)) }
+            PacketKind::EndsPage => none,
+            PacketKind::Row(row) => {
+                RuleSet::of_row(self.has_even_row(packet), self.has_changed(row, packet))
+            }
+            PacketKind::Other => RuleSet::of_enhancement(self.is_enhanced(packet)),
+        }
+    }
+
+    // Whether a header of the page is a subtitle's, and may come now.
+    fn is_subtitle(&self, header: &Header) -> bool
+        ensures { (heard : List (List ℕ)) → Knows heard self.now
+            → result ≡ is_subtitle_header self.now.watched heard header.now }
+    {
+        self.may_come(header) && has_subtitle_bits(self.watched.national, header)
+    }
+
+    // Whether a header of the page erases it or, where repeats may keep it, repeats it.
+    fn may_come(&self, header: &Header) -> bool
+        ensures { (heard : List (List ℕ)) → Knows heard self.now
+            → result ≡ may_come self.now.watched heard header.now }
+    {
+        is_erasing(header) || (self.watched.keeps && self.is_repeat(header))
+    }
+
+    // Whether a header of the page repeats it.
+    fn is_repeat(&self, header: &Header) -> bool
+        ensures { (heard : List (List ℕ)) → Knows heard self.now → result
+            ≡ is_repeat self.now.watched.complete self.now.watched.page heard header.now }
+    {
+        is_same_subcode(self.subcode, header) && !self.is_incomplete()
+    }
+
+    // Whether the page is open, and a row's packet has an even byte.
+    fn has_even_row(&self, packet: &Packet) -> bool
+        ensures { result ≡ (self.now.is_open && is_some (first_even_byte packet.now)) }
+    {
+        self.is_open && has_even_byte(packet)
+    }
+
+    // Whether the page is open, and a row that was sent has other codes than a packet.
+    fn has_changed(&self, row: u8, packet: &Packet) -> bool
+        requires { IsRow row }
+        ensures { result ≡ (self.now.is_open && slice_index_or self.now.sent (row - 1) false
+            && not (row_differing (row_at self.now.comparison.page row) (codes_of packet.now)
+            == 0)) }
+    {
+        self.is_open && self.sent[row as usize - 1] && self.comparison.differs_from(row, packet)
+    }
+
+    // Whether the page is open, and a packet is X/25 to X/28 of its magazine.
+    fn is_enhanced(&self, packet: &Packet) -> bool
+        ensures { result
+            ≡ (self.now.is_open && is_of_enhancement self.now.watched.page (address packet.now)) }
+    {
+        self.is_open && is_enhancement(self.watched.page, packet)
+    }
+}
