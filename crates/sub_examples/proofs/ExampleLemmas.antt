@@ -1,6 +1,6 @@
 -- A transmission of which nothing is told is good: `good_by_events`.
 use Rattle.std.proofs.lemmas.Bool.Decides.{Decides-and, Decides-like, Decides-eqb, Decides-ltb}
-use Rattle.std.proofs.Common.{arith, ◌≡◌, ℕ, ◌<◌, inl, inr, ◌==◌, ◌&&◌, Bool, true}
+use Rattle.std.proofs.Common.{arith, ◌≡◌, ℕ, ◌<◌, inl, inr, ◌==◌, ◌&&◌, Bool, true, false}
 use Rattle.std.proofs.Common.{List, [], length, nat_lt, slice_index, None}
 use Rattle.std.specs.Bool.{Decides}
 use Rattle.std.proofs.lemmas.Bool.{cases_lt}
@@ -12,7 +12,7 @@ use Rattle.sub_rules.specs.FrameRules.{task_of}
 use Rattle.sub_rules.specs.Good.{Good}
 use Rattle.sub_rules.specs.Transmission.{Transmission}
 use Rattle.sub_rules.proofs.TestLemmas.{all_below, below, each_packet, packets_decided}
-use Rattle.sub_laws.proofs.EventLemmas.{none_told}
+use Rattle.sub_laws.proofs.ToldLemmas.{none_told}
 use Rattle.sub_rules.proofs.FrameEvents.{events}
 
 -- A packet has 42 bytes.
@@ -39,14 +39,15 @@ packet_decided packet =
 abbrev pub are_packets : Transmission → Bool
 are_packets frames = each_packet is_packet frames
 
--- A transmission of packets of which nothing is told is good.
+-- A transmission of packets of which nothing is told is good, where no repeat may keep.
 pub good_by_events :
     (programme : ProgrammeValue) (frames : Transmission) (o : OptionsValue)
+    → o.keeps ≡ false
     → o.within ≡ 0
     → 0 < o.every
     → are_packets frames ≡ true
     → events (task_of programme o None) frames ≡ []
     → Good programme frames o
-good_by_events programme frames o at_once some whole quiet =
+good_by_events programme frames o none at_once some whole quiet =
     let packets = (packets_decided is_packet IsPacket packet_decided frames).0 whole in
-    ((none_told programme o None frames at_once some packets).0 quiet).0
+    ((none_told programme o None frames none at_once some packets).0 quiet).0

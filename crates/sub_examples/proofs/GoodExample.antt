@@ -40,4 +40,4 @@ unfolding events events_of_first frame_events order_events gap_events gap_length
     blank_row drawn drawn_by page_of_placed placed_fault_kinds prepared_by framed headed start_by
     row_from default_items attribute_code is_boxed is_double
     is_common cell_of cell_of_pair sub_set
-example_of_good = good_by_events _ _ _ refl (omega arith) refl refl
+example_of_good = good_by_events _ _ _ refl refl (omega arith) refl refl

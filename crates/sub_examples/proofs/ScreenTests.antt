@@ -145,7 +145,7 @@ unfolding events events_of_first frame_events order_events gap_events gap_length
     are_code_words is_word_below first_even_byte kind address
     header coded_header decoded is_near is_odd count_ones ones_in
     due blank blank_row sub_set
-no_end_is_good = good_by_events _ _ _ refl (omega arith) refl refl
+no_end_is_good = good_by_events _ _ _ refl refl (omega arith) refl refl
 
 -- It holds a header of the page, which none ends.
 holds : holds_header (kind page_888) (english_header ∷ []) ≡ true

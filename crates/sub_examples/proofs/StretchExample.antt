@@ -30,7 +30,7 @@ use Rattle.sub_examples.specs.Examples.{english_header, later_subtitle, row_22}
 use Rattle.sub_rules.specs.FrameRules.{task_of}
 use Rattle.sub_rules.specs.Good.{Good}
 use Rattle.sub_rules.specs.Transmission.{SentFrame}
-use Rattle.sub_laws.proofs.CleanStretchLemmas.{law_of_untold_stretch}
+use Rattle.sub_laws.proofs.NoneKeepsLemmas.{law_of_untold_stretch}
 use Rattle.sub_laws.proofs.StretchLemmas.{law_of_stretch}
 use Rattle.sub_examples.proofs.RobustTests.{listening, untold_by_test}
 
@@ -63,7 +63,7 @@ example_of_clean_stretch = record {
       let sent : List (List ℕ) = english_header ∷ row_22 ∷ closing ∷ [] in
       let enough =
       law_of_untold_stretch later_subtitle damaged_first (each 1) None false (λ frame. false) 900001
-      900002 refl clean in
+      900002 refl refl clean in
       let trusted = law_of_stretch later_subtitle damaged_first (each 1) 900001 900002 enough.0 in
       let served =
       trusted.recovers Storing 900001 0 900001 (all_kept sent) got old new

@@ -89,6 +89,7 @@ each every =
       asks_complete = false;
       within = 0;
       pace = None;
+      keeps = false;
     }
 
 -- Frame 900000 with this header and the closing header.

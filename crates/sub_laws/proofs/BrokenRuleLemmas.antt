@@ -3,18 +3,19 @@
 use Rattle.std.proofs.Common.{◌≡◌, ℕ, zero, suc, ◌<◌, ◌≤◌, inl, inr, Bool, true, false, not}
 use Rattle.std.proofs.Common.{◌&&◌, List, [], ◌∷◌, Option, Some, None, option_map, refl, sym, ◌∙◌}
 use Rattle.std.proofs.Common.{◌↔◌, arith, length, get_or, subst, is_some, take, All, IsTrue, ◌++◌}
-use Rattle.std.proofs.Common.{add-one, ap, cond}
+use Rattle.std.proofs.Common.{add-one, ap, cond, IsFalse, ◌⊎◌, ◌||◌}
 use Rattle.std.specs.Bool.{Decides}
 use Rattle.std.specs.List.{AllByRecursion, list_any}
 use Rattle.std.proofs.lemmas.Bool.{cases_Bool, true≢false}
-use Rattle.std.proofs.lemmas.Bool.Decides.{nat_tests, Decides-and, Decides-eqb, Decides-like}
+use Rattle.std.proofs.lemmas.Bool.Decides.{nat_tests, Decides-and, Decides-at, Decides-eqb}
+use Rattle.std.proofs.lemmas.Bool.Decides.{Decides-like}
 use Rattle.std.proofs.lemmas.List.Elements.{recursion_from_All}
 use Rattle.std.proofs.lemmas.Option.{none-some, same_Some}
 use Rattle.std.proofs.lemmas.List.{get_or_default, same_lists, length-drop, length-map, take_all}
 use Rattle.std.proofs.lemmas.List.{take_more}
 use Rattle.ttx_packet.specs.OneBit.{first_below}
 use Rattle.ttx_packet.specs.PacketAddress.{HasExactAddress, IsPacket, PacketAddress, address}
-use Rattle.ttx_packet.specs.PageHeader.{HasExactHeader, c11, header}
+use Rattle.ttx_packet.specs.PageHeader.{HasExactHeader, c4, c11, header}
 use Rattle.ttx_packet.specs.PageId.{PageIdValue}
 use Rattle.ttx_packet.specs.Parity.{is_odd}
 use Rattle.ttx_packet.specs.RowPacket.{HasOddText, first_even_byte, text_byte}
@@ -24,17 +25,21 @@ use Rattle.ttx_page.specs.Differing.{columns_differing, row_differing}
 use Rattle.ttx_page.specs.Noise.{IsOddRow, IsSameRow}
 use Rattle.ttx_page.proofs.NoiseSteps.{row_from_test}
 use Rattle.ttx_page.proofs.SpanLists.{find_none}
-use Rattle.ttx_page.proofs.SpanPush.{span-push}
-use Rattle.ttx_page.specs.PacketKind.{ends_page, is_row, is_some_row, is_this_page, kind}
-use Rattle.ttx_page.specs.Span.{is_open_after, span}
+use Rattle.ttx_page.proofs.TextSpan.{text_span-push}
+use Rattle.ttx_page.specs.PacketKind.{begins_text, ends_page, is_row, is_some_row, is_this_page}
+use Rattle.ttx_page.specs.PacketKind.{kind}
+use Rattle.ttx_page.specs.Span.{is_open_after, text_span}
 use Rattle.ttx_page.specs.declared.packet_kind.PacketKind.{PacketKind}
 use Rattle.ttx_page.specs.declared.packet_kind.PacketKind.TheVariants.{Row, ThisPage}
 use Rattle.stl_rows.specs.declared.national.National.{National}
-use Rattle.sub_rules.specs.Good.{IsCleanSpan, IsEnhancement, IsSubtitleHeader}
+use Rattle.sub_rules.specs.Good.{IsCleanSpan, IsEnhancement}
+use Rattle.sub_rules.specs.Kept.{HasSubtitleBits, IsControlledBy, IsRepeat, last_header}
 use Rattle.sub_rules.specs.PacketRules.{AreClean, KeepsAllRules, KeepsRule, codes_of, first_header}
 use Rattle.sub_rules.specs.PacketTests.{are_code_words, breaks, is_of_header, is_of_enhancement}
 use Rattle.sub_rules.specs.PacketTests.{is_other_mode, is_other_row, is_other_text}
-use Rattle.sub_rules.specs.PacketTests.{is_subtitle_header, first_of_row, is_wrong_header}
+use Rattle.sub_rules.specs.PacketTests.{first_of_row, has_subtitle_bits, is_repeat}
+use Rattle.sub_rules.specs.PacketTests.{is_same_subcode, is_subtitle_header, is_wrong_header}
+use Rattle.sub_rules.specs.PacketTests.{may_come}
 use Rattle.sub_rules.specs.declared.packet_rule.PacketRule.{PacketRule}
 use Rattle.sub_rules.specs.declared.packet_rule.PacketRule.TheVariants as rule
 use Rattle.sub_rules.specs.declared.packet_rule.Watched.{Watched}
@@ -73,33 +78,91 @@ pub one_mode : (this first : Option Header)
     ((h f : Header) → this ≡ Some h → first ≡ Some f → c11 h ≡ c11 f)
 one_mode this first = grind (arith, nat_tests, mode-none)
 
--- The control bits.
-subtitle_header : (national : National) (h : Header)
-    → Decides (is_subtitle_header national h) (IsSubtitleHeader national h)
-subtitle_header national h =
+-- The control bits, whatever C4 is.
+subtitle_bits : (national : National) (h : Header)
+    → Decides (has_subtitle_bits national h) (HasSubtitleBits national h)
+subtitle_bits national h =
     grind (
       arith,
       nat_tests,
       Decides-like,
-      is_subtitle_header,
+      has_subtitle_bits,
       Decides-and,
       holds,
       fails,
       same_option,
     )
 
--- What is asked of a header of the page alone.
-of_this_page : (P : Header → Type 0) (b : Bool) (this : Header) → Decides b (P this)
-    → Refutes (not b) ((h : Header) → ThisPage this ≡ ThisPage h → P h)
-of_this_page P b this d = grind (arith, nat_tests)
+-- The subcode of the header before.
+same_subcode : (last : Option Header) (h : Header)
+    → Decides (is_same_subcode last h)
+    ((before : Header) → last ≡ Some before → h.subcode ≡ before.subcode)
+same_subcode last h = grind (arith, nat_tests, none-some, same_Some)
 
-pub controlled : (national : National) (k : PacketKind)
-    → Refutes (is_wrong_header national k)
-    ((h : Header) → k ≡ ThisPage h → IsSubtitleHeader national h)
-controlled national (ThisPage h) =
-    of_this_page (IsSubtitleHeader national) (is_subtitle_header national h) h
-    (subtitle_header national h)
-controlled national k = grind (arith, nat_tests)
+-- Where one thing is asked for, another is not so.
+shut_where : (asks opened : Bool) → Decides (not (asks && opened)) (IsTrue asks → IsFalse opened)
+shut_where asks opened = grind (arith, nat_tests, true≢false)
+
+-- A header of the page that repeats it.
+repeat_decided : (complete : Bool) (page : PageIdValue) (before : List (List ℕ)) (h : Header)
+    → Decides (is_repeat complete page before h) (IsRepeat complete page before h)
+repeat_decided complete page before h =
+    Decides-like _ (λ both. record { subcode = both.0; closed = both.1 })
+    (λ repeat. (repeat.subcode, repeat.closed))
+    (Decides-and _ _ (same_subcode (last_header page before) h)
+    (shut_where complete (is_open_after (kind page) before)))
+
+-- It erases the page or, where repeats may keep, repeats it.
+may_come_by : (keeps erases repeats : Bool) (P : Type 0) → Decides repeats P
+    → Decides (erases || (keeps && repeats))
+    ((IsFalse keeps → IsTrue erases) × (IsTrue erases ⊎ P))
+may_come_by keeps true repeats P d = (λ e. (λ none. refl, inl refl), λ both. refl)
+may_come_by true false repeats P d =
+    (λ e. (λ none. absurd (true≢false none), inr (d.0 e)), λ both. grind (arith, nat_tests))
+may_come_by false false repeats P d =
+    (λ e. absurd (true≢false (sym e)), λ both. both.0 refl)
+
+-- A subtitle's header.
+subtitle_header : (w : Watched) (before : List (List ℕ)) (h : Header)
+    → Decides (is_subtitle_header w before h)
+    (((IsFalse w.keeps → IsTrue (c4 h))
+    × (IsTrue (c4 h) ⊎ IsRepeat w.complete w.page before h))
+    × HasSubtitleBits w.national h)
+subtitle_header w before h =
+    Decides-and (may_come w before h) (has_subtitle_bits w.national h)
+    (may_come_by w.keeps (c4 h) (is_repeat w.complete w.page before h)
+    (IsRepeat w.complete w.page before h) (repeat_decided w.complete w.page before h))
+    (subtitle_bits w.national h)
+
+-- One header is the other.
+same_header : (h k : Header) → ThisPage h ≡ ThisPage k → h ≡ k
+same_header h k e = grind arith
+
+twice : (b : Bool) → not (not b) ≡ b
+twice b = grind (arith, nat_tests)
+
+-- What is asked of a packet that may be a header of the page.
+pub controlled : (w : Watched) (before : List (List ℕ)) (p : List ℕ) (k : PacketKind)
+    → kind w.page p ≡ k
+    → Refutes (is_wrong_header w before k) (IsControlledBy w before p)
+controlled w before p (ThisPage h) is =
+    Decides-at _ _ (twice (is_subtitle_header w before h))
+    (Decides-like _
+    (λ asked. record {
+      control = λ k e.
+          subst (HasSubtitleBits w.national) (same_header h k (sym is ∙ e)) asked.1;
+      erases = λ none k e.
+          subst (λ x. IsTrue (c4 x)) (same_header h k (sym is ∙ e)) (asked.0.0 none);
+      keeping = λ k e.
+          subst (λ x. IsTrue (c4 x) ⊎ IsRepeat w.complete w.page before x)
+          (same_header h k (sym is ∙ e)) asked.0.1;
+    })
+    (λ rule. ((λ none. rule.erases none h is, rule.keeping h is), rule.control h is))
+    (subtitle_header w before h))
+controlled w before p k is = (
+  λ e. record { control = λ h this. cc; erases = λ none h this. cc; keeping = λ h this. cc },
+  λ rule. refl,
+)
 
 -- The text's parity.
 pub odd_text : (p : List ℕ) → Refutes (is_some (first_even_byte p)) (HasOddText p)
@@ -230,35 +293,37 @@ module _ (w : Watched) (packets : List (List ℕ)) (s : IsSoundSpan w packets) (
 
 -- ---- packets that keep all rules
 
--- What holds of each packet holds of each in the span of the first n.
-Each-span : (page : PageIdValue) (P : List ℕ → Type 0) (xs : List (List ℕ))
+-- What holds of each packet holds of each in the long span of the first n.
+Each-span : (keeps : Bool) (page : PageIdValue) (P : List ℕ → Type 0) (xs : List (List ℕ))
     → ((k : ℕ) → k < length xs → P (get_or xs k [])) → (n : ℕ) → n ≤ length xs
-    → AllByRecursion P (span (kind page) (take n xs))
-Each-span page P xs each zero l = tt
-Each-span page P xs each (suc n) l =
+    → AllByRecursion P (text_span keeps (kind page) (take n xs))
+Each-span keeps page P xs each zero l = tt
+Each-span keeps page P xs each (suc n) l =
     let x : List ℕ = get_or xs n [] in
     let more : take (suc n) xs ≡ take n xs ++ x ∷ [] =
     ap (λ m. take m xs) (sym (add-one n)) ∙ take_more xs n [] (omega arith) in
-    subst (λ ps. AllByRecursion P (span (kind page) ps)) (sym more)
-    (subst (AllByRecursion P) (sym (span-push (kind page) (take n xs) x))
-    (go (Each-span page P xs each n (omega arith)) (is_this_page (kind page x))
-    (is_open_after (kind page) (take n xs) && not (ends_page (kind page x)))))
+    subst (λ ps. AllByRecursion P (text_span keeps (kind page) ps)) (sym more)
+    (subst (AllByRecursion P) (sym (text_span-push (kind page) keeps (take n xs) x))
+    (go (Each-span keeps page P xs each n (omega arith)) (begins_text keeps (kind page x))
+    (is_open_after (kind page) (take n xs) && not (is_this_page (kind page x))
+    && not (ends_page (kind page x)))))
   where
-    go : AllByRecursion P (span (kind page) (take n xs)) → (this more : Bool)
-        → AllByRecursion P (cond this [] (cond more
-        (span (kind page) (take n xs) ++ get_or xs n [] ∷ []) (span (kind page) (take n xs))))
+    go : AllByRecursion P (text_span keeps (kind page) (take n xs)) → (begins more : Bool)
+        → AllByRecursion P (cond begins [] (cond more
+        (text_span keeps (kind page) (take n xs) ++ get_or xs n [] ∷ [])
+        (text_span keeps (kind page) (take n xs))))
     go h true more = tt
     go h false true = grind (arith, nat_tests, Each-push)
     go h false false = h
 
--- The span of packets that keep all rules is sound.
+-- The long span of packets that keep all rules is sound.
 sound_span : (w : Watched) (packets : List (List ℕ)) → AreClean w packets
-    → IsSoundSpan w (span (kind w.page) packets)
+    → IsSoundSpan w (text_span w.keeps (kind w.page) packets)
 sound_span w packets clean =
-    subst (λ ps. IsSoundSpan w (span (kind w.page) ps))
+    subst (λ ps. IsSoundSpan w (text_span w.keeps (kind w.page) ps))
     (take_all (length packets) packets (omega arith)) (record {
       clean = clean_spans w packets (λ k l. (clean k l).1) (length packets);
-      whole = Each-span w.page (λ q. IsPacket q × HasExactAddress q) packets
+      whole = Each-span w.keeps w.page (λ q. IsPacket q × HasExactAddress q) packets
           (λ k l. let is = clean k l in (is.0, is.1 rule.Address)) (length packets) (omega arith);
     })
 
@@ -271,9 +336,10 @@ module _ (w : Watched) (before : List (List ℕ)) (p : List ℕ) where
 
   same_row : (k : PacketKind) → kind w.page p ≡ k → IsComparable w before p
       → IsTrue (is_open_after (kind w.page) before)
-      → Refutes (is_other_row w.page (span (kind w.page) before) p k)
+      → Refutes (is_other_row w.page (text_span w.keeps (kind w.page) before) p k)
       ((row : ℕ) → k ≡ Row row
-      → AllByRecursion (λ q. kind w.page q ≡ Row row → q ≡ p) (span (kind w.page) before))
+      → AllByRecursion (λ q. kind w.page q ≡ Row row → q ≡ p)
+      (text_span w.keeps (kind w.page) before))
   same_row k e is is_open = grind (arith, nat_tests, sound_span, row_decided)
 
   -- Each rule.
@@ -284,7 +350,7 @@ module _ (w : Watched) (before : List (List ℕ)) (p : List ℕ) where
   rule_decided rule.HeaderCode comparable =
       coded (address p) (are_code_words 2 8 p) (HasExactHeader p) (header_decided p)
   rule_decided rule.Mode comparable = one_mode (header p) (first_header before)
-  rule_decided rule.Control comparable = controlled w.national (kind w.page p)
+  rule_decided rule.Control comparable = controlled w before p (kind w.page p) refl
   rule_decided rule.Parity comparable =
       subst (λ b. Refutes b (KeepsRule rule.Parity w before p))
       (grind (arith, nat_tests))

@@ -1,5 +1,5 @@
 -- For what is told and what may stay.
--- Spans packet by packet: `clean_cuts`, `last_clean`.
+-- Long spans packet by packet: `clean_cuts`, `last_clean`.
 use Rattle.std.proofs.lemmas.Bool.Decides.{nat_tests}
 use Rattle.std.proofs.Common.{◌≡◌, ℕ, zero, suc, ◌<◌, inl, inr, Bool, true, false, not, ◌&&◌, cond}
 use Rattle.std.proofs.Common.{List, [], ◌∷◌, ◌++◌, length, take, slice_index_or, All, refl, sym, ap}
@@ -10,9 +10,9 @@ use Rattle.std.proofs.lemmas.List.{get_or_append_left, get_or_at}
 use Rattle.std.proofs.lemmas.List.Elements.{All-nil, All-push}
 use Rattle.ttx_packet.specs.PageId.{PageIdValue}
 use Rattle.ttx_page.specs.Noise.{IsOddRow, IsSameRow}
-use Rattle.ttx_page.specs.PacketKind.{kind, is_this_page, ends_page}
-use Rattle.ttx_page.specs.Span.{is_open_after, span}
-use Rattle.ttx_page.proofs.SpanPush.{span-push}
+use Rattle.ttx_page.specs.PacketKind.{begins_text, kind, is_this_page, ends_page}
+use Rattle.ttx_page.specs.Span.{is_open_after, text_span}
+use Rattle.ttx_page.proofs.TextSpan.{text_span-push}
 use Rattle.sub_rules.specs.Good.{IsEnhancement, IsCleanSpan}
 
 -- A packet may follow a clean span.
@@ -22,15 +22,15 @@ pub record MayFollow (page : PageIdValue) (packets : List (List ℕ)) (packet : 
   pub plain : IsEnhancement page packet → ⊥
 
 -- Each packet that comes while the page is open, and is no header that opens it again or ends it,
--- may follow the span that it comes after.
-abbrev pub EachMayFollow : PageIdValue → List (List ℕ) → Type 0
-EachMayFollow page packets =
+-- may follow the long span that it comes after.
+abbrev pub EachMayFollow : Bool → PageIdValue → List (List ℕ) → Type 0
+EachMayFollow keeps page packets =
     (i : ℕ) (d : List ℕ)
     → i < length packets
     → IsTrue (is_open_after (kind page) (take i packets))
     → IsFalse (is_this_page (kind page (slice_index_or packets i d)))
     → IsFalse (ends_page (kind page (slice_index_or packets i d)))
-    → MayFollow page (span (kind page) (take i packets)) (slice_index_or packets i d)
+    → MayFollow page (text_span keeps (kind page) (take i packets)) (slice_index_or packets i d)
 
 -- ---- one packet more
 
@@ -80,50 +80,51 @@ last_clean page packets packet clean =
 clean_nil : (page : PageIdValue) → IsCleanSpan page []
 clean_nil page = record { odd = All-nil _; same = All-nil _; plain = All-nil _ }
 
--- What one more packet makes of the span, by cases.
+-- What one more packet makes of the long span, by cases.
 pushed :
-    (page : PageIdValue) (packets : List (List ℕ)) (packet : List ℕ)
-    → IsCleanSpan page (span (kind page) packets)
+    (keeps : Bool) (page : PageIdValue) (packets : List (List ℕ)) (packet : List ℕ)
+    → IsCleanSpan page (text_span keeps (kind page) packets)
     → (is_open_after (kind page) packets ≡ true
     → is_this_page (kind page packet) ≡ false
     → ends_page (kind page packet) ≡ false
-    → MayFollow page (span (kind page) packets) packet)
-    → IsCleanSpan page (span (kind page) (packets ++ packet ∷ []))
-pushed page packets packet clean follows =
-    subst (IsCleanSpan page) (sym (span-push (kind page) packets packet))
-    (go (is_this_page (kind page packet)) (is_open_after (kind page) packets)
-    (ends_page (kind page packet)) refl refl refl)
+    → MayFollow page (text_span keeps (kind page) packets) packet)
+    → IsCleanSpan page (text_span keeps (kind page) (packets ++ packet ∷ []))
+pushed keeps page packets packet clean follows =
+    subst (IsCleanSpan page) (sym (text_span-push (kind page) keeps packets packet))
+    (go (begins_text keeps (kind page packet)) (is_open_after (kind page) packets)
+    (is_this_page (kind page packet)) (ends_page (kind page packet)) refl refl refl)
   where
     go :
-        (t o e : Bool)
-        → is_this_page (kind page packet) ≡ t
+        (b o t e : Bool)
         → is_open_after (kind page) packets ≡ o
+        → is_this_page (kind page packet) ≡ t
         → ends_page (kind page packet) ≡ e
         → IsCleanSpan page
-        (cond t []
-        (cond (o && not e) (span (kind page) packets ++ packet ∷ [])
-        (span (kind page) packets)))
-    go true o e p q r = clean_nil page
-    go false true false p q r =
-        push_clean page (span (kind page) packets) packet clean (follows q p r)
-    go false true true p q r = clean
-    go false false e p q r = clean
+        (cond b []
+        (cond (o && not t && not e) (text_span keeps (kind page) packets ++ packet ∷ [])
+        (text_span keeps (kind page) packets)))
+    go true o t e p q r = clean_nil page
+    go false true false false p q r =
+        push_clean page (text_span keeps (kind page) packets) packet clean (follows p q r)
+    go false true false true p q r = clean
+    go false true true e p q r = clean
+    go false false t e p q r = clean
 
 -- Where each packet may follow, each cut is clean: induction on the place of the cut.
 pub clean_cuts :
-    (page : PageIdValue) (packets : List (List ℕ))
-    → EachMayFollow page packets
+    (keeps : Bool) (page : PageIdValue) (packets : List (List ℕ))
+    → EachMayFollow keeps page packets
     → (n : ℕ)
-    → IsCleanSpan page (span (kind page) (take n packets))
-clean_cuts page packets each zero = clean_nil page
-clean_cuts page packets each (suc n) =
-    let ih = clean_cuts page packets each n in
+    → IsCleanSpan page (text_span keeps (kind page) (take n packets))
+clean_cuts keeps page packets each zero = clean_nil page
+clean_cuts keeps page packets each (suc n) =
+    let ih = clean_cuts keeps page packets each n in
     elim (cases_lt n (length packets)) [
       | inl within ↦
           let more : take (suc n) packets ≡ take n packets ++ slice_index_or packets n [] ∷ [] =
           ap (λ m. take m packets) (sym (add-one n)) ∙ take_more packets n [] within in
-          subst (λ ps. IsCleanSpan page (span (kind page) ps)) (sym more)
-          (pushed page (take n packets) (slice_index_or packets n []) ih (each n [] within))
+          subst (λ ps. IsCleanSpan page (text_span keeps (kind page) ps)) (sym more)
+          (pushed keeps page (take n packets) (slice_index_or packets n []) ih (each n [] within))
       | inr past ↦
           grind (arith, nat_tests, take_all)
     ]

@@ -1,42 +1,48 @@
 -- For `check`.
--- Where content is refused, every receiver shows what it may not show: `undue_everywhere`.
+-- Where content is refused, a cell is not right that every receiver holds, `different_everywhere`;
+-- and where no repeat may keep, every receiver shows what it may not show: `undue_everywhere`.
 use Rattle.std.proofs.lemmas.Bool.Decides.{nat_tests}
 use Rattle.std.proofs.Common.{List, [], subst, ◌≡◌, ℕ, ◌-◌, ◌<◌, ◌≤◌, ◌⊎◌, inl, inr, Bool, true}
-use Rattle.std.proofs.Common.{false, Option, Some, None, length, take, drop, refl, sym, ap, IsFalse}
+use Rattle.std.proofs.Common.{false, Option, Some, None, length, take, drop, refl, sym, ap}
 use Rattle.std.proofs.Common.{◌∙◌, arith, le_refl}
 use Rattle.std.proofs.lemmas.Bool.{true≢false}
 use Rattle.std.proofs.lemmas.List.Elements.{All-from_get_or}
 use Rattle.std.proofs.lemmas.List.{length-take-le, take-append-drop, take-take, take_all}
 use Rattle.ttx_packet.specs.PageHeader.{HasExactWords}
-use Rattle.ttx_page.specs.Noise.{ErasesPage, IsSound}
+use Rattle.ttx_page.specs.Noise.{ErasesPage}
 use Rattle.ttx_page.specs.Page.{IsCell, cell}
 use Rattle.ttx_page.specs.PacketKind.{kind}
 use Rattle.ttx_page.specs.Receiver.{Hears, State}
-use Rattle.ttx_page.specs.Shown.{shown}
-use Rattle.ttx_page.specs.Span.{holds_header, span}
-use Rattle.ttx_page.proofs.NoiseLaws.{AreNear-themselves, law_of_noise}
-use Rattle.ttx_page.proofs.QuietLaws.{law_of_quiet}
+use Rattle.ttx_page.specs.Repeats.{IsFresh, SendsText}
+use Rattle.ttx_page.specs.Shown.{kept}
+use Rattle.ttx_page.specs.Span.{holds_beginning, holds_header, text_span}
+use Rattle.ttx_page.proofs.QuietLaws.{law_of_kept}
+use Rattle.ttx_page.proofs.RepeatLaws.{kept_shown}
+use Rattle.ttx_page.proofs.TextSpan.{beginning-none_keeps}
 use Rattle.stl_rows.specs.Programme.{ProgrammeValue}
 use Rattle.sub_plan.specs.Options.{OptionsValue}
+use Rattle.sub_plan.specs.Schedule.{due_in}
 use Rattle.sub_rules.specs.Events.{broken_cell, is_late, undecided_within}
 use Rattle.sub_rules.specs.FrameRules.{ShowsDue, Task, Unread, frame_at, packets_before}
 use Rattle.sub_rules.specs.FrameRules.{packets_of_frame, task_of}
 use Rattle.sub_rules.specs.GoodWithin.{IsDueWithin}
+use Rattle.sub_rules.specs.Kept.{IsRight}
 use Rattle.sub_rules.specs.PacketRules.{KeepsAllRules}
 use Rattle.sub_rules.specs.Transmission.{Transmission, first_frame, on_air_until}
 use Rattle.sub_rules.specs.WrongContent.{AreReadUpTo}
 use Rattle.sub_rules.specs.declared.packet_rule.Watched.{Watched}
 use Rattle.sub_rules.proofs.PrefixEventLemmas.{is_late-prefix}
-use Rattle.sub_laws.specs.UndueContent.{IsUndueEverywhere}
+use Rattle.sub_laws.specs.UndueContent.{IsDifferentEverywhere, IsUndueEverywhere}
+use Rattle.sub_laws.proofs.DelayLemmas.{law_of_right_cells}
 use Rattle.sub_laws.proofs.DueCodeLemmas.{MayShow, undue_found}
 use Rattle.sub_laws.proofs.FrameByFrame.{IsReadTo}
 use Rattle.sub_laws.proofs.PlaceLemmas.{clean_spans}
 use Rattle.sub_laws.proofs.PrefixLemmas.{EachAfter, RiseTo, before, each_after, first-same}
 use Rattle.sub_laws.proofs.PrefixLemmas.{frame_at-take, on_air_is, packet_at, take_last, take_rises}
 use Rattle.sub_laws.proofs.PrefixLemmas.{take_rising}
+use Rattle.sub_laws.proofs.RepeatLemmas.{codes_of_clean}
 use Rattle.sub_laws.proofs.StandingLemmas.{always_known, first_wrong, undue_is}
 use Rattle.sub_rules.specs.Good.{IsCleanSpan}
-use Rattle.ttx_page.proofs.LateStart.{codes_of_same}
 use Rattle.ttx_page.proofs.SpanLists.{holds-append_left}
 use Rattle.sub_rules.specs.declared.packet_rule.PacketRule.TheVariants as rule
 
@@ -49,42 +55,38 @@ module _ (w : Watched) (frames : Transmission) (n : ℕ) (fits : n ≤ length fr
   each : EachAfter (KeepsAllRules w) (packets_before frames n)
   each = each_after (KeepsAllRules w) frames n fits clean
 
-  -- Their span is clean.
-  clean_span : IsCleanSpan w.page (span (kind w.page) (packets_before frames n))
+  -- Their long span is clean.
+  clean_span : IsCleanSpan w.page (text_span w.keeps (kind w.page) (packets_before frames n))
   clean_span =
       let sent : List (List ℕ) = packets_before frames n in
-      subst (λ ps. IsCleanSpan w.page (span (kind w.page) ps))
+      subst (λ ps. IsCleanSpan w.page (text_span w.keeps (kind w.page) ps))
       (take_all (length sent) sent (omega arith))
       (clean_spans w sent each (length sent))
 
-  -- So they are what is asked for the law of quiet.
-  sound : IsSound w.page (packets_before frames n)
-  sound = record {
+  -- So they are sent as the text that is kept of them.
+  sends :
+      SendsText w.keeps w.page (packets_before frames n)
+      (kept w.keeps w.page (packets_before frames n))
+  sends = record {
     exact =
         All-from_get_or HasExactWords _ []
         (λ k l. (each k l rule.Address, each k l rule.HeaderCode));
-    erases =
-        All-from_get_or (ErasesPage w.page) _ []
-        (λ k l h e. (each k l rule.Control h e).erases);
+    erases = λ none.
+        All-from_get_or (ErasesPage w.page) _ [] (λ k l. (each k l rule.Control).erases none);
     odd = clean_span.odd;
-    same = codes_of_same w.page _ clean_span.same;
+    codes = codes_of_clean w.keeps w.page (packets_before frames n) clean_span;
   }
 
-  -- With a header among them every receiver shows what they show.
-  all_show :
-      holds_header (kind w.page) (packets_before frames n) ≡ true
-      → (old new : State)
-      → IsFalse old.heard
-      → IsFalse old.is_open
+  -- Where what it held before is forgotten, a receiver that keeps its page holds that.
+  all_hold :
+      (old new : State)
       → Hears w.page old (packets_before frames n) new
+      → IsFresh w.keeps false w.page (packets_before frames n) old
       → (row column : ℕ)
       → IsCell row column
-      → cell new.page row column ≡ shown w.page (packets_before frames n) row column
-  all_show head old new unheard shut hears row column is =
-      let sent = packets_before frames n in
-      let ends =
-      law_of_noise w.page sent sent old new sound (AreNear-themselves sent) unheard shut hears in
-      law_of_quiet w.page sent old new sound unheard shut hears (ends.heard ∙ head) row column is
+      → cell new.page row column ≡ kept w.keeps w.page (packets_before frames n) row column
+  all_hold old new hears fresh row column is =
+      law_of_kept w.keeps w.page (packets_before frames n) old new sends hears fresh row column is
 
 -- A header in the first frame is one in the first n frames.
 first_header-packets_before :
@@ -111,18 +113,18 @@ module _ (programme : ProgrammeValue) (options : OptionsValue) (unread : Option 
   abbrev g : Task
   g = task_of programme options unread
 
-  -- What cell x shows after the first n frames, at the end of frame f.
+  -- What is kept in cell x after the first n frames.
   abbrev code_at : ℕ → ℕ × ℕ → ℕ
-  code_at n x = shown options.page (packets_before frames n) x.0 x.1
+  code_at n x = kept options.keeps options.page (packets_before frames n) x.0 x.1
 
-  -- It is another code than is due; and where the end is not late, none that it may show.
+  -- It is not right; and where the end is not late, it is none that it may be.
   record IsBroken (n f : ℕ) (x : ℕ × ℕ) : Type 0 where
     pub is_cell : IsCell x.0 x.1
     pub wrong : ShowsDue g frames n f x.0 x.1 → ⊥
     pub undue :
         is_late g frames n f ≡ false
-        → MayShow options.page (packets_before frames n) g.due (frame_at frames 0) f options.within
-        x.0 x.1
+        → MayShow options.keeps options.page (packets_before frames n) g.due (frame_at frames 0) f
+        options.within x.0 x.1
         → ⊥
 
   -- So is the cell that stands broken.
@@ -142,11 +144,13 @@ module _ (programme : ProgrammeValue) (options : OptionsValue) (unread : Option 
           }
       go false late =
           let found =
-          undue_found options.page (packets_before frames n) g.due (frame_at frames 0) f
-          options.within x (sym (undue_is g frames n f known) ∙ rw late at e) in
+          undue_found options.keeps options.page (packets_before frames n) g.due
+          (frame_at frames 0) f options.within x
+          (sym (undue_is g frames n f known) ∙ rw late at e) in
           record {
             is_cell = found.0;
-            wrong = λ same. found.1 (inr (f, inr refl, le_refl f, omega arith, same));
+            wrong = λ right.
+                found.1 (inr (f, inr refl, le_refl f, omega arith, right.kept_is));
             undue = λ not_late. found.1;
           }
 
@@ -172,16 +176,19 @@ module _ (programme : ProgrammeValue) (options : OptionsValue) (unread : Option 
               subst (λ (k : ℕ). (k ≡ f) ⊎ (f < frame_at frames n)) (sym last) (r.next more);
         }
 
-    -- What a receiver shows there.
-    shows : (old new : State) → IsFalse old.heard → IsFalse old.is_open
+    -- What is on air up to frame f of them is what is read.
+    read_air : on_air_until read f ≡ packets_before frames n
+    read_air = on_air_read frames n f r.some r.fits r.rises r.up_to
+
+    -- What a receiver holds there, where what it held before is forgotten.
+    holds_there : (old new : State)
         → Hears options.page old (on_air_until read f) new
+        → IsFresh options.keeps false options.page (packets_before frames n) old
         → cell new.page x.0 x.1 ≡ code_at n x
-    shows old new unheard shut hears =
-        all_show g.watched frames n r.fits (λ i k some l. r.packets i some k l)
-        (first_header-packets_before g.watched frames n r.some r.fits r.header) old new unheard shut
-        (subst (λ (ps : List (List ℕ)). Hears options.page old ps new)
-        (on_air_read frames n f r.some r.fits r.rises r.up_to) hears)
-        x.0 x.1 cell_is.is_cell
+    holds_there old new hears fresh =
+        all_hold g.watched frames n r.fits (λ i k some l. r.packets i some k l) old new
+        (subst (λ (ps : List (List ℕ)). Hears options.page old ps new) read_air hears) fresh x.0 x.1
+        cell_is.is_cell
 
     -- Whether the end is late goes by these frames.
     late_same : is_late (task_of programme options None) read (length read) f
@@ -195,8 +202,8 @@ module _ (programme : ProgrammeValue) (options : OptionsValue) (unread : Option 
         ∙ ap (λ (fs : Transmission). is_late g fs n f) (take-append-drop n frames)
 
     may_of : IsDueWithin programme read options f x.0 x.1 (code_at n x)
-        → MayShow options.page (packets_before frames n) g.due (frame_at frames 0) f options.within
-        x.0 x.1
+        → MayShow options.keeps options.page (packets_before frames n) g.due (frame_at frames 0) f
+        options.within x.0 x.1
     may_of (inl blank) = inl blank
     may_of (inr (e, low, high, near, same)) =
         let first : first_frame read ≡ frame_at frames 0 =
@@ -204,17 +211,64 @@ module _ (programme : ProgrammeValue) (options : OptionsValue) (unread : Option 
         inr (e, inl (subst (λ (k : ℕ). k ≤ e) first low), high, near, same)
 
     -- Where the first n frames are read and keep the rules, and a cell stands broken.
-    pub undue_everywhere : IsUndueEverywhere programme options frames f x.0 x.1
-    undue_everywhere = record {
-      wrong = record {
-        read = read;
-        are_read = are_read;
-        wrong = λ old new unheard shut hears same.
-            cell_is.wrong (sym (shows old new unheard shut hears) ∙ same);
-      };
-      undue = λ not_late old new unheard shut hears due.
+    pub different_everywhere : IsDifferentEverywhere programme options frames f x.0 x.1
+    different_everywhere = record {
+      read = read;
+      are_read = are_read;
+      differs = λ right.
+          cell_is.wrong
+          (subst
+          (λ ps. IsRight options.keeps options.page ps (due_in programme f) x.0 x.1) read_air
+          right);
+      holds = λ old new hears fresh.
+          holds_there old new hears
+          (subst (λ ps. IsFresh options.keeps false options.page ps old) read_air fresh)
+          ∙ ap (λ ps. kept options.keeps options.page ps x.0 x.1) (sym read_air);
+      undue = λ not_late due.
           cell_is.undue (sym late_same ∙ not_late)
           (may_of
-          (subst (IsDueWithin programme read options f x.0 x.1)
-          (shows old new unheard shut hears) due));
+          (subst
+          (λ ps. IsDueWithin programme read options f x.0 x.1
+          (kept options.keeps options.page ps x.0 x.1))
+          read_air due));
     }
+
+    -- ---- where no repeat may keep
+
+    module _ (none : options.keeps ≡ false) where
+      -- What a receiver held before is forgotten at the first header.
+      fresh : (old : State) → IsFresh options.keeps false options.page (packets_before frames n) old
+      fresh old =
+          inr
+          (inl
+          (ap (λ k. holds_beginning k (kind options.page) (packets_before frames n)) none
+          ∙ beginning-none_keeps (kind options.page) (packets_before frames n)
+          ∙ first_header-packets_before g.watched frames n r.some r.fits r.header))
+
+      -- A cell that shows what is due is right.
+      right : code_at n x ≡ cell (due_in programme f) x.0 x.1 → ShowsDue g frames n f x.0 x.1
+      right same =
+          subst
+          (λ k. IsRight k options.page (packets_before frames n) (due_in programme f) x.0 x.1)
+          (sym none)
+          ((law_of_right_cells options.page (packets_before frames n) (due_in programme f) x.0
+          x.1).1
+          (sym (kept_shown options.page (packets_before frames n) x.0 x.1)
+          ∙ ap (λ k. kept k options.page (packets_before frames n) x.0 x.1) (sym none)
+          ∙ same))
+
+      -- So every receiver shows what it may not show.
+      pub undue_everywhere : IsUndueEverywhere programme options frames f x.0 x.1
+      undue_everywhere = record {
+        wrong = record {
+          read = read;
+          are_read = are_read;
+          wrong = λ old new unheard shut hears same.
+              cell_is.wrong (right (sym (holds_there old new hears (fresh old)) ∙ same));
+        };
+        undue = λ not_late old new unheard shut hears due.
+            cell_is.undue (sym late_same ∙ not_late)
+            (may_of
+            (subst (IsDueWithin programme read options f x.0 x.1)
+            (holds_there old new hears (fresh old)) due));
+      }

@@ -26,7 +26,8 @@ use Rattle.sub_plan.specs.Options.{OptionsValue}
 use Rattle.sub_rules.specs.GoodWithin.{FinishesAgain, HasEndedPage, IsDueWithin, IsFinished}
 use Rattle.sub_rules.specs.GoodWithin.{ShowsDueCodes, ShowsDuePage}
 use Rattle.sub_plan.specs.Schedule.{due_in}
-use Rattle.sub_rules.specs.Repeats.{IsRight, IsWholePage, KeepsDueCodes, LawOfRightCells}
+use Rattle.sub_rules.specs.Kept.{IsRight, LawOfRightCells}
+use Rattle.sub_rules.specs.Repeats.{IsWholePage, KeepsDueCodes}
 use Rattle.sub_rules.specs.Transmission.{Transmission, first_frame, on_air, on_air_until}
 use Rattle.sub_laws.specs.Delay.{IsServedWithDelay, RecoversWithDelay}
 use Rattle.sub_laws.specs.Delay.{ShownWithDelay}

@@ -1,7 +1,7 @@
 -- For `law_of_nothing_told_within` and `law_of_trusted_with_delay`.
--- A code that was due at a cell within some frames: `was_due_at`, `due_was`; the first cell that
--- shows none of these, `none_undue`, `undue_none`, `undue_found`; and the subtitle whose TCO a
--- frame is, `ending_is`, `ending_at`.
+-- A code that was due at a cell within some frames: `was_due_at`, `due_was`; the first cell in
+-- which none of these is kept, `none_undue`, `undue_none`, `undue_found`; and the subtitle whose
+-- TCO a frame is, `ending_is`, `ending_at`.
 use Rattle.std.proofs.lemmas.Bool.Decides.{nat_tests}
 use Rattle.std.proofs.Common.{◌≡◌, ◌≢◌, ℕ, zero, suc, ◌+◌, ◌-◌, ◌<◌, ◌≤◌, ◌⊎◌, inl, inr, Bool, true}
 use Rattle.std.proofs.Common.{false, not, ◌&&◌, ◌||◌, ◌==◌, nat_le, List, Contains, get_or, Option}
@@ -12,7 +12,7 @@ use Rattle.std.proofs.lemmas.List.Recursion.{found_at}
 use Rattle.std.proofs.lemmas.Option.{none-some, same_Some}
 use Rattle.ttx_packet.specs.PageId.{PageIdValue}
 use Rattle.ttx_page.specs.Page.{IsCell, Rows, cell, space}
-use Rattle.ttx_page.specs.Shown.{shown}
+use Rattle.ttx_page.specs.Shown.{kept}
 use Rattle.ttx_page.proofs.SpanLists.{find_is}
 use Rattle.stl_file.specs.Subtitle.{IsSubtitle, SubtitleValue}
 use Rattle.stl_rows.specs.DuePage.{ends_at, tci_of_ending}
@@ -79,17 +79,18 @@ module _ (due : ℕ → Rows) (first f row column code : ℕ) where
 
 -- ---- the first cell that shows none
 
-module _ (page : PageIdValue) (packets : List (List ℕ)) (due : ℕ → Rows) (first f n : ℕ) where
-  -- What a cell shows.
+module _ (keeps : Bool) (page : PageIdValue) (packets : List (List ℕ)) (due : ℕ → Rows)
+    (first f n : ℕ) where
+  -- What is kept in a cell.
   abbrev code_at : ℕ → ℕ → ℕ
-  code_at row column = shown page packets row column
+  code_at row column = kept keeps page packets row column
 
-  -- A cell shows a space or a code that was due.
+  -- It is a space or a code that was due.
   abbrev pub MayShow : ℕ → ℕ → Type 0
   MayShow row column =
       (code_at row column ≡ space) ⊎ WasDue due first f row column (code_at row column) n
 
-  -- It shows neither.
+  -- It is neither.
   abbrev is_undue : ℕ → ℕ → Bool
   is_undue row column =
       not (code_at row column == space)
@@ -112,18 +113,18 @@ module _ (page : PageIdValue) (packets : List (List ℕ)) (due : ℕ → Rows) (
       let is = due_was due first f row column (code_at row column) n was in
       grind (arith, nat_tests)
 
-  pub undue_none : undue_after page packets due first f n ≡ None
+  pub undue_none : undue_after keeps page packets due first f n ≡ None
       → (row column : ℕ) → IsCell row column → MayShow row column
   unfolding undue_after
   undue_none e row column named = may_show row column (cell_none is_undue e row column named)
 
   pub none_undue : ((row column : ℕ) → IsCell row column → MayShow row column)
-      → undue_after page packets due first f n ≡ None
+      → undue_after keeps page packets due first f n ≡ None
   unfolding undue_after
   none_undue may =
       no_cell is_undue (λ row column named. not_undue row column (may row column named))
 
-  pub undue_found : (x : ℕ × ℕ) → undue_after page packets due first f n ≡ Some x
+  pub undue_found : (x : ℕ × ℕ) → undue_after keeps page packets due first f n ≡ Some x
       → IsCell x.0 x.1 × (MayShow x.0 x.1 → ⊥)
   unfolding undue_after
   undue_found x e =

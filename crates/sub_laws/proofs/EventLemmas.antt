@@ -1,6 +1,6 @@
 -- For what is told.
 -- Nothing is told exactly where all that is asked holds, and what is told first is a refusal:
--- `all_told`. Part by part, `law_of_broken_places`; and of the whole, `law_of_nothing_told`.
+-- `all_told`.
 use Rattle.std.proofs.Common.{◌≡◌, ℕ, zero, suc, ◌+◌, ◌-◌, ◌<◌, ◌≤◌, ◌⊎◌, inl, inr, Bool, true}
 use Rattle.std.proofs.Common.{false, not, List, [], ◌∷◌, length, Option, Some, None, refl, ◌↔◌, sym}
 use Rattle.std.proofs.Common.{ap, subst, arith, append_assoc, if◌then◌else◌, ◌∙◌, ◌||◌}
@@ -13,13 +13,13 @@ use Rattle.std.proofs.lemmas.Option.{none-some, same_Some}
 use Rattle.ttx_packet.specs.PacketAddress.{IsPacket}
 use Rattle.sub_rules.specs.Events.{broken_at, broken_cell, closing_events, end_before}
 use Rattle.sub_rules.specs.Events.{end_events, end_fault, end_rules, events_at_end}
-use Rattle.sub_rules.specs.Events.{first_header_events, first_told, gap_length, is_pending}
+use Rattle.sub_rules.specs.Events.{first_header_events, gap_length, is_pending}
 use Rattle.sub_rules.specs.Events.{is_short, late_events, latest, nothing_stands, order_events}
 use Rattle.sub_rules.specs.Events.{packet_events, packet_fault, packets_told, rest_events}
 use Rattle.sub_rules.specs.Events.{rule_events, rules_told, standing_at, standing_before}
 use Rattle.sub_rules.specs.Events.{unread_fault}
 use Rattle.sub_rules.specs.FrameRules.{HasHeader, Task, Unread, end_frame, frame_at, packets_before}
-use Rattle.sub_rules.specs.FrameRules.{packets_of_frame, task_of}
+use Rattle.sub_rules.specs.FrameRules.{packets_of_frame}
 use Rattle.sub_rules.specs.PacketRules.{AreClean, KeepsAllRules}
 use Rattle.sub_rules.specs.Transmission.{EachPacket, Transmission}
 use Rattle.sub_rules.specs.declared.end_rule.EndRule.{EndRule}
@@ -31,28 +31,17 @@ use Rattle.sub_rules.specs.declared.fault.CheckFault.TheVariants as fault
 use Rattle.sub_rules.specs.declared.packet_rule.PacketRule.{PacketRule}
 use Rattle.sub_rules.proofs.EndLemmas.{gap_length-is, standing_before_is}
 use Rattle.sub_rules.proofs.EndRuleLemmas.{nothing_at, rules_none, stands_nothing}
-use Rattle.sub_laws.specs.BrokenPlaces.{TellsBroken}
-use Rattle.sub_laws.proofs.BrokenRuleLemmas.{clean_decided, refuted, rule_decided}
+use Rattle.sub_laws.proofs.BrokenRuleLemmas.{clean_decided}
 use Rattle.sub_laws.proofs.FirstFoundLemmas.{Finds, Finds-append, Finds-like, Finds-none}
 use Rattle.sub_laws.proofs.FirstFoundLemmas.{end_found}
 use Rattle.sub_laws.proofs.FirstFoundLemmas.{first_found, found_so_far, packet_found}
 use Rattle.sub_laws.proofs.FrameByFrame.{AllOk, AreOk, FrameOk, IsQuiet, IsReadTo, OrderOk}
 use Rattle.sub_laws.proofs.FrameByFrame.{PacketsOk}
-use Rattle.sub_laws.proofs.PlaceLemmas.{Complete-from_holds, Good-from_holds, holds-from_good}
-use Rattle.sub_laws.proofs.PlaceLemmas.{none_pending}
 use Rattle.sub_laws.proofs.PrefixLemmas.{EachAfter-push, IsInGap, at_start, before, before_more}
-use Rattle.sub_laws.proofs.PrefixLemmas.{each_at, each_from, packet_at}
+use Rattle.sub_laws.proofs.PrefixLemmas.{each_at, packet_at}
 use Rattle.sub_laws.proofs.RisingEndLemmas.{latest_at}
-use Rattle.sub_laws.proofs.StandingLemmas.{stands_broken}
 use Rattle.sub_rules.proofs.FrameEvents.{events, events_of_first, frame_events, gap_events}
-use Rattle.std.proofs.Common.{IsTrue, map}
-use Rattle.stl_rows.specs.Programme.{ProgrammeValue}
-use Rattle.sub_plan.specs.Options.{OptionsValue}
-use Rattle.sub_rules.specs.Good.{Good}
-use Rattle.sub_rules.specs.PieceEvents.{all_of_pieces}
-use Rattle.sub_rules.specs.Pieces.Piece.{Sent}
 use Rattle.sub_rules.specs.declared.standing.Standing.{Standing}
-use Rattle.sub_laws.specs.OnScreen.{Complete}
 
 -- ---- what is told first
 
@@ -454,79 +443,3 @@ module _ (g : Task) (frames : Transmission) (Named : CheckFault → Type 0)
   all_told whole =
       Finds-append (frames_told whole (length frames) (omega arith))
       (λ past. closing_told (length frames) refl past) (λ all. all.each)
-
--- ---- the laws
-
--- Whatever is told.
-abbrev Any : CheckFault → Type 0
-Any f = Unit {0}
-
--- Part by part, where anything that is told begins with a refusal.
-pub broken_places : (g : Task) (frames : Transmission) → g.within ≡ 0
-    → (IsFalse g.beside
-    → EachPacket IsPacket frames
-    → first_told (all_of_pieces g (map Sent frames)) ≡ None
-    → all_of_pieces g (map Sent frames) ≡ [])
-    → TellsBroken g frames
-unfolding order_events first_header_events
-broken_places g frames at_once refused = record {
-  start = grind (arith, nat_tests, same_Some);
-  order = λ i. grind (arith, nat_tests);
-  rules = λ r before p comparable. refuted _ (rule_decided g.watched before p r comparable);
-  header = grind (arith, nat_tests);
-  ends = λ n f l. stands_broken g frames n f at_once l;
-  late = let none = none_pending g frames at_once in grind (arith, nat_tests, same_Some);
-  first = refused;
-}
-
--- Nothing is told exactly where all that is asked holds.
-pub nothing_told : (g : Task) (frames : Transmission) → EachPacket IsPacket frames
-    → (events g frames ≡ []) ↔ AllOk g frames
-nothing_told g frames whole =
-    told_none (events g frames)
-    (all_told g frames Any (λ f e. tt) (λ u e. tt) (λ n f x a b. tt) whole)
-
--- Where no refusal is told nothing is. For `check`.
-pub none_refused : (g : Task) (frames : Transmission) → EachPacket IsPacket frames
-    → first_told (events g frames) ≡ None
-    → events g frames ≡ []
-none_refused g frames whole none =
-    go (events g frames)
-    (all_told g frames Any (λ f e. tt) (λ u e. tt) (λ n f x a b. tt) whole) none
-  where
-    go : (xs : List Event) → FirstOf Any (AllOk g frames) xs → first_told xs ≡ None → xs ≡ []
-    go [] told e = refl
-    go (x ∷ xs) told e =
-        let (f, is, any) = told.at x refl in
-        let some : first_told (Told f ∷ xs) ≡ None = rw is at e in
-        absurd (none-some f (sym some))
-
--- Whole packets have 42 bytes.
-pub sizes_of : (frames : Transmission) → EachPacket IsPacket frames
-    → EachPacket (λ packet. length packet ≡ 42) frames
-sizes_of frames whole = grind (arith, nat_tests, each_from, each_at)
-
--- Nothing is told of frames exactly where they are good.
-pub none_told : (programme : ProgrammeValue) (options : OptionsValue) (unread : Option Unread)
-    (frames : Transmission)
-    → options.within ≡ 0
-    → 0 < options.every
-    → EachPacket IsPacket frames
-    → (events (task_of programme options unread) frames ≡ [])
-    ↔ (Good programme frames options
-    × (IsTrue options.asks_complete → Complete frames options)
-    × (unread ≡ None))
-none_told programme options unread frames at_once some whole =
-    let told = nothing_told (task_of programme options unread) frames whole in (
-      λ none.
-          let h = told.0 none in (
-            Good-from_holds programme options unread frames some h at_once
-                (sizes_of frames whole),
-            Complete-from_holds programme options unread frames some h at_once,
-            h.unread,
-          ),
-      λ good.
-          told.1
-          (subst (λ o. AllOk (task_of programme options o) frames) (sym good.2)
-          (holds-from_good programme options frames at_once good.0 good.1)),
-    )

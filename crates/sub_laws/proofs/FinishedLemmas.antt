@@ -8,15 +8,16 @@ use Rattle.std.proofs.Common.{is_some, length, refl, sym, ap, ◌∙◌, subst, 
 use Rattle.std.proofs.Common.{IsFalse}
 use Rattle.std.proofs.lemmas.Bool.{or_parts}
 use Rattle.ttx_page.specs.PacketKind.{kind}
-use Rattle.ttx_page.specs.Shown.{shown}
 use Rattle.ttx_page.specs.Span.{is_open_after}
 use Rattle.stl_rows.specs.Programme.{ProgrammeValue}
 use Rattle.sub_plan.specs.Options.{OptionsValue}
+use Rattle.sub_plan.specs.Schedule.{due_in}
 use Rattle.sub_rules.specs.Events.{is_incomplete, is_late, is_overdue}
 use Rattle.sub_rules.specs.Events.{is_unfinished, unfinished_since}
 use Rattle.sub_rules.specs.Events.{wrong_cell}
 use Rattle.sub_rules.specs.FrameRules.{Task, Unread, end_frame, frame_at}
-use Rattle.sub_rules.specs.GoodWithin.{IsFinished}
+use Rattle.sub_rules.specs.Kept.{IsRight}
+use Rattle.sub_rules.specs.Repeats.{IsFinishedBy}
 use Rattle.sub_rules.specs.Transmission.{Transmission}
 use Rattle.sub_laws.specs.CleanStretch.{IsEnd, task_unsure}
 use Rattle.sub_laws.proofs.PlaceLemmas.{not_not}
@@ -50,27 +51,29 @@ module _ (programme : ProgrammeValue) (options : OptionsValue) (unread : Option 
   -- A frame is finished exactly where its end is not unfinished, and it is known what is due there.
   pub finished_of : (n f : ℕ) → IsEnd t n f → undecided f ≡ false
       → is_unfinished g t n f ≡ false
-      → IsFinished programme t options f
+      → IsFinishedBy options.keeps programme t options f
   finished_of n f end known e =
       let on = end_is_on_air t rises n f end in
       let parts = or_parts (is_some (wrong_cell g t n f)) (is_incomplete g t n) e in
       let shut = (incomplete_decided g t n f).0 (ap not parts.1) in
       record {
-        shows = λ row column named.
-            ap (λ ps. shown options.page ps row column) on
-            ∙ none_wrong g t n f (none_is _ parts.0) known row column named;
+        whole = λ row column named.
+            subst
+            (λ ps. IsRight options.keeps options.page ps (due_in programme f) row column) (sym on)
+            (none_wrong g t n f (none_is _ parts.0) known row column named);
         ended = λ asks.
             subst (λ ps. IsFalse (is_open_after (kind options.page) ps)) (sym on) (shut asks);
       }
 
-  pub of_finished : (n f : ℕ) → IsEnd t n f → IsFinished programme t options f
+  pub of_finished : (n f : ℕ) → IsEnd t n f → IsFinishedBy options.keeps programme t options f
       → is_unfinished g t n f ≡ false
   of_finished n f end finished =
       let on = end_is_on_air t rises n f end in
       let wrong : wrong_cell g t n f ≡ None =
       no_wrong g t n f
       (λ row column named.
-      ap (λ ps. shown options.page ps row column) (sym on) ∙ finished.shows row column named) in
+      subst (λ ps. IsRight options.keeps options.page ps (due_in programme f) row column) on
+      (finished.whole row column named)) in
       let shut : is_incomplete g t n ≡ false =
       not_not _
       ((incomplete_decided g t n f).1
@@ -85,13 +88,13 @@ module _ (programme : ProgrammeValue) (options : OptionsValue) (unread : Option 
 
   pub finished_at : (f : ℕ) → 0 < length t → first ≤ f → f ≤ end_frame t → undecided f ≡ false
       → un f ≡ false
-      → IsFinished programme t options f
+      → IsFinishedBy options.keeps programme t options f
   finished_at f some low high known e =
       let (n, end) = frame_end f some low high in
       finished_of n f end known (unfinished_is g t rises n f end ∙ e)
 
   pub at_finished : (f : ℕ) → 0 < length t → first ≤ f → f ≤ end_frame t
-      → IsFinished programme t options f
+      → IsFinishedBy options.keeps programme t options f
       → un f ≡ false
   at_finished f some low high finished =
       let (n, end) = frame_end f some low high in

@@ -1,6 +1,6 @@
 -- For what may be late, schedules, what is told and what may stay.
 -- What holds of each packet of a transmission, and the headers of frames of the list and of frames
--- of the day: `each_packet`, `any_sent`, `sent_any`.
+-- of the day: `each_packet`, `any_passes`, `any_sent`, `sent_any`.
 use Rattle.std.proofs.Common.{◌≡◌, ℕ, zero, suc, ◌+◌, ◌-◌, ◌<◌, inl, inr, Bool, true, cond, ◌&&◌}
 use Rattle.std.proofs.Common.{nat_le, nat_lt, List, [], ◌∷◌, ◌++◌, length, get_or, All, refl, ap}
 use Rattle.std.proofs.Common.{arith, ◌⊎◌, ◌≤◌}
@@ -13,7 +13,6 @@ use Rattle.sub_rules.specs.FrameRules.{frame_at, packets_of_frame, packets_befor
 use Rattle.sub_rules.specs.declared.packet_rule.Watched.{Watched}
 use Rattle.ttx_page.specs.PacketKind.{kind, is_this_page}
 use Rattle.ttx_page.specs.Span.{holds_header}
-use Rattle.ttx_page.proofs.SpanLists.{holds-append_left, holds-append_right}
 use Rattle.sub_rules.specs.Transmission.{SentFrame, Transmission, EachPacket, IsRising, packets_of}
 use Rattle.sub_rules.specs.Transmission.{first_frame, last_frame}
 use Rattle.sub_rules.specs.Good.{Repeats}
@@ -51,17 +50,26 @@ each_packet P t h = grind (arith, All-from_recursion, Each-parts, whole-is)
 
 -- ---- headers
 
--- A header in a frame of the list is one in the frame of the day.
+-- A packet in a frame of the list that passes a test is one in the frame of the day.
+pub any_passes : (test : List ℕ → Bool) (t : Transmission) (j n : ℕ)
+    → j < length t
+    → frame_at t j ≡ n
+    → list_any test (packets_of_frame t j) ≡ true
+    → list_any test (packets_of t n) ≡ true
+any_passes test [] j n l e h = absurd (omega arith)
+any_passes test (s ∷ ss) zero n l e h = grind (arith, nat_tests, list_any-append)
+any_passes test (s ∷ ss) (suc j) n l e h =
+    let rest = any_passes test ss j n (omega arith) e h in
+    let both =
+    list_any-append test (cond (nat_le n s.frame && nat_lt s.frame (n + 1)) s.packets [])
+    (packets_of ss n) in
+    grind (arith, nat_tests)
+
+-- So is a header of the page.
 pub any_sent : (w : Watched) (t : Transmission) (j n : ℕ) → j < length t → frame_at t j ≡ n
     → holds_header (kind w.page) (packets_of_frame t j) ≡ true
     → holds_header (kind w.page) (packets_of t n) ≡ true
-any_sent w [] j n l e h = absurd (omega arith)
-any_sent w (s ∷ ss) zero n l e h =
-    grind (arith, holds-append_left)
-any_sent w (s ∷ ss) (suc j) n l e h =
-    holds-append_right (kind w.page)
-    (cond (nat_le n s.frame && nat_lt s.frame (n + 1)) s.packets []) (packets_of ss n)
-    (any_sent w ss j n (omega arith) e h)
+any_sent w t j n l e h = any_passes (λ p. is_this_page (kind w.page p)) t j n l e h
 
 -- The number of a frame of the list.
 pub number_at : (t : Transmission) (i : ℕ) (d : SentFrame) → i < length t

@@ -13,9 +13,9 @@ use Rattle.std.specs.Prelude.{IfSome}
 use Rattle.ttx_page.specs.PacketKind.{kind}
 use Rattle.ttx_page.specs.Span.{is_unended}
 use Rattle.stl_file.specs.Subtitle.{SubtitleValue}
-use Rattle.stl_rows.specs.Programme.{IsProgramme, ProgrammeValue}
+use Rattle.stl_rows.specs.Programme.{IsProgramme, ProgrammeValue, first_in, last_out}
 use Rattle.sub_plan.specs.Options.{OptionsValue}
-use Rattle.sub_rules.specs.Good.{Good, KeepsRules}
+use Rattle.sub_rules.specs.Good.{Good}
 use Rattle.sub_rules.specs.GoodWithin.{GoodWithin, IsFinished}
 use Rattle.sub_rules.specs.Repeats.{GoodBy}
 use Rattle.sub_rules.specs.Transmission.{IsRising, Transmission, first_frame, last_frame}
@@ -37,10 +37,11 @@ use Rattle.sub_laws.proofs.StretchLemmas.{law_of_whole_stretch_with_delay}
 
 -- ---- the frames of subtitles
 
-module _ (programme : ProgrammeValue) (transmission : Transmission) (options : OptionsValue)
+module _ (programme : ProgrammeValue) (transmission : Transmission)
     (is : IsProgramme programme.drawing programme.records)
-    (keeps : KeepsRules programme transmission options) (k : ℕ) (d : SubtitleValue)
-    (within : k < length programme.records) where
+    (starts : IfSome (first_in programme.records) (λ tci. first_frame transmission ≤ tci))
+    (lasts : IfSome (last_out programme.records) (λ tco. tco ≤ last_frame transmission))
+    (k : ℕ) (d : SubtitleValue) (within : k < length programme.records) where
   -- A subtitle of the programme.
   abbrev t : SubtitleValue
   t = get_or programme.records k d
@@ -55,7 +56,7 @@ module _ (programme : ProgrammeValue) (transmission : Transmission) (options : O
       let first : first_frame transmission ≤ (get_or programme.records 0 d).tci =
       subst (λ x. IfSome x (λ tci. first_frame transmission ≤ tci))
       (ap (option_map (λ (s : SubtitleValue). s.tci))
-      (slice_get-get_or programme.records 0 d (omega arith))) keeps.starts in
+      (slice_get-get_or programme.records 0 d (omega arith))) starts in
       elim (cases_lt 0 k) [
         | inl later ↦
             let order = is.in_order 0 k d later within in
@@ -71,7 +72,7 @@ module _ (programme : ProgrammeValue) (transmission : Transmission) (options : O
       let last : (get_or programme.records n d).tco ≤ last_frame transmission =
       subst (λ x. IfSome x (λ tco. tco ≤ last_frame transmission))
       (ap (option_map (λ (s : SubtitleValue). s.tco))
-      (slice_get-get_or programme.records n d (omega arith))) keeps.lasts in
+      (slice_get-get_or programme.records n d (omega arith))) lasts in
       elim (cases_lt k n) [
         | inl earlier ↦
             let order = is.in_order k n d earlier (omega arith) in
@@ -106,7 +107,8 @@ suffices_with_delay programme transmission options is good = record {
     again = good.shows.again;
     subtitles = λ k d within low high. good.shows.subtitles k d within;
     begun = λ from k d within before.
-        let begins = begins_in programme transmission options is good.rules k d within in
+        let begins =
+        begins_in programme transmission is good.rules.starts good.rules.lasts k d within in
         absurd (omega arith);
   };
 }
@@ -147,9 +149,12 @@ module _ (programme : ProgrammeValue) (transmission : Transmission) (options : O
         again = λ f low high. (f, le_refl f, omega arith, finished f low (omega (arith, high)));
         subtitles = λ k d within.
             let t : SubtitleValue = get_or programme.records k d in
-            let some = has_frame programme transmission options is good.rules k d within in
-            let begins = begins_in programme transmission options is good.rules k d within in
-            let ends = ends_in programme transmission options is good.rules k d within in (
+            let some =
+            has_frame programme transmission is good.rules.starts good.rules.lasts k d within in
+            let begins =
+            begins_in programme transmission is good.rules.starts good.rules.lasts k d within in
+            let ends =
+            ends_in programme transmission is good.rules.starts good.rules.lasts k d within in (
               t.tci,
               le_refl t.tci,
               omega (arith, some),

@@ -1,6 +1,6 @@
+pub mod AtOnceLemmas
 pub mod BrokenRuleLemmas
 pub mod CleanSpanLemmas
-pub mod CleanStretchLemmas
 pub mod ContentLemmas
 pub mod DelayLemmas
 pub mod DelayOfFilesLemmas
@@ -16,6 +16,7 @@ pub mod GoodWithinLemmas
 pub mod GrowingFrameLemmas
 pub mod JoinedRisingLemmas
 pub mod MarkTestLemmas
+pub mod NoneKeepsLemmas
 pub mod NothingToldLemmas
 pub mod PesFileLemmas
 pub mod PieceWalkLemmas
@@ -32,6 +33,7 @@ pub mod SoundUntoldLemmas
 pub mod StandingLemmas
 pub mod StretchLemmas
 pub mod SufficientDelayLemmas
+pub mod ToldLemmas
 pub mod ToldWithinLemmas
 pub mod TransmissionLemmas
 pub mod UnfinishedLemmas

@@ -1,18 +1,20 @@
--- For `law_of_broken_places`, `law_of_nothing_told` and `law_of_nothing_told_within`.
+-- For `law_of_broken_places`, `law_of_nothing_told` and `law_of_nothing_told_repeats`.
 -- What is told of pieces goes by what is told of the frames that they send: the laws.
 use Rattle.std.proofs.Common.{◌≡◌, List, [], ◌∷◌, map, refl, sym, ap, ◌∙◌, subst}
 use Rattle.ttx_packet.specs.PacketAddress.{IsPacket}
 use Rattle.sub_rules.specs.FrameRules.{Task, task_of}
 use Rattle.sub_rules.specs.PieceEvents.{sent_by_pieces}
-use Rattle.sub_rules.specs.Pieces.{Piece, frames_of}
+use Rattle.sub_rules.specs.Pieces.{Piece, frames_of, joined}
 use Rattle.sub_rules.specs.Pieces.Piece.{Sent}
+use Rattle.sub_rules.specs.Repeats.{GoodBy}
 use Rattle.sub_rules.specs.Transmission.{EachPacket, Transmission}
 use Rattle.sub_rules.proofs.FrameEvents.{events}
 use Rattle.sub_rules.proofs.JoinedLemmas.{joined-within}
 use Rattle.sub_laws.specs.BrokenPlaces.{LawOfBrokenPlaces, LawOfNothingTold}
-use Rattle.sub_laws.specs.BrokenPlaces.{LawOfNothingToldWithin}
-use Rattle.sub_laws.proofs.EventLemmas.{broken_places, none_refused, none_told}
-use Rattle.sub_laws.proofs.ToldWithinLemmas.{none_told_within}
+use Rattle.sub_laws.specs.BrokenPlaces.{LawOfNothingToldRepeats, LawOfNothingToldWithin}
+use Rattle.sub_laws.proofs.RepeatLemmas.{law_of_no_repeats}
+use Rattle.sub_laws.proofs.ToldLemmas.{broken_places, none_refused, none_told}
+use Rattle.sub_laws.proofs.ToldWithinLemmas.{none_told_repeats}
 use Rattle.sub_laws.proofs.UntoldLemmas.{pieces_unrefused, pieces_untold}
 
 sent_frames : (frames : Transmission) → frames_of (map Sent frames) ≡ frames
@@ -35,12 +37,13 @@ law_of_broken_places g frames at_once =
     ))
 
 pub law_of_nothing_told : LawOfNothingTold
-law_of_nothing_told programme options unread pieces at_once some whole =
+law_of_nothing_told programme options unread pieces erasing at_once some whole =
     let g : Task = task_of programme options unread in
     let told = pieces_untold g pieces refl in
     let same : sent_by_pieces g pieces ≡ frames_of pieces =
     joined-within g.within (frames_of pieces) at_once in
-    let law = none_told programme options unread (frames_of pieces) at_once some whole in (
+    let law =
+    none_told programme options unread (frames_of pieces) erasing at_once some whole in (
       λ none.
           let parts = told.0 none in
           let good = law.0 (subst (λ (fs : Transmission). events g fs ≡ []) same parts.1) in
@@ -53,15 +56,29 @@ law_of_nothing_told programme options unread pieces at_once some whole =
           ),
     )
 
-pub law_of_nothing_told_within : LawOfNothingToldWithin
-law_of_nothing_told_within programme options unread pieces is every whole =
+pub law_of_nothing_told_repeats : LawOfNothingToldRepeats
+law_of_nothing_told_repeats programme options unread pieces is every whole =
     let g : Task = task_of programme options unread in
     let told = pieces_untold g pieces refl in
     let sent = sent_by_pieces g pieces in
-    let law = none_told_within programme options unread sent is every whole in (
+    let law = none_told_repeats programme options unread sent is every whole in (
       λ none.
           let parts = told.0 none in
           let good = law.0 parts.1 in
           (parts.0, good.0, good.1),
       λ all. told.1 (all.0, law.1 (all.1, all.2)),
+    )
+
+-- Where none may keep, it is what is good within these frames.
+pub law_of_nothing_told_within : LawOfNothingToldWithin
+law_of_nothing_told_within programme options unread pieces erasing is every whole =
+    let told = law_of_nothing_told_repeats programme options unread pieces is every whole in
+    let sent = joined options.within (frames_of pieces) in
+    let same = law_of_no_repeats programme sent options in (
+      λ none.
+          let all = told.0 none in
+          (all.0, same.0 (subst (λ k. GoodBy k programme sent options) erasing all.1), all.2),
+      λ all.
+          told.1
+          (all.0, subst (λ k. GoodBy k programme sent options) (sym erasing) (same.1 all.1), all.2),
     )

@@ -1,16 +1,16 @@
 -- For what is told and what may stay.
 -- A transmission keeps the rules of all but what is shown, and nothing stands broken at its ends,
--- exactly where all that is asked of it holds: `Rules-from_holds`, `holds-from_rules`. Within 0
--- frames it is good then, of complete pages where these are asked for: `Good-from_holds`,
--- `Complete-from_holds`, `holds-from_good`.
+-- exactly where all that is asked of it holds: `Rules-from_holds`, `holds-from_rules`. Where no
+-- repeat may keep, within 0 frames, it is good then, of complete pages where these are asked for:
+-- `Good-from_holds`, `Complete-from_holds`, `holds-from_good`.
 use Rattle.std.proofs.lemmas.Bool.Decides.{nat_tests}
 use Rattle.std.proofs.Common.{◌≡◌, ℕ, ◌+◌, ◌-◌, ◌<◌, ◌≤◌, inl, inr, true, false, List, [], ◌∷◌}
 use Rattle.std.proofs.Common.{◌++◌, Option, Some, None, length, take, get_or, refl, sym, ap, ◌∙◌}
-use Rattle.std.proofs.Common.{subst, arith, IsTrue, IsFalse, ◌&&◌, not, Bool}
+use Rattle.std.proofs.Common.{subst, arith, IsFalse, ◌&&◌, not, Bool}
 use Rattle.std.proofs.Math.Seq.{take-append-add}
 use Rattle.std.specs.Option.{option_or}
 use Rattle.std.specs.List.{AllByRecursion}
-use Rattle.std.proofs.lemmas.List.{get_or_default}
+use Rattle.std.proofs.lemmas.List.{get_or-append-add, get_or_default, length-append}
 use Rattle.std.proofs.lemmas.List.Elements.{All-from_recursion, recursion_from_All}
 use Rattle.std.proofs.lemmas.Bool.{cases_eq, cases_lt}
 use Rattle.std.proofs.lemmas.Option.{none-some, same_Some}
@@ -18,54 +18,63 @@ use Rattle.ttx_packet.specs.PageHeader.{HasExactWords, header, c11}
 use Rattle.ttx_packet.specs.declared.header.Header.{Header}
 use Rattle.stl_rows.specs.Programme.{ProgrammeValue}
 use Rattle.sub_plan.specs.Options.{OptionsValue}
-use Rattle.sub_plan.specs.Schedule.{due_in}
 use Rattle.sub_rules.specs.declared.packet_rule.Watched.{Watched}
+use Rattle.ttx_page.specs.declared.packet_kind.PacketKind.{PacketKind}
 use Rattle.ttx_page.specs.declared.packet_kind.PacketKind.TheVariants.{Other, Row}
 use Rattle.ttx_page.specs.PacketKind.{kind, is_this_page, ends_page}
-use Rattle.ttx_page.specs.Page.{cell, IsCell}
-use Rattle.ttx_page.specs.Span.{span, is_open_after}
-use Rattle.ttx_page.specs.Shown.{shown}
+use Rattle.ttx_page.specs.Noise.{ErasesPage}
+use Rattle.ttx_page.specs.PacketKind.{begins_text}
+use Rattle.ttx_page.specs.Span.{is_open_after, text_span}
 use Rattle.sub_rules.specs.PacketRules.{first_header, KeepsRule, KeepsAllRules}
 use Rattle.sub_rules.proofs.PacketLists.{first_header-push, Each-push, Each-map}
 use Rattle.sub_rules.specs.Transmission.{EachPacket, SentFrame, Transmission, first_frame}
 use Rattle.sub_rules.specs.Transmission.{last_frame, on_air_until}
 use Rattle.sub_rules.specs.Events.{broken_cell, is_incomplete, is_late, is_pending}
-use Rattle.sub_rules.specs.Good.{Good, KeepsRules, HoldsHeader, IsCleanSpan, IsControlled}
-use Rattle.sub_rules.specs.Good.{IsEnhancement, IsInOneMode, Repeats, KeepsPace}
-use Rattle.sub_laws.specs.OnScreen.{Complete}
-use Rattle.sub_rules.specs.FrameRules.{HasHeader, IsCovered, IsEnded, Task, Unread, end_frame}
+use Rattle.sub_rules.specs.Good.{HoldsHeader, IsCleanSpan, IsEnhancement, IsInOneMode}
+use Rattle.sub_rules.specs.Good.{KeepsPace, Repeats}
+use Rattle.sub_rules.specs.Kept.{ErasesOrRepeats, IsOfSubtitle}
+use Rattle.sub_rules.specs.Repeats.{KeepsRulesBy}
+use Rattle.sub_rules.specs.FrameRules.{HasHeader, IsCovered, Unread, end_frame}
 use Rattle.sub_rules.specs.FrameRules.{frame_at, packets_before, packets_of_frame, task_of, IsPaced}
 use Rattle.sub_rules.specs.FrameRules.{watched_of}
 use Rattle.sub_laws.specs.CleanStretch.{IsEnd}
-use Rattle.sub_rules.specs.declared.end_rule.EndRule.{EndRule}
-use Rattle.sub_rules.specs.declared.end_rule.EndRule.TheVariants.{Content, Incomplete}
-use Rattle.sub_laws.specs.BrokenPlaces.{IsKept}
 use Rattle.sub_laws.proofs.FrameByFrame.{AllOk, FrameOk, IsQuiet}
 use Rattle.sub_laws.proofs.GoodLemmas.{any_sent, each_packet, number_at, rises_each, sent_any}
 use Rattle.sub_laws.proofs.GoodLemmas.{whole}
-use Rattle.ttx_page.proofs.SpanPush.{span-push}
+use Rattle.ttx_page.proofs.TextSpan.{begins_is_header, text_span-push}
 use Rattle.sub_laws.proofs.PrefixLemmas.{before, packet_at, at_start, at_packet, each_at, each_from}
 use Rattle.sub_laws.proofs.PrefixLemmas.{EachAfter, RiseTo, before_more, each_after, rises_to}
 use Rattle.sub_laws.proofs.PrefixLemmas.{first-same, rises_strictly, last-same, on_air_at, IsInGap}
-use Rattle.sub_laws.proofs.PrefixLemmas.{end_at, end_before_rest, end_high, end_is_on_air, end_low}
+use Rattle.sub_laws.proofs.PrefixLemmas.{end_at, end_before_rest, end_high, end_low}
 use Rattle.sub_laws.proofs.PrefixLemmas.{on_air_is}
-use Rattle.sub_laws.proofs.StandingLemmas.{all_kept, always_known, always_late, broken_is, ended_is}
-use Rattle.sub_laws.proofs.StandingLemmas.{gap_decided, incomplete_decided, no_wrong, quiet_parts}
+use Rattle.sub_laws.proofs.StandingLemmas.{always_known}
+use Rattle.sub_laws.proofs.StandingLemmas.{gap_decided, quiet_parts}
 use Rattle.sub_laws.proofs.StandingLemmas.{silent_decided}
 use Rattle.sub_rules.proofs.FrameLists.{joined_more}
 use Rattle.sub_laws.proofs.CleanSpanLemmas.{MayFollow, clean_cuts, last_clean}
 use Rattle.sub_rules.specs.declared.packet_rule.PacketRule.TheVariants as rule
 
--- ---- a packet of the span
+-- ---- a packet of the long span
 
--- While the page is open a packet that neither is a header of the page nor ends it is in the span.
+-- While the page is open a packet that neither is a header of the page nor ends it is in the long
+-- span.
 span_open :
     (w : Watched) (heard : List (List ℕ)) (p : List ℕ)
     → is_this_page (kind w.page p) ≡ false
     → ends_page (kind w.page p) ≡ false
     → is_open_after (kind w.page) heard ≡ true
-    → span (kind w.page) (heard ++ p ∷ []) ≡ span (kind w.page) heard ++ p ∷ []
-span_open w heard p this ends opened = rw (span-push (kind w.page) heard p, this, opened, ends)
+    → text_span w.keeps (kind w.page) (heard ++ p ∷ [])
+    ≡ text_span w.keeps (kind w.page) heard ++ p ∷ []
+span_open w heard p this ends opened =
+    let begins : begins_text w.keeps (kind w.page p) ≡ false =
+    no_beginning w.keeps (kind w.page p) this in
+    rw (text_span-push (kind w.page) w.keeps heard p, begins, this, opened, ends) refl
+  where
+    no_beginning : (keeps : Bool) (k : PacketKind)
+        → is_this_page k ≡ false
+        → begins_text keeps k ≡ false
+    no_beginning keeps k e =
+        let header = begins_is_header keeps k in grind (arith, nat_tests)
 
 -- A packet 25 to 28 is neither a header nor a row.
 enhancement_is_other :
@@ -74,21 +83,22 @@ unfolding kind
 enhancement_is_other w p (a, e, m, low, high) =
     grind arith
 
--- ---- the span of packets that keep the rules
+-- ---- the long span of packets that keep the rules
 
 -- Cut anywhere it is clean.
 pub clean_spans : (w : Watched) (packets : List (List ℕ)) → EachAfter (KeepsAllRules w) packets
     → (n : ℕ)
-    → IsCleanSpan w.page (span (kind w.page) (take n packets))
+    → IsCleanSpan w.page (text_span w.keeps (kind w.page) (take n packets))
 clean_spans w packets each =
-    clean_cuts w.page packets (λ i d l opened this ends.
+    clean_cuts w.keeps w.page packets (λ i d l opened this ends.
     let heard : List (List ℕ) = take i packets in
     let clean = each i l in
-    subst (MayFollow w.page (span (kind w.page) heard)) (get_or_default packets i [] d l) (record {
+    subst (MayFollow w.page (text_span w.keeps (kind w.page) heard)) (get_or_default packets i [] d
+    l) (record {
       odd = clean rule.Parity opened;
       same = λ k e m row a b.
           All-from_recursion (λ q. kind w.page q ≡ Row row → q ≡ get_or packets i [])
-          (span (kind w.page) heard) (clean rule.RowChanged opened row b) k e m a;
+          (text_span w.keeps (kind w.page) heard) (clean rule.RowChanged opened row b) k e m a;
       plain = clean rule.Enhancement opened;
     }))
 
@@ -150,10 +160,10 @@ module _ (programme : ProgrammeValue) (options : OptionsValue) (unread : Option 
       → KeepsAllRules (watched_of programme options) (before t i k) (packet_at t i k)
   clean_at i k l m f = (h.each i l).packets k m f
 
-  -- So spans are clean.
-  spans_of : (f n : ℕ) → f ≤ last_frame t
-      → IsCleanSpan options.page (span (kind options.page) (take n (on_air_until t f)))
-  spans_of f n l =
+  -- So does each packet on air up to a frame.
+  each_on_air : (f : ℕ) → f ≤ last_frame t
+      → EachAfter (KeepsAllRules (watched_of programme options)) (on_air_until t f)
+  each_on_air f l =
       let last = last-same t in
       elim (cases_lt f (frame_at t 0)) [
         | inl early ↦ up_to 0 (omega arith)
@@ -163,12 +173,11 @@ module _ (programme : ProgrammeValue) (options : OptionsValue) (unread : Option 
       ]
     where
       up_to : (m : ℕ) → m ≤ length t → on_air_until t f ≡ packets_before t m
-          → IsCleanSpan options.page (span (kind options.page) (take n (on_air_until t f)))
+          → EachAfter (KeepsAllRules (watched_of programme options)) (on_air_until t f)
       up_to m le is =
-          subst (λ xs. IsCleanSpan options.page (span (kind options.page) (take n xs))) (sym is)
-          (clean_spans (watched_of programme options) (packets_before t m)
+          subst (EachAfter (KeepsAllRules (watched_of programme options))) (sym is)
           (each_after (KeepsAllRules (watched_of programme options)) t m le
-          (λ i k l h. clean_at i k (omega arith) h)) n)
+          (λ i k l h. clean_at i k (omega arith) h))
 
   -- At no end anything stands broken.
   pub quiet_at : (n f : ℕ) → IsEnd t n f → IsQuiet (task_of programme options unread) t n f
@@ -236,7 +245,8 @@ module _ (programme : ProgrammeValue) (options : OptionsValue) (unread : Option 
 
   -- Where all that is asked holds, the transmission keeps these rules.
   pub Rules-from_holds :
-      EachPacket (λ packet. length packet ≡ 42) t → KeepsRules programme t options
+      EachPacket (λ packet. length packet ≡ 42) t
+      → KeepsRulesBy options.keeps programme t options
   Rules-from_holds sizes = record {
     not_empty = some;
     rising = rising_of;
@@ -247,41 +257,18 @@ module _ (programme : ProgrammeValue) (options : OptionsValue) (unread : Option 
         (λ i k l m. (clean_at i k l m rule.Address, clean_at i k l m rule.HeaderCode));
     serial = λ i d l k e m i' d' l' k' e' m' a b is too.
         grind (arith, nat_tests, agreed, same_Some);
-    control = each_from (IsControlled programme.drawing.national options.page) t
-        (λ i k l m. clean_at i k l m rule.Control);
-    spans = spans_of;
+    control = each_from (IsOfSubtitle programme.drawing.national options.page) t
+        (λ i k l m. (clean_at i k l m rule.Control).control);
+    erases = λ none.
+        each_from (ErasesPage options.page) t
+        (λ i k l m. (clean_at i k l m rule.Control).erases none);
+    keeping = λ f n high below. (each_on_air f high n below rule.Control).keeping;
+    spans = λ f n high.
+        clean_spans (watched_of programme options) (on_air_until t f) (each_on_air f high) n;
     opens = opens;
     repeats = repeats;
     paced = paced;
   }
-
-  -- ---- within 0 frames
-
-  module _ (at_once : options.within ≡ 0) where
-    -- At each end all rules are kept.
-    kept_at : (n f : ℕ) → IsEnd t n f → (rule : EndRule)
-        → IsKept rule (task_of programme options unread) t n f
-    kept_at n f end =
-        all_kept (task_of programme options unread) t n f at_once end.1 (quiet_at n f end)
-
-    -- The due page is shown.
-    shows_at : (f row column : ℕ) → first_frame t ≤ f → f ≤ last_frame t → IsCell row column
-        → shown options.page (on_air_until t f) row column ≡ cell (due_in programme f) row column
-    shows_at f row column low high is =
-        let (n, end, on, from) = end_of f low high in
-        ap (λ xs. shown options.page xs row column) on
-        ∙ kept_at n f end Content refl row column is
-
-    -- The transmission is good.
-    pub Good-from_holds : EachPacket (λ packet. length packet ≡ 42) t → Good programme t options
-    Good-from_holds sizes = record { rules = Rules-from_holds sizes; content = shows_at }
-
-    -- Its pages are complete, where that is asked for.
-    pub Complete-from_holds : IsTrue options.asks_complete → Complete t options
-    Complete-from_holds asks f low high holds =
-        let (n, end, on, from) = end_of f low high in
-        let ended = kept_at n f end Incomplete asks in
-        grind (arith, nat_tests)
 
 -- ---- the law, the other way
 
@@ -290,7 +277,7 @@ pub not_not : (b : Bool) → not b ≡ true → b ≡ false
 not_not b e = grind (arith, nat_tests)
 
 module _ (programme : ProgrammeValue) (options : OptionsValue) (t : Transmission)
-    (rules : KeepsRules programme t options) where
+    (rules : KeepsRulesBy options.keeps programme t options) where
   -- Each frame is after the one before.
   abbrev rises : RiseTo t (length t)
   rises = rises_each t rules.rising
@@ -312,23 +299,55 @@ module _ (programme : ProgrammeValue) (options : OptionsValue) (t : Transmission
   last_at_least : (i : ℕ) → i < length t → frame_at t i ≤ end_frame t
   last_at_least i l = rises_to t (length t) rises i (length t - 1) (omega arith) (omega arith)
 
-  -- While the page is open the packet may follow the span.
+  -- What is on air up to a frame of the list is what is sent before it, and then its packets.
+  on_air : (i : ℕ) → i < length t
+      → on_air_until t (frame_at t i) ≡ packets_before t i ++ packets_of_frame t i
+  on_air i l = on_air_at t rises i l ∙ joined_more t i l
+
+  -- No frame of the list is after the last.
+  not_after : (i : ℕ) → i < length t → frame_at t i ≤ last_frame t
+  not_after i l = omega (arith, last-same t, last_at_least i l)
+
+  -- While the page is open the packet may follow the long span.
   may_follow : (i k : ℕ) → i < length t → k < length (packets_of_frame t i)
       → is_this_page (kind options.page (packet_at t i k)) ≡ false
       → ends_page (kind options.page (packet_at t i k)) ≡ false
       → is_open_after (kind options.page) (before t i k) ≡ true
-      → MayFollow options.page (span (kind options.page) (before t i k)) (packet_at t i k)
+      → MayFollow options.page (text_span options.keeps (kind options.page) (before t i k))
+      (packet_at t i k)
   may_follow i k l m this ends opened =
       let n : ℕ = length (packets_before t i) + (k + 1) in
       let up_to : take n (on_air_until t (frame_at t i)) ≡ before t i (k + 1) =
-      ap (take n) (on_air_at t rises i l ∙ joined_more t i l)
-      ∙ take-append-add (packets_before t i) (packets_of_frame t i) (k + 1) in
-      last_clean options.page (span (kind options.page) (before t i k)) (packet_at t i k)
+      ap (take n) (on_air i l) ∙ take-append-add (packets_before t i) (packets_of_frame t i) (k + 1)
+      in
+      last_clean options.page (text_span options.keeps (kind options.page) (before t i k))
+      (packet_at t i k)
       (subst (IsCleanSpan options.page)
-      (ap (span (kind options.page)) (up_to ∙ before_more t i k m)
+      (ap (text_span options.keeps (kind options.page)) (up_to ∙ before_more t i k m)
       ∙ span_open (watched_of programme options) (before t i k) (packet_at t i k) this ends
       opened)
-      (rules.spans (frame_at t i) n (omega (arith, last-same t, last_at_least i l))))
+      (rules.spans (frame_at t i) n (not_after i l)))
+
+  -- Each header of the page erases it or repeats it.
+  keeping_at : (i k : ℕ) → i < length t → k < length (packets_of_frame t i)
+      → ErasesOrRepeats options.asks_complete options.page (before t i k) (packet_at t i k)
+  keeping_at i k l m =
+      let n : ℕ = length (packets_before t i) + k in
+      let air = on_air i l in
+      let up_to : take n (on_air_until t (frame_at t i)) ≡ before t i k =
+      ap (take n) air ∙ take-append-add (packets_before t i) (packets_of_frame t i) k in
+      let at : get_or (on_air_until t (frame_at t i)) n [] ≡ packet_at t i k =
+      ap (λ (ps : List (List ℕ)). get_or ps n []) air
+      ∙ get_or-append-add (packets_before t i) (packets_of_frame t i) k [] in
+      let long : length (on_air_until t (frame_at t i))
+      ≡ length (packets_before t i) + length (packets_of_frame t i) =
+      ap (λ (ps : List (List ℕ)). length ps) air
+      ∙ length-append (packets_before t i) (packets_of_frame t i) in
+      subst (ErasesOrRepeats options.asks_complete options.page (before t i k)) at
+      (subst
+      (λ ps. ErasesOrRepeats options.asks_complete options.page ps
+      (get_or (on_air_until t (frame_at t i)) n [])) up_to
+      (rules.keeping (frame_at t i) n (not_after i l) (omega arith)))
 
   -- Each packet keeps each rule.
   free_at : (i k : ℕ) → i < length t → k < length (packets_of_frame t i)
@@ -336,8 +355,12 @@ module _ (programme : ProgrammeValue) (options : OptionsValue) (t : Transmission
   free_at i k l m rule.Address = (each_at HasExactWords t i k rules.exact l m).0
   free_at i k l m rule.HeaderCode = (each_at HasExactWords t i k rules.exact l m).1
   free_at i k l m rule.Mode = mode_at i k l m
-  free_at i k l m rule.Control =
-      each_at (IsControlled programme.drawing.national options.page) t i k rules.control l m
+  free_at i k l m rule.Control = record {
+    control =
+        each_at (IsOfSubtitle programme.drawing.national options.page) t i k rules.control l m;
+    erases = λ none. each_at (ErasesPage options.page) t i k (rules.erases none) l m;
+    keeping = keeping_at i k l m;
+  }
   free_at i k l m rule.Parity = λ opened row e.
       (may_follow i k l m (ap is_this_page e) (ap ends_page e) opened).odd row e
   free_at i k l m rule.RowChanged =
@@ -438,53 +461,3 @@ module _ (programme : ProgrammeValue) (options : OptionsValue) (t : Transmission
       late = let lasts = rules.lasts in grind (arith, last-same t);
       whole = over;
     }
-
--- Within 0 frames no end is waited for.
-pub none_pending : (g : Task) (frames : Transmission) → g.within ≡ 0 → is_pending g frames ≡ false
-unfolding is_pending
-none_pending g frames at_once =
-    let late = always_late g frames (length frames) (end_frame frames) at_once in
-    grind (arith, nat_tests)
-
--- ---- within 0 frames, the other way
-
-module _ (programme : ProgrammeValue) (options : OptionsValue) (t : Transmission)
-    (at_once : options.within ≡ 0) (good : Good programme t options)
-    (complete : IsTrue options.asks_complete → Complete t options) where
-  abbrev g : Task
-  g = task_of programme options None
-
-  in_order : RiseTo t (length t)
-  in_order = rises_each t good.rules.rising
-
-  from : (n f : ℕ) → IsEnd t n f → first_frame t ≤ f
-  from n f end = omega (arith, first-same t, end_high t in_order n f end)
-
-  to : (n f : ℕ) → IsEnd t n f → f ≤ last_frame t
-  to n f end = omega (arith, last-same t, end_low t in_order n f end)
-
-  -- No cell is wrong.
-  right : (n f : ℕ) → IsEnd t n f → broken_cell g t n f ≡ None
-  right n f end =
-      broken_is g t n f at_once
-      ∙ no_wrong g t n f
-      (λ row column is.
-      ap (λ ps. shown options.page ps row column)
-      (sym (end_is_on_air t in_order n f end))
-      ∙ good.content f row column (from n f end) (to n f end) is)
-
-  -- The page is not open where complete pages are asked for.
-  ended : (n f : ℕ) → IsEnd t n f → IsFalse (is_late g t n f && is_incomplete g t n)
-  ended n f end =
-      let on = end_is_on_air t in_order n f end in
-      let shut : IsEnded g t n =
-      λ asks. let whole = complete asks f (from n f end) (to n f end) in grind arith in
-      let is = ended_is g t n f at_once in
-      let decided = (incomplete_decided g t n f).1 shut in
-      grind (arith, nat_tests)
-
-  -- Where the transmission is good, all that is asked of it holds.
-  pub holds-from_good : AllOk g t
-  holds-from_good =
-      holds-from_rules programme options t good.rules (λ n f end. (right n f end, ended n f end))
-      (none_pending g t at_once)

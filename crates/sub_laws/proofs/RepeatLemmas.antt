@@ -17,6 +17,7 @@ use Rattle.ttx_packet.specs.RowPacket.{text_byte}
 use Rattle.ttx_page.specs.Noise.{ErasesPage}
 use Rattle.ttx_page.specs.Page.{space}
 use Rattle.ttx_page.specs.PacketKind.{begins_text, is_row, is_this_page, kind}
+use Rattle.ttx_page.specs.Repeats.{HasCodes}
 use Rattle.ttx_page.specs.Shown.{kept}
 use Rattle.ttx_page.specs.Span.{text_span}
 use Rattle.ttx_page.proofs.LateStart.{codes_of_same}
@@ -40,6 +41,15 @@ use Rattle.sub_laws.proofs.TransmissionLemmas.{packets_between-each}
 
 -- ---- what suffices
 
+-- Packets of a clean long span have the codes that are kept.
+pub codes_of_clean : (keeps : Bool) (page : PageIdValue) (packets : List (List ℕ))
+    → IsCleanSpan page (text_span keeps (kind page) packets)
+    → All (HasCodes page (kept keeps page packets)) (text_span keeps (kind page) packets)
+codes_of_clean keeps page packets clean k d l row column is below =
+    let spanned : List (List ℕ) = text_span keeps (kind page) packets in
+    first_code page spanned row column _ (codes_of_same page spanned clean.same)
+    (k, l, get_or_default spanned k _ d l) is below
+
 -- A transmission that keeps rules 1 to 6 is a stretch of repeats in all its frames.
 repeated_stretch :
     (keeps : Bool) (programme : ProgrammeValue) (transmission : Transmission)
@@ -52,7 +62,6 @@ repeated_stretch keeps programme transmission options rules = record {
   rising = rules.rising;
   sends = λ f low high.
       let whole : List (List ℕ) = on_air_until transmission f in
-      let spanned : List (List ℕ) = text_span keeps (kind options.page) whole in
       let clean =
       subst
       (λ (ps : List (List ℕ)). IsCleanSpan options.page (text_span keeps (kind options.page) ps))
@@ -66,10 +75,7 @@ repeated_stretch keeps programme transmission options rules = record {
             packets_between-each (ErasesPage options.page) transmission (first_frame transmission)
             (f + 1) (rules.erases none);
         odd = clean.odd;
-        codes = λ k d l row column is below.
-            first_code options.page spanned row column _
-            (codes_of_same options.page spanned clean.same)
-            (k, l, get_or_default spanned k _ d l) is below;
+        codes = codes_of_clean keeps options.page whole clean;
       };
   repeats = rules.repeats;
 }
@@ -204,7 +210,7 @@ law_of_none_keeps programme transmission options each good =
 
 module _ (programme : ProgrammeValue) (transmission : Transmission) (options : OptionsValue) where
   -- A finished end is one.
-  finished_of : (f : ℕ)
+  pub finished_of : (f : ℕ)
       → IsFinishedBy false programme transmission options f
       → IsFinished programme transmission options f
   finished_of f finished = record {
@@ -215,7 +221,7 @@ module _ (programme : ProgrammeValue) (transmission : Transmission) (options : O
     ended = finished.ended;
   }
 
-  finished_by : (f : ℕ)
+  pub finished_by : (f : ℕ)
       → IsFinished programme transmission options f
       → IsFinishedBy false programme transmission options f
   finished_by f finished = record {
@@ -227,7 +233,7 @@ module _ (programme : ProgrammeValue) (transmission : Transmission) (options : O
   }
 
   -- The rules are those of `Good`.
-  rules_of :
+  pub rules_of :
       KeepsRulesBy false programme transmission options
       → KeepsRules programme transmission options
   rules_of rules = record {
@@ -257,7 +263,7 @@ module _ (programme : ProgrammeValue) (transmission : Transmission) (options : O
     paced = rules.paced;
   }
 
-  rules_by :
+  pub rules_by :
       KeepsRules programme transmission options
       → KeepsRulesBy false programme transmission options
   rules_by rules = record {

@@ -1,15 +1,14 @@
 -- For what is told and what may stay.
--- A stretch of which nothing is told that a receiver depends on is sound, within however many
--- frames: `sound_untold`. Where it may be late it has what suffices, `enough_with_delay`.
+-- A stretch of which nothing is told that a receiver depends on has what recovery needs, but for
+-- what is kept, within however many frames: `repeated_untold`.
 use Rattle.std.proofs.lemmas.Bool.Decides.{nat_tests}
 use Rattle.std.proofs.Common.{◌≡◌, ℕ, ◌+◌, ◌-◌, ◌<◌, ◌≤◌, ◌⊎◌, inl, inr, List, [], length}
 use Rattle.std.proofs.Common.{slice_index, slice_index_or, Option, refl, sym, ap, ◌∙◌}
 use Rattle.std.proofs.Common.{Bool, true, false, not, Some, find, IsTrue, arith, le_refl}
 use Rattle.std.proofs.lemmas.Bool.{cases_eq}
 use Rattle.ttx_page.specs.PacketKind.{is_row, kind}
-use Rattle.ttx_page.specs.Span.{is_open_after, span}
+use Rattle.ttx_page.specs.Span.{is_open_after, text_span}
 use Rattle.ttx_page.specs.declared.packet_kind.PacketKind.TheVariants.{Row}
-use Rattle.ttx_page.proofs.TextSpan.{text_span-none_keeps}
 use Rattle.ttx_page.specs.Repeats.{MayFollow}
 use Rattle.stl_rows.specs.Programme.{ProgrammeValue}
 use Rattle.sub_plan.specs.Options.{OptionsValue}
@@ -23,14 +22,14 @@ use Rattle.sub_rules.specs.Transmission.{Transmission, first_frame, on_air_until
 use Rattle.sub_rules.specs.declared.packet_rule.PacketRule.{PacketRule}
 use Rattle.sub_rules.specs.declared.packet_rule.PacketRule.TheVariants as rule
 use Rattle.sub_laws.specs.CleanStretch.{AtPackets, IsEnd, IsUntold, is_needed, task_unsure}
-use Rattle.sub_laws.specs.Sufficient.{IsSoundStretch}
+use Rattle.sub_laws.specs.Repeats.{IsRepeatedStretch}
 use Rattle.sub_rules.proofs.CodesLemmas.{code_of_column}
 use Rattle.sub_laws.proofs.BrokenRuleLemmas.{columns_zero, refuted, rule_decided}
 use Rattle.sub_laws.proofs.GoodLemmas.{any_sent, rises_each}
 use Rattle.sub_laws.proofs.PrefixLemmas.{RiseTo, before, first-same}
 use Rattle.sub_laws.proofs.PrefixLemmas.{packet_at, rises_to}
 use Rattle.sub_laws.proofs.FollowedStretchLemmas as stretches
-use Rattle.sub_laws.proofs.SoundStretchLemmas.{last_of_two, sound_of_repeated}
+use Rattle.sub_laws.proofs.SoundStretchLemmas.{last_of_two}
 use Rattle.sub_laws.proofs.StandingLemmas.{gap_decided}
 
 -- What is not false is true.
@@ -53,12 +52,13 @@ module _ (programme : ProgrammeValue) (transmission : Transmission) (options : O
       (refuted _ (rule_decided g.watched _ _ r (λ e. absurd (other e)))).0
       (untold.packets r needed i k l m low high)
 
-  -- While the page is open a row has the codes of the first packet of its row since the last header
-  -- of the page.
+  -- While the page is open a row has the codes of the first packet of its row in the long span.
   same_codes : AtPackets (λ heard p. IsTrue (is_open_after (kind options.page) heard)
       → (row : ℕ) (first : List ℕ)
       → kind options.page p ≡ Row row
-      → find (λ q. is_row row (kind options.page q)) (span (kind options.page) heard) ≡ Some first
+      → find (λ q. is_row row (kind options.page q))
+      (text_span options.keeps (kind options.page) heard)
+      ≡ Some first
       → (column : ℕ)
       → column < 40
       → slice_index (codes_of first) column ≡ slice_index (codes_of p) column) transmission a b
@@ -74,21 +74,18 @@ module _ (programme : ProgrammeValue) (transmission : Transmission) (options : O
       → k < length (packets_of_frame transmission i)
       → a ≤ frame_at transmission i
       → frame_at transmission i ≤ b
-      → MayFollow false options.page (before transmission i k) (packet_at transmission i k)
+      → MayFollow options.keeps options.page (before transmission i k)
+      (packet_at transmission i k)
   fit i k l m low high = record {
     exact = (
       kept rule.Address refl (λ is. cc) i k l m low high,
       kept rule.HeaderCode refl (λ is. cc) i k l m low high,
     );
-    erases = λ none h is. (kept rule.Control refl (λ is. cc) i k l m low high h is).erases;
+    erases = (kept rule.Control refl (λ is. cc) i k l m low high).erases;
     odd = λ up row is. kept rule.Parity refl (λ is. cc) i k l m low high up row is;
     same = λ up row column first is found below.
         sym (code_of_column first column)
-        ∙ same_codes i k l m low high up row first is
-        (ap (find (λ (q : List ℕ). is_row row (kind options.page q)))
-        (sym (text_span-none_keeps (kind options.page) (before transmission i k)))
-        ∙ found)
-        column below
+        ∙ same_codes i k l m low high up row first is found column below
         ∙ code_of_column (slice_index_or (packets_of_frame transmission i) k []) column;
   }
 
@@ -132,16 +129,15 @@ module _ (programme : ProgrammeValue) (transmission : Transmission) (options : O
             inr (j, omega (arith, end.1), omega arith, late, has)
       ]
 
-  -- It is sound.
-  pub sound_untold : IsSoundStretch transmission options a b
-  sound_untold =
-      sound_of_repeated transmission options a b
-      (stretches.law_of_followed_stretch false transmission options a b (record {
+  -- It has what recovery needs.
+  pub repeated_untold : IsRepeatedStretch options.keeps transmission options a b
+  repeated_untold =
+      stretches.law_of_followed_stretch options.keeps transmission options a b (record {
         stretch = untold.stretch;
         rising = untold.rising;
         packets = fit;
         repeats = repeats;
-      }))
+      })
     where
       repeats :
           (start : ℕ)

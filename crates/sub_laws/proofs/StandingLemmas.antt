@@ -6,7 +6,7 @@
 use Rattle.std.proofs.Common.{◌≡◌, ◌↔◌, ℕ, zero, suc, ◌+◌, ◌-◌, ◌<◌, ◌≤◌, Bool, true, false, []}
 use Rattle.std.proofs.Common.{length, take, Option, Some, None, refl, sym, subst, arith, not, ◌||◌}
 use Rattle.std.proofs.Common.{◌&&◌, ◌==◌, ◌∙◌, ap, get_or, is_some, option_map, inl, inr, ◌⊎◌}
-use Rattle.std.proofs.Common.{nat_le, le_refl, if◌then◌else◌}
+use Rattle.std.proofs.Common.{nat_le, le_refl, if◌then◌else◌, ◌≢◌}
 use Rattle.std.specs.Prelude.{option_and_then}
 use Rattle.std.specs.List.{list_any}
 use Rattle.std.proofs.lemmas.Bool.{cases_lt, or_parts, true≢false}
@@ -18,14 +18,16 @@ use Rattle.std.specs.Bool.{Decides}
 use Rattle.std.proofs.lemmas.List.Folds.{list_any_more}
 use Rattle.ttx_packet.specs.OneBit.{first_below}
 use Rattle.ttx_packet.proofs.OneBitLemmas.{first_below_is}
-use Rattle.ttx_page.specs.Page.{IsCell, cell}
-use Rattle.ttx_page.specs.Shown.{shown}
+use Rattle.ttx_page.specs.Page.{IsCell, cell, space}
+use Rattle.ttx_page.specs.Shown.{kept}
 use Rattle.sub_rules.specs.Events.{broken_at, broken_cell, covers, first_cell, is_gap, is_silent}
-use Rattle.sub_rules.specs.Events.{is_incomplete, is_late, standing_at, wrong_after, wrong_cell}
+use Rattle.sub_rules.specs.Events.{is_incomplete, is_late, is_right, standing_at, wrong_after}
+use Rattle.sub_rules.specs.Events.{wrong_cell}
 use Rattle.sub_rules.specs.Events.{silent_for, latest, undecided_within, undue_after, undue_cell}
 use Rattle.sub_rules.specs.Events.{was_undecided}
 use Rattle.sub_rules.specs.FrameRules.{HasHeader, IsCovered, IsEnded, ShowsDue, Task, frame_at}
 use Rattle.sub_rules.specs.FrameRules.{packets_before, IsPaced}
+use Rattle.sub_rules.specs.Kept.{has_row}
 use Rattle.sub_rules.specs.Transmission.{SentFrame, Transmission}
 use Rattle.sub_rules.proofs.TestLemmas.{below_before, below_none, holds}
 use Rattle.sub_rules.specs.declared.end_rule.EndRule.{EndRule}
@@ -148,15 +150,30 @@ all_known undecided each first f (suc m) =
 pub always_known : (first f m : ℕ) → was_undecided (λ frame. false) first f m ≡ false
 always_known = all_known (λ frame. false) (λ frame. refl)
 
+-- What is kept is what is due; and where that is no space, the row came again.
+right_test : (kept due blank : ℕ) (again : Bool)
+    → Decides (not (not (kept == due && (due == blank || again))))
+    ((kept ≡ due) × (due ≢ blank → again ≡ true))
+right_test kept due blank again = grind (arith, nat_tests)
+
 module _ (g : Task) (frames : Transmission) (n f : ℕ) where
-  -- A cell shows another code than is due.
+  -- A cell is not right.
   abbrev is_wrong : ℕ → ℕ → Bool
   is_wrong row column =
-      not (shown g.watched.page (packets_before frames n) row column == cell (g.due f) row column)
+      not (is_right g.watched.keeps g.watched.page (packets_before frames n) (g.due f) row column)
 
-  -- The first that shows one, whether it is known what is due or not.
+  -- The first that is not, whether it is known what is due or not.
   abbrev other_cell : Option (ℕ × ℕ)
-  other_cell = wrong_after g.watched.page (packets_before frames n) (g.due f)
+  other_cell = wrong_after g.watched.keeps g.watched.page (packets_before frames n) (g.due f)
+
+  -- It is not exactly where the test says so.
+  wrong_decided : (row column : ℕ)
+      → Decides (not (is_wrong row column)) (ShowsDue g frames n f row column)
+  wrong_decided row column =
+      Decides-like _ (λ both. record { kept_is = both.0; again = both.1 })
+      (λ right. (right.kept_is, right.again))
+      (right_test (kept g.watched.keeps g.watched.page (packets_before frames n) row column)
+      (cell (g.due f) row column) space (has_row g.watched.page (packets_before frames n) row))
 
   -- Where it is known what is due it is the first wrong one.
   wrong_is : g.undecided f ≡ false → wrong_cell g frames n f ≡ other_cell
@@ -176,17 +193,24 @@ module _ (g : Task) (frames : Transmission) (n f : ℕ) where
       → ShowsDue g frames n f row column
   unfolding wrong_after
   none_wrong e known row column is =
-      let right = cell_none is_wrong (sym (wrong_is known) ∙ e) row column is in
-      grind (arith, nat_tests)
+      (wrong_decided row column).0
+      (ap not (cell_none is_wrong (sym (wrong_is known) ∙ e) row column is))
 
   -- The first that is.
   pub first_wrong : (x : ℕ × ℕ) → wrong_cell g frames n f ≡ Some x → WrongFirst g frames n f x.0 x.1
   unfolding wrong_after
   first_wrong x e =
       let found = cell_found is_wrong x (sym (wrong_is (wrong_known x e)) ∙ e) in
-      grind (arith, nat_tests)
+      record {
+        is_cell = found.is_cell;
+        broken = λ right.
+            true≢false
+            (sym ((wrong_decided x.0 x.1).1 right) ∙ ap not found.passes);
+        above = λ r c named high. (wrong_decided r c).0 (ap not (found.above r c named high));
+        before = λ c low. (wrong_decided x.0 c).0 (ap not (found.before c low));
+      }
 
-  -- Where all show what is due, none is wrong.
+  -- Where all are right, none is wrong.
   pub no_wrong : ((row column : ℕ) → IsCell row column → ShowsDue g frames n f row column)
       → wrong_cell g frames n f ≡ None
   no_wrong shows = go (wrong_cell g frames n f) refl
@@ -310,10 +334,11 @@ module _ (g : Task) (frames : Transmission) (n f : ℕ) where
   known_at e =
       known_back (frame_at frames 0) g.within e f (le_refl f) (omega arith) (inr refl)
 
-  -- Then a cell has to show what was due.
+  -- Then what is kept in a cell has to be what was due.
   pub undue_is : undecided_within g frames f ≡ false
       → undue_cell g frames n f
-      ≡ undue_after g.watched.page (packets_before frames n) g.due (frame_at frames 0) f g.within
+      ≡ undue_after g.watched.keeps g.watched.page (packets_before frames n) g.due
+      (frame_at frames 0) f g.within
   undue_is known = rw known refl
 
   pub incomplete_decided : Decides (not (is_incomplete g frames n)) (IsEnded g frames n)
@@ -347,7 +372,7 @@ module _ (g : Task) (frames : Transmission) (n f : ℕ) where
     unfolding is_late
     always_late = grind (arith, nat_tests)
 
-    -- So each cell has to show what is due.
+    -- So each cell has to be right.
     pub broken_is : broken_cell g frames n f ≡ wrong_cell g frames n f
     broken_is = rw always_late refl
 
@@ -360,7 +385,7 @@ module _ (g : Task) (frames : Transmission) (n f : ℕ) where
     unfolding was_undecided
     unknown_is = rw at_once refl
 
-    -- Nothing is wrong where all cells show what is due, if that is known.
+    -- Nothing is wrong where all cells are right, if it is known what is due.
     right_cells : IsKept end.Content g frames n f → (b : Bool) → g.undecided f ≡ b
         → wrong_cell g frames n f ≡ None
     right_cells kept true is = rw is refl

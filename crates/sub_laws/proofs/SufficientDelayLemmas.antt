@@ -1,38 +1,41 @@
--- For `law_of_nothing_told_within` and `law_of_trusted_with_delay`.
--- What frames that may be late show and finish, where what is asked of their ends holds: `codes`,
--- `again`, `subtitle`. So a stretch of which nothing is told that a receiver depends on has what
--- suffices: `enough_with_delay`.
+-- For `law_of_nothing_told_repeats` and what may stay.
+-- What is kept in frames that may be late, and that they are finished in time, where what is asked
+-- of their ends holds: `codes`, `again`, `subtitle`. So a stretch of which nothing is told that a
+-- receiver depends on has what suffices: `law_of_untold_repeats`.
 use Rattle.std.proofs.lemmas.Bool.Decides.{nat_tests}
-use Rattle.std.proofs.Common.{◌≡◌, ℕ, ◌+◌, ◌-◌, ◌<◌, ◌≤◌, ◌⊎◌, inl, inr, Bool, true, false, ◌&&◌}
+use Rattle.std.proofs.Common.{◌≡◌, ℕ, ◌+◌, ◌-◌, ◌<◌, ◌≤◌, inl, inr, Bool, true, false, ◌&&◌}
 use Rattle.std.proofs.Common.{◌||◌, ◌==◌, nat_le, nat_lt, None, Option, Some, get_or, length, refl}
 use Rattle.std.proofs.Common.{sym, ap, ◌∙◌, subst, arith, le_refl, Contains}
-use Rattle.std.proofs.lemmas.Bool.{cases_eq, or_parts, true≢false}
+use Rattle.std.proofs.lemmas.Bool.{or_parts, true≢false}
 use Rattle.std.proofs.lemmas.List.Elements.{Contains-get_or}
-use Rattle.ttx_page.specs.Shown.{shown}
+use Rattle.ttx_page.specs.Page.{IsCell}
+use Rattle.ttx_page.specs.Shown.{kept}
 use Rattle.stl_file.specs.Subtitle.{SubtitleValue}
 use Rattle.stl_rows.specs.Programme.{IsProgramme, ProgrammeValue}
 use Rattle.sub_plan.specs.Options.{OptionsValue}
+use Rattle.sub_plan.specs.Schedule.{due_in}
 use Rattle.sub_rules.specs.Events.{broken_cell, is_incomplete, is_late, is_missed, is_overdue}
-use Rattle.sub_rules.specs.Events.{is_unfinished, standing_at, undue_after, unfinished_since}
+use Rattle.sub_rules.specs.Events.{is_unfinished, standing_at, unfinished_since}
 use Rattle.sub_rules.specs.Events.{undecided_within, wrong_cell}
 use Rattle.sub_rules.specs.FrameRules.{Task, Unread, end_frame, frame_at, packets_before}
-use Rattle.sub_rules.specs.GoodWithin.{FinishesAgain, IsDueWithin, IsFinished, ShowsDueCodes}
-use Rattle.sub_rules.specs.GoodWithin.{SomeFinished}
+use Rattle.sub_rules.specs.GoodWithin.{IsDueWithin}
+use Rattle.sub_rules.specs.Kept.{IsRight}
+use Rattle.sub_rules.specs.Repeats.{IsFinishedBy, IsWholePage, KeepsDueCodes, SomeFinishedBy}
 use Rattle.sub_rules.specs.Transmission.{Transmission, on_air_until}
 use Rattle.sub_laws.specs.CleanStretch.{IsEnd, IsUntold, NoneOpen, task_unsure}
-use Rattle.sub_laws.specs.Delay.{FinishesInTime}
-use Rattle.sub_laws.specs.DelayLaws.{IsSufficientWithDelay}
+use Rattle.sub_laws.specs.ToldRepeats.{FinishesAgainBy, FinishesInTimeBy, IsSufficientRepeats}
+use Rattle.sub_laws.specs.ToldRepeats.{LawOfUntoldRepeats}
 use Rattle.sub_laws.proofs.DueCodeLemmas.{MayShow, ending_is, undue_none}
-use Rattle.sub_laws.proofs.FinishedLemmas.{finished_at, finished_of, frame_end, late_is, no_since}
-use Rattle.sub_laws.proofs.FinishedLemmas.{since_is}
+use Rattle.sub_laws.proofs.FinishedLemmas.{finished_at, frame_end, no_since, since_is}
+use Rattle.sub_laws.proofs.GoodLemmas.{rises_each}
 use Rattle.sub_laws.proofs.PrefixLemmas.{RiseTo, end_is_on_air, first-same, last-same}
-use Rattle.sub_laws.proofs.SoundUntoldLemmas.{rising, sound_untold}
-use Rattle.sub_laws.proofs.StandingLemmas.{known_at, undue_is}
+use Rattle.sub_laws.proofs.SoundUntoldLemmas.{repeated_untold}
+use Rattle.sub_laws.proofs.StandingLemmas.{always_late, known_at, none_wrong, undue_is}
 use Rattle.sub_laws.proofs.UnfinishedLemmas.{finished_from, since_some, unfinished_at}
 
--- In a transmission in which frames rise what is asked of content and of the page's end holds at
--- each end of a frame from one to another, and it is known there what was due.
-pub record HoldsAtEnds (g : Task) (t : Transmission) (a b : ℕ) : Type 0 where
+-- In a transmission in which frames rise what is asked of content holds at each end of a frame from
+-- one to another, and it is known there what was due.
+pub record IsStill (g : Task) (t : Transmission) (a b : ℕ) : Type 0 where
   pub up : RiseTo t (length t)
   pub some : 0 < length t
   pub from : frame_at t 0 ≤ a
@@ -42,9 +45,106 @@ pub record HoldsAtEnds (g : Task) (t : Transmission) (a b : ℕ) : Type 0 where
       → IsEnd t n f
       → a ≤ f
       → f ≤ b
-      → (broken_cell g t n f ≡ None)
-      × ((is_late g t n f && is_incomplete g t n) ≡ false)
-      × (undecided_within g t f ≡ false)
+      → (broken_cell g t n f ≡ None) × (undecided_within g t f ≡ false)
+
+-- And so does what is asked of the page's end.
+pub record HoldsAtEnds (g : Task) (t : Transmission) (a b : ℕ) : Type 0 where
+  pub still : IsStill g t a b
+  pub shut :
+      (n f : ℕ)
+      → IsEnd t n f
+      → a ≤ f
+      → f ≤ b
+      → (is_late g t n f && is_incomplete g t n) ≡ false
+
+-- ---- what is kept
+
+module _ (programme : ProgrammeValue) (options : OptionsValue) (unread : Option Unread)
+    (beside : Bool) (undecided : ℕ → Bool) (t : Transmission) (a b : ℕ)
+    (still : IsStill (task_unsure programme options unread beside undecided) t a b)
+  where
+    abbrev asked : Task
+    asked = task_unsure programme options unread beside undecided
+
+    -- It is known what is due.
+    pub known : (n f : ℕ) → IsEnd t n f → a ≤ f → f ≤ b → undecided f ≡ false
+    known n f end low high = known_at asked t n f (still.parts n f end low high).1
+
+    -- Each frame has an end, at which what is on air up to it counts.
+    end_there : (f : ℕ) → a ≤ f → f ≤ b
+        → (n : ℕ) × IsEnd t n f × (on_air_until t f ≡ packets_before t n)
+    end_there f low high =
+        let first = still.from in
+        let last = still.to in
+        let (n, end) =
+        frame_end programme options unread beside undecided t still.up f still.some (omega arith)
+        (omega arith) in
+        (n, end, end_is_on_air t still.up n f end)
+
+    -- Where the end is late each cell is right.
+    right_late : (n f : ℕ) → IsEnd t n f → a ≤ f → f ≤ b → is_late asked t n f ≡ true
+        → (row column : ℕ)
+        → IsCell row column
+        → IsRight options.keeps options.page (packets_before t n) (due_in programme f) row column
+    right_late n f end low high late row column named =
+        none_wrong asked t n f (rw late at (still.parts n f end low high).0)
+        (known n f end low high) row column named
+
+    -- Else what is kept in each cell is what it may hold.
+    codes_early : (n f : ℕ) → IsEnd t n f → a ≤ f → f ≤ b → is_late asked t n f ≡ false
+        → (row column : ℕ)
+        → IsCell row column
+        → IsDueWithin programme t options f row column
+        (kept options.keeps options.page (packets_before t n) row column)
+    codes_early n f end low high early row column named =
+        let both = still.parts n f end low high in
+        due_of
+        (undue_none options.keeps options.page (packets_before t n) asked.due (frame_at t 0) f
+        options.within (sym (undue_is asked t n f both.1) ∙ rw early at both.0) row column named)
+      where
+        due_of :
+            MayShow options.keeps options.page (packets_before t n) asked.due (frame_at t 0) f
+            options.within row column
+            → IsDueWithin programme t options f row column
+            (kept options.keeps options.page (packets_before t n) row column)
+        due_of (inl blank) = inl blank
+        due_of (inr (e, inl from, to, near, same)) =
+            inr (e, omega (arith, from, first-same t), to, near, same)
+        due_of (inr (e, inr own, to, near, same)) =
+            inr (e, omega (arith, own, low, still.from, first-same t), to, near, same)
+
+    -- At a frame's end what is kept in each cell is what it may hold.
+    pub codes : KeepsDueCodes options.keeps programme t options a b
+    codes f row column low high named =
+        let (n, end, on) = end_there f low high in
+        subst
+        (λ ps. IsDueWithin programme t options f row column
+        (kept options.keeps options.page ps row column))
+        (sym on) (go n end (is_late asked t n f) refl)
+      where
+        go : (n : ℕ) → IsEnd t n f → (late : Bool) → is_late asked t n f ≡ late
+            → IsDueWithin programme t options f row column
+            (kept options.keeps options.page (packets_before t n) row column)
+        go n end true late =
+            inr (
+              f,
+              omega (arith, low, still.from, first-same t),
+              le_refl f,
+              omega arith,
+              (right_late n f end low high late row column named).kept_is,
+            )
+        go n end false early = codes_early n f end low high early row column named
+
+    -- Within no frame each cell is right.
+    pub whole_at_once : options.within ≡ 0 → (f : ℕ) → a ≤ f → f ≤ b
+        → IsWholePage options.keeps programme options.page t f
+    whole_at_once none f low high row column named =
+        let (n, end, on) = end_there f low high in
+        subst (λ ps. IsRight options.keeps options.page ps (due_in programme f) row column)
+        (sym on)
+        (right_late n f end low high (always_late asked t n f none) row column named)
+
+-- ---- frames that are finished in time
 
 module _ (programme : ProgrammeValue) (options : OptionsValue) (unread : Option Unread)
     (beside : Bool) (undecided : ℕ → Bool) (t : Transmission) (a b : ℕ)
@@ -57,19 +157,18 @@ module _ (programme : ProgrammeValue) (options : OptionsValue) (unread : Option 
     start = frame_at t 0
 
     abbrev up : RiseTo t (length t)
-    up = holds.up
+    up = holds.still.up
 
-    -- It is known what is due.
-    known : (n f : ℕ) → IsEnd t n f → a ≤ f → f ≤ b → undecided f ≡ false
-    known n f end low high = known_at task t n f (holds.parts n f end low high).2
+    known_end : (n f : ℕ) → IsEnd t n f → a ≤ f → f ≤ b → undecided f ≡ false
+    known_end = known programme options unread beside undecided t a b holds.still
 
     -- A late end is finished.
     pub calm : (n f : ℕ) → IsEnd t n f → a ≤ f → f ≤ b → is_late task t n f ≡ true
         → is_unfinished task t n f ≡ false
     calm n f end low high late =
-        let both = holds.parts n f end low high in
-        let wrong : wrong_cell task t n f ≡ None = rw late at both.0 in
-        let shut : is_incomplete task t n ≡ false = rw late at both.1 in
+        let wrong : wrong_cell task t n f ≡ None =
+        rw late at (holds.still.parts n f end low high).0 in
+        let shut : is_incomplete task t n ≡ false = rw late at (holds.shut n f end low high) in
         rw (wrong, shut) refl
 
     -- So none is overdue.
@@ -109,15 +208,15 @@ module _ (programme : ProgrammeValue) (options : OptionsValue) (unread : Option 
 
     -- A frame is finished whose end is.
     ended : (e : ℕ) → a ≤ e → e ≤ b → unfinished_at task t up e ≡ false
-        → IsFinished programme t options e
+        → IsFinishedBy options.keeps programme t options e
     ended e low high finished =
-        let first = holds.from in
-        let last = holds.to in
+        let first = holds.still.from in
+        let last = holds.still.to in
         let (n, end) =
-        frame_end programme options unread beside undecided t up e holds.some (omega arith)
+        frame_end programme options unread beside undecided t up e holds.still.some (omega arith)
         (omega arith) in
-        finished_at programme options unread beside undecided t up e holds.some (omega arith)
-        (omega arith) (known n e end low high) finished
+        finished_at programme options unread beside undecided t up e holds.still.some (omega arith)
+        (omega arith) (known_end n e end low high) finished
 
     -- One of the frames from one to f is finished, where the ends up to f are not unfinished since
     -- that one.
@@ -128,12 +227,12 @@ module _ (programme : ProgrammeValue) (options : OptionsValue) (unread : Option 
         → start ≤ r
         → r ≤ from
         → ⊥)
-        → SomeFinished programme t options from f
+        → SomeFinishedBy options.keeps programme t options from f
     some_finished from f low below high late =
-        let first = holds.from in
-        let last = holds.to in
+        let first = holds.still.from in
+        let last = holds.still.to in
         let (n, end) =
-        frame_end programme options unread beside undecided t up f holds.some (omega arith)
+        frame_end programme options unread beside undecided t up f holds.still.some (omega arith)
         (omega arith) in
         let k : ℕ = f - start in
         let at : start + k ≡ f = omega arith in
@@ -148,69 +247,12 @@ module _ (programme : ProgrammeValue) (options : OptionsValue) (unread : Option 
           ended e (omega arith) (omega arith) finished,
         )
 
-    pub again : FinishesAgain programme t options a b
+    pub again : FinishesAgainBy options.keeps programme t options a b
     again from low high =
         some_finished from (from + options.within) low (omega arith) high
         (λ n r end is begins l.
         let soon = (early n (from + options.within) r end (omega arith) high is).0 in
         omega arith)
-
-    -- At a frame's end each cell shows what it may hold.
-    pub codes : ShowsDueCodes programme t options a b
-    codes f row column low high named =
-        let first = holds.from in
-        let last = holds.to in
-        let (n, end) =
-        frame_end programme options unread beside undecided t up f holds.some (omega arith)
-        (omega arith) in
-        by_within n end (cases_eq options.within 0)
-      where
-        due_of : (n : ℕ)
-            → MayShow options.page (packets_before t n) task.due start f options.within row column
-            → IsDueWithin programme t options f row column
-            (shown options.page (packets_before t n) row column)
-        due_of n (inl blank) = inl blank
-        due_of n (inr (e, inl from, to, near, same)) =
-            inr (e, omega (arith, from, first-same t), to, near, same)
-        due_of n (inr (e, inr own, to, near, same)) =
-            inr (e, omega (arith, own, low, holds.from, first-same t), to, near, same)
-
-        by_within : (n : ℕ) → IsEnd t n f → (options.within ≡ 0) ⊎ (options.within ≡ 0 → ⊥)
-            → IsDueWithin programme t options f row column
-            (shown options.page (on_air_until t f) row column)
-        by_within n end (inl none) =
-            let late =
-            late_is programme options unread beside undecided t up n f
-            (not_overdue n f end low high) in
-            let is_zero : (options.within == 0) ≡ true = grind (arith, nat_tests) in
-            let whole =
-            finished_of programme options unread beside undecided t up n f end
-            (known n f end low high)
-            (calm n f end low high (late ∙ is_zero)) in
-            inr (
-              f,
-              omega (arith, low, holds.from, first-same t),
-              le_refl f,
-              omega arith,
-              whole.shows row column named,
-            )
-        by_within n end (inr some) =
-            let late =
-            late_is programme options unread beside undecided t up n f
-            (not_overdue n f end low high) in
-            let is_zero : (options.within == 0) ≡ false = grind (arith, nat_tests) in
-            let not_late : is_late task t n f ≡ false = late ∙ is_zero in
-            let none :
-            undue_after options.page (packets_before t n) task.due start f options.within ≡ None =
-            sym (undue_is task t n f (holds.parts n f end low high).2)
-            ∙ rw not_late at (holds.parts n f end low high).0 in
-            let on = end_is_on_air t up n f end in
-            subst
-            (λ ps. IsDueWithin programme t options f row column (shown options.page ps row column))
-            (sym on)
-            (due_of n
-            (undue_none options.page (packets_before t n) task.due start f options.within none row
-            column named))
 
     module _ (is : IsProgramme programme.drawing programme.records) where
       -- The TCO of a subtitle of the programme, and its TCI.
@@ -234,7 +276,7 @@ module _ (programme : ProgrammeValue) (options : OptionsValue) (unread : Option 
           → s ≡ get_or programme.records k d
           → a ≤ s.tci
           → s.tco ≤ b + 1
-          → SomeFinished programme t options s.tci (s.tco - 1)
+          → SomeFinishedBy options.keeps programme t options s.tci (s.tco - 1)
       subtitle k d l s same low high =
           let (times, found) = ends_at k d l s same in
           some_finished s.tci (s.tco - 1) low (omega arith) (omega arith)
@@ -254,7 +296,7 @@ module _ (programme : ProgrammeValue) (options : OptionsValue) (unread : Option 
           → s.tci < a
           → a < s.tco
           → s.tco ≤ b + 1
-          → SomeFinished programme t options a (s.tco - 1)
+          → SomeFinishedBy options.keeps programme t options a (s.tco - 1)
       begun k d l s same at before after high =
           let (times, found) = ends_at k d l s same in
           some_finished a (s.tco - 1) (omega arith) (omega arith) (omega arith)
@@ -267,7 +309,7 @@ module _ (programme : ProgrammeValue) (options : OptionsValue) (unread : Option 
               → ⊥
           not_late r tci same l e = grind (arith, nat_tests)
 
-      finishes : FinishesInTime programme t options a b
+      pub finishes : FinishesInTimeBy options.keeps programme t options a b
       finishes = record {
         again = again;
         subtitles = λ k d l. subtitle k d l (get_or programme.records k d) refl;
@@ -280,27 +322,42 @@ module _ (programme : ProgrammeValue) (options : OptionsValue) (unread : Option 
 module _ (programme : ProgrammeValue) (options : OptionsValue) (unread : Option Unread)
     (beside : Bool) (undecided : ℕ → Bool) (t : Transmission) (a b : ℕ)
     (untold : IsUntold (task_unsure programme options unread beside undecided) t a b)
-    (closed : NoneOpen (task_unsure programme options unread beside undecided) t a b)
   where
-    holds_untold : HoldsAtEnds (task_unsure programme options unread beside undecided) t a b
+    still_untold : IsStill (task_unsure programme options unread beside undecided) t a b
     unfolding standing_at
-    holds_untold = record {
-      up = rising programme t options unread beside undecided a b untold;
+    still_untold = record {
+      up = rises_each t untold.rising;
       some = untold.stretch.not_empty;
       from = let first = first-same t in omega (arith, untold.stretch.from);
       to = let last = last-same t in omega (arith, untold.stretch.to);
-      parts = λ n f end low high. (
-        untold.content n f end low high,
-        closed n f end low high,
-        untold.undecided n f end low high,
-      );
+      parts = λ n f end low high.
+          (untold.content n f end low high, untold.undecided n f end low high);
     }
 
     -- It has what suffices.
-    pub enough_with_delay : IsProgramme programme.drawing programme.records
-        → IsSufficientWithDelay programme t options a b
-    enough_with_delay is = record {
-      stretch = sound_untold programme t options unread beside undecided a b untold;
-      codes = codes programme options unread beside undecided t a b holds_untold;
-      finishes = finishes programme options unread beside undecided t a b holds_untold is;
+    pub enough_repeats : IsSufficientRepeats options.keeps programme t options a b
+    enough_repeats = record {
+      stretch = repeated_untold programme t options unread beside undecided a b untold;
+      codes = codes programme options unread beside undecided t a b still_untold;
+      whole = whole_at_once programme options unread beside undecided t a b still_untold;
     }
+
+    module _ (closed : NoneOpen (task_unsure programme options unread beside undecided) t a b)
+      where
+        holds_untold : HoldsAtEnds (task_unsure programme options unread beside undecided) t a b
+        unfolding standing_at
+        holds_untold = record { still = still_untold; shut = closed }
+
+        -- Its frames are finished in time.
+        pub finishes_untold : IsProgramme programme.drawing programme.records
+            → FinishesInTimeBy options.keeps programme t options a b
+        finishes_untold is =
+            finishes programme options unread beside undecided t a b holds_untold is
+
+-- Where repeats may keep the page.
+pub law_of_untold_repeats : LawOfUntoldRepeats
+law_of_untold_repeats programme transmission options unread beside undecided a b untold = (
+  enough_repeats programme options unread beside undecided transmission a b untold,
+  λ is closed.
+      finishes_untold programme options unread beside undecided transmission a b untold closed is,
+)

@@ -1,26 +1,27 @@
--- For `law_of_nothing_told_within`.
--- Nothing is told of a transmission exactly where it is good within the frames that are allowed:
--- `law_of_nothing_told_within`.
+-- For `law_of_nothing_told_repeats`.
+-- Nothing is told of a transmission exactly where it is good within the frames that are allowed,
+-- where repeats may keep or may not: `none_told_repeats`.
 use Rattle.std.proofs.lemmas.Bool.Decides.{nat_tests}
 use Rattle.std.proofs.Common.{◌≡◌, ℕ, ◌+◌, ◌-◌, ◌<◌, ◌≤◌, ◌⊎◌, inl, inr, Bool, true, false, ◌&&◌}
 use Rattle.std.proofs.Common.{◌||◌, ◌==◌, nat_le, nat_lt, Option, Some, None, is_some, length}
 use Rattle.std.proofs.Common.{get_or, refl, sym, ◌∙◌, subst, arith, le_refl, IsFalse}
 use Rattle.std.proofs.lemmas.Bool.{cases_eq, cases_lt, or_parts}
 use Rattle.ttx_packet.specs.PacketAddress.{IsPacket}
-use Rattle.ttx_page.specs.Shown.{shown}
+use Rattle.ttx_page.specs.Shown.{kept}
 use Rattle.stl_file.specs.Subtitle.{SubtitleValue}
 use Rattle.stl_rows.specs.Programme.{IsProgramme, ProgrammeValue}
 use Rattle.sub_plan.specs.Options.{OptionsValue}
-use Rattle.sub_rules.specs.Events.{broken_cell, is_incomplete, is_late, is_missed, is_overdue}
-use Rattle.sub_rules.specs.Events.{is_pending, is_unfinished, undue_after, unfinished_since}
+use Rattle.sub_rules.specs.Events.{broken_cell, is_gap, is_incomplete, is_late, is_missed}
+use Rattle.sub_rules.specs.Events.{is_overdue, is_pending, is_silent, is_unfinished, undue_after}
+use Rattle.sub_rules.specs.Events.{unfinished_since}
 use Rattle.sub_rules.specs.Events.{undecided_within, wrong_cell}
 use Rattle.sub_rules.specs.FrameRules.{Task, Unread, end_frame, frame_at, packets_before, task_of}
-use Rattle.sub_rules.specs.Good.{KeepsRules}
-use Rattle.sub_rules.specs.GoodWithin.{GoodWithin, IsDueWithin, IsFinished, SomeFinished}
+use Rattle.sub_rules.specs.GoodWithin.{IsDueWithin}
+use Rattle.sub_rules.specs.Repeats.{GoodBy, IsFinishedBy, KeepsRulesBy, SomeFinishedBy}
 use Rattle.sub_rules.specs.Transmission.{EachPacket, Transmission, first_frame, last_frame}
 use Rattle.sub_laws.specs.CleanStretch.{IsEnd}
 use Rattle.sub_laws.proofs.DueCodeLemmas.{MayShow, ending_at, none_undue}
-use Rattle.sub_laws.proofs.EventLemmas.{nothing_told, sizes_of}
+use Rattle.sub_laws.proofs.ToldLemmas.{nothing_told, sizes_of}
 use Rattle.sub_laws.proofs.FrameByFrame.{AllOk}
 use Rattle.sub_laws.proofs.GoodLemmas.{rises_each}
 use Rattle.sub_laws.proofs.GoodWithinLemmas.{begins_in, ends_in}
@@ -52,39 +53,48 @@ module _ (programme : ProgrammeValue) (options : OptionsValue) (unread : Option 
   up = rising programme options unread t every h
 
   -- What is asked of each end.
+  parts : (n f : ℕ) → IsEnd t n f
+      → (broken_cell task t n f ≡ None)
+      × (is_gap task t n f ≡ false)
+      × ((is_late task t n f && is_incomplete task t n) ≡ false)
+      × (is_silent task t n f ≡ false)
+      × (undecided_within task t f ≡ false)
+  parts n f end =
+      (quiet_parts task t n f).0 (quiet_at programme options unread t every h n f end)
+
   held : HoldsAtEnds task t (first_frame t) (last_frame t)
   held = record {
-    up = up;
-    some = h.some;
-    from = let first = first-same t in omega arith;
-    to = let last = last-same t in omega arith;
-    parts = λ n f end low high.
-        let three =
-        (quiet_parts task t n f).0 (quiet_at programme options unread t every h n f end) in
-        (three.0, three.2, three.4);
+    still = record {
+      up = up;
+      some = h.some;
+      from = let first = first-same t in omega arith;
+      to = let last = last-same t in omega arith;
+      parts = λ n f end low high. let all = parts n f end in (all.0, all.4);
+    };
+    shut = λ n f end low high. (parts n f end).2;
   }
 
-  held_subtitle : KeepsRules programme t options
+  held_subtitle : KeepsRulesBy options.keeps programme t options
       → (k : ℕ) (d : SubtitleValue) → k < length programme.records
       → (s : SubtitleValue)
       → s ≡ get_or programme.records k d
-      → SomeFinished programme t options s.tci (s.tco - 1)
+      → SomeFinishedBy options.keeps programme t options s.tci (s.tco - 1)
   held_subtitle keeps k d l s same =
       let begins : first_frame t ≤ s.tci =
       subst (λ (x : SubtitleValue). first_frame t ≤ x.tci) (sym same)
-      (begins_in programme t options is keeps k d l) in
+      (begins_in programme t is keeps.starts keeps.lasts k d l) in
       let ends : s.tco ≤ last_frame t =
       subst (λ (x : SubtitleValue). x.tco ≤ last_frame t) (sym same)
-      (ends_in programme t options is keeps k d l) in
+      (ends_in programme t is keeps.starts keeps.lasts k d l) in
       subtitle programme options unread false never t (first_frame t) (last_frame t) held is k d l s
       same begins (omega arith)
 
   -- The last frame is finished.
-  ends : IsFinished programme t options (last_frame t)
+  ends : IsFinishedBy options.keeps programme t options (last_frame t)
   unfolding is_pending
   ends =
       let end : IsEnd t (length t) (end_frame t) = (h.some, le_refl (length t), inl refl) in
-      subst (IsFinished programme t options) (sym (last-same t))
+      subst (IsFinishedBy options.keeps programme t options) (sym (last-same t))
       (finished_of programme options unread false never t up (length t) (end_frame t) end refl
       (last end))
     where
@@ -109,24 +119,23 @@ module _ (programme : ProgrammeValue) (options : OptionsValue) (unread : Option 
               (none_is _ (pending_parts is))
 
   -- The transmission is good within these frames.
-  pub Within-from_holds : EachPacket IsPacket t → GoodWithin programme t options
+  pub Within-from_holds : EachPacket IsPacket t → GoodBy options.keeps programme t options
   Within-from_holds whole =
       let keeps = Rules-from_holds programme options unread t every h (sizes_of t whole) in
       record {
         rules = keeps;
-        shows = record {
-          codes = codes programme options unread false never t (first_frame t) (last_frame t) held;
-          again = again programme options unread false never t (first_frame t) (last_frame t) held;
-          subtitles = λ k d l. held_subtitle keeps k d l (get_or programme.records k d) refl;
-          ends = ends;
-        };
+        codes =
+            codes programme options unread false never t (first_frame t) (last_frame t) held.still;
+        again = again programme options unread false never t (first_frame t) (last_frame t) held;
+        subtitles = λ k d l. held_subtitle keeps k d l (get_or programme.records k d) refl;
+        ends = ends;
       }
 
 -- ---- the law, the other way
 
 module _ (programme : ProgrammeValue) (options : OptionsValue) (t : Transmission)
     (is : IsProgramme programme.drawing programme.records)
-    (good : GoodWithin programme t options) where
+    (good : GoodBy options.keeps programme t options) where
   abbrev asked : Task
   asked = task_of programme options None
 
@@ -140,7 +149,7 @@ module _ (programme : ProgrammeValue) (options : OptionsValue) (t : Transmission
   since_later : (n f r e : ℕ) → IsEnd t n f → unfinished_since asked t n f ≡ Some r
       → from ≤ e
       → e ≤ f
-      → IsFinished programme t options e
+      → IsFinishedBy options.keeps programme t options e
       → e < r
   since_later n f r e end since low high finished =
       let bottom = end_high t order n f end in
@@ -168,7 +177,7 @@ module _ (programme : ProgrammeValue) (options : OptionsValue) (t : Transmission
         let top = end_low t order n f end in
         let begins = since_from n f r end since in
         let (e, low, high, finished) =
-        good.shows.again (f - options.within) (omega arith) (omega arith) in
+        good.again (f - options.within) (omega arith) (omega arith) in
         let later = since_later n f r e end since (omega arith) (omega arith) finished in
         absurd (omega arith)
   ]
@@ -189,9 +198,10 @@ module _ (programme : ProgrammeValue) (options : OptionsValue) (t : Transmission
           ending_at programme.drawing programme.records is (f + 1) tci found in
           let same : get_or programme.records member.0 s ≡ s = member.2 in
           let (e, low, high, finished) =
-          rw same at (good.shows.subtitles member.0 s member.1) in
+          rw same at (good.subtitles member.0 s member.1) in
           let begins : first_frame t ≤ s.tci =
-          rw same at (begins_in programme t options is good.rules member.0 s member.1) in
+          rw same at
+          (begins_in programme t is good.rules.starts good.rules.lasts member.0 s member.1) in
           let first = first-same t in
           let later = since_later n f r e end since (omega arith) (omega arith) finished in
           not_late tci (omega arith) (omega arith)
@@ -219,10 +229,10 @@ module _ (programme : ProgrammeValue) (options : OptionsValue) (t : Transmission
       let last = last-same t in
       let low = end_high t order n f end in
       let high = end_low t order n f end in
-      let (e, from, to, finished) = good.shows.again f (omega arith) (omega arith) in
+      let (e, from, to, finished) = good.again f (omega arith) (omega arith) in
       let same : e ≡ f = omega arith in
       of_finished programme options None false never t order n f end
-      (subst (IsFinished programme t options) same finished)
+      (subst (IsFinishedBy options.keeps programme t options) same finished)
 
   -- What is asked of content and of the page's end.
   still : (n f : ℕ) → IsEnd t n f
@@ -238,8 +248,9 @@ module _ (programme : ProgrammeValue) (options : OptionsValue) (t : Transmission
 
       may_of : (row column : ℕ)
           → IsDueWithin programme t options f row column
-          (shown options.page (packets_before t n) row column)
-          → MayShow options.page (packets_before t n) asked.due from f options.within row column
+          (kept options.keeps options.page (packets_before t n) row column)
+          → MayShow options.keeps options.page (packets_before t n) asked.due from f options.within
+          row column
       may_of row column (inl blank) = inl blank
       may_of row column (inr (e, low, to, near, same)) =
           inr (e, inl (omega (arith, first-same t)), to, near, same)
@@ -262,13 +273,15 @@ module _ (programme : ProgrammeValue) (options : OptionsValue) (t : Transmission
           let high = end_low t order n f end in
           let on = end_is_on_air t order n f end in
           let undue :
-          undue_after options.page (packets_before t n) asked.due from f options.within ≡ None =
-          none_undue options.page (packets_before t n) asked.due from f options.within
+          undue_after options.keeps options.page (packets_before t n) asked.due from f
+          options.within ≡ None =
+          none_undue options.keeps options.page (packets_before t n) asked.due from f options.within
           (λ row column named.
           may_of row column
           (subst
-          (λ ps. IsDueWithin programme t options f row column (shown options.page ps row column))
-          on (good.shows.codes f row column (omega arith) (omega arith) named))) in
+          (λ ps. IsDueWithin programme t options f row column
+          (kept options.keeps options.page ps row column))
+          on (good.codes f row column (omega arith) (omega arith) named))) in
           (rw (late, is_zero) (undue_is asked t n f known ∙ undue), rw (late, is_zero) refl)
 
   -- No end is waited for.
@@ -279,7 +292,7 @@ module _ (programme : ProgrammeValue) (options : OptionsValue) (t : Transmission
       (good.rules.not_empty, le_refl (length t), inl refl) in
       let finished =
       of_finished programme options None false never t order (length t) (end_frame t) end
-      (subst (IsFinished programme t options) (last-same t) good.shows.ends) in
+      (subst (IsFinishedBy options.keeps programme t options) (last-same t) good.ends) in
       let none = no_since programme options None false never t order (length t) (end_frame t) end
       finished in
       rw none refl
@@ -290,15 +303,16 @@ module _ (programme : ProgrammeValue) (options : OptionsValue) (t : Transmission
 
 -- ---- the law
 
--- Nothing is told of frames exactly where they are good within some.
-pub none_told_within : (programme : ProgrammeValue) (options : OptionsValue)
+-- Nothing is told of frames exactly where they are good within some, where repeats may keep or may
+-- not.
+pub none_told_repeats : (programme : ProgrammeValue) (options : OptionsValue)
     (unread : Option Unread) (frames : Transmission)
     → IsProgramme programme.drawing programme.records
     → 0 < options.every
     → EachPacket IsPacket frames
     → (events (task_of programme options unread) frames ≡ [])
-    ↔ (GoodWithin programme frames options × (unread ≡ None))
-none_told_within programme options unread frames is every whole =
+    ↔ (GoodBy options.keeps programme frames options × (unread ≡ None))
+none_told_repeats programme options unread frames is every whole =
     let told = nothing_told (task_of programme options unread) frames whole in (
       λ none.
           let h = told.0 none in

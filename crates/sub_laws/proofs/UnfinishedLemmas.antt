@@ -132,7 +132,7 @@ module _ (g : Task) (t : Transmission) (rises : RiseTo t (length t)) where
       is_some
       (if g.undecided f
       then None
-      else wrong_after g.watched.page (on_air_until t f) (g.due f))
+      else wrong_after g.watched.keeps g.watched.page (on_air_until t f) (g.due f))
       || (g.watched.complete && is_open_after (kind g.watched.page) (on_air_until t f))
 
   pub unfinished_is : (n f : ℕ) → IsEnd t n f → is_unfinished g t n f ≡ unfinished_at f

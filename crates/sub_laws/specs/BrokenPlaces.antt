@@ -12,6 +12,7 @@ use Rattle.sub_rules.specs.FrameRules.{HasHeader, IsCovered, IsEnded, IsPaced, S
 use Rattle.sub_rules.specs.FrameRules.{Unread, end_frame, frame_at, task_of}
 use Rattle.sub_rules.specs.Good.{Good}
 use Rattle.sub_rules.specs.GoodWithin.{GoodWithin}
+use Rattle.sub_rules.specs.Repeats.{GoodBy}
 use Rattle.sub_rules.specs.PieceEvents.{all_of_pieces}
 use Rattle.sub_rules.specs.Pieces.{Piece, frames_of, joined}
 use Rattle.sub_rules.specs.Pieces.Piece.{Sent}
@@ -25,7 +26,7 @@ use Rattle.sub_rules.specs.declared.packet_rule.PacketRule.TheVariants as rule
 use Rattle.sub_rules.specs.declared.packet_rule.Watched.{Watched}
 use Rattle.sub_laws.specs.OnScreen.{Complete}
 
--- The first cell that does not show what is due after n frames of the list, at the end of frame f.
+-- The first cell that is not right after n frames of the list, at the end of frame f.
 pub record WrongFirst (g : Task) (frames : Transmission) (n f row column : ℕ) : Type 0 where
   pub is_cell : IsCell row column
   pub broken : ShowsDue g frames n f row column → ⊥
@@ -33,7 +34,7 @@ pub record WrongFirst (g : Task) (frames : Transmission) (n f row column : ℕ) 
   pub before : (k : ℕ) → k < column → ShowsDue g frames n f row k
 
 -- What each rule of a frame's end asks at the end of frame f, after n frames of the list. Where it
--- is not known what is due, cells may show what they like.
+-- is not known what is due, any code may be in any cell.
 abbrev pub IsKept : EndRule → Task → Transmission → ℕ → ℕ → Type 0
 IsKept end.Content g frames n f =
     IsFalse (g.undecided f)
@@ -100,12 +101,28 @@ abbrev pub LawOfBrokenPlaces : Type 0
 LawOfBrokenPlaces = (g : Task) (frames : Transmission) → g.within ≡ 0 → TellsBroken g frames
 
 -- Nothing is told of the pieces of a PES file exactly where each of them is sent, none being passed
--- over, what they send is good, of complete pages where these are asked for, and the PES file was
--- read to its end.
+-- over, what they send is good within the frames that the options allow, where repeats may keep the
+-- page or may not, and the PES file was read to its end. PES packets of one frame that follow one
+-- another are one within frames.
+abbrev pub LawOfNothingToldRepeats : Type 0
+LawOfNothingToldRepeats =
+    (programme : ProgrammeValue) (options : OptionsValue) (unread : Option Unread)
+    (pieces : List Piece)
+    → IsProgramme programme.drawing programme.records
+    → 0 < options.every
+    → EachPacket IsPacket (joined options.within (frames_of pieces))
+    → (all_of_pieces (task_of programme options unread) pieces ≡ [])
+    ↔ ((length (frames_of pieces) ≡ length pieces)
+    × GoodBy options.keeps programme (joined options.within (frames_of pieces)) options
+    × (unread ≡ None))
+
+-- Where no repeat may keep, within 0 frames, it is so exactly where what they send is good, of
+-- complete pages where these are asked for.
 abbrev pub LawOfNothingTold : Type 0
 LawOfNothingTold =
     (programme : ProgrammeValue) (options : OptionsValue) (unread : Option Unread)
     (pieces : List Piece)
+    → IsFalse options.keeps
     → options.within ≡ 0
     → 0 < options.every
     → EachPacket IsPacket (frames_of pieces)
@@ -115,13 +132,12 @@ LawOfNothingTold =
     × (IsTrue options.asks_complete → Complete (frames_of pieces) options)
     × (unread ≡ None))
 
--- Within however many frames, it is so exactly where each is sent, what they send is good within
--- these, and the PES file was read to its end. PES packets of one frame that follow one another are
--- one there.
+-- Within however many frames, it is so exactly where what they send is good within these.
 abbrev pub LawOfNothingToldWithin : Type 0
 LawOfNothingToldWithin =
     (programme : ProgrammeValue) (options : OptionsValue) (unread : Option Unread)
     (pieces : List Piece)
+    → IsFalse options.keeps
     → IsProgramme programme.drawing programme.records
     → 0 < options.every
     → EachPacket IsPacket (joined options.within (frames_of pieces))

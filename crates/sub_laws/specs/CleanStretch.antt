@@ -87,15 +87,16 @@ abbrev pub task_unsure :
 task_unsure programme options unread beside undecided =
     record (task_of programme options unread) { beside = beside; undecided = undecided }
 
--- Such a stretch has the parts of the rules that suffice, so it may be trusted (`LawOfStretch`);
--- and where complete pages are asked for, and the page stands open at no end of it, its pages are
--- complete, so that what is due is on the screens too.
--- So who reads what is told of a refused transmission knows what to trust of the rest: where frames
--- rise, from the first header of the page in a stretch on.
+-- Where no repeat may keep the page, such a stretch has the parts of the rules that suffice, so it
+-- may be trusted (`LawOfStretch`); and where complete pages are asked for, and the page stands open
+-- at no end of it, its pages are complete, so that what is due is on the screens too. So who reads
+-- what is told of a refused transmission knows what to trust of the rest: where frames rise, from
+-- the first header of the page in a stretch on.
 abbrev pub LawOfUntoldStretch : Type 0
 LawOfUntoldStretch =
     (programme : ProgrammeValue) (transmission : Transmission) (options : OptionsValue)
     → (unread : Option Unread) (beside : Bool) (undecided : ℕ → Bool) (a b : ℕ)
+    → IsFalse options.keeps
     → options.within ≡ 0
     → IsUntold (task_unsure programme options unread beside undecided) transmission a b
     → IsSufficient programme transmission options a b

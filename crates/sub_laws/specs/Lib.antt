@@ -12,4 +12,5 @@ pub mod Repeats
 pub mod Robust
 pub mod Stretch
 pub mod Sufficient
+pub mod ToldRepeats
 pub mod UndueContent

@@ -2,7 +2,7 @@
 //!
 //! The functions do nothing: the contract of each is a law over the definitions of `specs/`.
 ghost use Rattle.sub_laws.specs.BrokenPlaces.{LawOfBrokenPlaces, LawOfNothingTold};
-ghost use Rattle.sub_laws.specs.BrokenPlaces.{LawOfNothingToldWithin};
+ghost use Rattle.sub_laws.specs.BrokenPlaces.{LawOfNothingToldRepeats, LawOfNothingToldWithin};
 ghost use Rattle.sub_laws.specs.CleanStretch.{LawOfUntoldStretch};
 ghost use Rattle.sub_laws.specs.DelayLaws.{LawOfFinishedStretch, LawOfGoodWithin, LawOfLongerDelay};
 ghost use Rattle.sub_laws.specs.DelayLaws.{LawOfNoDelay, LawOfPlanWithin, LawOfStretchWithDelay};
@@ -11,6 +11,7 @@ ghost use Rattle.sub_laws.specs.DelayLaws.{LawOfWholeStretchWithDelay};
 ghost use Rattle.sub_laws.specs.DelayOfFiles.{LawOfLongerDelayOfFiles};
 ghost use Rattle.sub_laws.specs.Laws.{LawOfAllKept, LawOfGood, LawOfWindow};
 ghost use Rattle.sub_laws.specs.OnScreen.{LawOfCompletePlan};
+ghost use Rattle.sub_rules.specs.Kept.{LawOfRightCells};
 ghost use Rattle.sub_rules.specs.PesReading.{LawOfExactFrames};
 ghost use Rattle.sub_rules.specs.PieceEvents.{LawOfFirstTold};
 ghost use Rattle.sub_laws.specs.Planned.{LawOfPlan, LawOfPlanRead};
@@ -18,9 +19,9 @@ ghost use Rattle.sub_laws.specs.Repeats.{LawOfFollowedStretch, LawOfGoodRepeats,
 ghost use Rattle.sub_laws.specs.Repeats.{LawOfLongerRepeats};
 ghost use Rattle.sub_laws.specs.Repeats.{LawOfPlanRepeats, LawOfRepeatedStretch};
 ghost use Rattle.sub_rules.specs.Repeats.{LawOfMayKeep, LawOfNoRepeats, LawOfNoneKeeps};
-ghost use Rattle.sub_rules.specs.Repeats.{LawOfRightCells};
 ghost use Rattle.sub_laws.specs.Stretch.{LawOfWholeRecovery, LawOfWholeStretch};
 ghost use Rattle.sub_laws.specs.Sufficient.{LawOfStretch, LawOfSufficientParts};
+ghost use Rattle.sub_laws.specs.ToldRepeats.{LawOfUntoldRepeats};
 
 /// A start at any packet of a good transmission meets a header of the page within the repeat bound.
 #[tactic(auto, using(crate::proofs::RobustLemmas::law_of_window))]
@@ -115,8 +116,14 @@ pub fn law_of_plan_within()
 {}
 
 /// A stretch of which nothing is told that a receiver depends on has what suffices, whatever else
-/// is told, there or elsewhere; and where the page stands open at no end of it, its pages are
-/// complete.
+/// is told, there or elsewhere, and where repeats may keep the page too; and where the page stands
+/// open at no end of it, its frames are finished in time.
+pub fn law_of_untold_repeats()
+    ensures { LawOfUntoldRepeats }
+{}
+
+/// Where none may keep it, it is what suffices of a good transmission; and where the page stands
+/// open at no end of the stretch, its pages are complete.
 pub fn law_of_untold_stretch()
     ensures { LawOfUntoldStretch }
 {}
@@ -175,14 +182,21 @@ pub fn law_of_first_told()
 {}
 
 /// Nothing is told of the pieces of a PES file exactly where none of them is passed over, what they
-/// send is good, of complete pages where these are asked for, and the file was read to its end.
+/// send is good within the frames that the options allow, where repeats may keep the page or may
+/// not, and the file was read to its end.
+#[tactic(auto, using(crate::proofs::NothingToldLemmas::law_of_nothing_told_repeats))]
+pub fn law_of_nothing_told_repeats()
+    ensures { LawOfNothingToldRepeats }
+{}
+
+/// Where none may keep it, within 0 frames, that is a good transmission, of complete pages where
+/// these are asked for.
 #[tactic(auto, using(crate::proofs::NothingToldLemmas::law_of_nothing_told))]
 pub fn law_of_nothing_told()
     ensures { LawOfNothingTold }
 {}
 
-/// Within however many frames, it is so exactly where none is passed over, what they send is good
-/// within these, and the file was read to its end.
+/// Within however many frames, it is one that is good within these.
 #[tactic(auto, using(crate::proofs::NothingToldLemmas::law_of_nothing_told_within))]
 pub fn law_of_nothing_told_within()
     ensures { LawOfNothingToldWithin }

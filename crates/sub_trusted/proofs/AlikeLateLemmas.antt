@@ -86,7 +86,8 @@ module _ (g : Task) (due : ℕ → Rows) (ending : ℕ → Option ℕ) (first_in
             (g.watched.complete && is_open_after (kind g.watched.page) (on_air_until t f)) ≡ true =
             rw is at e in
             rw still
-            (or_true (is_some (wrong_after g.watched.page (on_air_until t f) (due f))))
+            (or_true
+            (is_some (wrong_after g.watched.keeps g.watched.page (on_air_until t f) (due f))))
 
     -- At the frames up to f, as many as the page may be late by, it is known what is due.
     abbrev pub IsKnownTo : ℕ → Type 0
@@ -178,13 +179,16 @@ module _ (g : Task) (due : ℕ → Rows) (ending : ℕ → Option ℕ) (first_in
 
       wrong_too : wrong_cell g t n f ≡ None → wrong_cell h t n f ≡ None
       wrong_too e =
-          let none : wrong_after g.watched.page (packets_before t n) (g.due f) ≡ None =
+          let none :
+          wrong_after g.watched.keeps g.watched.page (packets_before t n) (g.due f) ≡ None =
           rw here at e in
           rw (alike.due_is f here) none
 
       shows_too : (row column : ℕ)
-          → MayShow g.watched.page (packets_before t n) g.due first f g.within row column
-          → MayShow g.watched.page (packets_before t n) due first f g.within row column
+          → MayShow g.watched.keeps g.watched.page (packets_before t n) g.due first f g.within row
+          column
+          → MayShow g.watched.keeps g.watched.page (packets_before t n) due first f g.within row
+          column
       shows_too row column (inl blank) = inl blank
       shows_too row column (inr (e, from, high, low, same)) =
           let known = known_back g t n f first g.within sure e high low from in
@@ -199,10 +203,10 @@ module _ (g : Task) (due : ℕ → Rows) (ending : ℕ → Option ℕ) (first_in
       undue_too : undue_cell g t n f ≡ None → undue_cell h t n f ≡ None
       undue_too e =
           undue_is h t n f (always_known first f g.within)
-          ∙ none_undue g.watched.page (packets_before t n) due first f g.within
+          ∙ none_undue g.watched.keeps g.watched.page (packets_before t n) due first f g.within
           (λ row column named.
           shows_too row column
-          (undue_none g.watched.page (packets_before t n) g.due first f g.within
+          (undue_none g.watched.keeps g.watched.page (packets_before t n) g.due first f g.within
           (sym (undue_is g t n f sure) ∙ e) row column named))
 
       content_too : (b : Bool) → is_late h t n f ≡ b → is_late g t n f ≡ b

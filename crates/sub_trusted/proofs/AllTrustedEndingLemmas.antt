@@ -10,7 +10,7 @@ use Rattle.std.proofs.lemmas.Bool.{cases_lt, true≢false}
 use Rattle.std.proofs.lemmas.Option.{none-some}
 use Rattle.std.specs.List.{list_any}
 use Rattle.ttx_page.specs.PacketKind.{kind}
-use Rattle.ttx_page.specs.Span.{holds_header}
+use Rattle.ttx_page.specs.Span.{holds_beginning}
 use Rattle.sub_rules.specs.Events.{end_before, events_at_end, first_header_events, standing_at}
 use Rattle.sub_rules.specs.Events.{standing_before}
 use Rattle.sub_rules.specs.FrameRules.{Task, Unread, frame_at, packets_of_frame}
@@ -107,7 +107,7 @@ module _ (g : Task) (frames : Transmission) (a b i : ℕ)
   -- ---- its end
 
   abbrev has : ℕ → Bool
-  has n = holds_header (kind g.watched.page) (packets_of_frame frames n)
+  has n = holds_beginning g.watched.keeps (kind g.watched.page) (packets_of_frame frames n)
 
   abbrev quiet_at : ℕ → Bool
   quiet_at n = stands_none (standing_at g frames (suc n) (frame_at frames n))

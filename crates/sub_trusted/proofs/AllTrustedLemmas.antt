@@ -8,7 +8,7 @@ use Rattle.std.proofs.Common.{length, refl, sym, ap, ◌∙◌, subst, arith}
 use Rattle.std.proofs.lemmas.Bool.{or_parts}
 use Rattle.std.proofs.lemmas.List.Elements.{Contains-append_left}
 use Rattle.ttx_page.specs.PacketKind.{kind}
-use Rattle.ttx_page.specs.Span.{holds_header}
+use Rattle.ttx_page.specs.Span.{holds_beginning}
 use Rattle.sub_rules.specs.FrameRules.{Task, Unread, end_frame}
 use Rattle.sub_rules.specs.PieceEvents.{all_announced, all_of_pieces, closing_of_pieces, ended_run}
 use Rattle.sub_rules.specs.PieceEvents.{marks_of_closing, marks_of_each, marks_of_waiting, no_run}
@@ -163,7 +163,7 @@ law_of_all_trusted g pieces a b i can there low high header something =
     let all = part_length (sent_by_pieces g pieces) in omega arith in
     let at = frame_at-take frames (risen frames) i inside in
     let ps = packets-take frames (risen frames) i inside in
-    let holds = ap (holds_header (kind g.watched.page)) (sym ps) ∙ header in
+    let holds = ap (holds_beginning g.watched.keeps (kind g.watched.page)) (sym ps) ∙ header in
     let fit : Fits g frames a b i =
     fits g pieces a b can i inside (omega arith) (omega arith) holds in
     subst (λ (f : ℕ). (from : ℕ)

@@ -8,7 +8,7 @@ use Rattle.std.proofs.Common.{inl, inr, Bool, Option, ◌==◌, if◌then◌else
 use Rattle.std.proofs.lemmas.Bool.{cases_lt}
 use Rattle.std.proofs.lemmas.List.{take-append-drop}
 use Rattle.ttx_page.specs.PacketKind.{kind}
-use Rattle.ttx_page.specs.Span.{holds_header}
+use Rattle.ttx_page.specs.Span.{holds_beginning}
 use Rattle.sub_rules.specs.Events.{is_late, is_unfinished, nothing_stands, standing_at}
 use Rattle.sub_rules.specs.Events.{unfinished_since}
 use Rattle.sub_rules.specs.FrameRules.{Task, Unread, frame_at, packets_before, packets_of_frame}
@@ -84,7 +84,8 @@ pub record Fits (g : Task) (frames : Transmission) (a b i : ℕ) : Type 0 where
   pub there : i < risen frames
   pub low : a ≤ frame_at frames i
   pub high : frame_at frames i ≤ b
-  pub header : holds_header (kind g.watched.page) (packets_of_frame frames i) ≡ true
+  pub header :
+      holds_beginning g.watched.keeps (kind g.watched.page) (packets_of_frame frames i) ≡ true
   pub packets :
       (k : ℕ)
       → k < risen frames
@@ -230,7 +231,7 @@ module _ (g : Task) (pieces : List Piece) (a b : ℕ) (can : CanStay g pieces a 
       (can.untold.packets r needed k p (omega arith) under (omega arith) (omega arith))) below
 
   pub fits : (i : ℕ) → i < m → a ≤ frame_at frames i → frame_at frames i ≤ b
-      → holds_header (kind g.watched.page) (packets_of_frame frames i) ≡ true
+      → holds_beginning g.watched.keeps (kind g.watched.page) (packets_of_frame frames i) ≡ true
       → Fits g frames a b i
   fits i there low high header =
       let last = part_last frames some in

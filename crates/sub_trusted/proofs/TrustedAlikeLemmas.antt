@@ -8,9 +8,9 @@ use Rattle.std.proofs.lemmas.Bool.{cases_lt}
 use Rattle.std.proofs.lemmas.List.Elements.{All-contains}
 use Rattle.ttx_page.specs.Page.{Rows}
 use Rattle.ttx_page.specs.PacketKind.{kind}
-use Rattle.ttx_page.specs.Span.{holds_header}
+use Rattle.ttx_page.specs.Span.{holds_beginning}
 use Rattle.sub_rules.specs.Events.{end_rules, nothing_stands, standing_at}
-use Rattle.sub_rules.specs.FrameRules.{HasHeader, Task, Unread, end_frame, frame_at}
+use Rattle.sub_rules.specs.FrameRules.{Task, Unread, end_frame, frame_at}
 use Rattle.sub_rules.specs.PieceEvents.{all_of_pieces, sent_by_pieces}
 use Rattle.sub_rules.specs.Pieces.{Piece}
 use Rattle.sub_rules.specs.Transmission.{Transmission}
@@ -24,7 +24,7 @@ use Rattle.sub_laws.proofs.GoodLemmas.{rises_each}
 use Rattle.sub_laws.proofs.PrefixLemmas.{RiseTo, frame_at-take, packets-take, rises_to}
 use Rattle.sub_laws.proofs.StandingLemmas.{known_at}
 use Rattle.sub_trusted.specs.TrustedAlike.{AreTrusted, IsWholeAt}
-use Rattle.sub_trusted.specs.TrustedFrames.{CanStay, rising_part}
+use Rattle.sub_trusted.specs.TrustedFrames.{BeginsText, CanStay, rising_part}
 use Rattle.sub_trusted.proofs.AlikeLateLemmas.{AsksAlike, alike_quiet, same_unfinished, task_known}
 use Rattle.sub_trusted.proofs.AllTrustedLemmas.{law_of_all_trusted}
 use Rattle.sub_trusted.proofs.DoubtLemmas.{OnTrusted}
@@ -166,8 +166,8 @@ module _ (g : Task) (due : ℕ → Rows) (ending : ℕ → Option ℕ) (first_in
         let at = frame_at-take frames (risen frames) j inside in
         let own = stays.run.at in
         let ps = packets-take frames (risen frames) j inside in
-        let header : HasHeader h part j =
-        ap (holds_header (kind g.watched.page)) ps ∙ stays.run.header in
+        let header : BeginsText h part j =
+        ap (holds_beginning g.watched.keeps (kind g.watched.page)) ps ∙ stays.run.header in
         let (first, last, start, end, c) =
         law_of_all_trusted h pieces from b j can (omega arith) (omega arith) (omega arith) header
         something in

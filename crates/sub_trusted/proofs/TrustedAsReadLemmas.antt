@@ -1,28 +1,62 @@
--- For `law_of_trusted` and `law_of_trusted_with_delay`.
--- Where in a stretch of frames is on air what was read, what suffices of the one there suffices of
--- the other: `enough_too`, and with a delay `enough_late`.
-use Rattle.std.proofs.Common.{◌≡◌, ℕ, zero, suc, ◌+◌, ◌-◌, ◌<◌, ◌≤◌, inl, inr, true, List, ◌++◌}
-use Rattle.std.proofs.Common.{drop, sym, ap, ap₂, ◌∙◌, subst, arith, le_refl, le_trans}
+-- For what may stay.
+-- Where in a stretch of frames is on air what was read, and the first of them holds a header with
+-- which the text begins, what suffices of the one there suffices of the other: `sufficient_too`,
+-- and its frames are finished in time, `finishes_too`.
+use Rattle.std.proofs.lemmas.Bool.Decides.{nat_tests}
+use Rattle.std.proofs.Common.{◌≡◌, ℕ, zero, suc, ◌+◌, ◌-◌, ◌<◌, ◌≤◌, inl, inr, Bool, true, List, []}
+use Rattle.std.proofs.Common.{◌∷◌, ◌++◌, drop, find, option_map, unwrap_or, refl, sym, ap, ap₂, ◌∙◌}
+use Rattle.std.proofs.Common.{subst, arith, false, le_refl, le_trans}
+use Rattle.std.specs.List.{list_any}
 use Rattle.std.proofs.lemmas.List.Elements.{All-weaker}
-use Rattle.ttx_page.proofs.LateStart.{shown-later, unended-later}
+use Rattle.std.proofs.lemmas.List.Folds.{list_any-append}
+use Rattle.ttx_packet.specs.PageId.{PageIdValue}
+use Rattle.ttx_packet.specs.Parity.{code_of}
+use Rattle.ttx_packet.specs.RowPacket.{text_byte}
+use Rattle.ttx_page.proofs.LateStart.{span-later, unended-later}
 use Rattle.ttx_page.proofs.SpanLists.{holds-append_left, holds-append_right}
-use Rattle.ttx_page.specs.Noise.{IsSound}
-use Rattle.ttx_page.specs.PacketKind.{kind}
-use Rattle.ttx_page.specs.Shown.{shown}
-use Rattle.ttx_page.specs.Span.{holds_header, is_open_after, is_unended}
+use Rattle.ttx_page.proofs.TextSpan.{beginning_is_header}
+use Rattle.ttx_page.specs.Page.{space}
+use Rattle.ttx_page.specs.PacketKind.{begins_text, is_row, kind}
+use Rattle.ttx_page.specs.Repeats.{SendsText}
+use Rattle.ttx_page.specs.Shown.{kept}
+use Rattle.ttx_page.specs.Span.{from_beginning, holds_beginning, holds_header, is_open_after}
+use Rattle.ttx_page.specs.Span.{is_unended, span, text_span, while_open}
+use Rattle.ttx_page.specs.declared.packet_kind.PacketKind.{PacketKind}
 use Rattle.stl_file.specs.Subtitle.{SubtitleValue}
 use Rattle.stl_rows.specs.Programme.{ProgrammeValue}
 use Rattle.sub_plan.specs.Options.{OptionsValue}
+use Rattle.sub_plan.specs.Schedule.{due_in}
 use Rattle.sub_rules.specs.Good.{HoldsHeader}
-use Rattle.sub_rules.specs.GoodWithin.{IsDueWithin, SomeFinished}
-use Rattle.sub_rules.specs.Transmission.{IsRising, Transmission, first_frame, on_air_until}
+use Rattle.sub_rules.specs.GoodWithin.{IsDueWithin}
+use Rattle.sub_rules.specs.Kept.{IsRight, has_row}
+use Rattle.sub_rules.specs.Repeats.{IsWholePage, SomeFinishedBy}
+use Rattle.sub_rules.specs.Transmission.{IsRising, Transmission, first_frame, on_air, on_air_until}
 use Rattle.sub_rules.specs.Transmission.{packets_between, packets_of}
-use Rattle.sub_laws.specs.Delay.{FinishesInTime}
-use Rattle.sub_laws.specs.DelayLaws.{IsSufficientWithDelay}
 use Rattle.sub_laws.specs.OnScreen.{CompleteWithin}
-use Rattle.sub_laws.specs.Sufficient.{IsSoundStretch, IsSufficient}
+use Rattle.sub_laws.specs.Repeats.{IsRepeatedStretch}
+use Rattle.sub_laws.specs.ToldRepeats.{FinishesInTimeBy, IsSufficientRepeats}
 use Rattle.sub_trusted.specs.TrustedFrames.{IsAsRead}
 use Rattle.sub_laws.proofs.TransmissionLemmas.{packets_between-split, packets_between-void}
+
+-- ---- who starts where the text begins
+
+module _ (keeps : Bool) (kind_of : List ℕ → PacketKind) where
+  -- What stands before the last header with which the text begins is not looked at.
+  from-later : (before later : List (List ℕ))
+      → holds_beginning keeps kind_of later ≡ true
+      → from_beginning keeps kind_of (before ++ later) ≡ from_beginning keeps kind_of later
+  from-later [] later e = refl
+  from-later (x ∷ before) later e =
+      let rest = from-later before later e in
+      let both = list_any-append (λ p. begins_text keeps (kind_of p)) before later in
+      grind (arith, nat_tests)
+
+-- What the first packet of a row among these has.
+abbrev text_of : PageIdValue → List (List ℕ) → ℕ → ℕ → ℕ
+text_of page spanned row column =
+    unwrap_or
+    (option_map (λ p. code_of (text_byte p column)) (find (λ p. is_row row (kind page p)) spanned))
+    space
 
 module _ (t u : Transmission) (a b : ℕ) (rising : IsRising t) (is : IsAsRead t u a b) where
   -- From its first frame on.
@@ -43,12 +77,18 @@ module _ (t u : Transmission) (a b : ℕ) (rising : IsRising t) (is : IsAsRead t
       subst (λ (e : ℕ). packets_between t a e ≡ packets_between u a e) end
       (same_to (f + 1 - a) (omega arith))
 
-module _ (programme : ProgrammeValue) (options : OptionsValue) (t u : Transmission) (a b : ℕ)
-    (rising : IsRising t) (from : first_frame t ≤ a) (is : IsAsRead t u a b)
-    (header : HoldsHeader options.page t a)
+module _ (keeps : Bool) (programme : ProgrammeValue) (options : OptionsValue) (t u : Transmission)
+    (a b : ℕ) (rising : IsRising t) (from : first_frame t ≤ a) (is : IsAsRead t u a b)
+    (begins : holds_beginning keeps (kind options.page) (packets_of t a) ≡ true)
   where
     low_too : first_frame u ≤ a
     low_too = let first = is.first in omega arith
+
+    -- A header with which the text begins.
+    pub beginning_too : a ≤ b → holds_beginning keeps (kind options.page) (packets_of u a) ≡ true
+    beginning_too order =
+        subst (λ (ps : List (List ℕ)). holds_beginning keeps (kind options.page) ps ≡ true)
+        (sym (is.same a (le_refl a) order)) begins
 
     -- A frame that holds a header of the page.
     pub header_too : (f : ℕ) → a ≤ f → f ≤ b → HoldsHeader options.page t f
@@ -57,19 +97,12 @@ module _ (programme : ProgrammeValue) (options : OptionsValue) (t u : Transmissi
         subst (λ (ps : List (List ℕ)). holds_header (kind options.page) ps ≡ true)
         (sym (is.same f low high)) holds
 
-    stretch_too : IsSoundStretch t options a b → IsSoundStretch u options a b
-    stretch_too stretch = record {
-      first = low_too;
-      rising = is.rising;
-      sound = λ f low high.
-          subst (IsSound options.page) (ap (drop 0) (same_since t u a b rising is f low high))
-          (stretch.sound f low high);
-      repeats = λ start low high.
-          let (f, after, before, holds) = stretch.repeats start low high in
-          (f, after, before, header_too f (omega arith) (omega arith) holds);
-    }
+    -- The first one does.
+    pub opens_too : a ≤ b → HoldsHeader options.page u a
+    opens_too order =
+        beginning_is_header (kind options.page) keeps (packets_of u a) (beginning_too order)
 
-    -- ---- what all shows, from the header on
+    -- ---- what is kept of all, from the header on
 
     module _ (f : ℕ) (low : a ≤ f) (high : f ≤ b) where
       -- What is on air from frame a on.
@@ -85,22 +118,54 @@ module _ (programme : ProgrammeValue) (options : OptionsValue) (t u : Transmissi
           ∙ ap (λ (ps : List (List ℕ)). packets_between u (first_frame u) a ++ ps)
           (sym (same_since t u a b rising is f low high))
 
-      holds : holds_header (kind options.page) since ≡ true
-      holds =
-          ap (holds_header (kind options.page))
-          (packets_between-split t a (a + 1) (f + 1) rising (omega arith) (omega arith))
-          ∙ holds-append_left (kind options.page) (packets_of t a)
-          (packets_between t (a + 1) (f + 1)) header
+      begins_since : holds_beginning keeps (kind options.page) since ≡ true
+      begins_since =
+          let split =
+          packets_between-split t a (a + 1) (f + 1) rising (omega arith) (omega arith) in
+          let both =
+          list_any-append (λ p. begins_text keeps (kind options.page p)) (packets_of t a)
+          (packets_between t (a + 1) (f + 1)) in
+          ap (holds_beginning keeps (kind options.page)) split ∙ both ∙ rw begins refl
 
-      shown_too : (row column : ℕ)
-          → shown options.page (on_air_until t f) row column
-          ≡ shown options.page (on_air_until u f) row column
-      shown_too row column =
-          ap (λ (ps : List (List ℕ)). shown options.page ps row column) all_t
-          ∙ shown-later options.page (packets_between t (first_frame t) a) since holds row column
+      holds : holds_header (kind options.page) since ≡ true
+      holds = beginning_is_header (kind options.page) keeps since begins_since
+
+      spanned_too : text_span keeps (kind options.page) (on_air_until t f)
+          ≡ text_span keeps (kind options.page) (on_air_until u f)
+      spanned_too =
+          ap (text_span keeps (kind options.page)) all_t
+          ∙ ap (while_open (kind options.page) false)
+          (from-later keeps (kind options.page) (packets_between t (first_frame t) a) since
+          begins_since
           ∙ sym
-          (shown-later options.page (packets_between u (first_frame u) a) since holds row column)
-          ∙ sym (ap (λ (ps : List (List ℕ)). shown options.page ps row column) all_u)
+          (from-later keeps (kind options.page) (packets_between u (first_frame u) a) since
+          begins_since))
+          ∙ sym (ap (text_span keeps (kind options.page)) all_u)
+
+      kept_too : (row column : ℕ)
+          → kept keeps options.page (on_air_until t f) row column
+          ≡ kept keeps options.page (on_air_until u f) row column
+      kept_too row column =
+          ap (λ (ps : List (List ℕ)). text_of options.page ps row column) spanned_too
+
+      row_too : (row : ℕ)
+          → has_row options.page (on_air_until t f) row
+          ≡ has_row options.page (on_air_until u f) row
+      row_too row =
+          ap (list_any (λ packet. is_row row (kind options.page packet)))
+          (ap (span (kind options.page)) all_t
+          ∙ span-later options.page (packets_between t (first_frame t) a) since holds
+          ∙ sym (span-later options.page (packets_between u (first_frame u) a) since holds)
+          ∙ sym (ap (span (kind options.page)) all_u))
+
+      whole_too : IsWholePage keeps programme options.page t f
+          → IsWholePage keeps programme options.page u f
+      whole_too whole row column named =
+          let right = whole row column named in
+          record {
+            kept_is = sym (kept_too row column) ∙ right.kept_is;
+            again = λ other. sym (row_too row) ∙ right.again other;
+          }
 
       unended_too : is_unended (kind options.page) (on_air_until t f)
           ≡ is_unended (kind options.page) (on_air_until u f)
@@ -124,65 +189,24 @@ module _ (programme : ProgrammeValue) (options : OptionsValue) (t u : Transmissi
       open_too =
           rw (holds_t, holds_all u (packets_between u (first_frame u) a) all_u) unended_too
 
-    -- ---- without a delay
+    -- ---- what suffices
 
-    pub enough_too : IsSufficient programme t options a b → IsSufficient programme u options a b
-    enough_too enough = record {
-      stretch = stretch_too enough.stretch;
-      content = λ f row column low high named.
-          sym (shown_too f low high row column) ∙ enough.content f row column low high named;
-    }
-
-    pub complete_too : CompleteWithin t options a b → CompleteWithin u options a b
-    complete_too complete f low high held =
-        sym (unended_too f low high) ∙ complete f low high (holds_t f low high)
-
-    -- ---- with one
-
-    pub some_too : (from to : ℕ) → a ≤ from → to ≤ b
-        → SomeFinished programme t options from to
-        → SomeFinished programme u options from to
-    some_too from to low high (f, after, before, finished) = (
-      f,
-      after,
-      before,
-      record {
-        shows = λ row column named.
-            sym (shown_too f (le_trans low after) (le_trans before high) row column)
-            ∙ finished.shows row column named;
-        ended = λ asks.
-            sym (open_too f (le_trans low after) (le_trans before high)) ∙ finished.ended asks;
-      },
-    )
-
-    finishes_too : FinishesInTime programme t options a b → FinishesInTime programme u options a b
-    finishes_too finishes = record {
-      again = λ start low high.
-          some_too start (start + options.within) low high (finishes.again start low high);
-      subtitles =
-          All-weaker
-          (λ (s : SubtitleValue). a ≤ s.tci
-          → s.tco ≤ b + 1
-          → SomeFinished programme t options s.tci (s.tco - 1))
-          (λ (s : SubtitleValue). a ≤ s.tci
-          → s.tco ≤ b + 1
-          → SomeFinished programme u options s.tci (s.tco - 1))
-          (λ s of low high. some_too s.tci (s.tco - 1) low (omega arith) (of low high))
-          programme.records finishes.subtitles;
-      begun = λ first.
-          All-weaker
-          (λ (s : SubtitleValue). s.tci < a
-          → a < s.tco
-          → s.tco ≤ b + 1
-          → SomeFinished programme t options a (s.tco - 1))
-          (λ (s : SubtitleValue). s.tci < a
-          → a < s.tco
-          → s.tco ≤ b + 1
-          → SomeFinished programme u options a (s.tco - 1))
-          (λ s of early over high.
-          some_too a (s.tco - 1) (le_refl a) (omega arith) (of early over high))
-          programme.records
-          (finishes.begun (let earlier = is.first in omega arith));
+    stretch_too : IsRepeatedStretch keeps t options a b → IsRepeatedStretch keeps u options a b
+    stretch_too stretch = record {
+      first = low_too;
+      rising = is.rising;
+      sends = λ f low high.
+          subst
+          (λ (ps : List (List ℕ)).
+          SendsText keeps options.page ps (kept keeps options.page (on_air_until u f)))
+          (ap (drop 0) (same_since t u a b rising is f low high))
+          (subst
+          (λ (ps : List (List ℕ)).
+          SendsText keeps options.page (on_air t a 0 f) (text_of options.page ps))
+          (spanned_too f low high) (stretch.sends f low high));
+      repeats = λ start low high.
+          let (f, after, before, found) = stretch.repeats start low high in
+          (f, after, before, header_too f (omega arith) (omega arith) found);
     }
 
     due_too : (f row column code : ℕ) → IsDueWithin programme t options f row column code
@@ -191,13 +215,65 @@ module _ (programme : ProgrammeValue) (options : OptionsValue) (t u : Transmissi
     due_too f row column code (inr (e, first, up, near, due)) =
         inr (e, (let earlier = is.first in omega arith), up, near, due)
 
-    pub enough_late : IsSufficientWithDelay programme t options a b
-        → IsSufficientWithDelay programme u options a b
-    enough_late enough = record {
+    pub sufficient_too : IsSufficientRepeats keeps programme t options a b
+        → IsSufficientRepeats keeps programme u options a b
+    sufficient_too enough = record {
       stretch = stretch_too enough.stretch;
       codes = λ f row column low high named.
-          subst (IsDueWithin programme u options f row column) (shown_too f low high row column)
-          (due_too f row column (shown options.page (on_air_until t f) row column)
+          subst (IsDueWithin programme u options f row column) (kept_too f low high row column)
+          (due_too f row column (kept keeps options.page (on_air_until t f) row column)
           (enough.codes f row column low high named));
-      finishes = finishes_too enough.finishes;
+      whole = λ at_once f low high. whole_too f low high (enough.whole at_once f low high);
+    }
+
+    -- And pages stay complete.
+    pub complete_too : CompleteWithin t options a b → CompleteWithin u options a b
+    complete_too complete f low high held =
+        sym (unended_too f low high) ∙ complete f low high (holds_t f low high)
+
+    -- ---- frames that are finished
+
+    pub some_too : (one to : ℕ) → a ≤ one → to ≤ b
+        → SomeFinishedBy keeps programme t options one to
+        → SomeFinishedBy keeps programme u options one to
+    some_too one to low high (f, after, before, finished) = (
+      f,
+      after,
+      before,
+      record {
+        whole = whole_too f (le_trans low after) (le_trans before high) finished.whole;
+        ended = λ asks.
+            sym (open_too f (le_trans low after) (le_trans before high)) ∙ finished.ended asks;
+      },
+    )
+
+    pub finishes_too : FinishesInTimeBy keeps programme t options a b
+        → FinishesInTimeBy keeps programme u options a b
+    finishes_too finishes = record {
+      again = λ start low high.
+          some_too start (start + options.within) low high (finishes.again start low high);
+      subtitles =
+          All-weaker
+          (λ (s : SubtitleValue). a ≤ s.tci
+          → s.tco ≤ b + 1
+          → SomeFinishedBy keeps programme t options s.tci (s.tco - 1))
+          (λ (s : SubtitleValue). a ≤ s.tci
+          → s.tco ≤ b + 1
+          → SomeFinishedBy keeps programme u options s.tci (s.tco - 1))
+          (λ s of low high. some_too s.tci (s.tco - 1) low (omega arith) (of low high))
+          programme.records finishes.subtitles;
+      begun = λ first.
+          All-weaker
+          (λ (s : SubtitleValue). s.tci < a
+          → a < s.tco
+          → s.tco ≤ b + 1
+          → SomeFinishedBy keeps programme t options a (s.tco - 1))
+          (λ (s : SubtitleValue). s.tci < a
+          → a < s.tco
+          → s.tco ≤ b + 1
+          → SomeFinishedBy keeps programme u options a (s.tco - 1))
+          (λ s of early over high.
+          some_too a (s.tco - 1) (le_refl a) (omega arith) (of early over high))
+          programme.records
+          (finishes.begun (let earlier = is.first in omega arith));
     }

@@ -8,7 +8,7 @@ use Rattle.std.specs.Option.{option_or}
 use Rattle.std.proofs.lemmas.Bool.{true≢false}
 use Rattle.std.proofs.lemmas.Option.{none-some}
 use Rattle.ttx_page.specs.PacketKind.{kind}
-use Rattle.ttx_page.specs.Span.{holds_header}
+use Rattle.ttx_page.specs.Span.{holds_beginning}
 use Rattle.sub_rules.specs.Events.{events_at_end, first_header_events, latest, standing_at}
 use Rattle.sub_rules.specs.FrameRules.{Task, end_frame, frame_at, packets_of_frame}
 use Rattle.sub_rules.specs.PieceEvents.{marks_at_end, marks_of_ending}
@@ -47,7 +47,7 @@ module _ (g : Task) (frames : Transmission) (base : ℕ) where
 
   -- It has a header, and nothing stands at its end.
   abbrev has : ℕ → Bool
-  has n = holds_header (kind g.watched.page) (packets_of_frame frames n)
+  has n = holds_beginning g.watched.keeps (kind g.watched.page) (packets_of_frame frames n)
 
   abbrev quiet : ℕ → Bool
   quiet n = stands_none (standing_at g frames (suc n) (frame_at frames n))

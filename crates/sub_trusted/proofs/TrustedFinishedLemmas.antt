@@ -1,4 +1,4 @@
--- For `law_of_trusted_with_delay`.
+-- For `law_of_trusted_repeats` and `law_of_trusted_with_delay`.
 -- One of the frames at least that are told as trusted within some frames is finished:
 -- `finished_there`.
 use Rattle.std.proofs.Common.{◌≡◌, ℕ, ◌-◌, ◌<◌, ◌≤◌, ◌==◌, inl, inr, false, None, length, drop}
@@ -9,7 +9,7 @@ use Rattle.stl_rows.specs.Programme.{ProgrammeValue}
 use Rattle.sub_plan.specs.Options.{OptionsValue}
 use Rattle.sub_rules.specs.Events.{standing_at, undecided_within, unfinished_since}
 use Rattle.sub_rules.specs.FrameRules.{Task, Unread}
-use Rattle.sub_rules.specs.GoodWithin.{SomeFinished}
+use Rattle.sub_rules.specs.Repeats.{SomeFinishedBy}
 use Rattle.sub_rules.specs.Transmission.{Transmission}
 use Rattle.sub_rules.proofs.PrefixEventLemmas.{unfinished_since-prefix}
 use Rattle.sub_laws.specs.CleanStretch.{IsEnd, task_unsure}
@@ -93,7 +93,8 @@ module _ (programme : ProgrammeValue) (options : OptionsValue) (unread : Option 
         (untold g frames from to may.stays).undecided may.whole.n may.w end_in_part may.whole.low
         may.high
 
-    pub finished_there : (g.within == 0) ≡ false → SomeFinished programme part options from to
+    pub finished_there : (g.within == 0) ≡ false
+        → SomeFinishedBy options.keeps programme part options from to
     finished_there some = (
       may.w,
       may.whole.low,

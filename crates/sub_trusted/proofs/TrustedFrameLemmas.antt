@@ -1,15 +1,15 @@
 -- For what may stay.
 -- Of frames that are told as trusted nothing is told that a receiver depends on, in the part in
 -- which frames rise: `untold`; nor is the page open at an end of them, `closed`, and the first one
--- has a header of the page, `header_there`.
+-- has a header with which the text begins, `header_there`.
 use Rattle.std.proofs.lemmas.Bool.Decides.{nat_tests}
 use Rattle.std.specs.Bool.{Decides}
 use Rattle.std.proofs.Common.{◌≡◌, ℕ, zero, suc, ◌+◌, ◌-◌, ◌<◌, ◌≤◌, inl, inr, true, false, length}
 use Rattle.std.proofs.Common.{take, drop, ap, sym, ◌∙◌, arith, IsFalse}
 use Rattle.std.proofs.lemmas.Bool.{cases_lt, cases_eq}
 use Rattle.std.proofs.lemmas.List.{length-take-le, take-append-drop, take-take}
-use Rattle.ttx_page.specs.PacketKind.{kind}
-use Rattle.ttx_page.specs.Span.{holds_header}
+use Rattle.ttx_page.specs.PacketKind.{begins_text, kind}
+use Rattle.ttx_page.specs.Span.{holds_beginning}
 use Rattle.sub_rules.specs.Events.{standing_at}
 use Rattle.sub_rules.specs.FrameRules.{Task, frame_at, packets_of_frame}
 use Rattle.sub_rules.specs.PacketTests.{breaks}
@@ -19,7 +19,7 @@ use Rattle.sub_rules.proofs.EndRuleLemmas.{stands_nothing}
 use Rattle.sub_rules.proofs.PrefixEventLemmas.{standing_at-prefix}
 use Rattle.sub_laws.specs.CleanStretch.{AtEnds, IsEnd, IsStretch, IsUntold, is_needed}
 use Rattle.sub_trusted.specs.TrustedFrames.{rises_at, rising_count, rising_part}
-use Rattle.sub_laws.proofs.GoodLemmas.{any_sent}
+use Rattle.sub_laws.proofs.GoodLemmas.{any_passes}
 use Rattle.sub_laws.proofs.PrefixLemmas.{RiseTo, before, first-same, frame_at-take, packet_at}
 use Rattle.sub_laws.proofs.PrefixLemmas.{packets-take, rises_to, take_last, take_rising}
 use Rattle.sub_trusted.proofs.TrustedRunLemmas.{StaysTo}
@@ -196,9 +196,11 @@ module _ (g : Task) (frames : Transmission) (from to : ℕ) (stays : StaysTo g f
   closed n f at low high =
       ap (λ (s : Standing). s.incomplete) (stands_nothing _ (stands_quiet n f at low high))
 
-  pub header_there : holds_header (kind g.watched.page) (packets_of part from) ≡ true
+  pub header_there :
+      holds_beginning g.watched.keeps (kind g.watched.page) (packets_of part from) ≡ true
   header_there =
       let all = part_length frames in
-      any_sent g.watched part stays.run.j from (let l = j_low in omega arith)
+      any_passes (λ p. begins_text g.watched.keeps (kind g.watched.page p)) part stays.run.j from
+      (let l = j_low in omega arith)
       (frame_at-take frames m stays.run.j j_low ∙ stays.run.at)
       (grind (arith, nat_tests, packets-take, j_low))

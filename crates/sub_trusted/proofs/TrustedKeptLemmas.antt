@@ -10,7 +10,7 @@ use Rattle.std.proofs.Common.{refl, sym, ◌∙◌, subst, arith, if◌then◌el
 use Rattle.std.proofs.lemmas.Bool.{cases_lt}
 use Rattle.std.specs.Option.{option_or}
 use Rattle.ttx_page.specs.PacketKind.{kind}
-use Rattle.ttx_page.specs.Span.{holds_header}
+use Rattle.ttx_page.specs.Span.{holds_beginning}
 use Rattle.sub_rules.specs.Events.{gap_length, latest, standing_at, standing_before}
 use Rattle.sub_rules.specs.FrameRules.{Task, end_frame, frame_at, packets_before, packets_of_frame}
 use Rattle.sub_rules.specs.PacketTests.{breaks}
@@ -223,7 +223,7 @@ module _ (g : Task) (frames : Transmission) where
 
   -- Or one begins with it.
   pub run_new : (n : ℕ) → Quiet n
-      → holds_header (kind g.watched.page) (packets_of_frame frames n) ≡ true
+      → holds_beginning g.watched.keeps (kind g.watched.page) (packets_of_frame frames n) ≡ true
       → Run g frames (suc n) (frame_at frames n)
   run_new n quiet header = record {
     j = n;

@@ -1,97 +1,201 @@
 -- For what may stay.
--- Frames that are told as trusted may stay, whatever is on air elsewhere: `law_of_trusted`, and
--- within some frames `law_of_trusted_with_delay`; and it is known what was due there,
--- `law_of_trusted_known`.
+-- Frames that are told as trusted may stay, whatever is on air elsewhere: `law_of_trusted_repeats`;
+-- as its cases where no repeat may keep `law_of_trusted`, and within some frames
+-- `law_of_trusted_with_delay`. And it is known what was due there: `law_of_trusted_known`.
 use Rattle.std.proofs.lemmas.Bool.Decides.{nat_tests}
-use Rattle.std.proofs.Common.{◌≡◌, ◌==◌, ℕ, ◌+◌, ◌≤◌, inl, inr, false, refl, arith, le_refl}
+use Rattle.std.proofs.Common.{◌≡◌, ◌==◌, ℕ, ◌+◌, ◌<◌, ◌≤◌, inl, inr, Bool, true, false, List}
+use Rattle.std.proofs.Common.{Contains, Option, refl, arith, le_refl}
 use Rattle.std.proofs.lemmas.Bool.{cases_lt}
 use Rattle.std.proofs.lemmas.List.Elements.{All-contains}
+use Rattle.ttx_page.specs.PacketKind.{kind}
+use Rattle.ttx_page.specs.Span.{holds_beginning}
+use Rattle.stl_rows.specs.Programme.{IsProgramme, ProgrammeValue}
+use Rattle.sub_plan.specs.Options.{OptionsValue}
 use Rattle.sub_rules.specs.Events.{standing_at}
-use Rattle.sub_rules.specs.FrameRules.{Task, frame_at}
+use Rattle.sub_rules.specs.FrameRules.{Task, Unread, frame_at}
+use Rattle.sub_rules.specs.Good.{HoldsHeader}
 use Rattle.sub_rules.specs.PieceEvents.{all_of_pieces, sent_by_pieces}
-use Rattle.sub_rules.specs.Transmission.{Transmission, first_frame}
+use Rattle.sub_rules.specs.Pieces.{Piece}
+use Rattle.sub_rules.specs.Repeats.{SomeFinishedBy}
+use Rattle.sub_rules.specs.Transmission.{Transmission, first_frame, packets_of}
 use Rattle.sub_rules.specs.declared.event.Event.TheVariants.{Trusted}
-use Rattle.sub_laws.specs.CleanStretch.{IsUntold, task_unsure}
-use Rattle.sub_trusted.specs.TrustedFrames.{LawOfTrusted, LawOfTrustedKnown, rising_part}
-use Rattle.sub_trusted.specs.TrustedWithDelay.{LawOfTrustedWithDelay}
-use Rattle.sub_laws.proofs.CleanStretchLemmas.{law_of_untold_stretch}
-use Rattle.sub_laws.proofs.DelayLemmas.{law_of_stretch_with_delay}
+use Rattle.sub_laws.specs.CleanStretch.{IsUntold, NoneOpen, task_unsure}
+use Rattle.sub_laws.specs.ToldRepeats.{FinishesInTimeBy, IsSufficientRepeats}
+use Rattle.sub_trusted.specs.TrustedFrames.{IsAsRead, LawOfTrusted, LawOfTrustedKnown, MayStay}
+use Rattle.sub_trusted.specs.TrustedFrames.{rising_part}
+use Rattle.sub_trusted.specs.TrustedRepeats.{LawOfTrustedRepeats, MayStayRepeats}
+use Rattle.sub_trusted.specs.TrustedWithDelay.{LawOfTrustedWithDelay, MayStayWithDelay}
+use Rattle.sub_laws.proofs.DelayLemmas.{law_of_repeated_stretch, law_of_stretch_with_delay}
 use Rattle.sub_laws.proofs.GoodLemmas.{rises_each}
+use Rattle.sub_laws.proofs.NoneKeepsLemmas.{codes_of, complete_untold, finishes_of, shows_of}
+use Rattle.sub_laws.proofs.NoneKeepsLemmas.{some_of, sound_of}
 use Rattle.sub_laws.proofs.PrefixLemmas.{end_at, first-same, last-same}
 use Rattle.sub_laws.proofs.StandingLemmas.{known_back}
-use Rattle.sub_trusted.proofs.TrustedPieceLemmas.{all_stay_within}
-use Rattle.sub_trusted.proofs.TrustedKeptLemmas.{MayStand}
-use Rattle.sub_trusted.proofs.DoubtLemmas.{OnTrusted}
-use Rattle.sub_trusted.proofs.TrustedPassedLemmas.{passed_outside}
-use Rattle.sub_trusted.proofs.TrustedAsReadLemmas.{complete_too, enough_late, enough_too}
-use Rattle.sub_trusted.proofs.TrustedAsReadLemmas.{header_too}
-use Rattle.sub_trusted.proofs.TrustedAsReadLemmas.{some_too}
 use Rattle.sub_laws.proofs.StretchLemmas.{law_of_stretch}
-use Rattle.sub_laws.proofs.SufficientDelayLemmas.{enough_with_delay}
+use Rattle.sub_laws.proofs.SufficientDelayLemmas.{enough_repeats, finishes_untold}
+use Rattle.sub_trusted.proofs.DoubtLemmas.{OnTrusted}
+use Rattle.sub_trusted.proofs.TrustedAsReadLemmas.{beginning_too, complete_too, finishes_too}
+use Rattle.sub_trusted.proofs.TrustedAsReadLemmas.{opens_too, some_too, sufficient_too}
 use Rattle.sub_trusted.proofs.TrustedFinishedLemmas.{finished_there}
 use Rattle.sub_trusted.proofs.TrustedFrameLemmas.{closed, header_there, untold}
-use Rattle.sub_trusted.proofs.TrustedRunLemmas.{StaysTo}
+use Rattle.sub_trusted.proofs.TrustedKeptLemmas.{MayStand}
+use Rattle.sub_trusted.proofs.TrustedPassedLemmas.{passed_outside}
+use Rattle.sub_trusted.proofs.TrustedPieceLemmas.{all_stay_within}
 
-pub law_of_trusted : LawOfTrusted
-law_of_trusted programme options unread beside undecided pieces from to at_once told =
-    let g : Task = task_unsure programme options unread beside undecided in
-    let frames : Transmission = sent_by_pieces g pieces in
-    let part : Transmission = rising_part frames in
-    let may : MayStand g frames from to =
-    All-contains (OnTrusted (MayStand g frames)) (all_of_pieces g pieces) (Trusted from to)
-    (all_stay_within g frames pieces refl) told in
-    let stays : StaysTo g frames from to = may.stays in
-    let quiet : IsUntold g part from to = untold g frames from to stays in
-    let up = quiet.rising in
-    let first = quiet.stretch.from in
-    let clean =
-    law_of_untold_stretch programme part options unread beside undecided from to at_once quiet in
-    let header = header_there g frames from to stays in
+module _ (programme : ProgrammeValue) (options : OptionsValue) (unread : Option Unread)
+    (beside : Bool) (undecided : ℕ → Bool) (pieces : List Piece) (from to : ℕ)
+    (told :
+    Contains (all_of_pieces (task_unsure programme options unread beside undecided) pieces)
+    (Trusted from to))
+  where
+    abbrev g : Task
+    g = task_unsure programme options unread beside undecided
+
+    abbrev frames : Transmission
+    frames = sent_by_pieces g pieces
+
+    abbrev part : Transmission
+    part = rising_part frames
+
+    may : MayStand g frames from to
+    may =
+        All-contains (OnTrusted (MayStand g frames)) (all_of_pieces g pieces) (Trusted from to)
+        (all_stay_within g frames pieces refl) told
+
+    quiet : IsUntold g part from to
+    quiet = untold g frames from to may.stays
+
+    closed_there : NoneOpen g part from to
+    closed_there = closed g frames from to may.stays
+
+    begins : holds_beginning options.keeps (kind options.page) (packets_of part from) ≡ true
+    begins = header_there g frames from to may.stays
+
+    -- ---- whatever is on air elsewhere
+
+    module _ (on_air : Transmission) (is : IsAsRead part on_air from to) where
+      -- What suffices is there.
+      enough_there : IsSufficientRepeats options.keeps programme on_air options from to
+      enough_there =
+          sufficient_too options.keeps programme options part on_air from to quiet.rising
+          quiet.stretch.from is begins
+          (enough_repeats programme options unread beside undecided part from to quiet)
+
+      -- The first frame holds a header with which the text begins.
+      begins_there :
+          holds_beginning options.keeps (kind options.page) (packets_of on_air from) ≡ true
+      begins_there =
+          beginning_too options.keeps programme options part on_air from to quiet.rising
+          quiet.stretch.from is begins quiet.stretch.in_order
+
+      opens_there : HoldsHeader options.page on_air from
+      opens_there =
+          opens_too options.keeps programme options part on_air from to quiet.rising
+          quiet.stretch.from is begins quiet.stretch.in_order
+
+      -- Its frames are finished in time.
+      finishes_there : IsProgramme programme.drawing programme.records
+          → FinishesInTimeBy options.keeps programme on_air options from to
+      finishes_there holds =
+          finishes_too options.keeps programme options part on_air from to quiet.rising
+          quiet.stretch.from is begins
+          (finishes_untold programme options unread beside undecided part from to quiet closed_there
+          holds)
+
+      -- One of them at least.
+      some_there : 0 < options.within
+          → SomeFinishedBy options.keeps programme on_air options from to
+      some_there within =
+          let some : (options.within == 0) ≡ false = grind (arith, nat_tests) in
+          some_too options.keeps programme options part on_air from to quiet.rising
+          quiet.stretch.from is begins from to (le_refl from) (le_refl to)
+          (finished_there programme options unread beside undecided frames from to may some)
+
+      may_stay : IsProgramme programme.drawing programme.records
+          → MayStayRepeats programme on_air options from to
+      may_stay holds = record {
+        header = begins_there;
+        recovers = λ anew class.
+            (law_of_repeated_stretch options.keeps anew class programme on_air options from to
+            enough_there.stretch enough_there.codes).0;
+        shown = λ anew class.
+            (law_of_repeated_stretch options.keeps anew class programme on_air options from to
+            enough_there.stretch enough_there.codes).1;
+        finishes = finishes_there holds;
+        finished = some_there;
+      }
+
+      -- ---- where no repeat may keep
+
+      module _ (none : options.keeps ≡ false) where
+        may_stay_at_once : options.within ≡ 0 → MayStay programme on_air options from to
+        may_stay_at_once at_once = record {
+          header = opens_there;
+          trusted =
+              law_of_stretch programme on_air options from to (record {
+                stretch =
+                    sound_of options.keeps none programme on_air options from to
+                    enough_there.stretch;
+                content = λ f row column low high.
+                    shows_of options.keeps none programme on_air options f
+                    (enough_there.whole at_once f low high) row column;
+              });
+          complete = λ asks.
+              complete_too options.keeps programme options part on_air from to quiet.rising
+              quiet.stretch.from is begins
+              (complete_untold programme part options unread beside undecided from to at_once quiet
+              asks closed_there);
+        }
+
+        may_stay_late : IsProgramme programme.drawing programme.records
+            → 0 < options.within
+            → MayStayWithDelay programme on_air options from to
+        may_stay_late holds within = record {
+          header = opens_there;
+          trusted =
+              law_of_stretch_with_delay programme on_air options from to (record {
+                stretch =
+                    sound_of options.keeps none programme on_air options from to
+                    enough_there.stretch;
+                codes =
+                    codes_of options.keeps none programme on_air options from to
+                    enough_there.codes;
+                finishes =
+                    finishes_of options.keeps none programme on_air options from to
+                    (finishes_there holds);
+              });
+          finished =
+              some_of options.keeps none programme on_air options from to (some_there within);
+        }
+
+pub law_of_trusted_repeats : LawOfTrustedRepeats
+law_of_trusted_repeats programme options unread beside undecided pieces from to holds told =
     record {
-      passed = passed_outside g pieces from to told;
-      stays = λ on_air is. record {
-        header =
-            header_too programme options part on_air from to up first is header from (le_refl from)
-            quiet.stretch.in_order header;
-        trusted =
-            law_of_stretch programme on_air options from to
-            (enough_too programme options part on_air from to up first is header clean.0);
-        complete = λ asks.
-            complete_too programme options part on_air from to up first is header
-            (clean.1 asks (closed g frames from to stays));
-      };
+      passed =
+          passed_outside (task_unsure programme options unread beside undecided) pieces from to
+          told;
+      stays = λ on_air is.
+          may_stay programme options unread beside undecided pieces from to told on_air is holds;
     }
 
+pub law_of_trusted : LawOfTrusted
+law_of_trusted programme options unread beside undecided pieces from to none at_once told = record {
+  passed =
+      passed_outside (task_unsure programme options unread beside undecided) pieces from to told;
+  stays = λ on_air is.
+      may_stay_at_once programme options unread beside undecided pieces from to told on_air is none
+      at_once;
+}
+
 pub law_of_trusted_with_delay : LawOfTrustedWithDelay
-law_of_trusted_with_delay programme options unread beside undecided pieces from to holds within
-    told =
-    let g : Task = task_unsure programme options unread beside undecided in
-    let frames : Transmission = sent_by_pieces g pieces in
-    let part : Transmission = rising_part frames in
-    let some : (options.within == 0) ≡ false = grind (arith, nat_tests) in
-    let may : MayStand g frames from to =
-    All-contains (OnTrusted (MayStand g frames)) (all_of_pieces g pieces) (Trusted from to)
-    (all_stay_within g frames pieces refl) told in
-    let quiet : IsUntold g part from to = untold g frames from to may.stays in
-    let up = quiet.rising in
-    let first = quiet.stretch.from in
-    let header = header_there g frames from to may.stays in
-    record {
-      passed = passed_outside g pieces from to told;
-      stays = λ on_air is. record {
-        header =
-            header_too programme options part on_air from to up first is header from (le_refl from)
-            quiet.stretch.in_order header;
-        trusted =
-            law_of_stretch_with_delay programme on_air options from to
-            (enough_late programme options part on_air from to up first is header
-            (enough_with_delay programme options unread beside undecided part from to quiet
-            (closed g frames from to may.stays) holds));
-        finished =
-            some_too programme options part on_air from to up first is header from to
-            (le_refl from) (le_refl to)
-            (finished_there programme options unread beside undecided frames from to may some);
-      };
+law_of_trusted_with_delay programme options unread beside undecided pieces from to none holds within
+    told = record {
+      passed =
+          passed_outside (task_unsure programme options unread beside undecided) pieces from to
+          told;
+      stays = λ on_air is.
+          may_stay_late programme options unread beside undecided pieces from to told on_air is none
+          holds within;
     }
 
 -- Of frames of which nothing is told it is known at the end of each what was due at the last ones.

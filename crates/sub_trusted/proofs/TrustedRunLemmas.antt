@@ -2,13 +2,14 @@
 -- What a run of quiet frames holds, `Run`; and the frames of one that may stay, `Stays`.
 use Rattle.std.proofs.Common.{◌≡◌, ℕ, ◌+◌, ◌-◌, ◌<◌, ◌≤◌, ◌⊎◌, true, false, length}
 use Rattle.sub_rules.specs.Events.{standing_at}
-use Rattle.sub_rules.specs.FrameRules.{HasHeader, Task, end_frame, frame_at, packets_of_frame}
+use Rattle.sub_rules.specs.FrameRules.{Task, end_frame, frame_at, packets_of_frame}
 use Rattle.sub_rules.specs.PacketTests.{breaks}
 use Rattle.sub_rules.specs.Transmission.{Transmission}
 use Rattle.sub_rules.specs.declared.packet_rule.PacketRule.{PacketRule}
 use Rattle.sub_laws.specs.CleanStretch.{IsEnd, is_needed}
 use Rattle.sub_laws.proofs.PrefixLemmas.{RiseTo, before, packet_at}
 use Rattle.sub_rules.specs.Trusted.{stands_none}
+use Rattle.sub_trusted.specs.TrustedFrames.{BeginsText}
 
 module _ (g : Task) (frames : Transmission) where
   -- No end of a frame from one up to another, that one left out, up to which n frames of the list
@@ -33,12 +34,12 @@ module _ (g : Task) (frames : Transmission) where
       → breaks r g.watched (before frames i k) (packet_at frames i k) ≡ false
 
   -- A run of quiet frames up to the last of the first n frames of the list, and the frame of its
-  -- first header of the page.
+  -- first header with which the text begins.
   pub record Run (n from : ℕ) : Type 0 where
     pub j : ℕ
     pub below : j < n
     pub at : frame_at frames j ≡ from
-    pub header : HasHeader g frames j
+    pub header : BeginsText g frames j
     pub rises : RiseTo frames n
     pub packets : PacketsQuiet n j
     pub ends : EndsQuiet n from (frame_at frames (n - 1) + 1)

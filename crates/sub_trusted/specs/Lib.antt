@@ -1,3 +1,4 @@
 pub mod TrustedAlike
 pub mod TrustedFrames
+pub mod TrustedRepeats
 pub mod TrustedWithDelay

@@ -3,10 +3,12 @@
 use Rattle.std.specs.Prelude.{◌≡◌, ◌≢◌, ℕ, zero, suc, ◌+◌, ◌<◌, ◌≤◌, ◌==◌, ◌&&◌, nat_lt, Bool}
 use Rattle.std.specs.Prelude.{List, [], ◌∷◌, ◌++◌, ◌⊎◌, Contains, length, take, Option, Some}
 use Rattle.std.specs.Prelude.{IsFalse, IsTrue, if◌then◌else◌, true}
+use Rattle.ttx_page.specs.PacketKind.{kind}
+use Rattle.ttx_page.specs.Span.{holds_beginning}
 use Rattle.stl_rows.specs.Programme.{ProgrammeValue}
 use Rattle.sub_plan.specs.Options.{OptionsValue}
 use Rattle.sub_rules.specs.Events.{is_unfinished, standing_at}
-use Rattle.sub_rules.specs.FrameRules.{HasHeader, Task, Unread, frame_at}
+use Rattle.sub_rules.specs.FrameRules.{Task, Unread, frame_at, packets_of_frame}
 use Rattle.sub_rules.specs.Good.{HoldsHeader}
 use Rattle.sub_rules.specs.PieceEvents.{all_of_pieces, sent_by_pieces}
 use Rattle.sub_rules.specs.Pieces.{Piece}
@@ -39,6 +41,12 @@ rising_part frames = take (rising_count frames (length frames)) frames
 -- The rising part of what is read of pieces.
 abbrev pub rising_of : Task → List Piece → Transmission
 rising_of g pieces = rising_part (sent_by_pieces g pieces)
+
+-- A header with which the text begins is among the packets of frame i of the list: any header of
+-- the page; where repeats may keep it, one that erases it.
+abbrev pub BeginsText : Task → Transmission → ℕ → Type 0
+BeginsText g frames i =
+    holds_beginning g.watched.keeps (kind g.watched.page) (packets_of_frame frames i) ≡ true
 
 -- ---- whatever is on air elsewhere
 
@@ -85,14 +93,16 @@ pub record MayStay
   pub trusted : MayBeTrusted programme transmission options from to
   pub complete : IsTrue options.asks_complete → CompleteWithin transmission options from to
 
--- Frames that are told as trusted of a PES file may stay, as they are read of its part in which
--- frames rise: whatever is broken and whatever is on air elsewhere. So who mends a transmission
--- need not touch them. Beside what is refused of the subtitle file they may stay by the programme
--- of what can be relied on in it, whatever is due at the frames at which that is not known.
+-- Where no repeat may keep the page, frames that are told as trusted of a PES file may stay, as
+-- they are read of its part in which frames rise: whatever is broken and whatever is on air
+-- elsewhere. So who mends a transmission need not touch them. Beside what is refused of the
+-- subtitle file they may stay by the programme of what can be relied on in it, whatever is due at
+-- the frames at which that is not known.
 abbrev pub LawOfTrusted : Type 0
 LawOfTrusted =
     (programme : ProgrammeValue) (options : OptionsValue) (unread : Option Unread)
     → (beside : Bool) (undecided : ℕ → Bool) (pieces : List Piece) (from to : ℕ)
+    → IsFalse options.keeps
     → options.within ≡ 0
     → Contains (all_of_pieces (task_unsure programme options unread beside undecided) pieces)
     (Trusted from to)
@@ -132,10 +142,9 @@ pub record CanStay (g : Task) (pieces : List Piece) (a b : ℕ) : Type 0 where
       → b < last_frame (rising_of g pieces)
   pub before_unread : (u : Unread) → g.unread ≡ Some u → b < last_frame (rising_of g pieces)
 
--- Where anything is told, the frames of such a stretch from one with a header of the page on are
--- told as trusted, all in one.
--- So no frame that may stay is left out, but within some frames for those after the last one that
--- is finished.
+-- Where anything is told, the frames of such a stretch from one with a header on with which the
+-- text begins are told as trusted, all in one. So no frame that may stay is left out, but within
+-- some frames for those after the last one that is finished.
 abbrev pub LawOfAllTrusted : Type 0
 LawOfAllTrusted =
     (g : Task) (pieces : List Piece) (a b i : ℕ)
@@ -143,7 +152,7 @@ LawOfAllTrusted =
     → i < length (rising_of g pieces)
     → a ≤ frame_at (rising_of g pieces) i
     → frame_at (rising_of g pieces) i ≤ b
-    → HasHeader g (rising_of g pieces) i
+    → BeginsText g (rising_of g pieces) i
     → all_of_pieces g pieces ≢ []
     → (from : ℕ)
     × (to : ℕ)

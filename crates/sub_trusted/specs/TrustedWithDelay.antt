@@ -1,6 +1,6 @@
 -- What is promised of the frames that are told as trusted of a transmission that may be late,
 -- whatever is broken elsewhere.
-use Rattle.std.specs.Prelude.{ℕ, ◌<◌, Bool, Contains, List, Option}
+use Rattle.std.specs.Prelude.{ℕ, ◌<◌, Bool, Contains, IsFalse, List, Option}
 use Rattle.stl_rows.specs.Programme.{IsProgramme, ProgrammeValue}
 use Rattle.sub_plan.specs.Options.{OptionsValue}
 use Rattle.sub_rules.specs.FrameRules.{Unread}
@@ -26,15 +26,16 @@ pub record MayStayWithDelay
   pub trusted : MayBeTrustedWithDelay programme transmission options from to
   pub finished : SomeFinished programme transmission options from to
 
--- Frames that are told as trusted of a PES file within some frames may stay, as they are read of
--- its part in which frames rise: whatever is broken and whatever is on air elsewhere. PES packets
--- of one frame that follow one another are one there. So who mends a transmission that may be late
--- need not touch them. Beside what is refused of the subtitle file they may by the programme of
--- what can be relied on in it.
+-- Where no repeat may keep the page, frames that are told as trusted of a PES file within some
+-- frames may stay, as they are read of its part in which frames rise: whatever is broken and
+-- whatever is on air elsewhere. PES packets of one frame that follow one another are one there. So
+-- who mends a transmission that may be late need not touch them. Beside what is refused of the
+-- subtitle file they may by the programme of what can be relied on in it.
 abbrev pub LawOfTrustedWithDelay : Type 0
 LawOfTrustedWithDelay =
     (programme : ProgrammeValue) (options : OptionsValue) (unread : Option Unread)
     → (beside : Bool) (undecided : ℕ → Bool) (pieces : List Piece) (from to : ℕ)
+    → IsFalse options.keeps
     → IsProgramme programme.drawing programme.records
     → 0 < options.within
     → Contains (all_of_pieces (task_unsure programme options unread beside undecided) pieces)

@@ -4,18 +4,28 @@
 ghost use Rattle.sub_trusted.specs.TrustedAlike.{LawOfTrustedAlike};
 ghost use Rattle.sub_trusted.specs.TrustedFrames.{LawOfAllTrusted, LawOfTrusted};
 ghost use Rattle.sub_trusted.specs.TrustedFrames.{LawOfTrustedKnown};
+ghost use Rattle.sub_trusted.specs.TrustedRepeats.{LawOfTrustedRepeats};
 ghost use Rattle.sub_trusted.specs.TrustedWithDelay.{LawOfTrustedWithDelay};
 
 /// Frames that are told as trusted of a PES file may stay on air as they are, whatever is broken
-/// and whatever is on air elsewhere: the first one holds a header of the page, and from it on
-/// receivers recover there. No piece that is passed over may have been sent in them. So it is by
-/// the programme of what can be relied on in a subtitle file, beside what is refused of it.
+/// and whatever is on air elsewhere, where repeats may keep the page or may not: the first one
+/// holds a header with which the text begins, and from it on receivers recover there, whatever they
+/// do at a header that does not erase the page. No piece that is passed over may have been sent in
+/// them. So it is by the programme of what can be relied on in a subtitle file, beside what is
+/// refused of it.
+pub fn law_of_trusted_repeats()
+    ensures { LawOfTrustedRepeats }
+{}
+
+/// Where no repeat may keep the page, and at each frame's end what is due has to be shown, whoever
+/// is tuned in at one of these frames recovers there, whatever he held before; and where complete
+/// pages are asked for, what is due is on the screens.
 pub fn law_of_trusted()
     ensures { LawOfTrusted }
 {}
 
-/// So may those that are told as trusted of one that may be late, by at least one frame: receivers
-/// recover there with a delay, and one of the frames at least is finished.
+/// And of one that may be late, by at least one frame, receivers recover there with a delay, and
+/// one of the frames at least is finished.
 pub fn law_of_trusted_with_delay()
     ensures { LawOfTrustedWithDelay }
 {}

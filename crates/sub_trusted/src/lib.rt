@@ -14,5 +14,6 @@ mod laws;
 
 pub use laws::{
     law_of_all_trusted, law_of_trusted, law_of_trusted_alike, law_of_trusted_known,
+    law_of_trusted_repeats,
     law_of_trusted_with_delay,
 };

@@ -1,5 +1,5 @@
--- The law: CleanStretchLemmas.
-use Rattle.sub_laws.proofs.CleanStretchLemmas.{law_of_untold_stretch}
+-- The law: NoneKeepsLemmas.
+use Rattle.sub_laws.proofs.NoneKeepsLemmas.{law_of_untold_stretch}
 use Rattle.sub_laws.proofs.laws.law_of_untold_stretch.Goals as goal
 
 pub returns : goal.returns
