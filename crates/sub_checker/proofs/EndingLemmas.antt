@@ -192,9 +192,10 @@ module _ (g : Task) (frames : Transmission) (i n f : ℕ) (last : List (List ℕ
     wrong_is : differs_now so_far c ≡ wrong_cell g frames n f
     wrong_is =
         ap (λ (d : Rows). cond (is_undecided_by c c.frame) None
-        (wrong_after c.listener.watched.page so_far d)) due
+        (wrong_after c.listener.watched.keeps c.listener.watched.page so_far d)) due
         ∙ ap (λ (k : ℕ). cond (is_undecided_by c k) None
-        (wrong_after c.listener.watched.page so_far (due_in c.programme k))) at
+        (wrong_after c.listener.watched.keeps c.listener.watched.page so_far
+        (due_in c.programme k))) at
         ∙ ap (λ (t : Task). wrong_cell t frames n f) (sym known.task_is)
 
     incomplete_is :

@@ -9,7 +9,7 @@ use Rattle.std.proofs.lemmas.List.Folds.{list_any_more}
 use Rattle.std.specs.List.{list_any}
 use Rattle.sub_plan.specs.Schedule.{due_in}
 use Rattle.ttx_page.specs.PacketKind.{kind}
-use Rattle.ttx_page.specs.Span.{holds_header}
+use Rattle.ttx_page.specs.Span.{holds_beginning, holds_header}
 use Rattle.sub_checker.specs.Checker.{CheckerValue, HasHeard, after_end, after_headers}
 use Rattle.sub_checker.specs.Checker.{end_marks, later_by, stands}
 use Rattle.sub_checker.specs.Following.{Arrives, Follows, Heard, Remembers}
@@ -178,16 +178,17 @@ module _ (g : Task) (frames : Transmission) (n : ℕ) (last : List (List ℕ)) (
           is.latest_is
 
       -- The mark there. For `end_sent`.
-      pub end_mark : (f : ℕ) (has none : Bool) (d : CheckerValue)
+      pub end_mark : (f : ℕ) (begins none : Bool) (d : CheckerValue)
           → d ≡ after_end heard c
           → f ≡ d.frame
-          → has ≡ holds_header (kind g.watched.page) (packets_of_frame frames n)
+          → begins
+          ≡ holds_beginning g.watched.keeps (kind g.watched.page) (packets_of_frame frames n)
           → none ≡ stands_none d.standing
-          → Ends f has none
+          → Ends f begins none
           ≡ Ends (frame_at frames n)
-          (holds_header (kind g.watched.page) (packets_of_frame frames n))
+          (holds_beginning g.watched.keeps (kind g.watched.page) (packets_of_frame frames n))
           (stands_none (standing_at g frames (suc n) (frame_at frames n)))
-      end_mark f has none d end at holds stand =
+      end_mark f begins none d end at holds stand =
           let stood = ap (λ (v : CheckerValue). stands_none v.standing) end
           ∙ ap stands_none stands_then in
           rw (at ∙ ap (λ (v : CheckerValue). v.frame) end ∙ is.frame_is, holds, stand ∙ stood) refl

@@ -2,12 +2,12 @@
 use Rattle.std.proofs.lemmas.Bool.Decides.{nat_tests}
 use Rattle.std.proofs.Common.{◌≡◌, ℕ, suc, ◌+◌, ◌-◌, ◌<◌, Bool, ◌&&◌, ◌||◌, nat_le}
 use Rattle.std.proofs.Common.{nat_lt, List, [], ◌++◌, length, map, take, refl, sym, ap, ◌∙◌, arith}
-use Rattle.std.proofs.Common.{length-append}
+use Rattle.std.proofs.Common.{ap₂, length-append}
 use Rattle.std.proofs.lemmas.List.{get_or-map}
 use Rattle.std.proofs.lemmas.List.Folds.{list_any-append, list_any_more}
 use Rattle.std.specs.List.{list_any}
-use Rattle.ttx_page.specs.PacketKind.{is_this_page, kind}
-use Rattle.ttx_page.specs.Span.{holds_header}
+use Rattle.ttx_page.specs.PacketKind.{begins_text, is_this_page, kind}
+use Rattle.ttx_page.specs.Span.{holds_beginning, holds_header}
 use Rattle.sub_checker.specs.Checker.{CheckerValue, HasHeard, after_headers}
 use Rattle.sub_checker.specs.Following.{Heard, StaysOpen, Remembers}
 use Rattle.sub_rules.specs.Events.{covers, end_before, is_gap, latest, packets_told}
@@ -148,10 +148,10 @@ module _ (g : Task) (sent : Transmission) (n : ℕ) (last ps : List (List ℕ)) 
         c.every f (is.begun.late_is f))
 
     -- What is kept then. For `take_more`.
-    pub heard_more : (e : CheckerValue) (k : ℕ)
-        → e ≡ record here { counts = record here.counts { packets = k } }
+    pub heard_more : (e : CheckerValue) (b : Bool) (k : ℕ)
+        → e ≡ record here { counts = record here.counts { begins = b; packets = k } }
         → Heard g longer n ps e
-    heard_more e k e_is =
+    heard_more e b k e_is =
         rw e_is (record {
           known = record {
             task_is = known_then.task_is;
@@ -171,19 +171,33 @@ module _ (g : Task) (sent : Transmission) (n : ℕ) (last ps : List (List ℕ)) 
         })
 
     -- And more of them may come.
-    pub opens_more : (e : CheckerValue) (k : ℕ)
-        → e ≡ record here { counts = record here.counts { packets = k } }
+    pub opens_more : (e : CheckerValue) (b : Bool) (k : ℕ)
+        → e ≡ record here { counts = record here.counts { begins = b; packets = k } }
         → c.counts.headers_before ≡ header_count g.watched.page (packets_before sent n)
+        → c.counts.begins
+        ≡ holds_beginning g.watched.keeps (kind g.watched.page) (packets_of_frame sent n)
+        → b
+        ≡ (c.counts.begins
+        || holds_beginning c.listener.watched.keeps (kind c.listener.watched.page) ps)
         → c.counts.packets ≡ length (packets_of_frame sent n)
         → k ≡ c.counts.packets + length ps
         → StaysOpen g longer n ps e
-    opens_more e k e_is before packets sum = record {
-      heard = heard_more e k e_is;
+    opens_more e b k e_is before begins more packets sum = record {
+      heard = heard_more e b k e_is;
       before =
           ap (λ (v : CheckerValue). v.counts.headers_before) e_is
           ∙ before
           ∙ ap (header_count g.watched.page)
           (sym (with_packets-before ps sent n (omega (arith, all))));
+      begins =
+          ap (λ (v : CheckerValue). v.counts.begins) e_is
+          ∙ more
+          ∙ ap₂ (λ x y. x || y) begins
+          (ap (λ (w : Watched). holds_beginning w.keeps (kind w.page) ps)
+          (sym (ap (λ (t : Task). t.watched) is.known.task_is)))
+          ∙ sym (ap (holds_beginning g.watched.keeps (kind g.watched.page)) own
+          ∙ list_any-append (λ (p : List ℕ). begins_text g.watched.keeps (kind g.watched.page p))
+          (packets_of_frame sent n) ps);
       packets =
           ap (λ (v : CheckerValue). v.counts.packets) e_is
           ∙ sum

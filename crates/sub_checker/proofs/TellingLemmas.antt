@@ -1,8 +1,8 @@
 -- Events that are told in parts, one part after another: `told_whole`, `told_same`, `told_then`,
--- `stopped_first`, `stopped_then`, `all_same`; `ok_map`, `on_ok`.
+-- `stopped_first`, `all_same`; `ok_map`, `on_ok`.
 use Rattle.std.proofs.Common.{arith, ◌≡◌, List, ◌++◌, Result, Ok, Err, sym, subst}
 use Rattle.std.proofs.lemmas.Bool.Decides.{nat_tests}
-use Rattle.sub_io.proofs.TellingLemmas.{TellsPrefix-first, TellsPrefix-second}
+use Rattle.sub_io.proofs.TellingLemmas.{TellsPrefix-first}
 use Rattle.sub_io.proofs.TellingLemmas.{TellsPrefix-whole, TellsUntilStopped-after}
 use Rattle.std.specs.Prelude.{OnOk}
 use Rattle.sub_io.specs.Telling.{Tells, TellsPrefix, TellsUntilStopped}
@@ -31,11 +31,6 @@ module _ {A D : Type 0} {IsTold : D → A → D → Type 0} where
       → TellsPrefix IsTold a b xs → TellsPrefix IsTold a b whole
   stopped_first a b xs ys whole is p =
       subst (TellsPrefix IsTold a b) (sym is) (TellsPrefix-first a b xs ys p)
-
-  pub stopped_then : (a b c : D) (xs ys whole : List A) → whole ≡ xs ++ ys
-      → Tells IsTold a b xs → TellsPrefix IsTold b c ys → TellsPrefix IsTold a c whole
-  stopped_then a b c xs ys whole is p q =
-      subst (TellsPrefix IsTold a c) (sym is) (TellsPrefix-second a b c xs ys p q)
 
   -- The same by another name.
   pub all_same : (a b : D) (xs whole : List A) → whole ≡ xs

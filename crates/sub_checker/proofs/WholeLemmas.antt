@@ -1,4 +1,4 @@
--- Where the page is whole at an end nothing shows that was not due, `none_undue`; and nothing
+-- Where the page is whole at an end nothing is kept that was not due, `none_undue`; and nothing
 -- stands broken, as few comparisons tell, `quiet_stands`.
 use Rattle.std.proofs.lemmas.Bool.Decides.{nat_tests}
 use Rattle.std.proofs.Common.{◌≡◌, ℕ, zero, suc, ◌+◌, ◌<◌, Bool, true, false, ◌&&◌, ◌||◌, nat_le}
@@ -11,13 +11,14 @@ use Rattle.ttx_packet.specs.PageId.{PageIdValue}
 use Rattle.ttx_packet.proofs.OneBitLemmas.{first_below_is}
 use Rattle.ttx_page.specs.Page.{Rows, cell, space}
 use Rattle.ttx_page.specs.PacketKind.{kind}
-use Rattle.ttx_page.specs.Shown.{shown}
+use Rattle.ttx_page.specs.Shown.{kept}
 use Rattle.ttx_page.specs.Span.{is_open_after}
 use Rattle.sub_plan.specs.Schedule.{due_in}
 use Rattle.sub_checker.specs.Checker.{CheckerValue, differs_now, is_undecided_by, since_now, stands}
 use Rattle.sub_checker.specs.Checker.{undecided_now, undue_now}
-use Rattle.sub_rules.specs.Events.{first_cell, nothing_stands, silent_for, undue_after, was_due}
-use Rattle.sub_rules.specs.Events.{wrong_after}
+use Rattle.sub_rules.specs.Events.{first_cell, is_right, nothing_stands, silent_for, undue_after}
+use Rattle.sub_rules.specs.Events.{was_due, wrong_after}
+use Rattle.sub_rules.specs.Kept.{has_row}
 use Rattle.sub_checker.proofs.UndecidedLemmas.{was-here}
 use Rattle.sub_rules.specs.declared.standing.Standing.{Standing}
 
@@ -73,30 +74,37 @@ unfolding was_due
 due_now due first f zero row column code is = is
 due_now due first f (suc n) row column code is = rw (due_now due first f n row column code is) refl
 
--- So a page that shows what is due shows nothing that was not.
-pub no_undue : (page : PageIdValue) (heard : List (List ℕ)) (due : ℕ → Rows) (now : Rows)
-    (first f n : ℕ)
+-- So where each cell is right nothing is kept that was not due.
+pub no_undue : (keeps : Bool) (page : PageIdValue) (heard : List (List ℕ)) (due : ℕ → Rows)
+    (now : Rows) (first f n : ℕ)
     → now ≡ due f
-    → wrong_after page heard now ≡ None
-    → undue_after page heard due first f n ≡ None
+    → wrong_after keeps page heard now ≡ None
+    → undue_after keeps page heard due first f n ≡ None
 unfolding wrong_after undue_after
-no_undue page heard due now first f n is none =
+no_undue keeps page heard due now first f n is none =
     cell_less
-    (λ row column. not (shown page heard row column == cell now row column))
+    (λ row column. not (is_right keeps page heard now row column))
     (λ row column.
-    not (shown page heard row column == space)
-    && not (was_due due first f n row column (shown page heard row column)))
+    not (kept keeps page heard row column == space)
+    && not (was_due due first f n row column (kept keeps page heard row column)))
     less none
   where
     less : (row column : ℕ)
-        → (not (shown page heard row column == space)
-        && not (was_due due first f n row column (shown page heard row column))) ≡ true
-        → not (shown page heard row column == cell now row column) ≡ true
+        → (not (kept keeps page heard row column == space)
+        && not (was_due due first f n row column (kept keeps page heard row column))) ≡ true
+        → not (is_right keeps page heard now row column) ≡ true
     less row column undue =
-        let known = due_now due first f n row column (shown page heard row column) in
-        rw is grind (arith, nat_tests)
+        go (kept keeps page heard row column) (has_row page heard row)
+        (due_now due first f n row column (kept keeps page heard row column)) undue
+      where
+        go : (code : ℕ) (came : Bool)
+            → ((cell (due f) row column == code) ≡ true
+            → was_due due first f n row column code ≡ true)
+            → (not (code == space) && not (was_due due first f n row column code)) ≡ true
+            → not (code == cell now row column && (cell now row column == space || came)) ≡ true
+        go code came known undue = rw is grind (arith, nat_tests)
 
--- Where no cell differs from what is due. For `first_undue`.
+-- So it is where each cell is right. For `first_undue`.
 pub none_undue : (heard : List (List ℕ)) (c : CheckerValue) (o : Option (ℕ × ℕ)) (b : Bool)
     → c.listener.comparison.due ≡ due_in c.programme c.frame
     → is_some o ≡ not b
@@ -109,19 +117,21 @@ none_undue heard c None b due is none same = by (undecided_now c) refl
     by : (u : Bool) → undecided_now c ≡ u
         → None
         ≡ cond u None
-        (undue_after c.listener.watched.page heard (due_in c.programme) c.first c.frame c.within)
+        (undue_after c.listener.watched.keeps c.listener.watched.page heard (due_in c.programme)
+        c.first c.frame c.within)
     by true e = refl
     by false e =
         let here = was-here (is_undecided_by c) c.first c.frame c.within e in
-        sym (no_undue c.listener.watched.page heard (due_in c.programme)
+        sym (no_undue c.listener.watched.keeps c.listener.watched.page heard (due_in c.programme)
         c.listener.comparison.due c.first c.frame c.within due
-        (sym (same ∙ ap (λ (u : Bool). cond u None (wrong_after c.listener.watched.page heard
-        c.listener.comparison.due)) here)))
+        (sym (same ∙ ap (λ (u : Bool). cond u None (wrong_after c.listener.watched.keeps
+        c.listener.watched.page heard c.listener.comparison.due)) here)))
 
 -- Nothing stands broken there, as few comparisons tell. For `is_quiet`.
 pub quiet_stands : (heard : List (List ℕ)) (c : CheckerValue)
     → c.listener.comparison.due ≡ due_in c.programme c.frame
-    → wrong_after c.listener.watched.page heard c.listener.comparison.due ≡ None
+    → wrong_after c.listener.watched.keeps c.listener.watched.page heard c.listener.comparison.due
+    ≡ None
     → (c.listener.watched.complete && is_open_after (kind c.listener.watched.page) heard) ≡ false
     → c.frame + 1 < c.late_at
     → silent_for c.pace c.latest c.frame ≡ false
@@ -130,8 +140,8 @@ pub quiet_stands : (heard : List (List ℕ)) (c : CheckerValue)
 quiet_stands heard c due right shut early sounds known =
     let here = was-here (is_undecided_by c) c.first c.frame c.within known in
     let undue =
-    no_undue c.listener.watched.page heard (due_in c.programme) c.listener.comparison.due c.first
-    c.frame c.within due right in
+    no_undue c.listener.watched.keeps c.listener.watched.page heard (due_in c.programme)
+    c.listener.comparison.due c.first c.frame c.within due right in
     let soon : nat_le c.late_at (c.frame + 1) ≡ false = grind (arith, nat_tests) in (
       rw (known, here, right, undue, shut, soon, sounds) (by (c.within == 0 || false)),
       rw (here, right, shut) refl,

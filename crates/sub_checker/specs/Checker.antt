@@ -20,6 +20,7 @@ use Rattle.sub_rules.specs.Trusted.Mark.{AtEnd, GoesBack, Says}
 use Rattle.sub_rules.specs.declared.sending.Sending.{Sending}
 use Rattle.sub_rules.specs.declared.standing.Standing.{Standing}
 use Rattle.sub_packets.specs.Listener.{KnowsLast}
+use Rattle.sub_packets.specs.declared.last_heard.Headers.{Headers}
 use Rattle.sub_packets.specs.declared.listener.Listener.{Listener}
 use Rattle.sub_checker.specs.declared.counts.Counts.{Counts}
 use Rattle.sub_plan.specs.Schedule.{due_in}
@@ -28,17 +29,35 @@ use Rattle.sub_plan.specs.Schedule.{due_in}
 
 -- Nothing was heard.
 abbrev pub nothing_counted : Counts
-nothing_counted =
-    record { frames = 0; headers = 0; headers_before = 0; packets = 0; is_open = false }
+nothing_counted = record {
+  frames = 0;
+  headers = 0;
+  headers_before = 0;
+  begins = false;
+  packets = 0;
+  is_open = false;
+}
 
 -- More headers of the page.
 abbrev pub with_headers : ℕ → Counts → Counts
 with_headers headers n = record n { headers = n.headers + headers }
 
--- The end of the last frame is still to come, which has so many headers of the page, and packets.
-abbrev pub left_open : ℕ → ℕ → Counts → Counts
-left_open headers packets n =
-    record n { headers_before = n.headers - headers; packets = packets; is_open = true }
+-- The end of the last frame is still to come, which has these headers of the page, and so many
+-- packets.
+abbrev pub left_open : Headers → ℕ → Counts → Counts
+left_open headers packets n = record n {
+  headers_before = n.headers - headers.count;
+  begins = headers.begins;
+  packets = packets;
+  is_open = true;
+}
+
+-- It has these headers of the page more, and so many packets.
+abbrev pub gone_on : Headers → ℕ → Counts → Counts
+gone_on headers packets n = record n {
+  begins = n.begins || headers.begins;
+  packets = n.packets + packets;
+}
 
 -- So many PES packets may have been counted.
 pub record AreFew (pes : ℕ) (n : Counts) : Type 0 where
@@ -130,24 +149,27 @@ is_overdue_at programme within first (Some since) f =
 abbrev pub is_undecided_by : CheckerValue → ℕ → Bool
 is_undecided_by c frame = is_undecided_beside c.judging frame
 
--- The first cell that shows another code than is due, where it is known what is due.
+-- The first cell that is not right, where it is known what is due.
 abbrev pub differs_now : List (List ℕ) → CheckerValue → Option (ℕ × ℕ)
 differs_now heard c =
     if is_undecided_by c c.frame
     then None
-    else wrong_after c.listener.watched.page heard c.listener.comparison.due
+    else
+    wrong_after c.listener.watched.keeps c.listener.watched.page heard c.listener.comparison.due
 
 -- It is not known of a frame what was due, within the frames that count.
 abbrev pub undecided_now : CheckerValue → Bool
 undecided_now c = was_undecided (is_undecided_by c) c.first c.frame c.within
 
--- The first cell that shows what was not due within the frames that count, where it is known what
--- was due.
+-- The first cell in which is kept what was not due within the frames that count, where it is known
+-- what was due.
 abbrev pub undue_now : List (List ℕ) → CheckerValue → Option (ℕ × ℕ)
 undue_now heard c =
     if undecided_now c
     then None
-    else undue_after c.listener.watched.page heard (due_in c.programme) c.first c.frame c.within
+    else
+    undue_after c.listener.watched.keeps c.listener.watched.page heard (due_in c.programme) c.first
+    c.frame c.within
 
 -- The page is not whole.
 abbrev pub is_unfinished_now : List (List ℕ) → CheckerValue → Bool
@@ -181,6 +203,7 @@ stands heard c = record {
 abbrev pub goes_back_now : CheckerValue → Bool
 goes_back_now c = c.beside && not (c.within == 0)
 
+-- The mark of that.
 abbrev pub back_marks : CheckerValue → List Mark
 back_marks c = if goes_back_now c then GoesBack c.since ∷ [] else []
 

@@ -2,6 +2,8 @@
 -- Private functions alone cite this.
 use Rattle.std.specs.Prelude.{◌≡◌, ℕ, suc, ◌+◌, ◌-◌, ◌<◌, ◌==◌, List, [], ◌++◌, length, map}
 use Rattle.std.specs.Prelude.{nat_le, false, true, Option, None, if◌then◌else◌}
+use Rattle.ttx_page.specs.PacketKind.{kind}
+use Rattle.ttx_page.specs.Span.{holds_beginning}
 use Rattle.sub_rules.specs.Transmission.{Transmission}
 use Rattle.sub_checker.specs.Checker.{CheckerValue, goes_back_now, is_undecided_by}
 use Rattle.sub_rules.specs.Events.{end_before, gap_length, is_gap, latest, nothing_stands}
@@ -95,6 +97,9 @@ pub record StaysOpen
     : Type 0 where
   pub heard : Heard g frames n last c
   pub before : c.counts.headers_before ≡ header_count g.watched.page (packets_before frames n)
+  pub begins :
+      c.counts.begins
+      ≡ holds_beginning g.watched.keeps (kind g.watched.page) (packets_of_frame frames n)
   pub packets : c.counts.packets ≡ length (packets_of_frame frames n)
 
 -- What is kept between two PES packets, where these frames were sent: after the end of the last

@@ -105,6 +105,7 @@ impl<'a> Checker<'a> {
             page: options.page(),
             national: programme.national(),
             complete: options.asks_complete(),
+            keeps: options.may_keep(),
         };
         Checker {
             judging,

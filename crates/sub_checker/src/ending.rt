@@ -14,7 +14,7 @@ ghost use Rattle.sub_rules.specs.PieceEvents.{marks_of_ending, marks_of_waiting}
 ghost use Rattle.sub_rules.specs.Transmission.{Transmission};
 ghost use Rattle.sub_plan.specs.Schedule.{due_in};
 ghost use Rattle.ttx_page.specs.PacketKind.{kind};
-ghost use Rattle.ttx_page.specs.Span.{holds_header};
+ghost use Rattle.ttx_page.specs.Span.{holds_beginning, holds_header};
 
 use crate::checker::Checker;
 use crate::late_end::{is_overdue, unfinished_from};
@@ -94,7 +94,7 @@ impl<'a> Checker<'a> {
         self.is_beside && self.judging.is_undecided(self.frame)
     }
 
-    // The first cell that shows another code than is due, where it is known what is.
+    // The first cell that is not right, where it is known what is due.
     fn first_wrong(&self, is_undecided: bool) -> Option<(u8, u8)>
         requires { is_undecided ≡ is_undecided_by self.now self.now.frame }
         ensures { (heard : List (List ℕ)) → Knows heard self.now.listener
@@ -126,7 +126,7 @@ impl<'a> Checker<'a> {
     }
 
     // What is found at the end of the frame that was reached, where the page need not be whole at
-    // each: a cell may show what was due within these frames, until it is late.
+    // each: in a cell may be kept what was due within these frames, until it is late.
     fn end_now(&self) -> EndWithin
         requires within { 0 < self.now.within }
         ensures standing { (heard : List (List ℕ)) → Knows heard self.now.listener
@@ -162,9 +162,9 @@ impl<'a> Checker<'a> {
         }
     }
 
-    // The first cell that shows a code that was not due within these frames, where it is known what
-    // was, by the first one that shows another than is due now: where there is none, nor is there
-    // one of the former.
+    // The first cell in which is kept a code that was not due within these frames, where it is known
+    // what was, by the first one that is not right now: where there is none, nor is there one of
+    // the former.
     fn first_undue(&self, differing: Option<(u8, u8)>) -> Option<(u8, u8)>
         ensures { (heard : List (List ℕ)) → Knows heard self.now.listener
             → differing ≡ differs_now heard self.now → result ≡ undue_now heard self.now }
@@ -307,7 +307,8 @@ impl<'a> Checker<'a> {
     }
 
     /// The end of the frame of the PES packets that were heard last, among which there is a header
-    /// of the page or none: that the first one has one, and what stands broken.
+    /// of the page or none, and one with which its text begins or none: that the first one has one,
+    /// and what stands broken.
     ///
     /// # Errors
     ///
@@ -316,6 +317,7 @@ impl<'a> Checker<'a> {
     pub fn end_sent<A: Audience<Event>>(
         &mut self,
         has_header: bool,
+        begins: bool,
         stage: &mut Stage<'_, A>,
     ) -> Result<(), Stopped>
         requires goes_on { A.has_stopped stage.old.device.now ≡ false }
@@ -325,6 +327,8 @@ impl<'a> Checker<'a> {
         ensures told { (g : Task) (frames : Transmission) (n : ℕ) (last : List (List ℕ))
             → Heard g frames n last self.old → n < length frames
             → has_header ≡ holds_header (kind g.watched.page) (packets_of_frame frames n)
+            → begins
+            ≡ holds_beginning g.watched.keeps (kind g.watched.page) (packets_of_frame frames n)
             → StagePasses A.is_told stage.old (marks_of_ending g frames n) stage.new result
             × OnOk result (Follows g frames (suc n) last self.new) }
     {
@@ -332,7 +336,7 @@ impl<'a> Checker<'a> {
         let fault = CheckFault::NoFirstHeader { frame: self.frame };
         tell_if(is_told, Event::Told(fault), stage)?;
         self.end_of_frame(stage)?;
-        stage.end_frame(self.frame, has_header, self.standing.has_none());
+        stage.end_frame(self.frame, begins, self.standing.has_none());
         Ok(())
     }
 
@@ -378,7 +382,8 @@ impl<'a> Checker<'a> {
     {
         self.counts.is_open = false;
         let has_header = self.counts.headers_before < self.counts.headers;
-        self.end_sent(has_header, stage)
+        let begins = self.counts.begins;
+        self.end_sent(has_header, begins, stage)
     }
 }
 

@@ -77,8 +77,8 @@ impl<A: Audience<Event>> Stage<'_, A> {
         self.passing.trust.at_end(frame, since, is_late);
     }
 
-    /// The end of a frame of PES packets: whether it has a header of the page, and whether nothing
-    /// stands broken.
+    /// The end of a frame of PES packets: whether it has a header of the page with which a run may
+    /// begin, and whether nothing stands broken.
     pub fn end_frame(&mut self, frame: u32, has_header: bool, none_stands: bool)
         ensures { self.new ≡ at_mark (Ends frame has_header none_stands) self.old }
     {

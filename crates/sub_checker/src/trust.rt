@@ -15,7 +15,8 @@ use sub_rules::{CheckFault, Event};
 pub(crate) struct Trust {
     /// The PES packet of which is told: the checker counts those that are read alone.
     pub pes: u32,
-    /// The run of quiet frames up to the last end: the frame of its first header of the page.
+    /// The run of quiet frames up to the last end: the frame of the first header of the page with
+    /// which it may begin.
     pub run: Option<u32>,
     /// The first frame of it at whose end the page was whole.
     pub whole: Option<u32>,
@@ -97,8 +98,8 @@ impl Trust {
         }
     }
 
-    /// The end of a frame of PES packets: whether that has a header of the page, and whether
-    /// nothing stands broken.
+    /// The end of a frame of PES packets: whether that has a header of the page with which a run
+    /// may begin, and whether nothing stands broken.
     #[inline(always)]
     #[tactic(auto, unfolding(crate::specs::Trust::after_mark))]
     pub fn end_frame(&mut self, frame: u32, has_header: bool, none_stands: bool)

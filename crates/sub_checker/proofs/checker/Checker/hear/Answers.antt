@@ -1,9 +1,9 @@
 -- The packets, and the headers among them.
 use Rattle.std.proofs.Common.{◌∙◌, length, map, ap, refl, sym, subst}
 use Rattle.std.proofs.lemmas.Result.{err_from_is_err_and}
-use Rattle.sub_packets.specs.Listener.{KnowsLast}
+use Rattle.sub_packets.specs.Listener.{AreFound, KnowsLast}
 use Rattle.sub_rules.specs.Events.{packets_told}
-use Rattle.sub_rules.specs.PacketRules.{header_count, packets_of_units}
+use Rattle.sub_rules.specs.PacketRules.{packets_of_units}
 use Rattle.sub_rules.specs.Trusted.Mark.{Says}
 use Rattle.sub_checker.specs.Checker.{CheckerValue, after_headers}
 use Rattle.sub_checker.proofs.StageLemmas.{Moves-told, ok_whole, told_err, told_ok}
@@ -40,8 +40,9 @@ returns-clause-told g c = λ heard last knows again.
     let here = subst (λ (v : CheckerValue). KnowsLast heard last v.listener) (sym c.self.view_is)
     knows in
     let hears = c.in_ok-headers.ensures.knows heard last here again in
-    let count =
-    hears.1 ∙ ap (λ (v : CheckerValue). header_count v.listener.watched.page ps) c.self.view_is in (
+    let found =
+    subst (λ (v : CheckerValue). AreFound v.listener.watched ps c.in_ok-headers.headers)
+    c.self.view_is hears.1 in (
       ok_whole refl
           (told_ok g.A.Audience.is_told g.A.Audience.has_stopped c.args.stage.now
           c.hear_sending.new.audience _
@@ -50,10 +51,10 @@ returns-clause-told g c = λ heard last knows again.
       (
         record {
           listener = c.hear_sending.new.self;
-          headers = c.in_ok-headers.headers;
+          headers = c.in_ok-headers.headers.count;
           new_is =
               c.count.ensures
-              ∙ ap (λ (v : CheckerValue). after_headers c.in_ok-headers.headers (record v {
+              ∙ ap (λ (v : CheckerValue). after_headers c.in_ok-headers.headers.count (record v {
                 listener = c.hear_sending.new.self;
               })) c.self.view_is;
           watched =
@@ -63,8 +64,8 @@ returns-clause-told g c = λ heard last knows again.
               c.in_ok-headers.ensures.due
               ∙ ap (λ (v : CheckerValue). v.listener.comparison.due) c.self.view_is;
           knows = hears.0;
-          count = count;
+          count = found.count;
         },
-        count,
+        found,
       ),
     )
