@@ -49,7 +49,7 @@ _subttx() {
             ;;
 # made: options
         check) options='--page --every --origin --option --layout --open --from --to --pace
-            --complete --within --all --pid --packet-size --pes' ;;
+            --keeping --complete --within --all --pid --packet-size --pes' ;;
         schedule) options='--page --every --origin --option --serial --layout --open --from --to' ;;
         listen) options='--page --origin --complete --within --at --skip --flip --lose --receiver
             --pid --packet-size --pes' ;;

@@ -27,7 +27,7 @@ fn prints_the_line_of_refused_words_into_any_output(rt: HostRuntime) {
 
 // Words that are no command.
 #[rattlefmt::skip]
-const NO_WORDS: [&[&str]; 51] = [
+const NO_WORDS: [&[&str]; 55] = [
     &[], // not even the program's name
     &["subttx"],
     &["subttx", "help", "packet", "15"],
@@ -60,6 +60,10 @@ const NO_WORDS: [&[&str]; 51] = [
     &["subttx", "check", "a", "b", "--all", "--all"],
     &["subttx", "schedule", "a", "b", "--all"],
     &["subttx", "listen", "a", "--at", "10:00:00:10", "--all"],
+    &["subttx", "check", "a", "b", "--keeping=yes"],
+    &["subttx", "check", "a", "b", "--keeping", "--keeping"],
+    &["subttx", "schedule", "a", "b", "--keeping"],
+    &["subttx", "listen", "a", "--at", "10:00:00:10", "--keeping"],
     // frames are allowed once, by a text, and of a check and a receiver
     &["subttx", "check", "a", "b", "--within"],
     &["subttx", "check", "a", "b", "--within", "1", "--within", "2"],

@@ -1,6 +1,6 @@
 -- The law of the printer: what it was told stays told where its lines are handed on. No contract
 -- cites these.
-use Rattle.std.proofs.Common.{◌≡◌, ◌∙◌, ap, refl, sym, ℕ, ◌+◌, Bool, true, false, not}
+use Rattle.std.proofs.Common.{◌≡◌, ◌∙◌, ap, refl, sym, ℕ, ◌+◌, Bool, true, false}
 use Rattle.std.proofs.lemmas.Bool.{true≢false}
 use Rattle.std.proofs.KnownBytes.{Appends-kept}
 use Rattle.sub_io.proofs.DeviceLemmas.{AppendsPrefix-whole}
@@ -8,11 +8,6 @@ use Rattle.sub_io.specs.Device.{AppendsPrefix}
 use Rattle.sub_rules.specs.declared.event.Event.{Event}
 use Rattle.sub_listing.specs.EventLines.{event_line}
 use Rattle.sub_listing.specs.Printer.{PrinterValue, PrintsEvent, StaysPrinted}
-
--- A test that does not hold.
-pub not_true : (b : Bool) → not b ≡ true → b ≡ false
-not_true true is = cc
-not_true false is = refl
 
 -- A sink that has not failed then, had not before.
 not_before : (b c : PrinterValue) (was : Bool) → b.failed ≡ was → StaysPrinted b c

@@ -26,7 +26,8 @@ const HELP: &[u8] = b"usage: subttx COMMAND FILES [options]
   --help                 prints this text
 
   --page 888   --every 250   --origin 0   --option english   where left out
-  --complete   --within N   --all   --pace K   --serial      for check, schedule
+  --complete   --within N   --all   --pace K   --keeping     for check
+  --serial                                                   for schedule
   --layout TEXT   --open   --from TIME   --to TIME           how STL is drawn, a part
   --pid P   --packet-size 188   --pes I-J                    a transport stream, a part
 

@@ -1,6 +1,7 @@
 -- How the arguments of a command are read (own).
-use Rattle.std.specs.Prelude.{ℕ, ◌^◌, ◌-◌, Bool, ◌&&◌, List, [], Option, Some, None, Result, Ok}
-use Rattle.std.specs.Prelude.{codes, nat_le, ok_or, option_map, unwrap_or, if◌then◌else◌}
+use Rattle.std.specs.Prelude.{ℕ, ◌^◌, ◌-◌, Bool, true, false, ◌&&◌, List, [], Option, Some, None}
+use Rattle.std.specs.Prelude.{Result, Ok, codes, nat_le, ok_or, option_map, unwrap_or}
+use Rattle.std.specs.Prelude.{if◌then◌else◌}
 use Rattle.std.specs.Option.{option_map_or}
 use Rattle.std.specs.Str.{bytes_eq}
 use Rattle.clap.specs.Words.{Row, Text, first_of}
@@ -53,6 +54,7 @@ options_of every rows = do
         asks_complete = asked;
         within = 0;
         pace = None;
+        keeps = false;
       })
 
 -- `[--within N]`: the options, where the page has to be whole within so many frames, 0 to 50.
@@ -70,6 +72,11 @@ pacing_of options rows =
       frames ← ok_or (between 1 day (number_of_text text)) fault.Pace
       Ok (record options { pace = Some frames }))
     (first_of (codes "pace") rows) (Ok options)
+
+-- `[--keeping]`: the options, by which repeats may keep the page where the flag is given.
+abbrev pub keeping_of : OptionsValue → List Row → OptionsValue
+keeping_of options rows =
+    if is_given (codes "keeping") rows then record options { keeps = true } else options
 
 -- `[--option O]`
 abbrev pub national_of : List Row → Result National UsageFault

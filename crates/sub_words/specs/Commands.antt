@@ -81,12 +81,12 @@ commands =
     ∷ (codes "schedule", pair_rules (codes "pes") (flag_rule (codes "serial") ∷ []))
     -- check STL PES [--page P] [--origin T] [--every N] [--option O] [--layout TEXT]
     -- [--from TIME] [--to TIME] [--open] [--within N] [--pid P] [--packet-size S] [--pes I-J]
-    -- [--pace K] [--complete] [--all]
+    -- [--pace K] [--keeping] [--complete] [--all]
     ∷ (
       codes "check",
       pair_rules (codes "recording") (within_rule
-          ∷ recording_rules (pace_rule ∷ flag_rule (codes "complete") ∷ flag_rule (codes "all")
-          ∷ [])),
+          ∷ recording_rules (pace_rule ∷ flag_rule (codes "keeping") ∷ flag_rule (codes "complete")
+          ∷ flag_rule (codes "all") ∷ [])),
     )
     -- listen PES [--page P] [--origin T] [--within N] [--pid P] [--packet-size S] [--pes I-J]
     -- --at TIME [--skip N] [--flip F] [--lose L] [--receiver R] [--complete]

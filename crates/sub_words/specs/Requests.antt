@@ -12,7 +12,8 @@ use Rattle.stl_rows.specs.declared.layout.Layout.{Layout}
 use Rattle.stl_rows.specs.declared.national.National.{National}
 use Rattle.sub_plan.specs.Options.{OptionsValue}
 use Rattle.ts_survey.specs.declared.recording.SurveyOptions.{SurveyOptions}
-use Rattle.sub_words.specs.Arguments.{PesAsked, allowing_of, argument, is_given, listed_of}
+use Rattle.sub_words.specs.Arguments.{PesAsked, allowing_of, argument, is_given, keeping_of}
+use Rattle.sub_words.specs.Arguments.{listed_of}
 use Rattle.sub_words.specs.Arguments.{layout_of, national_of, options_of, pacing_of}
 use Rattle.sub_words.specs.Arguments.{packet_size_of, pes_packets_of, required_pid_of, scope_of}
 use Rattle.sub_words.specs.Arguments.{survey_options_of}
@@ -101,7 +102,7 @@ schedule_asked rows = do
 
 -- `check STL PES [--page P] [--every N] [--origin T] [--option O] [--within N] [--pid P]
 -- [--packet-size S] [--pes I-J] [--layout TEXT] [--pace K] [--from TIME] [--to TIME] [--open]
--- [--complete] [--all]`
+-- [--keeping] [--complete] [--all]`
 abbrev pub check_asked : List Row → Result Asked UsageFault
 check_asked rows = do
   plain ← options_of (number_of_text (argument (codes "every") rows)) rows
@@ -109,9 +110,10 @@ check_asked rows = do
   allowing ← allowing_of plain rows
   pes ← pes_packets_of rows
   layout ← layout_of rows
-  options ← pacing_of allowing rows
+  pacing ← pacing_of allowing rows
   scope ← scope_of rows
-  let all = is_given (codes "all") rows in
+  let options = keeping_of pacing rows in
+      let all = is_given (codes "all") rows in
       Ok (Check (argument (codes "stl") rows) pes options national layout scope all)
 
 -- `listen PES [--page P] [--origin T] [--within N] [--complete] [--pid P] [--packet-size S]

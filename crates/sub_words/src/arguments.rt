@@ -3,7 +3,7 @@ ghost use Rattle.std.specs.Prelude.{◌≡◌, IfErr, IfOk, ok_or, option_map, t
 ghost use Rattle.std.specs.Result.{result_map_both};
 ghost use Rattle.clap.specs.Words.{first_of, found_of, rows_of};
 ghost use Rattle.sub_words.specs.Arguments.{allowing_of, argument, is_given, layout_of, listed_of};
-ghost use Rattle.sub_words.specs.Arguments.{given_as, options_of, pacing_of, packet_size_of};
+ghost use Rattle.sub_words.specs.Arguments.{given_as, keeping_of, options_of, pacing_of, packet_size_of};
 ghost use Rattle.sub_words.specs.Arguments.{pes_packets_of, range_given_of, required_pid_of};
 ghost use Rattle.sub_words.specs.Arguments.{scope_of, stream_of, survey_options_of};
 ghost use Rattle.sub_words.specs.Texts.{frame_of_text};
@@ -96,6 +96,17 @@ pub fn pacing_at<'a>(matches: &ArgMatches<'a>, options: Options) -> Result<Optio
     // A number that is missing stands for one that is out of range.
     let frames = parse_number(text);
     options.pacing(frames.unwrap_or(0)).map_err(usage_fault_of)
+}
+
+/// The options, by which repeats may keep the page where `--keeping` is given.
+pub fn keeping_at<'a>(matches: &ArgMatches<'a>, options: Options) -> Options
+    ensures { result ≡ keeping_of options (rows_of (found_of matches.now)) }
+{
+    if flag_at(matches, "keeping") {
+        options.keeping()
+    } else {
+        options
+    }
 }
 
 // A fault of options, as one of the words.

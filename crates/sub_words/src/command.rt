@@ -77,6 +77,7 @@ const COMMANDS: [(&str, &[Argument]); 9] = [
             Argument::Option("packet-size", "188"),
             Argument::BareOption("pes"),
             Argument::BareOption("pace"),
+            Argument::Flag("keeping"),
             Argument::Flag("complete"),
             Argument::Flag("all"),
         ],

@@ -5,8 +5,8 @@ ghost use Rattle.sub_words.specs.Requests.{extract_asked, listen_asked, normal_a
 ghost use Rattle.sub_words.specs.Requests.{packets_asked, schedule_asked, survey_asked};
 
 use crate::arguments::{
-    allowing_at, flag_at, layout_at, list_at, options_at, pacing_at, packet_size_at, pes_at,
-    pid_at, scope_at, survey_options_at, text_at,
+    allowing_at, flag_at, keeping_at, layout_at, list_at, options_at, pacing_at, packet_size_at,
+    pes_at, pid_at, scope_at, survey_options_at, text_at,
 };
 use crate::numbers::parse_number;
 use crate::times::{parse_receiver, parse_time};
@@ -106,7 +106,7 @@ fn read_schedule<'a>(matches: &ArgMatches<'a>) -> Result<Request<'a>, UsageFault
 
 // `check STL PES [--page P] [--every N] [--origin T] [--option O] [--within N] [--pid P]
 // [--packet-size S] [--pes I-J] [--layout TEXT] [--pace K] [--from TIME] [--to TIME] [--open]
-// [--complete] [--all]`
+// [--keeping] [--complete] [--all]`
 fn read_check<'a>(matches: &ArgMatches<'a>) -> Result<Request<'a>, UsageFault>
     ensures { IsReadExactly (check_asked (rows_of (found_of matches.now))) result }
 {
@@ -120,12 +120,12 @@ fn read_check<'a>(matches: &ArgMatches<'a>) -> Result<Request<'a>, UsageFault>
         Err(fault) => return Err(fault),
     };
     let layout = layout_at(matches)?;
-    let options = pacing_at(matches, allowing)?;
+    let pacing = pacing_at(matches, allowing)?;
     let scope = scope_at(matches)?;
     Ok(Request::Check {
         stl: text_at(matches, "stl"),
         pes,
-        options,
+        options: keeping_at(matches, pacing),
         national,
         layout,
         scope,

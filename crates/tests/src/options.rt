@@ -92,6 +92,20 @@ fn asks_for_a_pace_of_a_day_at_most(rt: HostRuntime) {
     assert!(rt; asking.is_ok_and(|options| options.asks_complete() && options.within() == 3));
 }
 
+#[test]
+fn keeps_whether_repeats_may_keep(rt: HostRuntime) {
+    let plain = of_origin(&rt, 7);
+    assert!(rt; !plain.may_keep() && plain.keeping().may_keep());
+    let asking = plain.keeping().asking_complete();
+    assert!(rt; !plain.asking_complete().may_keep() && asking.may_keep());
+    let paced = plain.keeping().pacing(5);
+    assert!(rt; paced.is_ok_and(|options| options.may_keep() && options.pace() == Some(5)));
+    let allowing = plain.keeping().allowing(3);
+    assert!(rt; allowing.is_ok_and(|options| options.may_keep() && options.within() == 3));
+    let late = plain.allowing(3);
+    assert!(rt; late.is_ok_and(|options| !options.may_keep() && options.keeping().within() == 3));
+}
+
 // Asserts the frame of a PTS where so many frames are allowed.
 fn assert_read_as(rt: &impl Abort, origin: u64, frames: u64, pts: u64, frame: Option<u32>) {
     let options = allowing(rt, origin, frames);
