@@ -19,6 +19,8 @@ mod every_place;
 #[cfg(test)]
 mod failing;
 #[cfg(test)]
+mod keeping;
+#[cfg(test)]
 mod live;
 #[cfg(test)]
 mod national;

@@ -12,6 +12,9 @@ const PLAIN: [&str; 2] = ["--every", "250"];
 // Complete pages.
 const COMPLETE: [&str; 2] = ["--every=250", "--complete"];
 
+// A transmission of `Hi`, of `Ho` in place of what can't be drawn, and of `Hi` after a pause.
+const ALL_SENT: [&str; 5] = ["0:hrc", "50:hoc", "100:hc", "120:hrc", "150:hc"];
+
 // Asserts what `check --all` prints for options over a transmission that is spelled.
 fn assert_beside(
     rt: &(impl Abort + Alloc<A = Global>),
@@ -44,20 +47,20 @@ fn file_of_more(
 #[test]
 fn judges_beside_a_text_that_can_not_be_drawn(rt: HostRuntime) {
     let bad = file_with_bad();
-    assert_beside(&rt, PLAIN, &bad, &["0:hrc", "50:hoc", "100:hc", "120:hrc", "150:hc"],
+    assert_beside(&rt, PLAIN, &bad, &ALL_SENT,
         "refused 50 Character block 2 at 4\n\
         trusted frames 10:00:00:00 10:00:01:24\n\
         refused 78 Undecided frame 10:00:02:00\n\
         ended 78 Undecided frame 10:00:04:19\n\
         trusted frames 10:00:04:20 10:00:06:00\n\
         2 faults\n");
-    assert_beside(&rt, ["--from", "10:00:02:00"], &bad, &["0:hrc", "50:hoc", "100:hc", "120:hrc", "150:hc"],
+    assert_beside(&rt, ["--from", "10:00:02:00"], &bad, &ALL_SENT,
         "refused 50 Character block 2 at 4\n\
         refused 78 Undecided frame 10:00:00:00\n\
         ended 78 Undecided frame 10:00:04:19\n\
         trusted frames 10:00:04:20 10:00:06:00\n\
         2 faults\n");
-    assert_beside(&rt, ["--every", "49"], &bad, &["0:hrc", "50:hoc", "100:hc", "120:hrc", "150:hc"],
+    assert_beside(&rt, ["--every", "49"], &bad, &ALL_SENT,
         "refused 50 Character block 2 at 4\n\
         trusted frames 10:00:00:00 10:00:01:23\n\
         refused 73 Gap frame 10:00:01:24\n\
@@ -68,6 +71,12 @@ fn judges_beside_a_text_that_can_not_be_drawn(rt: HostRuntime) {
         ended 78 Undecided frame 10:00:04:19\n\
         trusted frames 10:00:04:20 10:00:06:00\n\
         4 faults\n");
+}
+
+#[rattlefmt::skip]
+#[test]
+fn asks_for_the_page_where_it_is_known_again(rt: HostRuntime) {
+    let bad = file_with_bad();
     assert_beside(&rt, PLAIN, &bad, &["0:hrc", "120:hrc", "150:hc"],
         "refused 50 Character block 2 at 4\n\
         trusted frames 10:00:00:00 10:00:01:24\n\
@@ -100,6 +109,12 @@ fn judges_beside_a_text_that_can_not_be_drawn(rt: HostRuntime) {
         ended 72 Content frame 10:00:04:21\n\
         trusted frames 10:00:04:22 10:00:06:00\n\
         3 faults\n");
+}
+
+#[rattlefmt::skip]
+#[test]
+fn tells_what_is_broken_before_it_is_not_known(rt: HostRuntime) {
+    let bad = file_with_bad();
     assert_beside(&rt, PLAIN, &bad, &["0:hrc", "49:hc", "50:hoc", "120:hrc", "150:hc"],
         "refused 50 Character block 2 at 4\n\
         trusted frames 10:00:00:00 10:00:01:23\n\
@@ -116,6 +131,12 @@ fn judges_beside_a_text_that_can_not_be_drawn(rt: HostRuntime) {
         ended 78 Undecided frame 10:00:04:21\n\
         trusted frames 10:00:06:00 10:00:06:00\n\
         2 faults\n");
+}
+
+#[rattlefmt::skip]
+#[test]
+fn tells_all_else_where_it_is_not_known(rt: HostRuntime) {
+    let bad = file_with_bad();
     assert_beside(&rt, PLAIN, &bad, &["0:hrc", "50:hec", "120:hrc", "150:hc"],
         "refused 50 Character block 2 at 4\n\
         trusted frames 10:00:00:00 10:00:01:24\n\
@@ -186,28 +207,14 @@ fn judges_before_and_behind_what_is_refused(rt: HostRuntime) {
 
 #[rattlefmt::skip]
 #[test]
-fn asks_no_time_of_what_is_refused(rt: HostRuntime) {
+fn asks_no_time_beside_what_is_refused(rt: HostRuntime) {
     let hi = at(0, 50, &HI);
-    let next = at(80, 100, &HI);
     let overlapping = file_of_blocks(&hi, &at(40, 60, &HO), &at(60, 100, &HI));
+    let next = at(80, 100, &HI);
     let early = file_of_more(&hi, &at(60, 70, &HO), &at(20, 30, &HI), &next);
     let empty = file_of_blocks(&hi, &at(50, 50, &HO), &at(50, 100, &HI));
     let mut within = file_of_blocks(&hi, &at(20, 30, &HO), &at(50, 100, &HI));
     within[1156] = 1; // CS
-    let pause = file_of_blocks(&hi, &at(60, 70, &HO), &next);
-    let (mut before, mut no_time, mut cumulative, mut justified) = (pause, pause, pause, pause);
-    put(&mut before, 1161, &[9, 0, 0, 0]); // TCO
-    no_time[1164] = 25; // frames of TCO
-    cumulative[1156] = 1; // CS
-    justified[1166] = 4; // JC
-    let late = file_of_blocks(&hi, &at(200, 250, &HO), &at(60, 100, &HI));
-    let mut lost = [0; 1664];
-    put(&mut lost, 0, &file_of_more(&hi, &at(60, 70, &HO), &at(20, 30, &HI), &at(40, 45, &HI)));
-    put(&mut lost, 1536, &next);
-    let mut far = [0; 1664];
-    put(&mut far, 0,
-        &file_of_more(&hi, &at(500, 510, &HO), &at(520, 530, &HO), &at(60, 100, &HI)));
-    put(&mut far, 1536, &at(120, 150, &HI));
     assert_beside(&rt, PLAIN, &overlapping, &["0:hrc", "40:hoc", "60:hrc", "100:hc"],
         "refused 57 Overlap block 2\n\
         refused 78 Undecided frame 10:00:00:00\n\
@@ -229,6 +236,17 @@ fn asks_no_time_of_what_is_refused(rt: HostRuntime) {
         "refused 16 Cumulative block 2\n\
         trusted frames 10:00:00:00 10:00:04:00\n\
         1 faults\n");
+}
+
+#[rattlefmt::skip]
+#[test]
+fn asks_no_time_of_a_pause_with_what_is_refused(rt: HostRuntime) {
+    let pause = file_of_blocks(&at(0, 50, &HI), &at(60, 70, &HO), &at(80, 100, &HI));
+    let (mut before, mut no_time, mut cumulative, mut justified) = (pause, pause, pause, pause);
+    put(&mut before, 1161, &[9, 0, 0, 0]); // TCO
+    no_time[1164] = 25; // frames of TCO
+    cumulative[1156] = 1; // CS
+    justified[1166] = 4; // JC
     assert_beside(&rt, PLAIN, &before, &["0:hrc", "50:hc", "80:hrc", "100:hc"],
         "refused 21 EmptyTime block 2\n\
         trusted frames 10:00:00:00 10:00:01:24\n\
@@ -257,6 +275,20 @@ fn asks_no_time_of_what_is_refused(rt: HostRuntime) {
         ended 78 Undecided frame 10:00:03:04\n\
         trusted frames 10:00:03:05 10:00:04:00\n\
         2 faults\n");
+}
+
+#[rattlefmt::skip]
+#[test]
+fn asks_no_time_behind_what_is_out_of_order(rt: HostRuntime) {
+    let hi = at(0, 50, &HI);
+    let late = file_of_blocks(&hi, &at(200, 250, &HO), &at(60, 100, &HI));
+    let mut lost = [0; 1664];
+    put(&mut lost, 0, &file_of_more(&hi, &at(60, 70, &HO), &at(20, 30, &HI), &at(40, 45, &HI)));
+    put(&mut lost, 1536, &at(80, 100, &HI));
+    let mut far = [0; 1664];
+    put(&mut far, 0,
+        &file_of_more(&hi, &at(500, 510, &HO), &at(520, 530, &HO), &at(60, 100, &HI)));
+    put(&mut far, 1536, &at(120, 150, &HI));
     assert_beside(&rt, PLAIN, &late, &["0:hrc", "50:hc", "60:hrc", "100:hc"],
         "refused 56 OutOfOrder block 3\n\
         trusted frames 10:00:00:00 10:00:01:24\n\
