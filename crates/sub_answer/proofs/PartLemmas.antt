@@ -11,10 +11,6 @@ use Rattle.sub_answer.specs.Part.{IsPartOf, number_in, through_range, through_st
 use Rattle.sub_answer.specs.declared.part.Part.{Part}
 use Rattle.sub_answer.proofs.EndingLemmas.{whole_source}
 
--- A part by its stream and its range.
-part : Option TransportStream → Option PieceRangeValue → Part
-part stream range = record { stream = stream; range = range }
-
 module _ {D : Type 0} (remaining : D → Option (List ℕ)) (failure_count : D → ℕ)
     (old left : D) (input : InputCall) where
   -- Of this stream and this range, where one of them is given.

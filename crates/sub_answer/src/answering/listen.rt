@@ -15,8 +15,8 @@ use sub_request::{Listening, ReceiverKind};
 use sub_rules::FaultPlace;
 use ttx_page::{Blank, Keep, Page, Receiver};
 
-/// Runs the receiver that is asked for over the PES packets of a file up to TIME, and prints what it
-/// has heard and shows, or why the file is refused (`listen` of `sub_listen`).
+/// Runs the receiver that is asked for over the PES packets of a file up to TIME, and prints what
+/// it has heard and shows, or why the file is refused (`listen` of `sub_listen`).
 ///
 /// The receiver is tuned to the page with an old page that holds 3F in every cell. Nothing is
 /// printed before the last packet was heard. Where complete pages are asked for, what is printed is
