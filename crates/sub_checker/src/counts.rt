@@ -38,7 +38,8 @@ impl Counts {
     }
 
     /// The end of the last frame is still to come: it has these headers of the page, and so many
-    /// packets. Apart from what is done with each frame, which else would keep both counts of headers.
+    /// packets. Apart from what is done with each frame, which else would keep both counts of
+    /// headers.
     #[inline(never)]
     pub fn leave_open(&mut self, headers: Headers, packets: u32)
         requires { headers.count ≤ self.old.headers }

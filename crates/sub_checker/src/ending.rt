@@ -162,9 +162,9 @@ impl<'a> Checker<'a> {
         }
     }
 
-    // The first cell in which is kept a code that was not due within these frames, where it is known
-    // what was, by the first one that is not right now: where there is none, nor is there one of
-    // the former.
+    // The first cell in which is kept a code that was not due within these frames, where it is
+    // known what was, by the first one that is not right now: where there is none, nor is there one
+    // of the former.
     fn first_undue(&self, differing: Option<(u8, u8)>) -> Option<(u8, u8)>
         ensures { (heard : List (List ℕ)) → Knows heard self.now.listener
             → differing ≡ differs_now heard self.now → result ≡ undue_now heard self.now }

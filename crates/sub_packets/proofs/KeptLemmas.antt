@@ -1,6 +1,7 @@
--- What is kept of packets where repeats may keep, one packet on: the last header, `last_header-push`
--- and `last_header-append`; whether a row is in the span, `has_row-push`; the first of a row in the
--- long span, `first_of_row-push`; and that a code that is no space came in a row, `row_of_code`.
+-- What is kept of packets where repeats may keep, one packet on: the last header,
+-- `last_header-push` and `last_header-append`; whether a row is in the span, `has_row-push`; the
+-- first of a row in the long span, `first_of_row-push`; and that a code that is no space came in a
+-- row, `row_of_code`.
 use Rattle.std.proofs.Common.{◌≡◌, ℕ, Bool, true, false, not, ◌&&◌, ◌||◌, ◌==◌, cond, List, [], ◌∷◌}
 use Rattle.std.proofs.Common.{◌++◌, Some, None, find, option_map, unwrap_or, refl, sym, ap}
 use Rattle.std.proofs.Common.{◌∙◌, arith}

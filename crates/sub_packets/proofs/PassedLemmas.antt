@@ -69,7 +69,8 @@ module _
                 rw (
                   later_row s.watched heard p a.packet_number
                       (first_of_row s.watched.page
-                      (text_span s.watched.keeps (kind s.watched.page) heard) a.packet_number) (is ∙ cond-true _ _ _ row) refl,
+                      (text_span s.watched.keeps (kind s.watched.page) heard) a.packet_number)
+                      (is ∙ cond-true _ _ _ row) refl,
                   ← known.open_is,
                   shut,
                 ) refl

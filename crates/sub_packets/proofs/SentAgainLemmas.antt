@@ -119,12 +119,14 @@ module _
               (first_after (heard ++ first ∷ others) more h.0 h.1
               ∙ ap (λ o. option_or o (Some h.0)) (first_after heard others h.0 h.1));
           last_is =
-              last_after heard more h.0 h.2 ∙ sym (last_after (heard ++ first ∷ others) more h.0 h.2);
+              last_after heard more h.0 h.2
+              ∙ sym (last_after (heard ++ first ∷ others) more h.0 h.2);
           open_is = grind (arith, nat_tests, holds-append_right);
           span_is = ap (before_end (kind w.page)) after;
           text_is =
               text_span-begins w.keeps w.page heard (first ∷ more) begun
-              ∙ sym (text_span-begins w.keeps w.page (heard ++ first ∷ others) (first ∷ more) begun);
+              ∙ sym
+              (text_span-begins w.keeps w.page (heard ++ first ∷ others) (first ∷ more) begun);
         }
 
     -- The header itself breaks the same rules again.

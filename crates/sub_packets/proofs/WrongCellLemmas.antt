@@ -115,8 +115,8 @@ found_first test (Some place) first =
     (first_cell-at test place.0 place.1 first.is_cell first.passes first.rows_above
     first.cells_before)
 
--- The first cell in which two pages differ passes a test first, where exactly those pass it in which
--- they do.
+-- The first cell in which two pages differ passes a test first, where exactly those pass it in
+-- which they do.
 differing_found :
     (test : ℕ → ℕ → Bool) (a b : Rows) (o : Option (ℕ × ℕ))
     → ((row column : ℕ)
@@ -131,7 +131,9 @@ differing_found test a b None is same =
     let here = is row column at in let equal = same row column at in grind (arith, nat_tests)
 differing_found test a b (Some place) is d = record {
   is_cell = d.is_cell;
-  passes = let here = is place.0 place.1 d.is_cell in let other = d.differ in grind (arith, nat_tests);
+  passes =
+      let here = is place.0 place.1 d.is_cell in
+      let differ = d.differ in grind (arith, nat_tests);
   rows_above = λ r c at less.
       let here = is r c at in
       let above = ap (λ xs. get_or xs c 0) (d.rows_above r at.0 less) in grind (arith, nat_tests);

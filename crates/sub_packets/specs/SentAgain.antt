@@ -33,8 +33,8 @@ BreakAlike w one other packets =
     → broken_rules w (one ++ take k packets) (slice_index_or packets k [])
     ≡ broken_rules w (other ++ take k packets) (slice_index_or packets k [])
 
--- Packets that begin with such a header break the same rules again when they are sent again at once,
--- and leave all that is looked back to as they left it before.
+-- Packets that begin with such a header break the same rules again when they are sent again at
+-- once, and leave all that is looked back to as they left it before.
 -- So a checker need not look at a sending that broke none, sent again.
 abbrev pub LawOfSentAgain : Type 0
 LawOfSentAgain =

@@ -24,8 +24,8 @@ use ttx_page::PacketKind;
 impl Listener {
     ghost use Rattle.sub_packets.specs.Listener.{Knows};
 
-    /// The rules that a packet of this kind, with this page header, breaks which comes now. They are
-    /// put into the set from the last of their order to the first.
+    /// The rules that a packet of this kind, with this page header, breaks which comes now. They
+    /// are put into the set from the last of their order to the first.
     #[inline(always)]
     pub(crate) fn broken_rules(
         &self,

@@ -1,5 +1,5 @@
-//! What is found of the packets heard last: how many headers of the page they hold, whether the text
-//! begins with one of them, or with the first packet, and whether none breaks a rule.
+//! What is found of the packets heard last: how many headers of the page they hold, whether the
+//! text begins with one of them, or with the first packet, and whether none breaks a rule.
 ghost use Rattle.std.specs.Prelude.{◌≡◌, ◌+◌, ◌<◌, ◌&&◌, ◌||◌, ◌==◌, if◌then◌else◌, None, Some};
 ghost use Rattle.ttx_pes.specs.PesPacket.{most_units};
 

@@ -50,8 +50,8 @@ pub struct Listener {
     pub(crate) again: [bool; 24],
     /// The page that the packets show, beside the page that is due.
     pub comparison: Comparison,
-    // How many headers of the page the packets heard last hold, where the text begins with the first
-    // of these.
+    // How many headers of the page the packets heard last hold, where the text begins with the
+    // first of these.
     last: Option<u8>,
 }
 

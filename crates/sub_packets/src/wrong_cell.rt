@@ -1,4 +1,4 @@
-//! The first cell that is not right: where repeats may keep the page, its row has to come again too.
+//! The first cell that is not right: where repeats may keep the page, rows have to come again too.
 ghost use Rattle.std.specs.Prelude.{◌≡◌, ℕ, ◌-◌, ◌==◌, List, IsTrue, None, false};
 ghost use Rattle.std.specs.Prelude.{if◌then◌else◌, slice_index_or};
 ghost use Rattle.ttx_page.specs.Page.{IsCell, cell, space};

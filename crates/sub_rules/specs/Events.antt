@@ -106,8 +106,8 @@ is_incomplete g frames n =
 
 -- ---- within how many frames the page has to be whole
 
--- The end of frame f, after n frames of the list, is unfinished: a cell is not right, or the page is
--- open where complete pages are asked for.
+-- The end of frame f, after n frames of the list, is unfinished: a cell is not right, or the page
+-- is open where complete pages are asked for.
 abbrev pub is_unfinished : Task → Transmission → ℕ → ℕ → Bool
 is_unfinished g frames n f = is_some (wrong_cell g frames n f) || is_incomplete g frames n
 

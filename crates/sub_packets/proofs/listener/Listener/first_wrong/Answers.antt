@@ -11,8 +11,9 @@ returns-then-not-self c heard known =
 pub returns : goal.returns
 returns c heard known =
     c.earlier.ensures
-    ∙ wrong_keeping heard c.args.self.now known c.missing-missing.result c.first_wrong-differing.result
-    c.first_difference.result c.missing-missing.ensures c.first_wrong-differing.ensures
+    ∙ wrong_keeping heard c.args.self.now known c.missing-missing.result
+    c.first_wrong-differing.result c.first_difference.result c.missing-missing.ensures
+    c.first_wrong-differing.ensures
     (subst (λ (page : Rows). MatchOption c.first_difference.result (c.missing-missing.result ≡ page)
     (λ place. DiffersFirst c.missing-missing.result page place.0 place.1)) c.blank.ensures
     c.first_difference.ensures)
