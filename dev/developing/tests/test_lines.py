@@ -3,8 +3,7 @@ from __future__ import annotations
 
 from subtitles.core.programme import Subtitle, subtitles_shown
 from subtitles.core.told import (
-    ENDS_READING, PASSED_OVER, STL_FAULTS, WITH_CAUSE, Accepted, Told, Trusted, accepted_of,
-    count_of, number_of, told_of, trusted_of)
+    Accepted, Told, Trusted, accepted_of, count_of, number_of, told_of, trusted_of)
 from subtitles.core.words import Stop
 from .bench import Case
 
@@ -16,18 +15,6 @@ NONE = None
 
 class Lines(Case):
     """Lines as values."""
-
-    def test_sorts_of_numbers(self) -> None:
-        """Of the subtitle file, of PES packets that are passed over, of what ends reading, and of
-        subtitles that have a cause."""
-        for name, found, wanted in (
-                ("of the subtitle file", STL_FAULTS,
-                 [10, 11, 12, 13, 14, 15, 16, 17, 18, 19, 20, 21, 22, 23, 24, 25,
-                  50, 51, 52, 53, 54, 55, 56, 57]),
-                ("passed over", PASSED_OVER, [33, 34, 35, 36, 37, 38, 39, 40, 45, 61]),
-                ("ends reading", ENDS_READING, [30, 31, 32, 44]),
-                ("with a cause", WITH_CAUSE, [63, 72, 74])):
-            self.must(name, sorted(found) == wanted, found)
 
     def test_tell_places(self) -> None:
         """A line with a number, for each kind of place."""

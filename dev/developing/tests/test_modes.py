@@ -7,17 +7,14 @@ import unittest
 from types import ModuleType
 from unittest import mock
 
-from subtitles.calls import (
-    batch, collecting, index_page, machine, main, objects, single, watching)
-from subtitles.calls.channel import (
-    awaited, channel, feed_clock, hearing, planned, queue, source, spool)
+from subtitles.calls import batch, collecting, main, single, watching
+from subtitles.calls.channel import channel
 from subtitles.calls.main import (
     jobs_word, file_in, minutes_word, name_in, parser_of, seconds_word)
 from subtitles.calls.modes import (
     ALONE, BATCH, CHANNEL, CHANNEL_LINE, COLLECT, LINE, MODES, PAIR, TAKEN_BY, WATCH, Mode,
     mode_of, refuse_options)
 from subtitles.calls.channel.planned import Planned
-from subtitles.core import files
 from subtitles.core.built import TOP
 from subtitles.core.words import Stop
 from subtitles.qc.asked import asked_of_line
@@ -153,39 +150,6 @@ class Modes(Case):
             self.must(" ".join(words), done.status == 2 and len(done.told) == 1
                       and words[2] in done.told[0] + words[2] and " goes with " in done.told[0],
                       done)
-
-
-class Numbers(unittest.TestCase):
-    """Numbers that nothing else tells: what is taken where nothing is asked for, and how long
-    something is waited for, in ticks where no unit is named."""
-
-    OWN: dict[ModuleType, dict[str, object]] = {
-        awaited: {"IN_A_ROW": 5, "BEFORE": 12, "NEAR": 1800}, batch: {"WAIT": 0.2},
-        channel: {"LATER": 10_800_000, "MARGIN": 10_800_000},
-        feed_clock: {"GAP": 5_400_000, "BACK": 45_000, "ANEW": 324_000_000},
-        hearing: {"BOTH": 450_000, "SILENT": 720_000, "NEAR_PCR": 900_000},
-        index_page: {"MOST_CAUSES": 6}, planned: {"MISSING": 60.0},
-        machine: {"FORMAT": 3}, main: {"SETTLED": 5, "PATIENCE": 60}, objects: {"LINES": 100},
-        queue: {"AT_ONCE": 4, "LOOK": 1.0}, source: {"PART": 1 << 18},
-        spool: {"PARTS": 20, "LEAST": 1 << 20},
-        single: {"SUMMED": 100, "SIGNALS": (2, 15, 1)}, watching: {"LOOK": 1.0, "DONE": ".done"},
-        files: {"PIECE": 1 << 20, "OWN_OUTPUT": {"-", "/dev/stdout", "/dev/fd/1",
-                                                 "/proc/self/fd/1"}}}
-    NONE = ("batch", "channel", "collect", "csv", "found_layout", "json", "junit", "jobs", "name",
-            "origin", "out", "patience", "pes", "pid", "program", "recording", "settled",
-            "severity", "start", "stl", "watch")
-    FALSE = ("is_cut", "is_fitted", "is_kept", "is_loss_allowed", "is_resumed", "is_strict")
-
-    def test_own(self) -> None:
-        for module, numbers in self.OWN.items():
-            for name, value in numbers.items():
-                self.assertEqual(getattr(module, name), value, f"{module.__name__}.{name}")
-
-    def test_of_a_call_without_options(self) -> None:
-        self.assertEqual(vars(parser_of("").parse_args([])), {
-            **dict.fromkeys(self.NONE), **dict.fromkeys(self.FALSE, False), "page": (0, 0x88),
-            "every": 250, "option": "english", "is_complete": True, "within": 0, "breaks": 0,
-            "stall": 10, "passed_on": {}})
 
 
 class Words(unittest.TestCase):

@@ -8,7 +8,7 @@ from unittest import mock
 
 from subtitles.core.pes import pes_packet
 from subtitles.core.times import CLOCK, TICKS
-from subtitles.core.told import ENDS_READING, PASSED_OVER, STL_FAULTS, WITH_CAUSE
+from subtitles.core.told import ENDS_READING, STL_FAULTS
 from subtitles.qc.checking import NO_END, Answer
 from subtitles.qc.clock import FITTED, FITTED_LATER, GIVEN, RECORDING, Clock
 from subtitles.qc.delays import MOVED, Spread, spread_of
@@ -285,15 +285,11 @@ class Severities(Case):
         self.must("a word", OTHERS == "others")
 
     def test_sets_of_numbers(self) -> None:
-        """Those of the subtitle file, of PES packets that can't be read, and with a cause."""
-        self.must("of the subtitle file", STL_FAULTS == {*range(10, 26), *range(50, 58)})
-        self.must("passed over", PASSED_OVER == {33, 34, 35, 36, 37, 38, 39, 40, 45, 61})
-        self.must("with a cause", WITH_CAUSE == {63, 72, 74})
+        """Of what comes of more frames, and where pages are moved."""
         self.must("whatever N is", FIXED == STL_FAULTS | {*range(30, 41), 44, 45, 60})
         self.must("of packets, of frames", (OF_PACKETS, OF_FRAMES, OF_ENDS) == (
             {63, 64, 65, 66, 67, 68, 69, 70, 71, 73}, {61, 62}, {72, 77}))
         self.must("pages are moved", MOVED == {30, 31, 32, 44, 45, 60, 62, 63, 71, 72, 74, 77})
-        self.must("apart", not STL_FAULTS & PASSED_OVER and not PASSED_OVER & ENDS_READING)
 
     def test_what_more_frames_may_accept(self) -> None:
         """None of the faults is one that stays; of packets some may go where frames are others."""
