@@ -62,7 +62,8 @@ class Pids(Case):
         """By the PMT: it is told when, and what comes on the other PID counts from then on."""
         for is_early in (False, True):
             own, other = Lines(PID), Lines(OTHER)
-            lines = [*TABLE, own.pes(0), own.rows("one"), own.pes(20 * SECOND, "hec"),
+            lines = [*TABLE, own.pes(0), own.rows("one"), other.pes(2 * SECOND, ""),
+                     own.pes(20 * SECOND, "hec"),
                      other.pes(21 * SECOND), other.rows("two"), *MOVED, other.pes(22 * SECOND),
                      other.rows("three")]
             if not is_early:
@@ -118,6 +119,8 @@ class Pages(Case):
         try:
             hearing.turn_to([PAGE])
             hearing.turn_to([PAGE, (0, 0x87)])
+            self.must("both are open", hearing.open() == hearing.calls and all(
+                os.getsid(call.process.pid) == call.process.pid for call in hearing.calls))
             for call in hearing.calls:
                 call.hand(b"".join(sent[2001:]))
                 call.hand(b"")
@@ -244,6 +247,23 @@ class Missing(Case):
 
 class Kept(Case):
     """What came of a feed lately."""
+
+    def test_lines(self) -> None:
+        """Of what is told of a PID, and of tables, the last 64 of each, once in a while."""
+        lines = [Lines(PID).pes(0)]
+        for at in range(1, 100):
+            lines += [f"ahead {PID} {at} 18000", f"clock {PID} {at} 9 0 1 1 1 whole",
+                      f"set {PID} {at} 28 0 0", f"programme {at} {PCR}"]
+        heard = heard_of(lines)
+        self.must("all", len(heard.packets.samples) == 99, len(heard.packets.samples))
+        heard.prune()
+        packets = heard.packets
+        for name, found in (("samples", [pts for pts, _ in packets.samples]),
+                            ("clocks", [one.before for one in packets.clocked]),
+                            ("programmes", [one.number for one in heard.programmes])):
+            self.must(name, found == list(range(36, 100)), found)
+        self.must("sets", len(packets.sets) == 64 and packets.sets[-1] != packets.sets[0],
+                  packets.sets)
 
     def test_all_is_there(self) -> None:
         """From a time on, and little more, though what is told is behind what came; what nobody

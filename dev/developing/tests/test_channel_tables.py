@@ -6,7 +6,7 @@ import errno
 import os
 from unittest import mock
 
-from subtitles.calls.channel.awaited import NEAR, Awaited, Changes, Timed
+from subtitles.calls.channel.awaited import BEFORE, NEAR, Awaited, Changes, Timed
 from subtitles.calls.channel.feed_clock import SECOND, FeedClock
 from subtitles.calls.claim import claimed, claimed_for_batch
 from subtitles.core.stl import boxed, gsi_block, subtitle_blocks
@@ -104,6 +104,13 @@ class Tables(Case):
             if awaited.midnight(some) is not None:
                 found.append(number)
         self.must("from the fifth on", found[:1] in ([4], [8], [9]), found)
+        awaited, some = Awaited(stl, "english", 0, 3600 * SECOND), Changes()
+        with mock.patch.object(awaited, "agreed", return_value=None) as agreed:
+            for at in range(200):
+                some.add(SECOND * at, b"Gamma")
+                awaited.midnight(some)
+        self.must("the last ones alone are looked at again", agreed.call_count < 200 * (BEFORE + 2),
+                  agreed.call_count)
 
     def test_nearest_change(self) -> None:
         """Of three: by time, and by letters with room."""

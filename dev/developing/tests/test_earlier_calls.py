@@ -7,9 +7,12 @@ import dataclasses
 import io
 import json
 import os
+import threading
 from types import SimpleNamespace
 from typing import Any
+from unittest import mock
 
+from subtitles.calls import watching
 from subtitles.calls.machine import FORMAT, asked_words
 from subtitles.calls.objects import (
     Row, found, found_at, has_had_its_turn, is_current, left_by_call, may_take, object_at,
@@ -299,6 +302,37 @@ class Watched(Case):
                 self.must(reason, not watch.is_new(Item("a", None, reason)))
         lines = [line.partition(": ")[2] for line in told.getvalue().splitlines()]
         self.must("told", lines == ["first", "second", "first"], lines)
+
+    def test_what_is_judged_now(self) -> None:
+        """A pair that is written to meanwhile, the first and the second, is judged again only when
+        it is over."""
+        for name in ("in", "out"):
+            os.mkdir(self.path(name))
+        begun, looks, released = list[str](), list[int](), threading.Event()
+        stopping, due = SimpleNamespace(is_asked=False), Watch.due
+
+        def judge(_: object, item: Item) -> Row:
+            begun.append(item.name)
+            released.wait(9)
+            return row(item.name, "accepted")
+
+        def look(watch: Watch, busy: set[str], now: float) -> list[Item]:
+            looks.append(len(looks))
+            if len(looks) in (1, 4):
+                for name in ("a.stl", "a.ts", "b.stl", "b.ts"):
+                    self.write(f"in/{name}", b"x" * len(looks))
+            if len(looks) == 7:
+                stopping.is_asked = True
+                released.set()
+            return due(watch, busy, now)
+
+        with mock.patch.object(watching, "Stopping", lambda: stopping), \
+                mock.patch.object(watching, "LOOK", 0.01), mock.patch.object(Watch, "due", look), \
+                mock.patch.object(watching.Calls, "judge", judge), \
+                contextlib.redirect_stdout(io.StringIO()) as out:
+            watching.watch(self.words(program=self.bench.program, jobs=4), "tools/qc")
+        self.must("once", sorted(begun) == ["a", "b"] and len(out.getvalue().splitlines()) == 2,
+                  (begun, out.getvalue()))
 
     def test_signals(self) -> None:
         """The first asks for the end, the second ends at once."""

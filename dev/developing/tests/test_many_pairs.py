@@ -2,6 +2,7 @@
 from __future__ import annotations
 
 import argparse
+import concurrent.futures
 import contextlib
 import io
 import json
@@ -245,6 +246,23 @@ class Judged(Case):
                       ignored.called == isinstance(reason, KeyboardInterrupt))
             self.must("objects", os.listdir(self.path("out")) == ["name0.json"])
 
+    @alone
+    def test_stopped_when_others_are_over(self) -> None:
+        """What was judged by then counts, though nobody had looked at it yet."""
+        calls = Calls(self.typed, self.path("temporary"), self.path("out"), False)
+        items = [self.item("accepted", f"name{at}") for at in range(3)]
+        wait = concurrent.futures.wait
+
+        def one_of_all(waiting: Any, *_: object) -> Any:
+            wait(waiting)
+            return [next(iter(waiting))], []
+
+        with mock.patch.object(concurrent.futures, "wait", one_of_all), \
+                mock.patch("subtitles.qc.progress.Progress.show", side_effect=KeyboardInterrupt), \
+                mock.patch.object(batch, "ignore_signals"):
+            rows = all_rows(calls, items, {}, 3)
+        self.must("all", sorted(rows) == ["name0", "name1", "name2"], rows)
+
     def test_kept(self) -> None:
         """What an earlier call has judged as it would be judged now; not what it did not judge, and
         no object of another program, or that is none."""
@@ -409,6 +427,8 @@ class Collected(Case):
                   "no/x" in told.splitlines()[0] and "no/y" in told.splitlines()[1], told)
         self.end(json=self.path("all"), csv=self.path("lines"), junit=self.path("cases"))
         have = json.loads(self.read("all"))
+        self.must("as it is written", self.read("all").startswith(
+            b'{\n "format": 3,\n "status": 2,\n "date": "'))
         self.must("objects", [one["verdict"] for one in have["pairs"]] ==
                   ["accepted", "refused", "not judged", "waived"] and have["status"] == 2, have)
         self.must("lines", len(self.read("lines").splitlines()) == 6)

@@ -3,6 +3,7 @@ from __future__ import annotations
 
 import argparse
 import contextlib
+import dataclasses
 import io
 import json
 import os
@@ -15,6 +16,7 @@ from subtitles.calls.single import Files, Output, end, end_pair, judge_pair, nam
 from subtitles.core.words import Stop
 from subtitles.qc.checking import Answer
 from subtitles.qc.clock import FITTED, GIVEN, RECORDING, Clock
+from subtitles.qc.made_with import program_at
 from subtitles.qc.names import Names
 from subtitles.qc.severity import Severity
 from subtitles.qc.typed import Typed
@@ -340,6 +342,10 @@ class Overview(Case):
         box = overview.box(verdict, "the <line>")
         self.must("box", box.startswith('<div class="verdict refused">') and "the &lt;line&gt;" in
                   box and box.count("3 TS packets lost") == 1 and "warning: strange" in box, box)
+        page = "".join(overview.overview(dataclasses.replace(verdict, date="2026-01-02T03:04:05Z"),
+                                         program_at(self.bench.program), names,
+                                         Typed("tools/qc", self.bench.program)))
+        self.must("its date", "2026-01-02 03:04:05 UTC" in page)
         scope = overview.scope(verdict)
         count = 3 * overview.subtitles_of(verdict.parts[0])
         self.must("scope", f"00:00:00:00 to 00:00:05:24, {count} subtitles" in scope, scope)

@@ -12,7 +12,7 @@ from typing import Sequence
 from subtitles.core.pes import pts_bytes
 from subtitles.core.stl import boxed, gsi_block, subtitle_blocks
 from subtitles.core.times import CLOCK, FRAMES_A_SECOND, TICKS
-from .bench import Case, packets, tool_path
+from .bench import Case, example, packets, tool_path
 
 SECOND = TICKS * FRAMES_A_SECOND
 BEGIN = CLOCK - 30 * SECOND  # of the feed, so that PTS begin again soon
@@ -103,6 +103,12 @@ class Channels(Case):
                                 "three.json"} <= kept, kept)
         clock = json.loads(self.read("out/one.json"))["parts"][0]["clock"]
         self.must("its clock", clock["source"] == "recording", clock)
+
+    def test_names_no_programme(self) -> None:
+        """Of a list without a line that is told at the end of the feed."""
+        self.write("list", b"# none\n")
+        done = self.tool("qc", "--channel", "list", example("story.pes"), "-p", self.bench.program)
+        self.must("told", done == (2, b"", ["qc: list names no programme"]), done)
 
     def test_reads_a_list_that_grows(self) -> None:
         """A feed that stands still, a line that comes late, and a signal."""

@@ -104,7 +104,6 @@ def judge(words: argparse.Namespace, called: str) -> int:
     typed = Typed(called, words.program)
     if words.is_resumed and words.out is None:
         raise Stop("--resume goes with -o, where the results of an earlier call are")
-    collecting.refuse_names(words)
     items = pairs_at(words.batch, words)
     collecting.refuse_names(words, [words.batch, *(
         one for item in items if item.asked for one in (

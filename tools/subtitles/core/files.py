@@ -9,7 +9,7 @@ import shutil
 import stat
 import sys
 import tempfile
-from typing import IO, Any, BinaryIO, Iterable, Iterator, Protocol
+from typing import IO, Any, BinaryIO, Iterable, Iterator, Protocol, TypeVar
 
 from .words import Stop
 
@@ -34,6 +34,9 @@ class Source(Protocol):
         """At most `size` bytes."""
 
 
+Own = TypeVar("Own", bound="Input")
+
+
 class Input:
     """A file that is read as it comes. Errors name it as it was typed; `-` is standard input."""
 
@@ -44,7 +47,7 @@ class Input:
             self.file = open(0 if is_standard else name, "rb", buffering=0,
                              closefd=not is_standard)
 
-    def __enter__(self) -> Input:
+    def __enter__(self: Own) -> Own:
         return self
 
     def __exit__(self, *_: object) -> None:

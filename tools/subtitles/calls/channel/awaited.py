@@ -36,10 +36,6 @@ class Changes:
         self.letters.append(letters)
         self.count += 1
 
-    def move(self, ticks: int) -> None:
-        """Takes all as so much later."""
-        self.times = [one + ticks for one in self.times]
-
     def drop(self, before: int) -> None:
         """Forgets those before a time."""
         count = bisect.bisect_left(self.times, before)

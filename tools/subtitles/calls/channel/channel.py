@@ -67,7 +67,7 @@ class Channel(Results):
 
     def hear(self, name: str) -> str:
         """Hears a feed to its end; why what is left is not judged."""
-        with contextlib.closing(Source(name)) as source:
+        with Source(name) as source:
             try:
                 self.go_on()
                 if not self.hearing.calls:

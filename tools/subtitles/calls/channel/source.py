@@ -8,43 +8,32 @@ from __future__ import annotations
 import array
 import contextlib
 import fcntl
-import select
 import termios
 import time
 from typing import BinaryIO
 
-from ...core.files import STANDARD, naming
+from ...core.files import Input
 
 PART = 1 << 18  # bytes that are handed on at a time, at most
 PIPE = 1 << 19  # bytes that a pipe to a listener holds
 
 
-class Source:
+class Source(Input):
     """A feed that is read: the last bytes `came` then, and `is_over` once nothing more does."""
 
     def __init__(self, name: str) -> None:
-        is_standard = name == STANDARD
-        with naming(name):
-            self.file: BinaryIO = open(0 if is_standard else name, "rb", buffering=0,
-                                       closefd=not is_standard)
+        super().__init__(name)
         self.came, self.is_over = time.monotonic(), False
 
     def fileno(self) -> int:
         """What can be waited for."""
         return self.file.fileno()
 
-    def read(self, most: int) -> bytes:
+    def read(self, size: int = PART, /) -> bytes:
         """Some of what is there, once there is something; nothing at the end."""
-        data: bytes | None = self.file.read(most)
-        while data is None:  # somebody has set the pipe to answer at once
-            select.select([self.file], [], [])
-            data = self.file.read(most)
+        data = super().read(size)
         self.came, self.is_over = time.monotonic(), not data
         return data
-
-    def close(self) -> None:
-        """Reads nothing more."""
-        self.file.close()
 
 
 def room_of(pipe: BinaryIO) -> int:

@@ -3,8 +3,8 @@ from __future__ import annotations
 
 import collections
 import dataclasses
-import os
-from typing import BinaryIO, Iterator
+import tempfile
+from typing import IO, Iterator
 
 from ...core.pes import HEAD, START, begins_in
 from ...core.words import line_of
@@ -21,7 +21,7 @@ class Segment:
     what is told of a feed is behind what came of it by less than `LEAST` bytes. It has no name, so
     that nothing is left of it however this call ends."""
 
-    file: BinaryIO
+    file: IO[bytes]
     begin: int
     size: int = 0
 
@@ -33,8 +33,7 @@ class Spool:
     def __init__(self, folder: str, length: int) -> None:
         self.folder, self.length = folder, length
         self.segments: collections.deque[Segment] = collections.deque()
-        self.file: BinaryIO | None = None
-        self.count = 0
+        self.file: IO[bytes] | None = None
         self.is_pes: bool | None = None
         self.rest = b""  # of PES packets, what comes behind the last whole one
         self.is_damaged = False  # something else comes behind it
@@ -72,10 +71,7 @@ class Spool:
         if not data:
             return
         if self.file is None:
-            self.count += 1
-            path = os.path.join(self.folder, f"feed-{self.count}")
-            self.file = open(path, "x+b", buffering=0)
-            os.unlink(path)
+            self.file = tempfile.TemporaryFile(buffering=0, dir=self.folder)
             self.segments.append(Segment(self.file, now))
         left, last = memoryview(data), self.segments[-1]
         while left:
