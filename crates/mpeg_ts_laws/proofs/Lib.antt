@@ -7,6 +7,11 @@ pub mod LossNoteLemmas
 pub mod LossPartLemmas
 pub mod MultiplexLemmas
 pub mod NeighbourLemmas
+pub mod PaceGoodLemmas
+pub mod PaceLaw
+pub mod PaceLemmas
+pub mod PacePartLemmas
+pub mod PaceReadLemmas
 pub mod PartLemmas
 pub mod RecordingLemmas
 pub mod StartingLemmas

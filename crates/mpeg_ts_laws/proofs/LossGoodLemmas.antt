@@ -121,7 +121,7 @@ abbrev pub good_left : Option (List ℕ) → Bool → List ℕ → GoodPacket
 good_left good wrong h = record { link = link_left good wrong h; packet = h }
 
 -- That is what links it.
-linked-left : (good : Option (List ℕ)) (again wrong : Bool) (h : List ℕ)
+pub linked-left : (good : Option (List ℕ)) (again wrong : Bool) (h : List ℕ)
     → announces_jump h ≡ false
     → linked (since_loss good again wrong) h ≡ good_left good wrong h
 linked-left good again wrong h h1 = grind (arith, nat_tests)
@@ -155,7 +155,7 @@ few-gone n c cs gone few = (grind (arith, nat_tests), grind (arith, nat_tests))
 
 module _ (distance number : ℕ) where
   -- A repeat is a copy.
-  copy-again : (p : List ℕ) (again : Option Fated)
+  pub copy-again : (p : List ℕ) (again : Option Fated)
       → announces_jump p ≡ false
       → AllByRecursion (IsLeft distance number) (option_to_list again)
       → AllByRecursion (λ f. IsRepetition number p (sent_packet distance f)) (option_to_list again)

@@ -11,11 +11,11 @@ use Rattle.mpeg_ts.specs.GoodPackets.{GoodPackets, Note, good_after, nothing_sin
 use Rattle.mpeg_ts.specs.Parts.{outcomes, outcomes_of, parts}
 use Rattle.mpeg_ts.specs.TransportPacket.{counter}
 use Rattle.mpeg_ts_laws.specs.Laws.{LawOfLosses}
-use Rattle.mpeg_ts_laws.specs.Losses.{Fate, Fated, IsFate, IsSpoiled}
+use Rattle.mpeg_ts_laws.specs.Losses.{AreLosses, Fate, Fated, IsFate, IsSpoiled}
 use Rattle.mpeg_ts_laws.specs.Losses.{any_wrong, left_of, sent_packet, units_left}
 use Rattle.mpeg_ts_laws.specs.Multiplex.{AreInSequence, AreNextCarriers, AreRecordedUnits, Carrier}
 use Rattle.mpeg_ts_laws.specs.Multiplex.{IsCarrier, IsNextCarrier, IsRecordedUnit, IsRecording}
-use Rattle.mpeg_ts_laws.specs.Multiplex.{IsSentPes, SentPes, announces, carriers_of}
+use Rattle.mpeg_ts_laws.specs.Multiplex.{IsSentPes, Multiplex, SentPes, announces, carriers_of}
 use Rattle.mpeg_ts_laws.specs.Multiplex.{items_of_carrier, items_of_multiplex, packet_in}
 use Rattle.mpeg_ts_laws.proofs.LossGoodLemmas.{AreRising, IsSomeLeft, carried-no_jump, good-left}
 use Rattle.mpeg_ts_laws.proofs.LossGoodLemmas.{left_goods, wrong_at_end}
@@ -23,6 +23,7 @@ use Rattle.mpeg_ts_laws.proofs.LeadsLemmas.{Leads}
 use Rattle.mpeg_ts_laws.proofs.LossLemmas.{IsLeftPes}
 use Rattle.mpeg_ts_laws.proofs.StartingLemmas.{from_start}
 use Rattle.mpeg_ts_laws.proofs.LossNoteLemmas.{IsLeft, IsLeftCarrier, good-quiets-left, heard_left}
+use Rattle.mpeg_ts_laws.proofs.LossNoteLemmas.{since_loss}
 use Rattle.mpeg_ts_laws.proofs.RecordingLemmas.{noted, notes-units}
 
 -- ---- the recording
@@ -180,7 +181,7 @@ module _ (distance number : ℕ) where
   some-left (c ∷ cs) more each rest = ((false, each.0), some-left cs more each.1 rest)
 
   -- All carriers.
-  all-carriers-left : (sent : List (SentPes Fated))
+  pub all-carriers-left : (sent : List (SentPes Fated))
       → AllByRecursion (IsLeftPes distance number) sent
       → AllByRecursion (IsSomeLeft distance number) (carriers_of sent)
   all-carriers-left [] each = grind (arith, nat_tests)
@@ -239,7 +240,7 @@ module _ (distance number : ℕ) where
       (second, next-rising d cs (j + 1) each.0 each.1 next.1 second)
 
   -- The number of the first carrier.
-  first_counter : List (Carrier Fated) → ℕ
+  pub first_counter : List (Carrier Fated) → ℕ
   first_counter [] = 0
   first_counter (c ∷ cs) = counter (sent_packet distance c.packet)
 
@@ -261,31 +262,82 @@ module _ (distance number : ℕ) where
             first,
       )
 
+-- ---- what is known where units are missing or wrong
+
+module _ (distance number : ℕ) (m : Multiplex Fated) (recording : List ℕ) where
+  -- The units,
+  all-units : AreLosses number distance m recording
+      → AllByRecursion (IsLeft distance number) (items_of_multiplex m)
+  all-units h =
+      all-left distance number (items_of_multiplex m) h.is_recording.each h.fates h.no_jump
+
+  -- the PES packets,
+  pub all-pes : AreLosses number distance m recording
+      → AllByRecursion (IsLeftPes distance number) m.sent
+  all-pes h =
+      left-pes distance number m.sent h.is_multiplex.sent
+      (all-second distance number m.lead (flat_map items_of_carrier (carriers_of m.sent))
+      (all-units h))
+
+  -- and that their counters rise.
+  pub pes-rising : AreLosses number distance m recording
+      → AreRising distance number (15 + first_counter distance number (carriers_of m.sent) + 1 + 0)
+      (carriers_of m.sent)
+  pes-rising h =
+      all-rising distance number (carriers_of m.sent)
+      (all-carriers-left distance number m.sent (all-pes h)) h.is_multiplex.linked
+
+  -- What is left is a recording.
+  left-recording : AreLosses number distance m recording
+      → IsRecording distance (units_left (items_of_multiplex m)) recording
+  left-recording h = record {
+    each = left-units distance number (items_of_multiplex m) h.is_recording.each h.fates;
+    joined = h.left;
+    few =
+        let size = ap length h.left in
+        let sent = ap length h.is_recording.joined in
+        let few = h.is_recording.few in
+        let less = length-left distance number (items_of_multiplex m) h.fates in
+        omega arith;
+  }
+
+  -- What is carried is what the carriers give.
+  pub carried-left : AreLosses number distance m recording
+      → carried number distance recording
+      ≡ with_marks false false
+      (outcomes_of
+      (good_after (since_loss None false (any_wrong m.lead))
+      (flat_map (heard_left distance number) (flat_map items_of_carrier (carriers_of m.sent)))))
+  unfolding carried
+  carried-left h =
+      ap
+      (λ (ns : List Note).
+      with_marks false false (outcomes_of (good_after (nothing_since None) ns)))
+      (notes-units distance number (units_left (items_of_multiplex m)) recording
+      (left-recording h)
+      ∙ notes-left distance number (items_of_multiplex m)
+      ∙ flat_map-append (heard_left distance number) m.lead behind)
+      ∙ ap (λ (good : GoodPackets). with_marks false false (outcomes_of good))
+      (good-quiets-left distance number None false false m.lead
+      (flat_map (heard_left distance number) behind)
+      (all-first distance number m.lead behind (all-units h)) h.is_multiplex.lead)
+    where
+      behind : List Fated
+      behind = flat_map items_of_carrier (carriers_of m.sent)
+
 -- The law of losses.
 pub law_of_losses : LawOfLosses
-unfolding carried
 law_of_losses number distance m recording h = record {
   is_marked = leads.is_marked;
   after_one = leads.after_one;
   bytes_are = all ∙ leads.bytes_are;
 }
   where
-    fs : List Fated
-    fs = items_of_multiplex m
-
     cs : List (Carrier Fated)
     cs = carriers_of m.sent
 
-    left : AllByRecursion (IsLeft distance number) fs
-    left = all-left distance number fs h.is_recording.each h.fates h.no_jump
-
-    behind : List Fated
-    behind = flat_map items_of_carrier cs
-
     pes : AllByRecursion (IsLeftPes distance number) m.sent
-    pes =
-        left-pes distance number m.sent h.is_multiplex.sent
-        (all-second distance number m.lead behind left)
+    pes = all-pes distance number m recording h.losses
 
     some : AllByRecursion (IsSomeLeft distance number) cs
     some = all-carriers-left distance number m.sent pes
@@ -297,7 +349,7 @@ law_of_losses number distance m recording h = record {
     j = 15 + first_counter distance number cs
 
     rising : AreRising distance number (j + 1 + 0) cs
-    rising = all-rising distance number cs some h.is_multiplex.linked
+    rising = pes-rising distance number m recording h.losses
 
     end : Bool
     end = wrong_at_end distance number wrong cs
@@ -307,28 +359,9 @@ law_of_losses number distance m recording h = record {
         (outcomes end (parts (left_goods distance number None wrong cs))))
     leads = from_start distance number end m.sent wrong (j + 1 + 0) pes rising h.few
 
-    is_recording : IsRecording distance (units_left fs) recording
-    is_recording = record {
-      each = left-units distance number fs h.is_recording.each h.fates;
-      joined = h.left;
-      few =
-          let size = ap length h.left in
-          let sent = ap length h.is_recording.joined in
-          let few = h.is_recording.few in
-          let less = length-left distance number fs h.fates in
-          omega arith;
-    }
-
     all : carried number distance recording
         ≡ with_marks false false (outcomes end (parts (left_goods distance number None wrong cs)))
     all =
-        ap (λ (ns : List Note).
-        with_marks false false (outcomes_of (good_after (nothing_since None) ns)))
-        (notes-units distance number (units_left fs) recording is_recording
-        ∙ notes-left distance number fs
-        ∙ flat_map-append (heard_left distance number) m.lead behind)
+        carried-left distance number m recording h.losses
         ∙ ap (λ (good : GoodPackets). with_marks false false (outcomes_of good))
-        (good-quiets-left distance number None false false m.lead
-        (flat_map (heard_left distance number) behind)
-        (all-first distance number m.lead behind left) h.is_multiplex.lead
-        ∙ good-left distance number None false wrong j 0 cs tt (omega arith) some rising h.few)
+        (good-left distance number None false wrong j 0 cs tt (omega arith) some rising h.few)

@@ -27,7 +27,7 @@ use Rattle.mpeg_ts_laws.proofs.PartLemmas.{concat-snoc, parts_from-cut, parts_fr
 use Rattle.mpeg_ts_laws.proofs.LeadsLemmas.{Leads, leads-behind}
 
 -- A part that is closed by a good packet.
-closed-by : (wrong_behind : Bool) (part : Part) (given gap : Bool) (front : List ℕ)
+pub closed-by : (wrong_behind : Bool) (part : Part) (given gap : Bool) (front : List ℕ)
     (given' gap' : Bool) (g : GoodPacket) (later : List GoodPacket)
     → Closes part given gap front given' gap'
     → begins_part g ≡ true

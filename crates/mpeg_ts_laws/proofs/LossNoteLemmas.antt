@@ -95,7 +95,7 @@ module _ (distance number : ℕ) where
       (or-assoc wrong (is_made_wrong f.fate) (any_wrong fs))
 
   -- What is noted of a unit that is there as it was sent.
-  heard-kept : (unit : List ℕ) (fate : Fate)
+  pub heard-kept : (unit : List ℕ) (fate : Fate)
       → is_as_sent fate ≡ true
       → flat_map (λ u. noted number (packet_in distance u)) (left_of unit fate)
       ≡ noted number (packet_in distance unit)
@@ -153,7 +153,7 @@ module _ (distance number : ℕ) where
     pub after : AllByRecursion IsLeft c.after
 
   -- What is noted of a carrier, part by part.
-  heard-carrier : (c : Carrier Fated) (ns : List Note)
+  pub heard-carrier : (c : Carrier Fated) (ns : List Note)
       → flat_map heard_left (items_of_carrier c) ++ ns
       ≡ heard_left c.packet ++ (flat_map heard_left c.before
       ++ (flat_map heard_left (option_to_list c.again) ++ (flat_map heard_left c.after ++ ns)))
@@ -165,7 +165,7 @@ module _ (distance number : ℕ) where
   wrong-of_three a b c = grind (arith, nat_tests, list_any-append, or-assoc)
 
   -- A carrier whose packet is there.
-  good-first : (good : Option (List ℕ)) (again wrong first : Bool) (c : Carrier Fated)
+  pub good-first : (good : Option (List ℕ)) (again wrong first : Bool) (c : Carrier Fated)
       (ns : List Note)
       → IsLeftCarrier first c
       → is_as_sent c.packet.fate ≡ true
@@ -188,7 +188,7 @@ module _ (distance number : ℕ) where
       )
 
   -- What is known of it where its packet is not there.
-  good-no_first : (good : Option (List ℕ)) (again wrong first : Bool) (c : Carrier Fated)
+  pub good-no_first : (good : Option (List ℕ)) (again wrong first : Bool) (c : Carrier Fated)
       (ns : List Note)
       → IsLeftCarrier first c
       → is_as_sent c.packet.fate ≡ false
@@ -199,7 +199,7 @@ module _ (distance number : ℕ) where
       grind (arith, nat_tests, heard-carrier, good-lost, good-quiets-left, or-assoc)
 
   -- A repeat whose packet is not there.
-  good-second : (good : Option (List ℕ)) (again wrong : Bool) (p : List ℕ) (o : Option Fated)
+  pub good-second : (good : Option (List ℕ)) (again wrong : Bool) (p : List ℕ) (o : Option Fated)
       (after : List Fated) (ns : List Note)
       → AllByRecursion (λ f. IsRepetition number p (sent_packet distance f)) (option_to_list o)
       → AllByRecursion IsLeft after
@@ -214,7 +214,7 @@ module _ (distance number : ℕ) where
       grind (arith, nat_tests, append-nil, heard-kept, or-false, good-packet, good-quiets-left)
 
   -- No repeat is there.
-  good-no_second : (good : Option (List ℕ)) (again wrong : Bool) (o : Option Fated)
+  pub good-no_second : (good : Option (List ℕ)) (again wrong : Bool) (o : Option Fated)
       (after : List Fated) (ns : List Note)
       → AllByRecursion IsLeft (option_to_list o)
       → AllByRecursion IsLeft after

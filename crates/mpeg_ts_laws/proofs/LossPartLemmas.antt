@@ -14,7 +14,7 @@ use Rattle.mpeg_ts.specs.Parts.{outcome, outcomes, parts_from, with_packet}
 use Rattle.mpeg_ts_laws.proofs.PartLemmas.{IsWhole, outcomes-whole, piece-size}
 
 -- A gap before outcomes.
-gap-before : (given gap here : Bool) (more : List PartOutcome)
+pub gap-before : (given gap here : Bool) (more : List PartOutcome)
     → with_marks given gap (gap_where here ++ more) ≡ with_marks given (gap || here) more
 unfolding with_marks
 gap-before given gap here more = grind (arith, nat_tests)

@@ -22,15 +22,15 @@ use Rattle.mpeg_ts_laws.proofs.PartLemmas.{piece-long, piece-size}
 -- ---- pieces
 
 -- The first of two lists that are equal.
-heads : {A : Type 0} (x y : A) (xs ys : List A) → x ∷ xs ≡ y ∷ ys → x ≡ y
+pub heads : {A : Type 0} (x y : A) (xs ys : List A) → x ∷ xs ≡ y ∷ ys → x ≡ y
 heads x y xs ys e = cc
 
 -- Those behind it.
-tails : {A : Type 0} (x y : A) (xs ys : List A) → x ∷ xs ≡ y ∷ ys → xs ≡ ys
+pub tails : {A : Type 0} (x y : A) (xs ys : List A) → x ∷ xs ≡ y ∷ ys → xs ≡ ys
 tails x y xs ys e = cc
 
 -- No list with something in it is empty.
-not-empty : {A : Type 0} (xs ys : List A) (y : A) → [] ≡ xs ++ (y ∷ ys) → ⊥
+pub not-empty : {A : Type 0} (xs ys : List A) (y : A) → [] ≡ xs ++ (y ∷ ys) → ⊥
 not-empty [] ys y e = cc
 not-empty (x ∷ xs) ys y e = cc
 
@@ -69,7 +69,7 @@ piece-some : (p more : List ℕ) → IsPiece p → [] ≡ p ++ more → ⊥
 piece-some p more h1 h2 = grind (arith, nat_tests, piece-long, length-append)
 
 -- Bytes fall into pieces in one way.
-one-way : (ps qs : List (List ℕ))
+pub one-way : (ps qs : List (List ℕ))
     → AllByRecursion IsPiece ps
     → AllByRecursion IsPiece qs
     → concat ps ≡ concat qs
@@ -84,14 +84,14 @@ one-way (p ∷ ps) (q ∷ qs) each others e =
     cc
 
 -- The mark is a piece.
-mark-piece : IsPiece mark
+pub mark-piece : IsPiece mark
 unfolding mark
 mark-piece = grind (arith, nat_tests)
 
 -- ---- what is carried
 
 -- A mark, if there is one.
-abbrev marks_where : Bool → List (List ℕ)
+abbrev pub marks_where : Bool → List (List ℕ)
 marks_where true = mark ∷ []
 marks_where false = []
 
@@ -119,7 +119,7 @@ pieces-gone : (given gap : Bool) (s : SentPes Fated) (more : List (SentPes Fated
 pieces-gone given gap s more gone = rw gone
 
 -- A mark before pieces.
-concat-marks : (b : Bool) (x : List ℕ) (xs : List (List ℕ))
+pub concat-marks : (b : Bool) (x : List ℕ) (xs : List (List ℕ))
     → concat (marks_where b ++ (x ∷ xs)) ≡ mark_where b ++ (x ++ concat xs)
 concat-marks b x xs = grind (arith, nat_tests)
 
@@ -144,13 +144,13 @@ concat-all : (sent : List (SentPes Fated)) (tail : Bool)
 concat-all sent tail = grind (arith, nat_tests, concat-append, append-nil, concat-arriving)
 
 -- A mark before pieces is one.
-marks-pieces : (b : Bool) (xs : List (List ℕ))
+pub marks-pieces : (b : Bool) (xs : List (List ℕ))
     → AllByRecursion IsPiece xs
     → AllByRecursion IsPiece (marks_where b ++ xs)
 marks-pieces b xs h1 = grind (arith, nat_tests, mark-piece)
 
 -- A mark alone is one.
-marks-alone : (b : Bool) → AllByRecursion IsPiece (marks_where b)
+pub marks-alone : (b : Bool) → AllByRecursion IsPiece (marks_where b)
 marks-alone b = grind (arith, nat_tests, mark-piece)
 
 -- One list behind another.
@@ -179,11 +179,11 @@ module _ (distance number : ℕ) where
 -- ---- where no mark stands
 
 -- None of these is the mark.
-abbrev HasNoMark : List (List ℕ) → Type 0
+abbrev pub HasNoMark : List (List ℕ) → Type 0
 HasNoMark run = AllByRecursion (λ p. p ≡ mark → ⊥) run
 
 -- The PES packets as they were sent.
-abbrev sent_bytes : List (SentPes Fated) → List (List ℕ)
+abbrev pub sent_bytes : List (SentPes Fated) → List (List ℕ)
 sent_bytes sent = map (λ s. s.bytes) sent
 
 -- Behind a gap a mark comes first.
@@ -302,7 +302,7 @@ law_of_neighbours number distance m recording before (x ∷ run) behind h each j
         one-way (arriving_pieces false false m.sent ++ marks_where is.is_marked)
         (before ++ (x ∷ (run ++ behind)))
         (pieces-append (arriving_pieces false false m.sent) (marks_where is.is_marked)
-        (arriving-pieces distance number false false m.sent h.is_multiplex.sent)
+        (arriving-pieces distance number false false m.sent h.losses.is_multiplex.sent)
         (marks-alone is.is_marked))
         each
         (concat-all m.sent is.is_marked ∙ sym is.bytes_are ∙ joined)

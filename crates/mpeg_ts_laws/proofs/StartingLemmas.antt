@@ -241,7 +241,7 @@ module _ (distance number : ℕ) (wrong_behind : Bool) where
       begun = copy.begins ∙ each.0.is_carrier.begins
 
   -- Nothing comes of nothing.
-  nothing-comes : with_marks false false (outcomes wrong_behind []) ≡ []
+  pub nothing-comes : with_marks false false (outcomes wrong_behind []) ≡ []
   unfolding with_marks outcomes
   nothing-comes = elim (cases_Bool wrong_behind) [ inl e ↦ rw e | inr e ↦ rw e ]
 

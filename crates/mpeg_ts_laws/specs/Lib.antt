@@ -1,3 +1,4 @@
 pub mod Laws
 pub mod Losses
 pub mod Multiplex
+pub mod Pace

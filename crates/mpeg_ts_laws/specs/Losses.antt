@@ -132,9 +132,10 @@ pub record AreArriving (sent : List (SentPes Fated)) (bytes : List ℕ) : Type 0
   pub after_one : is_marked ≡ true → list_any arrives sent ≡ true
   pub bytes_are : bytes ≡ arriving false false sent ++ mark_where is_marked
 
--- A recording with losses: of a multiplex in which no jump is announced, units were left out and
--- made wrong, so that fewer than 15 carriers in a row are gone.
-pub record IsLossy (number distance : ℕ) (m : Multiplex Fated) (recording : List ℕ) : Type 0 where
+-- A recording with losses of any length: of a multiplex in which no jump is announced, units were
+-- left out and made wrong.
+pub record AreLosses (number distance : ℕ) (m : Multiplex Fated) (recording : List ℕ)
+    : Type 0 where
   pub is_multiplex : IsMultiplex (sent_packet distance) number m
   pub sent : List ℕ
   pub is_recording : IsRecording distance (map (λ (f : Fated). f.unit) (items_of_multiplex m)) sent
@@ -142,5 +143,9 @@ pub record IsLossy (number distance : ℕ) (m : Multiplex Fated) (recording : Li
       AllByRecursion (λ f. announces number (sent_packet distance f) ≡ false) (items_of_multiplex m)
   pub fates :
       AllByRecursion (λ (f : Fated). IsFate distance number f.unit f.fate) (items_of_multiplex m)
-  pub few : are_few_gone 0 (carriers_of m.sent) ≡ true
   pub left : recording ≡ concat (units_left (items_of_multiplex m))
+
+-- The same, where fewer than 15 carriers in a row are gone.
+pub record IsLossy (number distance : ℕ) (m : Multiplex Fated) (recording : List ℕ) : Type 0 where
+  pub losses : AreLosses number distance m recording
+  pub few : are_few_gone 0 (carriers_of m.sent) ≡ true

@@ -2,7 +2,7 @@
 //!
 //! The functions do nothing: the contract of each is a law over the definitions of `specs/`.
 ghost use Rattle.mpeg_ts_laws.specs.Laws.{LawOfLosses, LawOfMultiplex, LawOfNeighbours};
-ghost use Rattle.mpeg_ts_laws.specs.Laws.{LawOfWholeFile};
+ghost use Rattle.mpeg_ts_laws.specs.Laws.{LawOfPace, LawOfWholeFile};
 
 /// What a multiplexer sent in packets of a PID is what they carry.
 #[tactic(auto, using(crate::proofs::MultiplexLemmas::law_of_multiplex))]
@@ -21,6 +21,12 @@ pub fn law_of_losses()
 /// is missing between the first and the last of them.
 pub fn law_of_neighbours()
     ensures { LawOfNeighbours }
+{}
+
+/// Where PES packets are read no further apart than the packets of the PID allow, without a mark
+/// among them, they were sent one after another, however many packets were lost.
+pub fn law_of_pace()
+    ensures { LawOfPace }
 {}
 
 /// Where a recording is accepted, no mark stands in what was judged: all PES packets that were sent

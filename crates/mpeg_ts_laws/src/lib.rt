@@ -12,4 +12,6 @@
 
 mod laws;
 
-pub use laws::{law_of_losses, law_of_multiplex, law_of_neighbours, law_of_whole_file};
+pub use laws::{
+    law_of_losses, law_of_multiplex, law_of_neighbours, law_of_pace, law_of_whole_file,
+};
