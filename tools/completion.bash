@@ -18,7 +18,7 @@ _subttx_value() {
     case $1 in
 # made: values
         --option) _subttx_words 'english german swedish italian french spanish czech' "$2" ;;
-        --receiver) _subttx_words 'blank keep drop' "$2" ;;
+        --receiver) _subttx_words 'blank keep drop anew' "$2" ;;
         --packet-size) _subttx_words '188 192 204' "$2" ;;
         --at | --breaks | --every | --flip | --from | --jobs | --layout | --lose | --origin | \
             --pace | --page | --patience | --pes | --pid | --settled | --skip | --stall | \

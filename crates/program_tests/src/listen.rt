@@ -271,6 +271,29 @@ fn hears_pes_packets_of_one_frame(rt: HostRuntime) {
     }
 }
 
+// Transmissions whose repeats keep the page, what is listened up to with which options, and what is
+// printed.
+#[rattlefmt::skip]
+const REPEATS: [[&[&str]; 3]; 7] = [
+    [&["0:hrc", "25:kc", "50:hc"], &["10:00:01:00"], &[HI]],
+    [&["0:hrc", "25:kc", "50:hc"], &["10:00:01:00", "--receiver", "anew"], &[BLANK]],
+    [&["0:krc", "50:hc"], &["10:00:01:00", "--receiver", "anew"], &[HI]],
+    [&["0:hrrc", "50:hc"], &["10:00:00:00", "--receiver", "anew", "--flip", "2:21:1"], &[HIT]],
+    // a header that it does not receive, and pages that are begun anew while they are open
+    [&["0:hrc", "25:kc", "50:hc"], &["10:00:00:00", "--receiver", "anew", "--skip", "1"], &[
+        NOTHING]],
+    [&["0:hr", "25:kc", "50:hc"], &["10:00:01:00", "--receiver", "anew", "--complete"], &[BLANK]],
+    [&["0:hr", "25:k", "50:hc"], &["10:00:01:00", "--receiver", "anew", "--complete"], &[
+        NOT_SHOWN]],
+];
+
+#[test]
+fn begins_anew_or_keeps_as_it_was_asked(rt: HostRuntime) {
+    for row in &REPEATS {
+        assert_hears_row(&rt, row);
+    }
+}
+
 #[test]
 fn tells_faults_of_a_file_as_far_as_it_is_read(rt: HostRuntime) {
     let twice = every_second_twice();

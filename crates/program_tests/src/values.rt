@@ -169,7 +169,8 @@ fn reads_receivers(rt: HostRuntime) {
     assert_same(&rt, &parse_receiver("blank"), &Some(ReceiverKind::Blank));
     assert_same(&rt, &parse_receiver("keep"), &Some(ReceiverKind::Keep));
     assert_same(&rt, &parse_receiver("drop"), &Some(ReceiverKind::DropRow));
-    for text in ["Drop", "all", "Keep"] {
+    assert_same(&rt, &parse_receiver("anew"), &Some(ReceiverKind::Anew));
+    for text in ["Drop", "all", "Keep", "new"] {
         assert_same_in(&rt, &parse_receiver(text), &None, &text);
     }
 }

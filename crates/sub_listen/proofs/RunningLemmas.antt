@@ -1,18 +1,38 @@
--- What is run is a receiver of the relation, with a screen or without: `law_of_listening`.
+-- What is run is a receiver of those that may forget, and of the relation where it does not begin
+-- anew, with a screen or without: `law_of_listening`.
 use Rattle.std.proofs.lemmas.Bool.Decides.{nat_tests}
 use Rattle.std.proofs.Common.{◌≡◌, ◌∙◌, ℕ, Bool, true, false, List, [], ◌∷◌, ap, arith}
 use Rattle.ttx_packet.specs.PageId.{PageIdValue}
-use Rattle.ttx_page.specs.Receiver.{Step}
+use Rattle.ttx_page.specs.Receiver.{RunsBy, Step}
+use Rattle.ttx_page.specs.Receiver.ReceiverClass.{Storing}
+use Rattle.ttx_page.specs.Repeats.{StepForgetting}
 use Rattle.ttx_page.specs.Screen.{Display, ShowsAt}
+use Rattle.ttx_page.proofs.NoiseSteps.{cell-blank}
 use Rattle.ttx_page.proofs.RunLemmas.{RunsBy-as}
-use Rattle.sub_listen.specs.Reception.{LawOfListening, RunsThrough, TakesPacket}
+use Rattle.sub_listen.specs.Reception.{LawOfListening, TakesPacket, begins_anew}
 
-module _ (asks_complete : Bool) (leaves : ℕ → ℕ) (w : PageIdValue) where
+module _ (asks_complete anew : Bool) (leaves : ℕ → ℕ) (w : PageIdValue) where
+  -- A packet is heard by a step of the relation where the receiver does not begin anew.
+  steps :
+      anew ≡ false
+      → (old : Display) (packet : List ℕ) (new : Display)
+      → TakesPacket asks_complete anew leaves w old packet new
+      → Step w old.held packet new.held
+  steps keeps old packet new takes = let step = takes.step in grind (arith, nat_tests)
+
+  -- It is one of those of receivers that may forget.
+  forgets :
+      (old : Display) (packet : List ℕ) (new : Display)
+      → TakesPacket asks_complete anew leaves w old packet new
+      → StepForgetting Storing anew w old.held packet new.held
+  forgets old packet new takes =
+      let step = takes.step in grind (arith, nat_tests, cell-blank)
+
   -- A screen that waits is one that a receiver may have.
   shows_at :
       asks_complete ≡ true
       → (old : Display) (packet : List ℕ) (new : Display)
-      → TakesPacket asks_complete leaves w old packet new
+      → TakesPacket asks_complete anew leaves w old packet new
       → ShowsAt w old packet new
   shows_at asks old packet new takes =
       let step = takes.step in
@@ -27,7 +47,7 @@ module _ (asks_complete : Bool) (leaves : ℕ → ℕ) (w : PageIdValue) where
   stays :
       asks_complete ≡ false
       → (packets : List (List ℕ)) (old new : Display)
-      → RunsThrough asks_complete leaves w old packets new
+      → RunsBy (TakesPacket asks_complete anew leaves w) old packets new
       → new.screen ≡ old.screen
   stays without [] old new run = ap (λ (d : Display). d.screen) run
   stays without (p ∷ ps) old new (mid, takes, rest) =
@@ -35,12 +55,26 @@ module _ (asks_complete : Bool) (leaves : ℕ → ℕ) (w : PageIdValue) where
 
 -- The law.
 pub law_of_listening : LawOfListening
-law_of_listening asks_complete leaves w packets old new run = (
-  RunsBy-as _ (Step w) (λ (d : Display). d.held) packets old new
-      (λ before packet after takes. takes.step) run,
-  λ asks.
-      RunsBy-as _ _ (λ (d : Display). d) packets old new
-      (λ before packet after takes.
-      (takes.step, shows_at asks_complete leaves w asks before packet after takes)) run,
-  λ without. stays asks_complete leaves w without packets old new run,
-)
+law_of_listening l leaves w packets old new run =
+    let asks_complete = l.options.asks_complete in
+    let anew = begins_anew l.receiver in (
+      RunsBy-as _ (StepForgetting Storing anew w) (λ (d : Display). d.held) packets old new
+          (forgets asks_complete anew leaves w) run,
+      λ keeps.
+          RunsBy-as _ (Step w) (λ (d : Display). d.held) packets old new
+          (steps asks_complete anew leaves w keeps) run,
+      λ asks. (
+        RunsBy-as _ _ (λ (d : Display). d) packets old new
+            (λ before packet after takes. (
+              forgets asks_complete anew leaves w before packet after takes,
+              shows_at asks_complete anew leaves w asks before packet after takes,
+            )) run,
+        λ keeps.
+            RunsBy-as _ _ (λ (d : Display). d) packets old new
+            (λ before packet after takes. (
+              steps asks_complete anew leaves w keeps before packet after takes,
+              shows_at asks_complete anew leaves w asks before packet after takes,
+            )) run,
+      ),
+      λ without. stays asks_complete anew leaves w without packets old new run,
+    )

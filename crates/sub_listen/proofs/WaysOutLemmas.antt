@@ -51,7 +51,7 @@ pub record Reaches
   pub left : ReadsAs (clock_of l.options) n rest (drop n frames) unread
   pub heard : AreHeard l frames n
   pub run :
-      RunsThrough l.options.asks_complete leaves w old
+      RunsThrough l leaves w old
       (as_heard l 0 (packets_before frames n)) now
   pub number_is : number ≡ length (packets_before frames n)
   pub sent_is : sent ≡ sent_in_frame l.options.within frames n
@@ -213,7 +213,7 @@ module _
                 → frame ≤ l.at
                 → first_lost_header (reception_of l) number (packets_of_units v.units) ≡ None
                 → left ≡ Some (behind_piece reached.rest)
-                → RunsThrough l.options.asks_complete leaves w now
+                → RunsThrough l leaves w now
                 (as_heard l number (packets_of_units v.units)) after
                 → Reaches leaves l frames unread w old left (n + 1) (number + length v.units)
                 (before + length v.units) (least_after l.options.within frame) after

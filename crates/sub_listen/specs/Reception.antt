@@ -1,19 +1,23 @@
 -- What a receiver gets of the packets of a file: some are passed over, some are lost, and bits are
 -- flipped (own); and what it hears of that. Packets are numbered from 0 over the whole file.
 use Rattle.std.specs.Prelude.{◌≡◌, ℕ, ◌+◌, Bool, true, false, not, ◌&&◌, List, [], ◌∷◌}
-use Rattle.std.specs.Prelude.{Option, Some, None, option_map}
+use Rattle.std.specs.Prelude.{MatchBool, Option, Some, None, option_map}
 use Rattle.std.specs.Prelude.{if◌then◌else◌, ◌==◌, nat_le}
 use Rattle.std.specs.List.{filter, list_any}
 use Rattle.ttx_packet.specs.PacketAddress.{PacketAddress, address}
 use Rattle.ttx_packet.specs.PageId.{PageIdValue}
-use Rattle.ttx_page.specs.Page.{space}
+use Rattle.ttx_page.specs.Page.{blank, space}
+use Rattle.ttx_page.specs.PacketKind.{is_this_page, kind}
 use Rattle.ttx_page.specs.Receiver.{Hears, LeavesCells, RunsBy, Step, is_dropped}
+use Rattle.ttx_page.specs.Receiver.ReceiverClass.{Storing}
+use Rattle.ttx_page.specs.Repeats.{HearsForgetting, ShowsForgetting}
 use Rattle.ttx_page.specs.Screen.{Display, Shows, screen_after}
 use Rattle.sub_request.specs.Flips.{with_flips}
 use Rattle.sub_request.specs.declared.listening.Flip.{Flip}
 use Rattle.sub_request.specs.declared.listening.Listening.{Listening}
 use Rattle.sub_request.specs.declared.listening.ReceiverKind.{ReceiverKind}
-use Rattle.sub_request.specs.declared.listening.ReceiverKind.TheVariants.{Blank, DropRow, Keep}
+use Rattle.sub_request.specs.declared.listening.ReceiverKind.TheVariants.{Anew, Blank}
+use Rattle.sub_request.specs.declared.listening.ReceiverKind.TheVariants.{DropRow, Keep}
 
 -- What a request says of the packets: how many are passed over, which are lost, which bits are
 -- flipped.
@@ -60,23 +64,33 @@ abbrev pub left_by : ReceiverKind → ℕ → ℕ
 left_by Keep = λ was. was
 left_by Blank = λ was. space
 left_by DropRow = λ was. was
+left_by Anew = λ was. space
+
+-- Whether a receiver begins anew at each header of its page.
+abbrev pub begins_anew : ReceiverKind → Bool
+begins_anew Anew = true
+begins_anew _ = false
 
 -- What becomes of a receiver of page w at a packet that it hears.
 pub record TakesPacket
-    (asks_complete : Bool) (leaves : ℕ → ℕ) (w : PageIdValue)
+    (asks_complete anew : Bool) (leaves : ℕ → ℕ) (w : PageIdValue)
     (old : Display) (packet : List ℕ) (new : Display)
     : Type 0 where
-  -- What it holds goes by a step of the receiver relation, with its choice at each even byte.
-  pub step : Step w old.held packet new.held
+  -- What it holds goes by a step of the receiver relation, with its choice at each even byte. But
+  -- one that begins anew is open with a blank page after each header of its page.
+  pub step :
+      MatchBool (anew && is_this_page (kind w packet))
+      (new.held ≡ record { heard = true; is_open = true; page = blank })
+      (Step w old.held packet new.held)
   pub cells : LeavesCells leaves w old.held packet new.held
   -- Where complete pages are asked for, it has a screen that waits; else the screen stays as it is.
   pub screen : new.screen ≡ (if asks_complete then screen_after old new.held else old.screen)
 
 -- What becomes of it as it hears these packets, one after another.
 abbrev pub RunsThrough :
-    Bool → (ℕ → ℕ) → PageIdValue → Display → List (List ℕ) → Display → Type 0
-RunsThrough asks_complete leaves w old packets new =
-    RunsBy (TakesPacket asks_complete leaves w) old packets new
+    Listening → (ℕ → ℕ) → PageIdValue → Display → List (List ℕ) → Display → Type 0
+RunsThrough l leaves w old packets new =
+    RunsBy (TakesPacket l.options.asks_complete (begins_anew l.receiver) leaves w) old packets new
 
 -- A packet may be lost: it has an address, and is no packet X/0 (EN 300 706).
 abbrev pub may_be_lost_at : Option PacketAddress → Bool
@@ -91,13 +105,17 @@ first_lost_header r number (packet ∷ packets) =
     then Some 0
     else option_map (λ place. place + 1) (first_lost_header r (number + 1) packets)
 
--- What is run is a receiver of the relation; with a screen it is one with a screen, and without one
--- the screen stays. So what is proved of every receiver is proved of what `listen` prints.
+-- What is run is a receiver of those that may forget, and it begins anew where that was asked for;
+-- else it is a receiver of the relation. With a screen it is one with a screen, and without one the
+-- screen stays. So what is proved of every receiver is proved of what `listen` prints.
 abbrev pub LawOfListening : Type 0
 LawOfListening =
-    (asks_complete : Bool) (leaves : ℕ → ℕ) (w : PageIdValue) (packets : List (List ℕ))
+    (l : Listening) (leaves : ℕ → ℕ) (w : PageIdValue) (packets : List (List ℕ))
     (old new : Display)
-    → RunsThrough asks_complete leaves w old packets new
-    → Hears w old.held packets new.held
-    × (asks_complete ≡ true → Shows w old packets new)
-    × (asks_complete ≡ false → new.screen ≡ old.screen)
+    → RunsThrough l leaves w old packets new
+    → HearsForgetting Storing (begins_anew l.receiver) w old.held packets new.held
+    × (begins_anew l.receiver ≡ false → Hears w old.held packets new.held)
+    × (l.options.asks_complete ≡ true
+    → ShowsForgetting Storing (begins_anew l.receiver) w old packets new
+    × (begins_anew l.receiver ≡ false → Shows w old packets new))
+    × (l.options.asks_complete ≡ false → new.screen ≡ old.screen)

@@ -134,7 +134,7 @@ pub record Runs
   pub n : ℕ
   pub heard : AreHeard l frames n
   pub run :
-      RunsThrough l.options.asks_complete leaves w old
+      RunsThrough l leaves w old
       (as_heard l 0 (packets_before frames n)) new
   pub ends :
       MatchResult result (λ _. EndsAfter l frames unread n) (RefusesAfter l frames unread n)

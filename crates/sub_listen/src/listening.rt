@@ -70,7 +70,7 @@ impl From<CheckFault> for ListenFault {
 /// For each PES packet in turn `File` with the fault that `check` tells where it does not read on
 /// there, or with `Order`; `LostHeader` where a page header of it, or a packet without an address,
 /// is lost.
-pub fn listen<R: Receiver, S: Source>(
+pub fn listen<R: Receiver + Drop, S: Source>(
     receiver: &mut R,
     screen: &mut Option<Page>,
     pes: &mut S,

@@ -1,19 +1,22 @@
 //! What a receiver gets of the packets of a file, and hears: packets passed over, lost packets,
-//! flips, dropped rows.
+//! flips, dropped rows, headers at which it begins anew.
 ghost use Rattle.std.specs.Prelude.{◌≡◌, ℕ, ◌+◌, ◌-◌, ◌^◌, ◌<◌, ◌≤◌, ◌&&◌, ◌∷◌, List};
-ghost use Rattle.std.specs.Prelude.{IfSome, length, not};
+ghost use Rattle.std.specs.Prelude.{IfSome, IsTrue, length, not, true};
 ghost use Rattle.std.specs.List.{filter};
 ghost use Rattle.ttx_packet.specs.PacketAddress.{address};
+ghost use Rattle.ttx_page.specs.Page.{blank};
+ghost use Rattle.ttx_page.specs.PacketKind.{is_this_page, kind};
 ghost use Rattle.ttx_page.specs.Screen.{Display, display};
 ghost use Rattle.ttx_pes.specs.PesPacket.{most_units};
 ghost use Rattle.sub_rules.specs.PacketRules.{packets_of_units};
-ghost use Rattle.sub_listen.specs.Reception.{RunsThrough, as_heard, first_lost_header, is_heard};
-ghost use Rattle.sub_listen.specs.Reception.{is_lost, is_taken, may_be_lost_at, reception_of};
+ghost use Rattle.sub_listen.specs.Reception.{RunsThrough, as_heard, begins_anew};
+ghost use Rattle.sub_listen.specs.Reception.{first_lost_header, is_heard, is_lost, is_taken};
+ghost use Rattle.sub_listen.specs.Reception.{may_be_lost_at, reception_of};
 ghost use Rattle.sub_request.specs.Flips.{with_flip, with_flips};
 
 use sub_request::{Flip, Listening, ReceiverKind};
-use ttx_packet::{Packet, SentPacket};
-use ttx_page::{Page, Receiver, is_dropped, show};
+use ttx_packet::{Packet, PageId, SentPacket};
+use ttx_page::{PacketKind, Page, Receiver, is_dropped, show};
 use ttx_pes::SentUnits;
 
 /// The first of the packets of a PES packet that is lost and may not be, since it is a page header
@@ -38,7 +41,7 @@ pub fn first_lost_header(listening: &Listening, number: u64, units: &SentUnits<'
 
 /// Lets a receiver hear what it hears of the packets of a PES packet, with its screen where
 /// complete pages are asked for. `number` is that of the first.
-pub fn hear_units<R: Receiver>(
+pub fn hear_units<R: Receiver + Drop>(
     receiver: &mut R,
     screen: &mut Option<Page>,
     listening: &Listening,
@@ -47,7 +50,7 @@ pub fn hear_units<R: Receiver>(
 )
     requires few { length units.now ≤ most_units }
     requires number { number + most_units < u64.MAX }
-    ensures run { RunsThrough listening.now.options.asks_complete R.leaves
+    ensures run { RunsThrough listening.now R.leaves
         (R.tuned_to receiver.old) (display (R.state receiver.old) screen.old)
         (as_heard listening.now number (packets_of_units units.now))
         (display (R.state receiver.new) screen.new) }
@@ -60,7 +63,7 @@ pub fn hear_units<R: Receiver>(
 }
 
 // Lets a receiver hear what it hears of a packet. So what comes after it goes on from there.
-fn hear_packet<R: Receiver>(
+fn hear_packet<R: Receiver + Drop>(
     receiver: &mut R,
     screen: &mut Option<Page>,
     listening: &Listening,
@@ -68,10 +71,10 @@ fn hear_packet<R: Receiver>(
     packet: &Packet,
 )
     ensures run { (packets : List (List ℕ)) (end : Display)
-        → RunsThrough listening.now.options.asks_complete R.leaves
+        → RunsThrough listening.now R.leaves
         (R.tuned_to receiver.old) (display (R.state receiver.new) screen.new)
         (as_heard listening.now (number + 1) packets) end
-        → RunsThrough listening.now.options.asks_complete R.leaves
+        → RunsThrough listening.now R.leaves
         (R.tuned_to receiver.old) (display (R.state receiver.old) screen.old)
         (as_heard listening.now number (packet.now ∷ packets)) end }
     ensures tuned { R.tuned_to receiver.new ≡ R.tuned_to receiver.old }
@@ -84,17 +87,17 @@ fn hear_packet<R: Receiver>(
 
 // Lets a receiver hear a packet that it gets, if it takes it.
 #[inline(always)]
-fn take<R: Receiver>(
+fn take<R: Receiver + Drop>(
     receiver: &mut R,
     screen: &mut Option<Page>,
     listening: &Listening,
     packet: &Packet,
 )
     ensures run { (packets : List (List ℕ)) (end : Display)
-        → RunsThrough listening.now.options.asks_complete R.leaves
+        → RunsThrough listening.now R.leaves
         (R.tuned_to receiver.old) (display (R.state receiver.new) screen.new)
         (filter (is_taken listening.now.receiver listening.now.options.page) packets) end
-        → RunsThrough listening.now.options.asks_complete R.leaves
+        → RunsThrough listening.now R.leaves
         (R.tuned_to receiver.old) (display (R.state receiver.old) screen.old)
         (filter (is_taken listening.now.receiver listening.now.options.page)
         (packet.now ∷ packets)) end }
@@ -103,7 +106,10 @@ fn take<R: Receiver>(
     if !is_taken(listening, packet) {
         return;
     }
-    if listening.options.asks_complete() {
+    if is_beginning(listening.receiver, receiver.watched(), packet) {
+        // The screen stays: no page is ended.
+        begin_anew(receiver, packet);
+    } else if listening.options.asks_complete() {
         show(receiver, screen, packet);
     } else {
         // The screen stays: no page is copied to one that is not looked at.
@@ -118,8 +124,40 @@ fn is_taken(listening: &Listening, packet: &Packet) -> bool
 {
     match listening.receiver {
         ReceiverKind::DropRow => !is_dropped(listening.options.page(), packet),
-        ReceiverKind::Keep | ReceiverKind::Blank => true,
+        ReceiverKind::Keep | ReceiverKind::Blank | ReceiverKind::Anew => true,
     }
+}
+
+// Whether a receiver of the page begins anew at the packet: it is asked to, and the packet is a
+// header of its page.
+fn is_beginning(receiver: ReceiverKind, page_id: PageId, packet: &Packet) -> bool
+    ensures { result ≡ (begins_anew receiver && is_this_page (kind page_id packet.now)) }
+{
+    match receiver {
+        ReceiverKind::Anew => is_header(page_id, packet),
+        ReceiverKind::Keep | ReceiverKind::Blank | ReceiverKind::DropRow => false,
+    }
+}
+
+// Whether a packet is a header of the page.
+fn is_header(page_id: PageId, packet: &Packet) -> bool
+    ensures { result ≡ is_this_page (kind page_id packet.now) }
+{
+    match PacketKind::of(page_id, packet) {
+        PacketKind::ThisPage(_) => true,
+        PacketKind::EndsPage | PacketKind::Row(_) | PacketKind::Other => false,
+    }
+}
+
+// Lets a receiver hear a header of its page as one that is tuned in with a blank page.
+fn begin_anew<R: Receiver + Drop>(receiver: &mut R, header: &Packet)
+    requires header { IsTrue (is_this_page (kind (R.tuned_to receiver.old) header.now)) }
+    ensures state { R.state receiver.new
+        ≡ record { heard = true; is_open = true; page = blank } }
+    ensures tuned { R.tuned_to receiver.new ≡ R.tuned_to receiver.old }
+{
+    *receiver = R::tune(receiver.watched(), Page::blank());
+    receiver.hear(header);
 }
 
 // Whether a packet is lost that may not be.

@@ -12,7 +12,8 @@ pub struct Flip {
     pub bit: u8,
 }
 
-/// What a receiver does where a byte of a row has even parity.
+/// What a receiver does where a byte of a row has even parity, and at a header of its page that does
+/// not erase it.
 #[derive(Clone, Copy, Debug, PartialEq, Eq)]
 pub enum ReceiverKind {
     /// It leaves the byte's cell as it was.
@@ -21,6 +22,9 @@ pub enum ReceiverKind {
     Blank,
     /// It drops the packet of the whole row.
     DropRow,
+    /// It stores a space in the byte's cell, and blanks the page at each of its headers, where the
+    /// others keep it if C4 is clear.
+    Anew,
 }
 
 /// One run of a receiver over the PES packets of a file.

@@ -66,8 +66,8 @@ pub enum UsageFault {
     /// 84: the lost packets are not 1 to 64 numbers, or two are equal.
     #[error("the lost packets are not 1 to 64 numbers")]
     BadLose,
-    /// 9: the receiver is none of blank, keep and drop.
-    #[error("the receiver is none of blank, keep and drop")]
+    /// 9: the receiver is none of blank, keep, drop and anew.
+    #[error("the receiver is none of blank, keep, drop and anew")]
     BadReceiver,
     /// 91: memory ran out.
     #[error("memory ran out")]

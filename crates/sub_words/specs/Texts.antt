@@ -10,7 +10,8 @@ use Rattle.ttx_packet.specs.PacketAddress.{◌>>=◌}
 use Rattle.stl_file.specs.TimeCode.{frame_of, is_time_code}
 use Rattle.sub_request.specs.declared.listening.Flip.{Flip}
 use Rattle.sub_request.specs.declared.listening.ReceiverKind.{ReceiverKind}
-use Rattle.sub_request.specs.declared.listening.ReceiverKind.TheVariants.{Keep, Blank, DropRow}
+use Rattle.sub_request.specs.declared.listening.ReceiverKind.TheVariants.{Anew, Blank}
+use Rattle.sub_request.specs.declared.listening.ReceiverKind.TheVariants.{DropRow, Keep}
 
 -- ---- numbers
 
@@ -116,4 +117,5 @@ receiver_of_text text =
     if bytes_eq text (codes "blank") then Some Blank
     else if bytes_eq text (codes "keep") then Some Keep
     else if bytes_eq text (codes "drop") then Some DropRow
+    else if bytes_eq text (codes "anew") then Some Anew
     else None

@@ -6,7 +6,7 @@ ghost use Rattle.sub_words.specs.Texts.{frame_of_text, receiver_of_text, two_dig
 use stl_file::TimeCode;
 use sub_request::ReceiverKind;
 
-/// The receiver that a text names: `blank`, `keep` or `drop`.
+/// The receiver that a text names: `blank`, `keep`, `drop` or `anew`.
 #[tactic(auto, unfolding(crate::specs::Texts::receiver_of_text))]
 pub fn parse_receiver(text: &str) -> Option<ReceiverKind>
     ensures { result ≡ receiver_of_text text.now }
@@ -15,6 +15,7 @@ pub fn parse_receiver(text: &str) -> Option<ReceiverKind>
         "blank" => Some(ReceiverKind::Blank),
         "keep" => Some(ReceiverKind::Keep),
         "drop" => Some(ReceiverKind::DropRow),
+        "anew" => Some(ReceiverKind::Anew),
         _ => None,
     }
 }

@@ -72,7 +72,7 @@ def listen_words(chance: Random, words: list[str], packets: list[bytes]) -> list
         lost = {chance.randrange(count + 2) for _ in range(3)}
         words += ["--lose", ",".join(map(str, sorted(lost)))]
     if chance.random() < 0.6:
-        words += ["--receiver", chance.choice(["blank", "keep", "drop"])]
+        words += ["--receiver", chance.choice(["blank", "keep", "drop", "anew"])]
     return words + ["--complete"] * (chance.random() < 0.3)
 
 

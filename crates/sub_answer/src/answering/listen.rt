@@ -46,7 +46,10 @@ pub fn print_listening<N: FirstPacket<S>, S: Source, K: Sink>(
         ReceiverKind::Keep | ReceiverKind::DropRow => {
             print_state_of::<N, Keep, S, K>(pes, listening, out)
         }
-        ReceiverKind::Blank => print_state_of::<N, Blank, S, K>(pes, listening, out),
+        // What one that begins anew does at a header, `listen` does with a receiver of any type.
+        ReceiverKind::Blank | ReceiverKind::Anew => {
+            print_state_of::<N, Blank, S, K>(pes, listening, out)
+        }
     }
 }
 

@@ -125,7 +125,7 @@ packets-preserved g c =
     ∙ sym c.first_lost_header.ensures.value
     ∙ c.in_default-first_lost_header.is in
     let run =
-    subst (λ (us : List UnitValue). RunsThrough l.options.asks_complete g.R.Receiver.leaves
+    subst (λ (us : List UnitValue). RunsThrough l g.R.Receiver.leaves
     (g.R.Receiver.tuned_to c.packets.receiver)
     (display (g.R.Receiver.state c.packets.receiver) c.packets.screen)
     (as_heard l c.packets.number (packets_of_units us))
@@ -163,7 +163,7 @@ packets-preserved g c =
           (rw (← c.within-within.ensures.value) c.first_in_frame-before.ensures.value)
           (omega (arith, rises)) (omega (arith, in_time)) whole
           ((rw c.in-Some.is at (c.in_ok-next.ensures.left i.rest i.rest_is)) refl)
-          (subst (λ (w : PageIdValue). RunsThrough l.options.asks_complete g.R.Receiver.leaves w
+          (subst (λ (w : PageIdValue). RunsThrough l g.R.Receiver.leaves w
           (display (g.R.Receiver.state c.packets.receiver) c.packets.screen)
           (as_heard l c.packets.number (packets_of_units c.next_piece.new.reader.frame.units))
           (display (g.R.Receiver.state c.hear_units.new.receiver)

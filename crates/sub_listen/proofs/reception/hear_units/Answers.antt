@@ -27,10 +27,10 @@ loop-k-preserved g c =
           let on : c.args.number + (k + 1) ≡ c.args.number + k + 1 = omega arith in
           let one =
           subst (λ (w : PageIdValue).
-          RunsThrough l.options.asks_complete g.R.Receiver.leaves w
+          RunsThrough l g.R.Receiver.leaves w
           (display (g.R.Receiver.state c.hear_packet.new.receiver) c.hear_packet.new.screen)
           (as_heard l (c.args.number + k + 1) (drop (k + 1) ps)) end
-          → RunsThrough l.options.asks_complete g.R.Receiver.leaves w
+          → RunsThrough l g.R.Receiver.leaves w
           (display (g.R.Receiver.state c.loop-k.receiver) c.loop-k.screen)
           (as_heard l (c.args.number + k) (p ∷ drop (k + 1) ps)) end)
           i.tuned (c.hear_packet.ensures.run (drop (k + 1) ps) end) in

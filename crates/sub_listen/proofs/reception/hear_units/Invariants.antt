@@ -10,11 +10,11 @@ invariant-loop-k g l = record {
   tuned : g.R.Receiver.tuned_to l.receiver ≡ g.R.Receiver.tuned_to l.fn.receiver;
   run :
       (end : Display)
-      → RunsThrough l.listening.options.asks_complete g.R.Receiver.leaves
+      → RunsThrough l.listening g.R.Receiver.leaves
       (g.R.Receiver.tuned_to l.fn.receiver)
       (display (g.R.Receiver.state l.receiver) l.screen)
       (as_heard l.listening (l.fn.number + l.k) (drop l.k (packets_of_units l.units))) end
-      → RunsThrough l.listening.options.asks_complete g.R.Receiver.leaves
+      → RunsThrough l.listening g.R.Receiver.leaves
       (g.R.Receiver.tuned_to l.fn.receiver)
       (display (g.R.Receiver.state l.fn.receiver) l.fn.screen)
       (as_heard l.listening l.fn.number (packets_of_units l.units)) end;

@@ -1,7 +1,7 @@
 -- The receiver that is asked for leaves what one of its type does.
 use Rattle.std.proofs.Common.{◌≡◌, ap, inl, inr}
 use Rattle.sub_listen.specs.Reception.{left_by}
-use Rattle.sub_request.specs.declared.listening.ReceiverKind.TheVariants.{Keep}
+use Rattle.sub_request.specs.declared.listening.ReceiverKind.TheVariants.{Blank, Keep}
 use Rattle.sub_answer.proofs.ListenListingLemmas.{answers_as}
 use Rattle.sub_answer.proofs.answering.listen.print_listening.Goals as goal
 
@@ -14,4 +14,7 @@ returns-in-Keep-clause-exact g c =
 
 pub returns-in-Blank-clause-exact : goal.returns-in-Blank-clause-exact
 returns-in-Blank-clause-exact g c =
-    answers_as _ _ _ _ _ _ _ (ap left_by c.in-Blank.is) c.print_state_of-in-Blank.ensures.exact
+    let l = c.args.listening.now in
+    let same : left_by l.receiver ≡ left_by Blank =
+    elim c.in-Blank.is [ inl e ↦ ap left_by e | inr e ↦ ap left_by e ] in
+    answers_as _ _ l _ _ _ _ same c.print_state_of-in-Blank.ensures.exact
