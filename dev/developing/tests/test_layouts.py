@@ -45,6 +45,7 @@ DRAWN = [
     ("0D 0B 0B Hi 0A 0A", 22, 2, "before=*07,after=,white,trim", "22 16 0D0B0B4869 0A0A"),
     ("0D Hi", 22, 2, "white,before=*0B0B", "22 16 0D070B0B4869 0A0A"),
     ("00 Hi", 22, 2, "strip=00", "22 17 0B0B4869 0A0A"), ("00 Hi", 22, 2, "", "51 at 0"),
+    ("9F", 22, 2, "", "51 at 0"), ("80 Hi 85", 22, 2, "", "22 17 0B0B4869 0A0A"),
     ("Hi", 22, 2, "row=2,before=0D0B0B", "53 at 0"), ("Hi", 1, 2, "row=-1", "53 at 0"),
     ("Hi", 23, 2, "before=070D0B0B", "54 at 0"), ("8A 0D Hi", 23, 2, "pack", "54 at 1"),
     ("Hi 8A Ho", 20, 2, "before=0D0B0B", "55 at 1"),

@@ -66,6 +66,9 @@ class Table(unittest.TestCase):
                     text = bytes.fromhex(row["stl"])
                     self.assertEqual(draws(text, BY_WORD[row["option"]]), row["kind"] == "drawn")
         self.assertGreater(count, 150)
+        for byte in range(0x80, 0x90):
+            self.assertTrue(draws(b"A%cA" % byte, ENGLISH), byte)
+        self.assertFalse(draws(b"A\x90A", ENGLISH))
 
     def test_languages(self) -> None:
         for code, option in ((b"09", ENGLISH), (b"08", GERMAN), (b"27", SWEDISH), (b"28", SWEDISH),

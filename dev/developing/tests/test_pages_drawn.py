@@ -101,6 +101,8 @@ class Rowed(unittest.TestCase):
             self.assertEqual(drawn.count(part), count, part)
         for header, count in ((PLAIN_HEADER, 3), (SUBTITLE_HEADER, 1)):
             self.assertEqual(picture(rows, header, "", (18, 20)).count('class="n"'), count)
+        for last, is_there in ((21, False), (22, True)):
+            self.assertEqual("seen" in picture(rows, PLAIN_HEADER, "", (18, last)), is_there, last)
         marked = row_drawing(bytes([OLD] * 3 + [0x41, HIT, HIT]).ljust(40), 20, 0, True)[0]
         self.assertIn('<rect class="old" x="1" y="1" width="34" height="13"/>', marked)
         self.assertIn('<rect class="hit" x="49" y="1" width="22" height="13"/>', marked)

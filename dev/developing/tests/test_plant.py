@@ -26,6 +26,7 @@ OF_TEXTS = {
         "for b in __import__('itertools').islice(a, 1):\n        b.first = any(b)",
         "for b in a:\n        pass", "for b in a:\n        b.first = all(b)"},
     "def f(a: 3) -> 4:\n    raise g(5)": set[str](),
+    "def f():\n    if TYPE_CHECKING:\n        import a": set[str](),
     "def f(a):\n    return f'1{a + 1}'": {
         "return f'1{a - 1}'", "return f'1{a + 2}'", "return f'1{a + 0}'"}}
 

@@ -56,6 +56,13 @@ class WhatFits(unittest.TestCase):
                 self.assertEqual(self.fits(due, held, frame, pages).words(frame + 1), "")
 
 
+    def test_before_the_first_change(self) -> None:
+        """A blank page is due up to the first change, or in the first frame where there is none."""
+        blank = (b" " * 40,) * 24
+        for known, spans in (((), [(0, 0)]), (((5, ONE),), [(0, 4)]), (((0, ONE),), [])):
+            made = self.fits(changes(*known), changes((3, TWO)), 3, (TWO, blank))
+            self.assertEqual(made.when_due[blank], spans)
+
     def test_changes(self) -> None:
         """Of several pages of a frame the last one is held; from when to when each is."""
         made = changes((3, ONE), (10, TWO), (10, ONE), (10, THREE), (20, ONE))

@@ -11,7 +11,7 @@ from typing import Any
 from subtitles.core.manual import Meaning
 from subtitles.core.stl import gsi_block, tti_block
 from subtitles.core.times import ALL_DAY, FRAMES_OF_A_DAY
-from subtitles.preview import page
+from subtitles.preview import page, program as asking
 from subtitles.preview.counts import (
     meaning_of_verdict, means_and_do, numbers_table, place_words)
 from subtitles.core.spans import Spans
@@ -28,7 +28,7 @@ from subtitles.qc.subtitle_file import SubtitleFile
 from subtitles.qc.sums import File
 from .bench import Case, example
 from .parts import asked_for
-from .test_report_faults import SUBTITLES
+from .test_report_faults import SUBTITLES, faults
 
 
 def part_of(path: str) -> Any:
@@ -215,6 +215,28 @@ class Reports(Case):
         held = SimpleNamespace(last_frame=5, is_whole=lambda: True)
         made.subtitles = []
         self.must("no subtitle", end_of_knowledge(held, made) is None)
+
+    def test_first_fault(self) -> None:
+        """Its line on the strips: of what is judged beside refused subtitles that of the frame that
+        is broken, by the entry that begins there."""
+        made = faults("refused 68 Parity frame @30", "refused 68 Parity frame @40",
+                      "refused 69 RowChanged frame @60")
+        for is_beside, broken, line in (
+                (False, 30, "the verdict"), (True, 30, "refused 68 Parity frame 00:00:01:05"),
+                (True, 60, "refused 69 RowChanged frame 00:00:02:10"), (True, 40, ""),
+                (True, None, "")):
+            report: Any = SimpleNamespace(is_beside=is_beside, faults=made,
+                                          verdict=SimpleNamespace(line="the verdict"))
+            self.must(f"{is_beside} {broken}", Report.flag(report, broken) == line)
+
+    def test_units_of_a_program(self) -> None:
+        """The Teletext packets of PES packets from the first number on to the last."""
+        program = self.write_program("said", f"#!/bin/sh\necho $* >'{self.path('words')}'\n"
+                                             "echo unit 0 0 3 7 first FF00\necho 1 pes\n")
+        found = asking.Program("subttx", program, "a.pes").units([3, 4, 9])
+        self.must("words", self.read("words") == b"packets --pes 3-9 -- a.pes\n",
+                  self.read("words"))
+        self.must("units", found == [asking.Unit("7 first", b"\xff\0")], found)
 
     def test_what_it_is_of(self) -> None:
         """The options as they hold, and what it speaks of."""

@@ -147,6 +147,9 @@ class Asked(Case):
                 ("--start tcp", "--every 25", (None, "tcp", 25))):
             asked = asked_of_line(["a.stl", "a.ts", *line.split()], parser.parse_args(call.split()))
             self.assertEqual((asked.origin, asked.start, asked.every), wanted, (call, line))
+        for name, wanted_name in (("-", "-"), ("-a", "./-a"), ("a", "a"), ("", ""), (None, None)):
+            self.assertEqual(asked_for("-a.stl", name).recording, wanted_name)
+            self.assertEqual(asked_for("-a.stl", name).stl, "./-a.stl")
         for words in (["a.stl", "-"], ["a.stl", "a.ts", "--origin", "1", "--start", "tcp"]):
             self.assertRaises(Stop, asked_of_line, words, parser.parse_args([]))
 

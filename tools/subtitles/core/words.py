@@ -115,18 +115,12 @@ def within_word(text: str) -> int:
     return int(digits)
 
 
-def number_word(text: str, least: int, thing: str) -> int:
-    """A number of a few digits."""
-    if not (text.isascii() and text.isdecimal() and len(text) <= MOST_DIGITS
-            and int(text) >= least):
-        raise argparse.ArgumentTypeError(f"{text} is no {thing}: {least} to "
-                                         f"{10 ** MOST_DIGITS - 1}")
-    return int(text)
-
-
 def breaks_word(text: str) -> int:
     """How many breaks a programme has."""
-    return number_word(text, 0, "number of breaks")
+    if not (text.isascii() and text.isdecimal() and len(text) <= MOST_DIGITS):
+        raise argparse.ArgumentTypeError(f"{text} is no number of breaks: 0 to "
+                                         f"{10 ** MOST_DIGITS - 1}")
+    return int(text)
 
 
 def start_word(text: str) -> str:
