@@ -13,7 +13,7 @@ use Rattle.ttx_packet.specs.PageId.{PageIdValue}
 use Rattle.ttx_packet.specs.Parity.{code_of}
 use Rattle.ttx_packet.specs.RowPacket.{text_byte}
 use Rattle.ttx_page.proofs.LateStart.{span-later, unended-later}
-use Rattle.ttx_page.proofs.SpanLists.{holds-append_left, holds-append_right}
+use Rattle.ttx_page.proofs.SpanLists.{holds-append_right}
 use Rattle.ttx_page.proofs.TextSpan.{beginning_is_header}
 use Rattle.ttx_page.specs.Page.{space}
 use Rattle.ttx_page.specs.PacketKind.{begins_text, is_row, kind}
@@ -25,10 +25,9 @@ use Rattle.ttx_page.specs.declared.packet_kind.PacketKind.{PacketKind}
 use Rattle.stl_file.specs.Subtitle.{SubtitleValue}
 use Rattle.stl_rows.specs.Programme.{ProgrammeValue}
 use Rattle.sub_plan.specs.Options.{OptionsValue}
-use Rattle.sub_plan.specs.Schedule.{due_in}
 use Rattle.sub_rules.specs.Good.{HoldsHeader}
 use Rattle.sub_rules.specs.GoodWithin.{IsDueWithin}
-use Rattle.sub_rules.specs.Kept.{IsRight, has_row}
+use Rattle.sub_rules.specs.Kept.{has_row}
 use Rattle.sub_rules.specs.Repeats.{IsWholePage, SomeFinishedBy}
 use Rattle.sub_rules.specs.Transmission.{IsRising, Transmission, first_frame, on_air, on_air_until}
 use Rattle.sub_rules.specs.Transmission.{packets_between, packets_of}
