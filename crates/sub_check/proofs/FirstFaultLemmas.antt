@@ -30,7 +30,7 @@ use Rattle.sub_check.proofs.RuleToldLemmas.{first_of_rule, front_of_rule}
 use Rattle.sub_rules.specs.Fault.{is_pes_read}
 use Rattle.ttx_pes.specs.declared.fault.PesFault.TheVariants as Pes
 use Rattle.sub_rules.specs.declared.fault.CheckFault.TheVariants as fault
-use Rattle.sub_check.proofs.VerdictLemmas.{IsAnswered, accepted_none, answered, refused_first}
+use Rattle.sub_check.proofs.AnsweredLemmas.{IsAnswered, accepted_none, answered, refused_first}
 
 -- The bytes are read as pieces, and a device that keeps the first fault was told of them.
 abbrev TellsFirst : ProgrammeValue → OptionsValue → List ℕ → Option CheckFault → Option CheckFault
@@ -64,6 +64,36 @@ module _ (programme : ProgrammeValue) (options : OptionsValue) (bytes : List ℕ
             (λ g h. front_of_rule programme options bytes n g h) first.in_turn,
       )
 
+  -- All was told, and the device has kept nothing: no refusal is told. This and the next stand
+  -- apart from what is answered by them, of which each case would be checked anew.
+  none_told : (empty kept : Option CheckFault) (a : Accepted)
+      → empty ≡ None
+      → is_some kept ≡ false
+      → TellsFirst programme options bytes empty kept (Ok (Some a))
+      → first_told (all_events_of programme options bytes) ≡ None
+  none_told (Some x) kept a e quiet told = cc
+  none_told None (Some x) a e quiet told = cc
+  none_told None None a e quiet told =
+      let file = piece_file_of (clock_of options) bytes in
+      kept_is None (all_events_of programme options bytes) (first_of_rule programme options bytes)
+      (told file.pieces file.unread refl).0.in_turn
+
+  -- It has kept a fault: that is told first.
+  fault_told : (empty kept : Option CheckFault) (f : CheckFault)
+      → empty ≡ None
+      → kept ≡ Some f
+      → TellsFirst programme options bytes empty kept (Ok None)
+      → first_told (all_events_of programme options bytes) ≡ Some f
+  fault_told (Some x) kept f e is told = cc
+  fault_told None kept f e is told =
+      let file = piece_file_of (clock_of options) bytes in
+      let all = all_events_of programme options bytes in
+      let (n, l, part) = told file.pieces file.unread refl in
+      first_of_taken n all f
+      (kept_is kept (take n all)
+      (λ g h. first_of_rule programme options bytes g (first_of_taken n all g h)) part.in_turn
+      ∙ is)
+
   module _ (fine : IsOptions options) (p : IsProgramme programme.drawing programme.records) where
     -- It kept nothing, and all was told. For `check`.
     pub nothing_kept : (empty kept : Option CheckFault) (a : Accepted)
@@ -71,14 +101,10 @@ module _ (programme : ProgrammeValue) (options : OptionsValue) (bytes : List ℕ
         → is_some kept ≡ false
         → TellsFirst programme options bytes empty kept (Ok (Some a))
         → IsAnswered programme options bytes (Ok a)
-    nothing_kept (Some x) kept a e quiet told = cc
-    nothing_kept None (Some x) a e quiet told = cc
-    nothing_kept None None a e quiet told =
+    nothing_kept empty kept a e quiet told =
         let file = piece_file_of (clock_of options) bytes in
-        let all = told file.pieces file.unread refl in
-        accepted_none programme options fine p bytes a all.1
-        (kept_is None (all_events_of programme options bytes)
-        (first_of_rule programme options bytes) all.0.in_turn)
+        accepted_none programme options fine p bytes a (told file.pieces file.unread refl).1
+        (none_told empty kept a e quiet told)
 
     -- It kept a fault. For `check`.
     pub fault_kept : (empty kept : Option CheckFault) (f : CheckFault)
@@ -86,16 +112,8 @@ module _ (programme : ProgrammeValue) (options : OptionsValue) (bytes : List ℕ
         → kept ≡ Some f
         → TellsFirst programme options bytes empty kept (Ok None)
         → IsAnswered programme options bytes (Err f)
-    fault_kept (Some x) kept f e is told = cc
-    fault_kept None kept f e is told =
-        let file = piece_file_of (clock_of options) bytes in
-        let all = all_events_of programme options bytes in
-        let (n, l, part) = told file.pieces file.unread refl in
-        refused_first programme options fine p bytes f
-        (first_of_taken n all f
-        (kept_is kept (take n all)
-        (λ g h. first_of_rule programme options bytes g (first_of_taken n all g h)) part.in_turn
-        ∙ is))
+    fault_kept empty kept f e is told =
+        refused_first programme options fine p bytes f (fault_told empty kept f e is told)
 
     -- The source failed. For `check`.
     pub read_failed : (empty kept : Option CheckFault) (f : CheckFault)

@@ -1,8 +1,9 @@
 -- A device that keeps the first fault of a rule keeps what is told first, `kept_is`; and where that
--- is a wrong cell, every receiver shows what it may not show there: `undue_of_first`.
+-- is a cell that is not right, receivers show what is kept there: `different_of_first`, and where
+-- each header has to erase the page, `undue_of_first`.
 use Rattle.std.proofs.lemmas.Bool.Decides.{nat_tests}
 use Rattle.std.proofs.Common.{◌≡◌, ℕ, List, [], ◌∷◌, length, Option, Some, None, Result, Err, refl}
-use Rattle.std.proofs.Common.{sym, subst, arith, All, true}
+use Rattle.std.proofs.Common.{sym, subst, arith, All, false, true}
 use Rattle.std.proofs.lemmas.Option.{same_Some}
 use Rattle.std.specs.List.{AllByRecursion}
 use Rattle.std.proofs.lemmas.Bool.{true≢false}
@@ -26,8 +27,8 @@ use Rattle.sub_rules.specs.declared.event.Event.TheVariants.{Ended, PassedUntil,
 use Rattle.sub_rules.specs.declared.fault.CheckFault.{CheckFault}
 use Rattle.sub_rules.specs.declared.fault.CheckFault.TheVariants as fault
 use Rattle.sub_rules.proofs.JoinedLemmas.{joined_after-read}
-use Rattle.sub_laws.specs.UndueContent.{IsUndueEverywhere}
-use Rattle.sub_laws.proofs.ContentLemmas.{undue_everywhere}
+use Rattle.sub_laws.specs.UndueContent.{IsDifferentEverywhere, IsUndueEverywhere}
+use Rattle.sub_laws.proofs.ContentLemmas.{different_everywhere, undue_everywhere}
 use Rattle.sub_laws.proofs.EventLemmas.{FirstOf, all_told, is_plain}
 use Rattle.sub_laws.proofs.FirstContentLemmas.{content_first}
 use Rattle.sub_laws.proofs.FrameByFrame.{AllOk, IsReadTo}
@@ -81,35 +82,35 @@ kept_is new (PassedUntil f ∷ xs) named (mid, keeps, rest) =
 
 -- ---- a wrong cell
 
-module _ (programme : ProgrammeValue) (options : OptionsValue) (unread : Option Unread)
-    (frames : Transmission) (packets_whole : EachPacket IsPacket frames) where
-  abbrev g : Task
-  g = task_of programme options unread
-
-  -- Where a wrong cell is told, every receiver shows what it may not show there.
+-- Where a wrong cell is told, what is so of each that is found broken is so of it.
+module _ (g : Task) (frames : Transmission) (packets_whole : EachPacket IsPacket frames)
+    (IsSo : ℕ → ℕ → ℕ → Type 0)
+    (so : (n f : ℕ) (x : ℕ × ℕ) → IsReadTo g frames n f → broken_cell g frames n f ≡ Some x
+    → IsSo f x.0 x.1) where
   abbrev Named : CheckFault → Type 0
-  Named f =
-      (frame row column : ℕ)
-      → f ≡ fault.Content frame row column
-      → IsUndueEverywhere programme options frames frame row column
+  Named f = (frame row column : ℕ) → f ≡ fault.Content frame row column → IsSo frame row column
 
   plain : (f : CheckFault) → is_plain f ≡ true → Named f
   plain f e frame row column is = absurd (grind (arith, nat_tests))
 
-  of_unread : (u : Unread) → unread ≡ Some u → Named (unread_fault (length frames) (Some u))
+  of_unread : (u : Unread) → g.unread ≡ Some u → Named (unread_fault (length frames) (Some u))
   of_unread (BadPacket f) e frame row column is = cc
   of_unread NoFrame e frame row column is = cc
 
   of_wrong : (n f : ℕ) (x : ℕ × ℕ) → IsReadTo g frames n f → broken_cell g frames n f ≡ Some x
       → Named (fault.Content f x.0 x.1)
   of_wrong n f x read broken frame row column is =
-      let shown = undue_everywhere programme options unread frames n f read x broken in
-      grind (arith, shown)
+      let at : f ≡ frame = cc in
+      let on_row : x.0 ≡ row = cc in
+      let in_column : x.1 ≡ column = cc in
+      subst (λ (k : ℕ). IsSo k row column) at
+      (subst (λ (k : ℕ). IsSo f k column) on_row
+      (subst (λ (k : ℕ). IsSo f x.0 k) in_column (so n f x read broken)))
 
-  undue_of_events : (frame row column : ℕ)
+  so_of_events : (frame row column : ℕ)
       → first_told (events g frames) ≡ Some (fault.Content frame row column)
-      → IsUndueEverywhere programme options frames frame row column
-  undue_of_events frame row column e =
+      → IsSo frame row column
+  so_of_events frame row column e =
       go (events g frames) (all_told g frames Named plain of_unread of_wrong packets_whole) e frame
       row column refl
     where
@@ -140,14 +141,47 @@ module _ (programme : ProgrammeValue) (options : OptionsValue) (bytes : List ℕ
       (joined_after-read IsPacket options.within [] file.frames tt
       (file_sound (clock_of options) 0 bytes)))
 
-  -- Where the page is refused at a cell. For `check`.
-  pub undue_of_first : (frame row column : ℕ)
+  -- Where the page is refused at a cell, what is so of each that is found broken.
+  so_of_first : (IsSo : ℕ → ℕ → ℕ → Type 0)
+      → ((unread : Option Unread) (n f : ℕ) (x : ℕ × ℕ)
+      → IsReadTo (task_of programme options unread) (joined options.within file.frames) n f
+      → broken_cell (task_of programme options unread) (joined options.within file.frames) n f
+      ≡ Some x
+      → IsSo f x.0 x.1)
+      → (frame row column : ℕ)
+      → first_told (all_events_of programme options bytes)
+      ≡ Some (fault.Content frame row column)
+      → IsSo frame row column
+  unfolding file_at
+  so_of_first IsSo so frame row column e =
+      let pieces = piece_file_of (clock_of options) bytes in
+      so_of_events (task_of programme options pieces.unread) (joined options.within file.frames)
+      file_whole IsSo (so pieces.unread) frame row column
+      (content_first frame row column (task_of programme options pieces.unread) pieces.pieces e)
+
+  -- It is not right there. For `check`.
+  pub different_of_first : (frame row column : ℕ)
+      → first_told (all_events_of programme options bytes)
+      ≡ Some (fault.Content frame row column)
+      → IsDifferentEverywhere programme options (joined options.within file.frames) frame row column
+  different_of_first =
+      so_of_first
+      (λ f row column.
+      IsDifferentEverywhere programme options (joined options.within file.frames) f row column)
+      (λ unread n f x read broken.
+      different_everywhere programme options unread (joined options.within file.frames) n f read x
+      broken)
+
+  -- Every receiver shows what it may not show there. For `check`.
+  pub undue_of_first : options.keeps ≡ false
+      → (frame row column : ℕ)
       → first_told (all_events_of programme options bytes)
       ≡ Some (fault.Content frame row column)
       → IsUndueEverywhere programme options (joined options.within file.frames) frame row column
-  unfolding file_at
-  undue_of_first frame row column e =
-      let pieces = piece_file_of (clock_of options) bytes in
-      undue_of_events programme options pieces.unread (joined options.within file.frames) file_whole
-      frame row column
-      (content_first frame row column (task_of programme options pieces.unread) pieces.pieces e)
+  undue_of_first none =
+      so_of_first
+      (λ f row column.
+      IsUndueEverywhere programme options (joined options.within file.frames) f row column)
+      (λ unread n f x read broken.
+      undue_everywhere programme options unread (joined options.within file.frames) n f read x
+      broken none)

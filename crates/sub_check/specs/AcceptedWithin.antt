@@ -7,7 +7,7 @@ use Rattle.sub_rules.specs.Fault.{is_failure}
 use Rattle.sub_rules.specs.declared.fault.CheckFault.{CheckFault}
 use Rattle.sub_laws.specs.DelayOfFiles.{within_frames}
 use Rattle.sub_checker.specs.declared.telling.Accepted.{Accepted}
-use Rattle.sub_check.specs.CheckedFiles.{AreAcceptedWithin}
+use Rattle.sub_check.specs.CheckedFiles.{AreAcceptedBy}
 
 -- Where the bytes of a subtitle file and of a PES file are accepted within some frames, or within
 -- none, and are checked within more, they are accepted there too, but for sources that failed and
@@ -18,8 +18,8 @@ LawOfAcceptedWithinMore =
     (answer later : Result Accepted CheckFault)
     → options.origin < 2 ^ 33
     → options.within ≤ more
-    → AreAcceptedWithin drawing options stl pes answer
-    → AreAcceptedWithin drawing (within_frames more options) stl pes later
+    → AreAcceptedBy drawing options stl pes answer
+    → AreAcceptedBy drawing (within_frames more options) stl pes later
     → failed is_failure later ≡ false
     → IsOk answer
     → IsOk later

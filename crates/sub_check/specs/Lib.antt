@@ -1,3 +1,4 @@
+pub mod AcceptedKeeping
 pub mod AcceptedWithin
 pub mod CheckedFiles
 pub mod FirstTold

@@ -1,6 +1,6 @@
 //! The exact checker: a PES file against a programme.
-ghost use Rattle.std.specs.Prelude.{◌≡◌, ◌<◌, ℕ, Err, IfErr, IfOk, IfSome, List, Option, false};
-ghost use Rattle.std.specs.Prelude.{is_none, length, take, true};
+ghost use Rattle.std.specs.Prelude.{◌≡◌, ◌<◌, ℕ, Err, IfErr, IfOk, IfSome, IsFalse, List, Option};
+ghost use Rattle.std.specs.Prelude.{false, is_none, length, take, true};
 ghost use Rattle.sub_io.specs.Device.{CanFail, CountsIf, failed};
 ghost use Rattle.sub_io.specs.Reading.{IfTold};
 ghost use Rattle.sub_io.specs.Telling.{TellsSome};
@@ -13,9 +13,10 @@ ghost use Rattle.sub_rules.specs.Fault.{is_pes_read, is_pes_write, is_subtitle_f
 ghost use Rattle.sub_rules.specs.FrameRules.{Unread, task_of};
 ghost use Rattle.sub_rules.specs.Pieces.{FailsAtPiece, Piece, ReadsPieces, frames_of};
 ghost use Rattle.sub_checker.specs.PieceTelling.{TellsPieces};
-ghost use Rattle.sub_check.specs.CheckedFiles.{BeginsWhatIsTold, IsChecked, IsCheckedWithin};
-ghost use Rattle.sub_check.specs.CheckedFiles.{TellsEvents, TellsWhatMayStay};
-ghost use Rattle.sub_check.specs.CheckedFiles.{TellsWhatIsKnown, TellsWhatMayStayWithDelay};
+ghost use Rattle.sub_check.specs.CheckedFiles.{BeginsWhatIsTold, IsChecked, IsCheckedBy};
+ghost use Rattle.sub_check.specs.CheckedFiles.{IsCheckedWithin, TellsEvents, TellsWhatMayStay};
+ghost use Rattle.sub_check.specs.CheckedFiles.{TellsWhatIsKnown, TellsWhatMayStayBy};
+ghost use Rattle.sub_check.specs.CheckedFiles.{TellsWhatMayStayWithDelay};
 ghost use Rattle.sub_check.specs.CheckedFiles.{all_events_of};
 ghost use Rattle.sub_check.specs.CheckedFiles.{first_answer};
 
@@ -46,7 +47,9 @@ use ttx_pes::PesFault;
 /// call, and only there. Within frames a frame ends where a PES packet of another one comes, or
 /// none; `Incomplete` is told only at an end by which the page had to be whole, and at another one
 /// `Content` only of a code that was not due within these frames. `Late` is also told where the
-/// page is not whole at the last end, and need not be by then.
+/// page is not whole at the last end, and need not be by then. Where repeats may keep the page,
+/// `Control` passes a header that repeats it, and `Content` is told where a row with text is not
+/// sent again.
 pub fn check<S: Source>(
     programme: &Programme,
     source: &mut S,
@@ -55,12 +58,16 @@ pub fn check<S: Source>(
     requires { CanFail (S.failure_count source.old) }
     // Where the source tells its bytes, these decide the answer: they are accepted exactly where
     // they are a PES file that carries a good transmission of the programme, which is then robust.
-    ensures checked { options.now.within ≡ 0 → IfTold (S.remaining source.old) (λ bytes.
+    ensures checked { IsFalse options.now.keeps → options.now.within ≡ 0
+        → IfTold (S.remaining source.old) (λ bytes.
         IsChecked programme.now options.now bytes result) }
     // Where the options allow for frames that are late, they are accepted exactly where it is good
     // within as many of them.
-    ensures within { IfTold (S.remaining source.old) (λ bytes.
+    ensures within { IsFalse options.now.keeps → IfTold (S.remaining source.old) (λ bytes.
         IsCheckedWithin programme.now options.now bytes result) }
+    // And where repeats may keep the page, exactly where it is good by that.
+    ensures checked_by { IfTold (S.remaining source.old) (λ bytes.
+        IsCheckedBy programme.now options.now bytes result) }
     // That the source failed is told at the PES packet within which it failed: those before it were
     // taken.
     ensures read { (pes : ℕ) → result ≡ Err (CheckFault.Pes pes PesFault.Read)
@@ -151,23 +158,35 @@ pub fn check_all<S: Source, A: LiveAudience<Event>>(
     // fault of it, or else with these counts.
     ensures first { (programme : ProgrammeValue)
         → judging.now ≡ known programme
+        → IsFalse options.now.keeps
         → options.now.within ≡ 0
         → IfTold (S.remaining source.old) (λ bytes.
         IfOk result (λ counts. IfSome counts (λ a. IsChecked programme options.now bytes
         (first_answer (all_events_of programme options.now bytes) a)))) }
     ensures first_within { (programme : ProgrammeValue)
         → judging.now ≡ known programme
+        → IsFalse options.now.keeps
         → IfTold (S.remaining source.old) (λ bytes.
         IfOk result (λ counts. IfSome counts (λ a. IsCheckedWithin programme options.now bytes
         (first_answer (all_events_of programme options.now bytes) a)))) }
-    // The next four are laws of what it is told: they name neither the answer nor the device, and
+    ensures first_by { (programme : ProgrammeValue)
+        → judging.now ≡ known programme
+        → IfTold (S.remaining source.old) (λ bytes.
+        IfOk result (λ counts. IfSome counts (λ a. IsCheckedBy programme options.now bytes
+        (first_answer (all_events_of programme options.now bytes) a)))) }
+    // The next five are laws of what it is told: they name neither the answer nor the device, and
     // stand here so that this call carries them.
     // What is told as trusted may stay on air as it is, whatever is on air elsewhere.
-    ensures trusted { options.now.within ≡ 0 → IfTold (S.remaining source.old) (λ bytes.
+    ensures trusted { IsFalse options.now.keeps → options.now.within ≡ 0
+        → IfTold (S.remaining source.old) (λ bytes.
         TellsWhatMayStay judging.now options.now bytes) }
     // So it may, with a delay, within frames.
-    ensures trusted_within { 0 < options.now.within → IfTold (S.remaining source.old) (λ bytes.
+    ensures trusted_within { IsFalse options.now.keeps → 0 < options.now.within
+        → IfTold (S.remaining source.old) (λ bytes.
         TellsWhatMayStayWithDelay judging.now options.now bytes) }
+    // And so it may by receivers that may forget the page, where repeats may keep it too.
+    ensures trusted_by { IfTold (S.remaining source.old) (λ bytes.
+        TellsWhatMayStayBy judging.now options.now bytes) }
     // It is known there what is due.
     ensures known { IfTold (S.remaining source.old) (λ bytes.
         TellsWhatIsKnown judging.now options.now bytes) }

@@ -1,5 +1,5 @@
 //! A pair of files: the subtitle file, and the PES file that carries it.
-ghost use Rattle.std.specs.Prelude.{◌≡◌, ℕ, ◌<◌, Err, false, true};
+ghost use Rattle.std.specs.Prelude.{◌≡◌, ℕ, ◌<◌, Err, IsFalse, false, true};
 ghost use Rattle.sub_io.specs.Device.{CanFail, CountsIf, failed};
 ghost use Rattle.sub_io.specs.Reading.{IfTold};
 ghost use Rattle.ttx_pes.specs.Reader.{FailsAtPacket};
@@ -7,7 +7,8 @@ ghost use Rattle.stl_rows.specs.Layout.{drawing_within};
 ghost use Rattle.stl_rows.specs.Fault.{is_read};
 ghost use Rattle.stl_rows.specs.Loading.{FailsLoading};
 ghost use Rattle.stl_rows.specs.declared.fault.LoadFault.{LoadFault};
-ghost use Rattle.sub_check.specs.CheckedFiles.{AreAccepted, AreAcceptedWithin, AreChecked};
+ghost use Rattle.sub_check.specs.CheckedFiles.{AreAccepted, AreAcceptedBy, AreAcceptedWithin};
+ghost use Rattle.sub_check.specs.CheckedFiles.{AreChecked};
 ghost use Rattle.sub_rules.specs.Fault.{is_pes_read, is_pes_write, is_stl_read, is_subtitle_fault};
 
 use crate::checking::check;
@@ -42,14 +43,19 @@ pub fn check_files<S: Source, P: Source>(
     // Where both sources tell their bytes, none fails and no memory is refused, they are accepted
     // exactly where they are a subtitle file and a PES file with a good transmission of its
     // subtitles, and what is accepted is robust.
-    ensures accepted { options.now.within ≡ 0 → IfTold (S.remaining stl.old) (λ file.
+    ensures accepted { IsFalse options.now.keeps → options.now.within ≡ 0
+        → IfTold (S.remaining stl.old) (λ file.
         IfTold (P.remaining pes.old) (λ bytes.
         AreAccepted (drawing_within national layout scope) options.now file bytes result)) }
     // Where the options allow for frames that are late, they are accepted exactly where that
     // transmission is good within as many of them, and what is accepted is as robust as that is.
-    ensures accepted_within { IfTold (S.remaining stl.old) (λ file.
+    ensures accepted_within { IsFalse options.now.keeps → IfTold (S.remaining stl.old) (λ file.
         IfTold (P.remaining pes.old) (λ bytes.
         AreAcceptedWithin (drawing_within national layout scope) options.now file bytes result)) }
+    // And where repeats may keep the page, exactly where it is good by that.
+    ensures accepted_by { IfTold (S.remaining stl.old) (λ file.
+        IfTold (P.remaining pes.old) (λ bytes.
+        AreAcceptedBy (drawing_within national layout scope) options.now file bytes result)) }
     // What is refused, and at which place.
     ensures checked { IfTold (S.remaining stl.old) (λ file.
         AreChecked (drawing_within national layout scope) options.now file (P.remaining pes.old)

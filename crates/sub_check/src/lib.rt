@@ -20,7 +20,7 @@ mod laws;
 
 pub use checking::{check, check_all};
 pub use files::check_files;
-pub use laws::law_of_accepted_within_more;
+pub use laws::{law_of_accepted_keeping, law_of_accepted_none_keeps, law_of_accepted_within_more};
 pub use sub_checker::Accepted;
 pub use sub_laws::{
     law_of_all_kept, law_of_broken_places, law_of_complete_plan, law_of_exact_frames,

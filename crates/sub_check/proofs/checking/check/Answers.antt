@@ -11,7 +11,7 @@ use Rattle.sub_rules.specs.declared.fault.CheckFault.TheVariants as fault
 use Rattle.sub_check.proofs.checking.check.Goals as goal
 
 pub returns-in-Ok-Some-clause-checked : goal.returns-in-Ok-Some-clause-checked
-returns-in-Ok-Some-clause-checked g c = λ none bytes told.
+returns-in-Ok-Some-clause-checked g c = λ none at_once bytes told.
     let answer =
     nothing_kept c.args.programme.now c.args.options.now bytes c.in-Ok-Some.ensures.options
     c.in-Ok-Some.ensures.programme
@@ -19,10 +19,10 @@ returns-in-Ok-Some-clause-checked g c = λ none bytes told.
     (rw c.in-Ok-Some.field-0-is at c.in-Ok-Some.ensures.stopped)
     (λ pieces unread reads.
     rw c.in-Ok-Some.field-0-is at (c.in-Ok-Some.ensures.exact pieces unread bytes told reads)) in
-    answer.at_once none
+    answer.at_once none at_once
 
 pub returns-in-Ok-Some-clause-within : goal.returns-in-Ok-Some-clause-within
-returns-in-Ok-Some-clause-within g c = λ bytes told.
+returns-in-Ok-Some-clause-within g c = λ none bytes told.
     let answer =
     nothing_kept c.args.programme.now c.args.options.now bytes c.in-Ok-Some.ensures.options
     c.in-Ok-Some.ensures.programme
@@ -30,10 +30,21 @@ returns-in-Ok-Some-clause-within g c = λ bytes told.
     (rw c.in-Ok-Some.field-0-is at c.in-Ok-Some.ensures.stopped)
     (λ pieces unread reads.
     rw c.in-Ok-Some.field-0-is at (c.in-Ok-Some.ensures.exact pieces unread bytes told reads)) in
-    answer.within
+    answer.within none
+
+pub returns-in-Ok-Some-clause-checked_by : goal.returns-in-Ok-Some-clause-checked_by
+returns-in-Ok-Some-clause-checked_by g c = λ bytes told.
+    let answer =
+    nothing_kept c.args.programme.now c.args.options.now bytes c.in-Ok-Some.ensures.options
+    c.in-Ok-Some.ensures.programme
+    c.new-first.result c.tell_known.new.audience c.in-Ok-Some.counts c.new-first.ensures
+    (rw c.in-Ok-Some.field-0-is at c.in-Ok-Some.ensures.stopped)
+    (λ pieces unread reads.
+    rw c.in-Ok-Some.field-0-is at (c.in-Ok-Some.ensures.exact pieces unread bytes told reads)) in
+    answer.by
 
 pub returns-in-Ok-None-clause-checked : goal.returns-in-Ok-None-clause-checked
-returns-in-Ok-None-clause-checked g c = λ none bytes told.
+returns-in-Ok-None-clause-checked g c = λ none at_once bytes told.
     let answer =
     fault_kept c.args.programme.now c.args.options.now bytes c.in-Ok-None.ensures.options
     c.in-Ok-None.ensures.programme
@@ -41,10 +52,10 @@ returns-in-Ok-None-clause-checked g c = λ none bytes told.
     c.into_fault.ensures.kept
     (λ pieces unread reads.
     rw c.in-Ok-None.field-0-is at (c.in-Ok-None.ensures.exact pieces unread bytes told reads)) in
-    answer.at_once none
+    answer.at_once none at_once
 
 pub returns-in-Ok-None-clause-within : goal.returns-in-Ok-None-clause-within
-returns-in-Ok-None-clause-within g c = λ bytes told.
+returns-in-Ok-None-clause-within g c = λ none bytes told.
     let answer =
     fault_kept c.args.programme.now c.args.options.now bytes c.in-Ok-None.ensures.options
     c.in-Ok-None.ensures.programme
@@ -52,10 +63,21 @@ returns-in-Ok-None-clause-within g c = λ bytes told.
     c.into_fault.ensures.kept
     (λ pieces unread reads.
     rw c.in-Ok-None.field-0-is at (c.in-Ok-None.ensures.exact pieces unread bytes told reads)) in
-    answer.within
+    answer.within none
+
+pub returns-in-Ok-None-clause-checked_by : goal.returns-in-Ok-None-clause-checked_by
+returns-in-Ok-None-clause-checked_by g c = λ bytes told.
+    let answer =
+    fault_kept c.args.programme.now c.args.options.now bytes c.in-Ok-None.ensures.options
+    c.in-Ok-None.ensures.programme
+    c.new-first.result c.tell_known.new.audience c.into_fault.result c.new-first.ensures
+    c.into_fault.ensures.kept
+    (λ pieces unread reads.
+    rw c.in-Ok-None.field-0-is at (c.in-Ok-None.ensures.exact pieces unread bytes told reads)) in
+    answer.by
 
 pub returns-in-Err-clause-checked : goal.returns-in-Err-clause-checked
-returns-in-Err-clause-checked g c = λ none bytes told.
+returns-in-Err-clause-checked g c = λ none at_once bytes told.
     let answer =
     read_failed c.args.programme.now c.args.options.now bytes c.in-Err.ensures.options
     c.in-Err.ensures.programme
@@ -63,10 +85,10 @@ returns-in-Err-clause-checked g c = λ none bytes told.
     c.in-Err.ensures.goes_on
     (λ pieces unread reads. c.in-Err.ensures.exact pieces unread bytes told reads)
     c.in-Err.ensures.only in
-    answer.at_once none
+    answer.at_once none at_once
 
 pub returns-in-Err-clause-within : goal.returns-in-Err-clause-within
-returns-in-Err-clause-within g c = λ bytes told.
+returns-in-Err-clause-within g c = λ none bytes told.
     let answer =
     read_failed c.args.programme.now c.args.options.now bytes c.in-Err.ensures.options
     c.in-Err.ensures.programme
@@ -74,7 +96,18 @@ returns-in-Err-clause-within g c = λ bytes told.
     c.in-Err.ensures.goes_on
     (λ pieces unread reads. c.in-Err.ensures.exact pieces unread bytes told reads)
     c.in-Err.ensures.only in
-    answer.within
+    answer.within none
+
+pub returns-in-Err-clause-checked_by : goal.returns-in-Err-clause-checked_by
+returns-in-Err-clause-checked_by g c = λ bytes told.
+    let answer =
+    read_failed c.args.programme.now c.args.options.now bytes c.in-Err.ensures.options
+    c.in-Err.ensures.programme
+    c.new-first.result c.tell_known.new.audience c.in-Err.fault c.new-first.ensures
+    c.in-Err.ensures.goes_on
+    (λ pieces unread reads. c.in-Err.ensures.exact pieces unread bytes told reads)
+    c.in-Err.ensures.only in
+    answer.by
 
 pub returns-in-Err-clause-read : goal.returns-in-Err-clause-read
 returns-in-Err-clause-read g c = λ pes is.

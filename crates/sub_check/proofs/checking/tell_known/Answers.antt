@@ -1,5 +1,5 @@
 -- The task is that of the programme: `tells_known`.
-use Rattle.sub_check.proofs.VerdictLemmas.{programme_known, tells_known}
+use Rattle.sub_check.proofs.AnsweredLemmas.{programme_known, tells_known}
 use Rattle.sub_check.proofs.checking.tell_known.Goals as goal
 
 pub returns-clause-exact : goal.returns-clause-exact

@@ -1,0 +1,101 @@
+-- For `law_of_accepted_keeping` and `law_of_accepted_none_keeps`: what both files mean by some
+-- options they mean by others, by which repeats may keep the page or may not, `mean-keeps`; and
+-- what is good by the ones is good by the others, `good-keeps`.
+use Rattle.std.proofs.Common.{◌≡◌, ℕ, Bool, true, false, List, sym, subst}
+use Rattle.stl_file.specs.Subtitle.{SubtitleValue}
+use Rattle.stl_rows.specs.Programme.{ProgrammeValue}
+use Rattle.stl_rows.specs.declared.layout.Drawing.{Drawing}
+use Rattle.sub_plan.specs.Options.{OptionsValue}
+use Rattle.sub_rules.specs.Repeats.{GoodBy, IsFinishedBy, SomeFinishedBy}
+use Rattle.sub_rules.specs.Transmission.{Transmission, last_frame}
+use Rattle.sub_laws.proofs.RepeatLemmas.{law_of_may_keep, law_of_none_keeps}
+use Rattle.sub_check.specs.AcceptedKeeping.{LawOfAcceptedKeeping, LawOfAcceptedNoneKeeps, keeping}
+use Rattle.sub_check.specs.CheckedFiles.{MeanWithin}
+use Rattle.sub_check.proofs.AcceptedWithinLemmas.{none_failed}
+
+-- The same options, by which repeats may keep or may not.
+abbrev by_keeps : Bool → OptionsValue → OptionsValue
+by_keeps may options = record options { keeps = may }
+
+-- What the files mean goes by the clock alone.
+mean-keeps :
+    (may : Bool) (drawing : Drawing) (options : OptionsValue) (stl pes : List ℕ)
+    (subtitles : List SubtitleValue) (t : Transmission)
+    → MeanWithin drawing options stl pes subtitles t
+    → MeanWithin drawing (by_keeps may options) stl pes subtitles t
+mean-keeps may drawing options stl pes subtitles t mean = record {
+  gsi = mean.gsi;
+  subtitle_file = mean.subtitle_file;
+  in_order = mean.in_order;
+  drawable = mean.drawable;
+  carries = mean.carries;
+}
+
+module _ (keeps may : Bool) (programme : ProgrammeValue) (t : Transmission)
+    (options : OptionsValue) where
+  finished-keeps : (f : ℕ)
+      → IsFinishedBy keeps programme t options f
+      → IsFinishedBy keeps programme t (by_keeps may options) f
+  finished-keeps f is = record { whole = is.whole; ended = is.ended }
+
+  some_finished-keeps : (a b : ℕ)
+      → SomeFinishedBy keeps programme t options a b
+      → SomeFinishedBy keeps programme t (by_keeps may options) a b
+  some_finished-keeps a b (f, from, to, is) = (f, from, to, finished-keeps f is)
+
+  good-keeps :
+      GoodBy keeps programme t options → GoodBy keeps programme t (by_keeps may options)
+  good-keeps good = record {
+    rules = record {
+      not_empty = good.rules.not_empty;
+      rising = good.rules.rising;
+      whole = good.rules.whole;
+      starts = good.rules.starts;
+      lasts = good.rules.lasts;
+      exact = good.rules.exact;
+      serial = good.rules.serial;
+      control = good.rules.control;
+      erases = good.rules.erases;
+      keeping = good.rules.keeping;
+      spans = good.rules.spans;
+      opens = good.rules.opens;
+      repeats = good.rules.repeats;
+      paced = good.rules.paced;
+    };
+    codes = good.codes;
+    again = λ start low high. some_finished-keeps _ _ (good.again start low high);
+    subtitles = λ k d within. some_finished-keeps _ _ (good.subtitles k d within);
+    ends = finished-keeps (last_frame t) good.ends;
+  }
+
+pub law_of_accepted_keeping : LawOfAcceptedKeeping
+law_of_accepted_keeping drawing options stl pes answer later off is is_later fine ok =
+    let of = (is.accepted (none_failed answer ok)).0 ok in
+    let programme : ProgrammeValue = record { drawing = drawing; records = of.subtitles } in
+    (is_later.accepted fine).1 (record {
+      subtitles = of.subtitles;
+      transmission = of.transmission;
+      mean = mean-keeps true drawing options stl pes of.subtitles of.transmission of.mean;
+      good =
+          good-keeps true true programme of.transmission options
+          (law_of_may_keep programme of.transmission options
+          (subst (λ (k : Bool). GoodBy k programme of.transmission options) off of.good));
+    })
+
+pub law_of_accepted_none_keeps : LawOfAcceptedNoneKeeps
+law_of_accepted_none_keeps drawing options stl pes answer later off is erases is_later fine ok =
+    let of = (is.accepted (none_failed answer ok)).0 ok in
+    let programme : ProgrammeValue = record { drawing = drawing; records = of.subtitles } in
+    let mean =
+    mean-keeps options.keeps drawing (keeping options) stl pes of.subtitles of.transmission
+    of.mean in
+    (is_later.accepted fine).1 (record {
+      subtitles = of.subtitles;
+      transmission = of.transmission;
+      mean = mean;
+      good =
+          good-keeps options.keeps options.keeps programme of.transmission (keeping options)
+          (subst (λ (k : Bool). GoodBy k programme of.transmission (keeping options)) (sym off)
+          (law_of_none_keeps programme of.transmission (keeping options)
+          (erases of.subtitles of.transmission mean) of.good));
+    })

@@ -1,0 +1,187 @@
+-- What is told of the whole file decides the answer of `check`: `answered`, `accepted_none`,
+-- `refused_first`; and of `check_all`, `checked_first`, `tells_events`. Where nothing of the
+-- subtitle file is refused, `tells_known`.
+use Rattle.std.proofs.Common.{◌≡◌, ℕ, List, Option, Some, None}
+use Rattle.std.proofs.Common.{Result, Ok, Err, IfOk, false, refl}
+use Rattle.std.proofs.Common.{subst}
+use Rattle.std.specs.Prelude.{IfSome, IsFalse}
+use Rattle.sub_io.specs.Device.{failed}
+use Rattle.stl_rows.specs.Judged.{JudgedValue, known}
+use Rattle.stl_rows.specs.Programme.{IsProgramme, ProgrammeValue}
+use Rattle.sub_plan.specs.FrameTime.{clock_of}
+use Rattle.sub_plan.specs.Options.{OptionsValue, IsOptions}
+use Rattle.sub_rules.specs.Events.{first_told}
+use Rattle.sub_rules.specs.Fault.{is_pes_read}
+use Rattle.sub_rules.specs.FrameRules.{Unread, task_beside, task_of}
+use Rattle.sub_rules.specs.Pieces.{Piece, ReadsPieces}
+use Rattle.sub_rules.specs.Pieces.{piece_file_of}
+use Rattle.sub_rules.specs.declared.event.Event.{Event}
+use Rattle.sub_rules.specs.declared.fault.CheckFault.{CheckFault}
+use Rattle.sub_checker.specs.PieceTelling.{TellsPieces}
+use Rattle.sub_checker.specs.declared.telling.Accepted.{Accepted}
+use Rattle.sub_check.specs.CheckedFiles.{IsChecked, IsCheckedBy}
+use Rattle.sub_check.specs.CheckedFiles.{IsCheckedWithin, TellsEvents}
+use Rattle.sub_check.specs.CheckedFiles.{all_events_of, answer_by}
+use Rattle.sub_check.specs.CheckedFiles.{first_answer}
+use Rattle.sub_check.specs.FirstTold.{IsRuleFault}
+use Rattle.sub_check.proofs.FirstToldLemmas.{no_read, of_rule}
+use Rattle.sub_check.proofs.RuleToldLemmas.{first_of_rule}
+use Rattle.sub_check.proofs.VerdictLemmas.{Decides, IsAllRead, ReadsSoFar, checked_at_once}
+use Rattle.sub_check.proofs.VerdictLemmas.{checked_by, checked_within}
+
+-- What `check` answers: by whatever options; where each header has to erase the page; and where the
+-- page has to be whole at once too.
+pub record IsAnswered
+    (programme : ProgrammeValue) (options : OptionsValue) (bytes : List ℕ)
+    (answer : Result Accepted CheckFault)
+    : Type 0 where
+  pub by : IsCheckedBy programme options bytes answer
+  pub within : IsFalse options.keeps → IsCheckedWithin programme options bytes answer
+  pub at_once :
+      IsFalse options.keeps → options.within ≡ 0 → IsChecked programme options bytes answer
+
+-- ---- what is told first is the answer
+
+module _ (programme : ProgrammeValue) (options : OptionsValue) (fine : IsOptions options)
+    (p : IsProgramme programme.drawing programme.records) (bytes : List ℕ) where
+  pub answered :
+      (result : Result Accepted CheckFault)
+      → (failed is_pes_read result ≡ false → Decides programme options bytes result)
+      → ReadsSoFar programme options bytes result
+      → IsAnswered programme options bytes result
+  answered result decides so_far = record {
+    by = checked_by programme options fine p bytes result decides so_far;
+    within = checked_within programme options fine p bytes result decides so_far;
+    at_once = checked_at_once programme options fine p bytes result decides so_far;
+  }
+
+  -- Where no refusal is told, it is accepted.
+  pub accepted_none :
+      (a : Accepted)
+      → IsAllRead programme options bytes a
+      → first_told (all_events_of programme options bytes) ≡ None
+      → IsAnswered programme options bytes (Ok a)
+  accepted_none a read none = answered (Ok a) (λ own. (read, none)) (λ pes is. cc)
+
+  -- Else the one that is told first is the answer.
+  pub refused_first :
+      (f : CheckFault)
+      → first_told (all_events_of programme options bytes) ≡ Some f
+      → IsAnswered programme options bytes (Err f)
+  refused_first f first =
+      let own : IsRuleFault f = of_rule f (first_of_rule programme options bytes f first) in
+      answered (Err f) (λ fine. first) (λ pes is. absurd (no_read f pes own is))
+
+  -- By all that is told. For `check_all`.
+  pub answered_first :
+      (a : Accepted)
+      → IsAllRead programme options bytes a
+      → IsAnswered programme options bytes
+      (first_answer (all_events_of programme options bytes) a)
+  answered_first a read = go (first_told (all_events_of programme options bytes)) refl
+    where
+      go : (o : Option CheckFault) → first_told (all_events_of programme options bytes) ≡ o
+          → IsAnswered programme options bytes (answer_by o a)
+      go None none = accepted_none a read none
+      go (Some f) first = refused_first f first
+
+-- ---- all events
+
+-- What is told first is what `check` refuses the bytes for, and it accepts them where nothing is.
+-- For `check_all`.
+pub checked_first :
+    (programme : ProgrammeValue) (options : OptionsValue) (bytes : List ℕ)
+    {D : Type 0} (IsTold : D → Event → D → Type 0) (old new : D)
+    (r : Result (Option Accepted) CheckFault)
+    → IsOptions options
+    → IsProgramme programme.drawing programme.records
+    → ((pieces : List Piece) (unread : Option Unread)
+    → ReadsPieces (clock_of options) 0 bytes pieces unread
+    → TellsPieces (task_of programme options unread) (clock_of options) bytes pieces IsTold old new
+    r)
+    → IfOk r (λ counts. IfSome counts (λ a. IsAnswered programme options bytes
+    (first_answer (all_events_of programme options bytes) a)))
+checked_first programme options bytes IsTold old new (Ok (Some a)) fine p told =
+    let file = piece_file_of (clock_of options) bytes in
+    answered_first programme options fine p bytes a (told file.pieces file.unread refl).1
+checked_first programme options bytes IsTold old new (Ok None) fine p told = tt
+checked_first programme options bytes IsTold old new (Err f) fine p told = tt
+
+-- The three of it.
+pub answers_by : (programme : ProgrammeValue) (options : OptionsValue) (bytes : List ℕ)
+    (r : Result (Option Accepted) CheckFault)
+    → IfOk r (λ counts. IfSome counts (λ a. IsAnswered programme options bytes
+    (first_answer (all_events_of programme options bytes) a)))
+    → IfOk r (λ counts. IfSome counts (λ a. IsCheckedBy programme options bytes
+    (first_answer (all_events_of programme options bytes) a)))
+answers_by programme options bytes (Ok (Some a)) all = all.by
+answers_by programme options bytes (Ok None) all = tt
+answers_by programme options bytes (Err f) all = tt
+
+pub answers_within : (programme : ProgrammeValue) (options : OptionsValue) (bytes : List ℕ)
+    (r : Result (Option Accepted) CheckFault)
+    → IsFalse options.keeps
+    → IfOk r (λ counts. IfSome counts (λ a. IsAnswered programme options bytes
+    (first_answer (all_events_of programme options bytes) a)))
+    → IfOk r (λ counts. IfSome counts (λ a. IsCheckedWithin programme options bytes
+    (first_answer (all_events_of programme options bytes) a)))
+answers_within programme options bytes (Ok (Some a)) none all = all.within none
+answers_within programme options bytes (Ok None) none all = tt
+answers_within programme options bytes (Err f) none all = tt
+
+pub answers_at_once : (programme : ProgrammeValue) (options : OptionsValue) (bytes : List ℕ)
+    (r : Result (Option Accepted) CheckFault)
+    → IsFalse options.keeps
+    → options.within ≡ 0
+    → IfOk r (λ counts. IfSome counts (λ a. IsAnswered programme options bytes
+    (first_answer (all_events_of programme options bytes) a)))
+    → IfOk r (λ counts. IfSome counts (λ a. IsChecked programme options bytes
+    (first_answer (all_events_of programme options bytes) a)))
+answers_at_once programme options bytes (Ok (Some a)) none at_once all = all.at_once none at_once
+answers_at_once programme options bytes (Ok None) none at_once all = tt
+answers_at_once programme options bytes (Err f) none at_once all = tt
+
+-- What was told of the file as one value. For `check_all`.
+pub tells_events :
+    (judged : JudgedValue) (options : OptionsValue) (bytes : List ℕ)
+    {D : Type 0} (IsTold : D → Event → D → Type 0) (old new : D)
+    (r : Result (Option Accepted) CheckFault)
+    → ((pieces : List Piece) (unread : Option Unread)
+    → ReadsPieces (clock_of options) 0 bytes pieces unread
+    → TellsPieces (task_beside judged options unread) (clock_of options) bytes pieces IsTold old new
+    r)
+    → TellsEvents judged options bytes IsTold old new r
+tells_events judged options bytes IsTold old new (Ok (Some a)) told =
+    let file = piece_file_of (clock_of options) bytes in
+    let whole = told file.pieces file.unread refl in (whole.0, whole.1.counts)
+tells_events judged options bytes IsTold old new (Ok None) told =
+    let file = piece_file_of (clock_of options) bytes in told file.pieces file.unread refl
+tells_events judged options bytes IsTold old new (Err f) told =
+    let file = piece_file_of (clock_of options) bytes in told file.pieces file.unread refl
+
+-- What is told where nothing of the subtitle file is refused is told of its programme. For `check`
+-- and `check_all`.
+pub tells_known :
+    (judged : JudgedValue) (programme : ProgrammeValue) (options : OptionsValue)
+    (bytes : List ℕ) {D : Type 0} (IsTold : D → Event → D → Type 0) (old new : D)
+    (r : Result (Option Accepted) CheckFault)
+    → judged ≡ known programme
+    → ((pieces : List Piece) (unread : Option Unread)
+    → ReadsPieces (clock_of options) 0 bytes pieces unread
+    → TellsPieces (task_beside judged options unread) (clock_of options) bytes pieces IsTold old new
+    r)
+    → (pieces : List Piece) (unread : Option Unread)
+    → ReadsPieces (clock_of options) 0 bytes pieces unread
+    → TellsPieces (task_of programme options unread) (clock_of options) bytes pieces IsTold old new
+    r
+tells_known judged programme options bytes IsTold old new r is told pieces unread reads =
+    subst (λ (j : JudgedValue). TellsPieces (task_beside j options unread) (clock_of options) bytes
+    pieces IsTold old new r) is (told pieces unread reads)
+
+-- Such a programme is one that `check` takes.
+pub programme_known : (judged : JudgedValue) (programme : ProgrammeValue)
+    → judged ≡ known programme
+    → IsProgramme judged.programme.drawing judged.programme.records
+    → IsProgramme programme.drawing programme.records
+programme_known judged programme is p =
+    subst (λ (j : JudgedValue). IsProgramme j.programme.drawing j.programme.records) is p

@@ -1,0 +1,47 @@
+-- What is accepted where each header of the page has to erase it is accepted where repeats may keep
+-- it; and the other way, where none keeps it.
+use Rattle.std.specs.Prelude.{◌≡◌, ℕ, Bool, true, false, List, IsFalse, IsOk, Result}
+use Rattle.sub_io.specs.Device.{failed}
+use Rattle.ttx_page.specs.Noise.{ErasesPage}
+use Rattle.stl_file.specs.Subtitle.{SubtitleValue}
+use Rattle.stl_rows.specs.declared.layout.Drawing.{Drawing}
+use Rattle.sub_plan.specs.Options.{OptionsValue}
+use Rattle.sub_rules.specs.Fault.{is_failure}
+use Rattle.sub_rules.specs.Transmission.{EachPacket, Transmission}
+use Rattle.sub_rules.specs.declared.fault.CheckFault.{CheckFault}
+use Rattle.sub_checker.specs.declared.telling.Accepted.{Accepted}
+use Rattle.sub_check.specs.CheckedFiles.{AreAcceptedBy, MeanWithin}
+
+-- The same options, by which repeats may keep the page.
+abbrev pub keeping : OptionsValue → OptionsValue
+keeping options = record options { keeps = true }
+
+-- Where the bytes of a subtitle file and of a PES file are accepted though no header may keep the
+-- page, and are checked where repeats may, they are accepted there too, but for sources that failed
+-- and memory that was refused.
+abbrev pub LawOfAcceptedKeeping : Type 0
+LawOfAcceptedKeeping =
+    (drawing : Drawing) (options : OptionsValue) (stl pes : List ℕ)
+    (answer later : Result Accepted CheckFault)
+    → IsFalse options.keeps
+    → AreAcceptedBy drawing options stl pes answer
+    → AreAcceptedBy drawing (keeping options) stl pes later
+    → failed is_failure later ≡ false
+    → IsOk answer
+    → IsOk later
+
+-- Where they are accepted though repeats may keep the page, and in what they mean each header of
+-- the page erases it, they are accepted where no header may keep it.
+abbrev pub LawOfAcceptedNoneKeeps : Type 0
+LawOfAcceptedNoneKeeps =
+    (drawing : Drawing) (options : OptionsValue) (stl pes : List ℕ)
+    (answer later : Result Accepted CheckFault)
+    → IsFalse options.keeps
+    → AreAcceptedBy drawing (keeping options) stl pes answer
+    → ((subtitles : List SubtitleValue) (transmission : Transmission)
+    → MeanWithin drawing options stl pes subtitles transmission
+    → EachPacket (ErasesPage options.page) transmission)
+    → AreAcceptedBy drawing options stl pes later
+    → failed is_failure later ≡ false
+    → IsOk answer
+    → IsOk later
