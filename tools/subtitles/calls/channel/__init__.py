@@ -15,4 +15,5 @@ source     the bytes of the feed
 spool      those that came lately
 hearing    what is told of them: the pages that are heard
 feed_clock the time of the feed
+lacking    when it is silent, and what is missing of it
 """

@@ -9,23 +9,21 @@ import subprocess
 from typing import BinaryIO, Callable, Iterable, Iterator
 
 from ...core.teletext import Page, page_name
-from ...core.times import ticks_between, wrapped
-from ...core.words import Stop, counted, pid_name
+from ...core.times import ticks_between
+from ...core.words import Stop, pid_name
 from ...qc.asked import Asked
 from ...qc.recording import refuse
-from ...reading.gaps import Place, hole_of, overlap, what_of, why_refused
+from ...reading.gaps import Place, hole_of, why_refused
 from ...reading import moving
 from ...reading.survey import HEADER, PES, Packets, Run, Survey, words_of
 from .awaited import Changes
 from .feed_clock import MINUTE, SECOND, FeedClock, jump_of, times_of
+from .lacking import KEPT, Losses, Silence
 from .source import room_of, waiting_in
 
 STANDARD_INPUT = "/dev/stdin"  # as the program opens it
 BOTH = 5 * SECOND  # within which a second PID that sends the page is no later one
-SILENT = 8 * SECOND  # of the PCR after the last PES packet: that is told
-NEAR_PCR = 10 * SECOND  # PTS that are farther from the PCR have nothing to do with it
 PRUNED = 1000  # lines after which what is told is looked through for what is old
-KEPT = 64  # programmes of the stream, samples and places that are kept at most
 SOON = 0.001  # seconds after which it is looked again whether a part was taken
 ENOUGH = 1 << 16  # bytes of lines that are taken at a time
 
@@ -48,12 +46,9 @@ class Heard(Survey):
         self.moves: list[int] = []
         self.anew = self.count = 0
         self.is_new_table = False
-        self.alive: int | None = None  # the last PTS of which something is told
-        self.still = 0  # ticks for which the PID is silent
         self.moved = ""  # what the PMT says, until something comes of the new PID
         self.found: int | None = None  # the PTS of the first header of the page
-        self.waiting: list[Place] = []  # places behind which no PTS has come yet
-        self.told: collections.deque[Place] = collections.deque(maxlen=KEPT)
+        self.silence, self.losses = Silence(self.said), Losses(self.said)
 
     @property
     def packets(self) -> Packets:
@@ -63,7 +58,7 @@ class Heard(Survey):
     @property
     def now(self) -> int:
         """The time of the feed; by the PCR where the PID is silent."""
-        return self.clock.now + self.still
+        return self.clock.now + self.silence.still
 
     def take(self, line: str) -> None:
         """Takes a line of the listing."""
@@ -114,12 +109,9 @@ class Heard(Survey):
             if self.moved:
                 self.said.append(f"{self.moved}, before PTS {run.pts}")
                 self.moved = ""
-            self.hear_of(run.pts)
-            self.hear_of(run.last)
-            for place in self.waiting:
-                place.after = run.pts
-                self.tell(place)
-            self.waiting.clear()
+            for pts in (run.pts, run.last):
+                self.silence.hear(self.pid or PES, pts)
+            self.losses.hear(run.pts)
 
     def begin_clock(self, pts: int) -> None:
         """The first PTS is that of time 0, or the one that it is by a clock that is known."""
@@ -163,18 +155,13 @@ class Heard(Survey):
         super().take_gap(pid, *words)
         if int(pid) == self.pid:
             mark = self.packets.marks[-1]
-            self.waiting.append(Place(mark.before, None, mark.lost, mark.scrambled))
+            self.losses.waiting.append(Place(mark.before, None, mark.lost, mark.scrambled))
 
     def take_clock(self, pid: str, *words: str) -> None:
         super().take_clock(pid, *words)
         hole = hole_of(self.of(pid).clocked[-1]) if int(pid) == self.pid else None
-        if hole and not any(overlap(hole, place) for place in [*self.told, *self.waiting]):
-            self.tell(hole)
-
-    def tell(self, place: Place) -> None:
-        """Tells where something is missing."""
-        self.told.append(place)
-        self.said.append(f"{what_of(place)}, before PTS {place.after}")
+        if hole:
+            self.losses.take_hole(hole)
 
     # A PID that is silent, and one that is another.
 
@@ -183,33 +170,14 @@ class Heard(Survey):
         if int(pid) == self.pid:
             pts, ahead = self.packets.samples[-1]
             self.ahead = ahead if self.ahead is None else self.ahead
-            self.hear_of(pts)
+            self.silence.hear(self.pid or PES, pts)
 
     def take_pcr(self, pid: str, pcr: str, *words: str) -> None:
         super().take_pcr(pid, pcr, *words)
         known = self.programmes_of(self.pid) if self.pid is not None else []
-        if self.alive is None or not known or known[-1].pcr_pid != int(pid):
-            return
-        samples = self.packets.samples
-        ahead = samples[-1][1] if samples else 0
-        still = ticks_between(self.alive, wrapped(int(pcr) + ahead))
-        if abs(ahead) > NEAR_PCR or not SILENT < still < 60 * MINUTE:
-            return
-        if not self.still:
-            self.said.append(f"nothing of {pid_name(self.pid or 0)} for "
-                             f"{counted(round(still / SECOND), 'second')} of the stream, after PTS "
-                             f"{self.alive}")
-        self.still = still - SECOND
-
-    def hear_of(self, pts: int) -> None:
-        """Takes a PTS of which something is told. A PID that was silent goes on with one that is
-        much later than the one before; what came before it fell silent may be told then."""
-        late = 0 if self.alive is None else ticks_between(self.alive, pts)
-        if self.still and abs(late) >= SILENT // 2:
-            self.still = 0
-            self.said.append(f"{pid_name(self.pid or 0)} goes on at PTS {pts}")
-        if self.alive is None or late > 0 or not self.still and late < -SILENT:
-            self.alive = pts
+        if known and known[-1].pcr_pid == int(pid):
+            samples = self.packets.samples
+            self.silence.take_pcr(self.pid or PES, int(pcr), samples[-1][1] if samples else 0)
 
     def take_programme(self, *words: str) -> None:
         super().take_programme(*words)
@@ -224,9 +192,9 @@ class Heard(Survey):
             return
         self.moved = moving.words_of(page_name(*self.page), before or 0, self.pid)
         self.moves.append(self.clock.now)
+        alive = self.silence.alive
         for run in self.packets.runs:
-            if self.alive is not None and run.pts is not None and \
-                    ticks_between(self.alive, run.pts) >= 0:
+            if alive is not None and run.pts is not None and ticks_between(alive, run.pts) >= 0:
                 self.go_on(run)
 
     # What is not needed any more.
