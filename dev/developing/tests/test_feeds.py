@@ -8,8 +8,9 @@ from unittest import mock
 from subtitles.core.pes import pes_packet
 from subtitles.core.times import CLOCK, TICKS
 from subtitles.qc import feed
-from subtitles.qc.ending import Ending
+from subtitles.qc.ending import LAST, Ending
 from subtitles.qc.feed import Handing
+from subtitles.reading.finding import Agreement
 from .bench import Case
 from .parts import CLOSING, HEADER, asked_for, packets_told
 
@@ -76,6 +77,17 @@ class Ended(Case):
                 ending.look(packets_told(self, b""))
                 self.assertEqual(ending.until, (origin + TICKS * (end + 25)) % CLOCK)
 
+    def test_what_is_looked_through(self) -> None:
+        """From the PES packets of the first part on, once an origin is found by enough edges."""
+        for agree, packets, inside in ((5, (7, 9), (7, LAST)), (5, None, (0, LAST)),
+                                       (4, (7, 9), None)):
+            found = SimpleNamespace(status=0, parts=[SimpleNamespace(origin=9, packets=packets)],
+                                    agreement=Agreement(agree, 5, 5, 9, False))
+            ending = self.ending(find=lambda _: found)
+            ending.look(packets_told(self, b""))
+            self.must(f"{agree} {packets}", (ending.origin, ending.inside) ==
+                      (None if inside is None else 9, inside), ending.inside)
+
     def test_what_comes_before_the_day(self) -> None:
         """A PTS before the origin is no late frame."""
         survey: Any = SimpleNamespace(clock_of=lambda _: None)
@@ -83,6 +95,6 @@ class Ended(Case):
         for frame, is_over in ((-1, False), (49, False), (50, True), (76, True)):
             packets = packets_told(self, b"".join(
                 pes_packet((origin + TICKS * at) % CLOCK, [HEADER, CLOSING])
-                for at in (min(frame, 0), frame)))
+                for at in sorted({min(frame, 0) - 3, min(frame, 0), frame})))
             ending = self.ending("--origin", str(origin))
             self.must(f"{frame}", ending.is_over(survey, packets, True) == is_over)
