@@ -220,9 +220,11 @@ class Pieces(Case):
                     (NEW, 130, 190, (130, 190), None, None)])):
             own = [subtitle(*one) for one in subtitles]
             found = Found(own[0].begin, own[-1].end, Clock(0, RECORDING))
-            made = [(one.stage.pid, one.found.begin, one.found.end, tuple(one.between), one.came,
-                     one.goes) for one in pieces_of(found, stages, own, 0)]
-            self.must(name, made == wanted, made)
+            silent = Stage(Packets(OLD, [Run(0, 1, None, 0, "m", "")]), (0, 0))
+            for several in (stages, [stages[0], silent, stages[1]]):
+                made = [(one.stage.pid, one.found.begin, one.found.end, tuple(one.between),
+                         one.came, one.goes) for one in pieces_of(found, several, own, 0)]
+                self.must(f"{name}, {len(several)}", made == wanted, made)
             self.must(f"{name}: each", all(any(Between(*one[3]).has(each.begin) for one in made)
                                            for each in own))
 

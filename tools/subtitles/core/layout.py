@@ -8,7 +8,7 @@ from __future__ import annotations
 import re
 from typing import NamedTuple, Sequence
 
-from .national import COMMON, NationalOption, cells_of
+from .national import NationalOption, cells_in
 
 COLUMNS, LAST_ROW, JUSTIFIED = 40, 23, range(1, 4)
 SPACE, START_BOX, END_BOX, DOUBLE, WHITE = 0x20, 0x0B, 0x0A, 0x0D, 0x07
@@ -157,25 +157,16 @@ def text_of(layout: Layout) -> str:
 
 def lines_of(text: bytes, option: NationalOption, strip: bytes = b"") -> list[bytes] | Refused:
     """The lines of a text, each as the cells that its bytes give; or the first that gives none."""
-    own = cells_of(option)
     lines = [bytearray()]
-    at = 0
-    while at < len(text):
-        byte, pair = text[at], text[at:at + 2]
-        is_pair = len(pair) == 2 and pair in own
+    for at, byte, cell in cells_in(text, option):
         if byte == NEW_LINE:
             lines.append(bytearray())
-        elif is_pair:
-            lines[-1].append(own[pair])
         elif byte in NO_CELL or byte in strip:
-            pass
-        elif byte in COMMON:
-            lines[-1].append(byte)
-        elif pair[:1] in own:
-            lines[-1].append(own[pair[:1]])
-        else:
+            continue
+        elif cell is None:
             return Refused(CONTROL if byte in CONTROLS else CHARACTER, at)
-        at += 1 + is_pair
+        else:
+            lines[-1].append(cell)
     return [bytes(line) for line in lines]
 
 

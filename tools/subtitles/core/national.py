@@ -8,7 +8,7 @@ what is looked for in a recording, drawn on a page, and advised.
 from __future__ import annotations
 
 import functools
-from typing import NamedTuple
+from typing import Iterator, NamedTuple
 
 from .letters import ACCENTS, UNKNOWN as UNKNOWN_LETTER, letters_of
 
@@ -91,17 +91,19 @@ def cells_of(option: NationalOption) -> dict[bytes, int]:
             for one in words.split(",") if one != "-"}
 
 
-def codes_of(text: bytes, option: NationalOption) -> list[int | None]:
-    """The codes on the page of a line's bytes, a pair of bytes as one; None for what has none."""
-    own = cells_of(option)
-    codes: list[int | None] = []
-    at = 0
+def cells_in(text: bytes, option: NationalOption) -> Iterator[tuple[int, int, int | None]]:
+    """What a text has, a byte or a pair of bytes after another: the place and the first byte of
+    each, and its cell; None for what has none."""
+    own, at = cells_of(option), 0
     while at < len(text):
         size = 2 if text[at:at + 2] in own and text[at] in MARKS else 1
-        part = text[at:at + size]
-        codes.append(own[part] if part in own else part[0] if part[0] in COMMON else None)
+        yield at, text[at], own.get(text[at:at + size], text[at] if text[at] in COMMON else None)
         at += size
-    return codes
+
+
+def codes_of(text: bytes, option: NationalOption) -> list[int | None]:
+    """The codes on the page of a line's bytes, a pair of bytes as one; None for what has none."""
+    return [cell for _, _, cell in cells_in(text, option)]
 
 
 def draws(text: bytes, option: NationalOption) -> bool:

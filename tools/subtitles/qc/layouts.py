@@ -15,7 +15,7 @@ from ..core.layout import (
     COLUMNS, COLOURS, DRAWN_CODES, MOST_AFTER, MOST_BEFORE, MOST_SHIFT, NEW_LINE, PLAIN, SPACE,
     START_BOX, WHITE, Layout, Refused, column_of, drawn, leading, letters_of_text, letters_on,
     page_of, prepared, rows_of, start_of, text_of)
-from ..core.national import COMMON, NationalOption, cells_of
+from ..core.national import COMMON, NationalOption, cells_in
 
 CODES = range(SPACE)
 REFUSED = {code for code in CODES if code not in COMMON}  # where they are not left out
@@ -68,20 +68,12 @@ def is_found(one: Sent, option: NationalOption) -> bool:
 
 def raw_lines(text: bytes, option: NationalOption) -> list[bytes]:
     """The lines of a text as cells, with all codes that stand there."""
-    own = cells_of(option)
-    lines, at = [bytearray()], 0
-    while at < len(text):
-        byte, pair = text[at], text[at:at + 2]
+    lines = [bytearray()]
+    for _, byte, cell in cells_in(text, option):
         if byte == NEW_LINE:
             lines.append(bytearray())
-        elif len(pair) == 2 and pair in own:
-            lines[-1].append(own[pair])
-            at += 1
-        elif byte in CODES or byte in COMMON:
-            lines[-1].append(byte)
-        elif pair[:1] in own:
-            lines[-1].append(own[pair[:1]])
-        at += 1
+        elif cell is not None or byte in CODES:
+            lines[-1].append(byte if cell is None else cell)
     return [bytes(line) for line in lines]
 
 
