@@ -19,6 +19,7 @@ use Rattle.sub_rules.specs.FrameRules.{Task, frame_at, packets_before, packets_o
 use Rattle.sub_rules.specs.PacketRules.{header_count}
 use Rattle.sub_rules.specs.PieceEvents.{marks_at_end, marks_of_packets}
 use Rattle.sub_rules.specs.Transmission.{SentFrame, Transmission}
+use Rattle.sub_rules.specs.declared.packet_rule.Watched.{Watched}
 use Rattle.sub_rules.specs.Trusted.{stands_none}
 use Rattle.sub_rules.specs.Trusted.Mark.{Ends, Says}
 use Rattle.sub_rules.specs.declared.event.Event.TheVariants.{Told}
@@ -50,7 +51,7 @@ late_core due before has late frame every f is = grind (arith, nat_tests)
 module _ (g : Task) (frames : Transmission) (n : ℕ) (last ps : List (List ℕ)) (c d : CheckerValue)
     (arrives : Arrives g frames n last c) (there : n < length frames)
     (are : packets_of_frame frames n ≡ ps)
-    (hears : HasHeard (packets_before frames n) ps c d)
+    (hears : HasHeard 0 (packets_before frames n) ps c d)
   where
     -- The packets up to there.
     joined : packets_before frames n ++ ps ≡ packets_before frames (suc n)
@@ -120,6 +121,11 @@ module _ (g : Task) (frames : Transmission) (n : ℕ) (last ps : List (List ℕ)
           number = refl;
           frame_is = arrives.frame_is;
           latest_is = arrives.latest_is;
+          begins =
+              hears.begins
+              ∙ ap (λ (w : Watched). holds_beginning w.keeps (kind w.page) ps)
+              (sym (ap (λ (t : Task). t.watched) arrives.waits.known.task_is))
+              ∙ ap (holds_beginning g.watched.keeps (kind g.watched.page)) (sym are);
         })
 
 -- ---- the end of a frame

@@ -1,7 +1,8 @@
 -- What comes of more packets of the last frame, `more_are`, and what is kept then: `opens_more`.
 use Rattle.std.proofs.lemmas.Bool.Decides.{nat_tests}
 use Rattle.std.proofs.Common.{◌≡◌, ℕ, suc, ◌+◌, ◌-◌, ◌<◌, Bool, ◌&&◌, ◌||◌, nat_le}
-use Rattle.std.proofs.Common.{nat_lt, List, [], ◌++◌, length, map, take, refl, sym, ap, ◌∙◌, arith}
+use Rattle.std.proofs.Common.{nat_lt, List, [], ◌∷◌, ◌++◌, length, map, take, refl, sym, ap, ◌∙◌}
+use Rattle.std.proofs.Common.{arith}
 use Rattle.std.proofs.Common.{ap₂, length-append}
 use Rattle.std.proofs.lemmas.List.{get_or-map}
 use Rattle.std.proofs.lemmas.List.Folds.{list_any-append, list_any_more}
@@ -42,13 +43,20 @@ more_are g sent n last ps c opens all =
     let at : length sent - 1 ≡ n = omega (arith, all) in
     rw (sym watched, opens.heard.frame_is, opens.packets, at, all) refl
 
+-- With none of no packets the text begins.
+some_begins : (w : Watched) (ps : List (List ℕ))
+    → (nat_lt 0 (length ps) && holds_beginning w.keeps (kind w.page) ps)
+    ≡ holds_beginning w.keeps (kind w.page) ps
+some_begins w [] = refl
+some_begins w (p ∷ ps) = grind (arith, nat_tests)
+
 -- Of a frame's headers, those of more packets.
 either : (a b h l : Bool) → (a || ((b || h) && l)) ≡ ((a || (b && l)) || (h && l))
 either a b h l = grind (arith, nat_tests)
 
 module _ (g : Task) (sent : Transmission) (n : ℕ) (last ps : List (List ℕ)) (c d : CheckerValue)
     (is : Heard g sent n last c) (all : length sent ≡ suc n)
-    (hears : HasHeard (packets_before sent (suc n)) ps c d)
+    (hears : HasHeard c.counts.packets (packets_before sent (suc n)) ps c d)
   where
     abbrev longer : Transmission
     longer = with_packets ps sent
@@ -148,10 +156,11 @@ module _ (g : Task) (sent : Transmission) (n : ℕ) (last ps : List (List ℕ)) 
         c.every f (is.begun.late_is f))
 
     -- What is kept then. For `take_more`.
-    pub heard_more : (e : CheckerValue) (b : Bool) (k : ℕ)
-        → e ≡ record here { counts = record here.counts { begins = b; packets = k } }
+    heard_more : (e : CheckerValue) (k : ℕ)
+        → e ≡ record here { counts = record here.counts { packets = k } }
+        → c.counts.packets ≡ length (packets_of_frame sent n)
         → Heard g longer n ps e
-    heard_more e b k e_is =
+    heard_more e k e_is packets =
         rw e_is (record {
           known = record {
             task_is = known_then.task_is;
@@ -168,36 +177,35 @@ module _ (g : Task) (sent : Transmission) (n : ℕ) (last ps : List (List ℕ)) 
           number = is.number;
           frame_is = is.frame_is ∙ sym (at n);
           latest_is = is.latest_is ∙ sym (latest_is (suc n));
+          begins =
+              hears.begins
+              ∙ ap₂ (λ m b. (nat_lt 0 m && b)
+              || holds_beginning c.listener.watched.keeps (kind c.listener.watched.page) ps) packets
+              is.begins
+              ∙ rw (some_begins g.watched (packets_of_frame sent n))
+              (ap (λ (w : Watched). holds_beginning g.watched.keeps (kind g.watched.page)
+              (packets_of_frame sent n) || holds_beginning w.keeps (kind w.page) ps)
+              (sym (ap (λ (t : Task). t.watched) is.known.task_is)))
+              ∙ sym (ap (holds_beginning g.watched.keeps (kind g.watched.page)) own
+              ∙ list_any-append
+              (λ (p : List ℕ). begins_text g.watched.keeps (kind g.watched.page p))
+              (packets_of_frame sent n) ps);
         })
 
     -- And more of them may come.
-    pub opens_more : (e : CheckerValue) (b : Bool) (k : ℕ)
-        → e ≡ record here { counts = record here.counts { begins = b; packets = k } }
+    pub opens_more : (e : CheckerValue) (k : ℕ)
+        → e ≡ record here { counts = record here.counts { packets = k } }
         → c.counts.headers_before ≡ header_count g.watched.page (packets_before sent n)
-        → c.counts.begins
-        ≡ holds_beginning g.watched.keeps (kind g.watched.page) (packets_of_frame sent n)
-        → b
-        ≡ (c.counts.begins
-        || holds_beginning c.listener.watched.keeps (kind c.listener.watched.page) ps)
         → c.counts.packets ≡ length (packets_of_frame sent n)
         → k ≡ c.counts.packets + length ps
         → StaysOpen g longer n ps e
-    opens_more e b k e_is before begins more packets sum = record {
-      heard = heard_more e b k e_is;
+    opens_more e k e_is before packets sum = record {
+      heard = heard_more e k e_is packets;
       before =
           ap (λ (v : CheckerValue). v.counts.headers_before) e_is
           ∙ before
           ∙ ap (header_count g.watched.page)
           (sym (with_packets-before ps sent n (omega (arith, all))));
-      begins =
-          ap (λ (v : CheckerValue). v.counts.begins) e_is
-          ∙ more
-          ∙ ap₂ (λ x y. x || y) begins
-          (ap (λ (w : Watched). holds_beginning w.keeps (kind w.page) ps)
-          (sym (ap (λ (t : Task). t.watched) is.known.task_is)))
-          ∙ sym (ap (holds_beginning g.watched.keeps (kind g.watched.page)) own
-          ∙ list_any-append (λ (p : List ℕ). begins_text g.watched.keeps (kind g.watched.page p))
-          (packets_of_frame sent n) ps);
       packets =
           ap (λ (v : CheckerValue). v.counts.packets) e_is
           ∙ sum

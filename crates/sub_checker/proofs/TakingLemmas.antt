@@ -2,7 +2,7 @@
 -- `waiting_some`; whether one goes on with the frame before, `goes_on_is`; what comes of one of
 -- another frame, `arrived`, `next_is`; and what is kept then, `more_keeps`, `next_keeps`.
 use Rattle.std.proofs.lemmas.Bool.Decides.{nat_tests}
-use Rattle.std.proofs.Common.{◌≡◌, ℕ, zero, suc, ◌+◌, ◌-◌, ◌<◌, ◌==◌, Bool, ◌&&◌, ◌||◌, not}
+use Rattle.std.proofs.Common.{◌≡◌, ℕ, zero, suc, ◌+◌, ◌-◌, ◌<◌, ◌==◌, Bool, ◌&&◌, not}
 use Rattle.std.proofs.Common.{true, false, cond, List, [], ◌∷◌, ◌++◌, length, map, refl, sym, ap}
 use Rattle.std.proofs.Common.{◌∙◌, subst, arith, append_assoc, ap₂, length-append, Result}
 use Rattle.std.specs.Prelude.{OnOk}
@@ -28,9 +28,6 @@ use Rattle.sub_checker.specs.Following.{Arrives, Follows, Heard, Keeps, StaysOpe
 use Rattle.sub_checker.specs.Following.{back_stage, reaching_marks}
 use Rattle.sub_checker.proofs.EndingLemmas.{back_are}
 use Rattle.sub_checker.specs.Passing.{at_mark}
-use Rattle.sub_packets.specs.Listener.{AreFound}
-use Rattle.sub_packets.specs.declared.last_heard.Headers.{Headers}
-use Rattle.sub_rules.specs.declared.packet_rule.Watched.{Watched}
 use Rattle.sub_checker.specs.declared.counts.Counts.{Counts}
 use Rattle.sub_checker.specs.declared.passing.Stage.{Stage}
 use Rattle.sub_checker.specs.declared.passing.Passing.{Passing}
@@ -121,6 +118,7 @@ heard_counts g sent n last c d m is frames headers heard =
       number = frames ∙ heard.number;
       frame_is = heard.frame_is;
       latest_is = heard.latest_is;
+      begins = heard.begins;
     })
 
 -- Before an end nothing else changes. For `end_open`.
@@ -134,31 +132,25 @@ heard_shut g sent n last c d is heard =
 
 -- More packets of the last frame. For `take_more`.
 pub more_keeps : (g : Task) (sent : Transmission) (last ps : List (List ℕ))
-    (c v e : CheckerValue) (found : Headers) (b : Bool) (k : ℕ)
+    (c v e : CheckerValue) (k : ℕ)
     → Keeps g sent last c
     → c.counts.is_open ≡ true
-    → HasHeard (packets_before sent (suc (length sent - 1))) ps c v
-    → AreFound c.listener.watched ps found
-    → e ≡ record v { counts = record v.counts { begins = b; packets = k } }
-    → b ≡ (v.counts.begins || found.begins)
+    → HasHeard c.counts.packets (packets_before sent (suc (length sent - 1))) ps c v
+    → e ≡ record v { counts = record v.counts { packets = k } }
     → k ≡ v.counts.packets + length ps
     → Keeps g (with_packets ps sent) ps e
-more_keeps g sent last ps c v e found b k keeps opened hears are is more sum =
+more_keeps g sent last ps c v e k keeps opened hears is sum =
     let n : ℕ = length sent - 1 in
     let some = keeps.some opened in
     let all : length sent ≡ suc (length sent - 1) = omega (arith, some) in
     let opens = keeps.opens opened in
     let new = hears.new_is in
     let same = is
-    ∙ ap (λ (w : CheckerValue). record w {
-      counts = record w.counts { begins = b; packets = k };
-    }) new in
+    ∙ ap (λ (w : CheckerValue). record w { counts = record w.counts { packets = k } }) new in
     Keeps-open g (with_packets ps sent) (length sent - 1) ps e
     (ap (λ (w : CheckerValue). w.counts.is_open) same ∙ opened)
     (keeps.within opened) (with_packets-length ps sent ∙ all)
-    (opens_more g sent (length sent - 1) last ps c v opens.heard all hears e b k same opens.before
-    opens.begins (more ∙ ap (λ (w : CheckerValue). w.counts.begins || found.begins) new
-    ∙ ap (λ (x : Bool). c.counts.begins || x) are.begins)
+    (opens_more g sent (length sent - 1) last ps c v opens.heard all hears e k same opens.before
     opens.packets (sum ∙ ap (λ (w : CheckerValue). w.counts.packets + length ps) new))
 
 -- ---- the next PES packet
@@ -302,7 +294,7 @@ ending_part g frames n = append_assoc (map Says (first_header_events g frames n)
 
 module _ (g : Task) (frames : Transmission) (n : ℕ) (last ps : List (List ℕ)) (c v : CheckerValue)
     (arrives : Arrives g frames n last c) (there : n < length frames)
-    (are : packets_of_frame frames n ≡ ps) (hears : HasHeard (packets_before frames n) ps c v)
+    (are : packets_of_frame frames n ≡ ps) (hears : HasHeard 0 (packets_before frames n) ps c v)
   where
     -- What is kept after them. For `take_next`.
     pub next_heard : (e : CheckerValue)
@@ -319,27 +311,14 @@ module _ (g : Task) (frames : Transmission) (n : ℕ) (last ps : List (List ℕ)
         record here { counts = record here.counts { frames = k } })
         (omega (arith, arrives.waits.number)))
 
-    -- Whether the text begins with one of its packets.
-    pub beginning_here : (found : Headers)
-        → AreFound c.listener.watched ps found
-        → found.begins
-        ≡ holds_beginning g.watched.keeps (kind g.watched.page) (packets_of_frame frames n)
-    beginning_here found found_is =
-        found_is.begins
-        ∙ ap (λ (w : Watched). holds_beginning w.keeps (kind w.page) ps)
-        (sym (ap (λ (t : Task). t.watched) arrives.waits.known.task_is))
-        ∙ ap (holds_beginning g.watched.keeps (kind g.watched.page)) (sym are)
-
     -- And where more of them may come.
-    pub next_keeps : (e : CheckerValue) (found : Headers) (before k : ℕ)
+    pub next_keeps : (e : CheckerValue) (before k : ℕ)
         → 0 < c.within
         → length frames ≡ suc n
-        → AreFound c.listener.watched ps found
         → e ≡ record v {
           counts = record v.counts {
             frames = v.counts.frames + 1;
             headers_before = before;
-            begins = found.begins;
             packets = k;
             is_open = true;
           };
@@ -347,7 +326,7 @@ module _ (g : Task) (frames : Transmission) (n : ℕ) (last ps : List (List ℕ)
         → before ≡ c.counts.headers
         → k ≡ length ps
         → Keeps g frames ps e
-    next_keeps e found before k within long found_is is was size =
+    next_keeps e before k within long is was size =
         let d : CheckerValue = record v {
           counts = record v.counts { frames = v.counts.frames + 1 };
         } in
@@ -360,9 +339,6 @@ module _ (g : Task) (frames : Transmission) (n : ℕ) (last ps : List (List ℕ)
               ap (λ (w : CheckerValue). w.counts.headers_before) is
               ∙ was
               ∙ arrives.waits.known.count;
-          begins =
-              ap (λ (w : CheckerValue). w.counts.begins) is
-              ∙ beginning_here found found_is;
           packets =
               ap (λ (w : CheckerValue). w.counts.packets) is
               ∙ size

@@ -19,8 +19,7 @@ use Rattle.sub_rules.specs.Trusted.{Mark}
 use Rattle.sub_rules.specs.Trusted.Mark.{AtEnd, GoesBack, Says}
 use Rattle.sub_rules.specs.declared.sending.Sending.{Sending}
 use Rattle.sub_rules.specs.declared.standing.Standing.{Standing}
-use Rattle.sub_packets.specs.Listener.{KnowsLast}
-use Rattle.sub_packets.specs.declared.last_heard.Headers.{Headers}
+use Rattle.sub_packets.specs.Listener.{KnowsLast, begins_frame}
 use Rattle.sub_packets.specs.declared.listener.Listener.{Listener}
 use Rattle.sub_checker.specs.declared.counts.Counts.{Counts}
 use Rattle.sub_plan.specs.Schedule.{due_in}
@@ -29,35 +28,17 @@ use Rattle.sub_plan.specs.Schedule.{due_in}
 
 -- Nothing was heard.
 abbrev pub nothing_counted : Counts
-nothing_counted = record {
-  frames = 0;
-  headers = 0;
-  headers_before = 0;
-  begins = false;
-  packets = 0;
-  is_open = false;
-}
+nothing_counted =
+    record { frames = 0; headers = 0; headers_before = 0; packets = 0; is_open = false }
 
 -- More headers of the page.
 abbrev pub with_headers : ℕ → Counts → Counts
 with_headers headers n = record n { headers = n.headers + headers }
 
--- The end of the last frame is still to come, which has these headers of the page, and so many
--- packets.
-abbrev pub left_open : Headers → ℕ → Counts → Counts
-left_open headers packets n = record n {
-  headers_before = n.headers - headers.count;
-  begins = headers.begins;
-  packets = packets;
-  is_open = true;
-}
-
--- It has these headers of the page more, and so many packets.
-abbrev pub gone_on : Headers → ℕ → Counts → Counts
-gone_on headers packets n = record n {
-  begins = n.begins || headers.begins;
-  packets = n.packets + packets;
-}
+-- The end of the last frame is still to come, which has so many headers of the page, and packets.
+abbrev pub left_open : ℕ → ℕ → Counts → Counts
+left_open headers packets n =
+    record n { headers_before = n.headers - headers; packets = packets; is_open = true }
 
 -- So many PES packets may have been counted.
 pub record AreFew (pes : ℕ) (n : Counts) : Type 0 where
@@ -127,8 +108,10 @@ after_headers headers c = record c {
   late_at = later_by (nat_lt 0 headers) c.frame c.every c.late_at;
 }
 
--- After these packets more were heard.
-pub record HasHeard (heard packets : List (List ℕ)) (old new : CheckerValue) : Type 0 where
+-- After these packets more were heard, the first of them this one of its frame.
+pub record HasHeard
+    (from : ℕ) (heard packets : List (List ℕ)) (old new : CheckerValue)
+    : Type 0 where
   pub listener : Listener
   pub headers : ℕ
   pub new_is : new ≡ after_headers headers (record old { listener = listener })
@@ -136,6 +119,8 @@ pub record HasHeard (heard packets : List (List ℕ)) (old new : CheckerValue) :
   pub due : listener.comparison.due ≡ old.listener.comparison.due
   pub knows : KnowsLast (heard ++ packets) packets listener
   pub count : headers ≡ header_count old.listener.watched.page packets
+  pub begins :
+      listener.begun ≡ begins_frame old.listener.watched from old.listener.begun packets
 
 -- ---- the end of the frame that was reached, where these packets were heard
 

@@ -90,6 +90,9 @@ pub record Heard
   pub number : c.counts.frames ≡ suc n
   pub frame_is : c.frame ≡ frame_at frames n
   pub latest_is : c.latest ≡ latest frames (suc n)
+  pub begins :
+      c.listener.begun
+      ≡ holds_beginning g.watched.keeps (kind g.watched.page) (packets_of_frame frames n)
 
 -- And more of its packets may come.
 pub record StaysOpen
@@ -97,9 +100,6 @@ pub record StaysOpen
     : Type 0 where
   pub heard : Heard g frames n last c
   pub before : c.counts.headers_before ≡ header_count g.watched.page (packets_before frames n)
-  pub begins :
-      c.counts.begins
-      ≡ holds_beginning g.watched.keeps (kind g.watched.page) (packets_of_frame frames n)
   pub packets : c.counts.packets ≡ length (packets_of_frame frames n)
 
 -- What is kept between two PES packets, where these frames were sent: after the end of the last

@@ -14,7 +14,7 @@ ghost use Rattle.sub_rules.specs.PieceEvents.{marks_of_ending, marks_of_waiting}
 ghost use Rattle.sub_rules.specs.Transmission.{Transmission};
 ghost use Rattle.sub_plan.specs.Schedule.{due_in};
 ghost use Rattle.ttx_page.specs.PacketKind.{kind};
-ghost use Rattle.ttx_page.specs.Span.{holds_beginning, holds_header};
+ghost use Rattle.ttx_page.specs.Span.{holds_header};
 
 use crate::checker::Checker;
 use crate::late_end::{is_overdue, unfinished_from};
@@ -307,8 +307,7 @@ impl<'a> Checker<'a> {
     }
 
     /// The end of the frame of the PES packets that were heard last, among which there is a header
-    /// of the page or none, and one with which its text begins or none: that the first one has one,
-    /// and what stands broken.
+    /// of the page or none: that the first one has one, and what stands broken.
     ///
     /// # Errors
     ///
@@ -317,7 +316,6 @@ impl<'a> Checker<'a> {
     pub fn end_sent<A: Audience<Event>>(
         &mut self,
         has_header: bool,
-        begins: bool,
         stage: &mut Stage<'_, A>,
     ) -> Result<(), Stopped>
         requires goes_on { A.has_stopped stage.old.device.now ≡ false }
@@ -327,8 +325,6 @@ impl<'a> Checker<'a> {
         ensures told { (g : Task) (frames : Transmission) (n : ℕ) (last : List (List ℕ))
             → Heard g frames n last self.old → n < length frames
             → has_header ≡ holds_header (kind g.watched.page) (packets_of_frame frames n)
-            → begins
-            ≡ holds_beginning g.watched.keeps (kind g.watched.page) (packets_of_frame frames n)
             → StagePasses A.is_told stage.old (marks_of_ending g frames n) stage.new result
             × OnOk result (Follows g frames (suc n) last self.new) }
     {
@@ -336,7 +332,7 @@ impl<'a> Checker<'a> {
         let fault = CheckFault::NoFirstHeader { frame: self.frame };
         tell_if(is_told, Event::Told(fault), stage)?;
         self.end_of_frame(stage)?;
-        stage.end_frame(self.frame, begins, self.standing.has_none());
+        stage.end_frame(self.frame, self.listener.begun, self.standing.has_none());
         Ok(())
     }
 
@@ -382,8 +378,7 @@ impl<'a> Checker<'a> {
     {
         self.counts.is_open = false;
         let has_header = self.counts.headers_before < self.counts.headers;
-        let begins = self.counts.begins;
-        self.end_sent(has_header, begins, stage)
+        self.end_sent(has_header, stage)
     }
 }
 

@@ -4,10 +4,10 @@ ghost use Rattle.std.specs.Prelude.{IfOk, false, is_err, length, true};
 ghost use Rattle.stl_file.specs.TimeCode.{day};
 ghost use Rattle.ttx_pes.specs.PesPacket.{most_units};
 ghost use Rattle.ttx_pes.specs.Reading.{most_packets};
-ghost use Rattle.sub_packets.specs.Listener.{AreFound, KnowsLast};
+ghost use Rattle.sub_packets.specs.Listener.{KnowsLast};
 ghost use Rattle.sub_rules.specs.Events.{packets_told};
 ghost use Rattle.sub_rules.specs.FrameRules.{Task};
-ghost use Rattle.sub_rules.specs.PacketRules.{packets_of_units};
+ghost use Rattle.sub_rules.specs.PacketRules.{header_count, packets_of_units};
 ghost use Rattle.sub_rules.specs.PieceEvents.{marks_of_more, marks_of_sent};
 ghost use Rattle.sub_rules.specs.Pieces.{sent_after, with_packets};
 ghost use Rattle.sub_rules.specs.Sendings.{IsSentFrame};
@@ -20,7 +20,6 @@ ghost use Rattle.sub_checker.specs.Passing.{Moves, StagePasses};
 use crate::checker::Checker;
 use crate::passing::Stage;
 use sub_io::{Audience, Stopped};
-use sub_packets::Headers;
 use sub_rules::{Event, Sending};
 use ttx_pes::SentUnits;
 
@@ -102,7 +101,7 @@ impl<'a> Checker<'a> {
         let headers = self.hear(sending.again, 0, units, stage)?;
         self.counts.frames += 1;
         if self.within == 0 {
-            return self.end_sent(headers.count > 0, headers.begins, stage);
+            return self.end_sent(headers > 0, stage);
         }
         self.counts.leave_open(headers, units.len() as u32);
         Ok(())
@@ -134,13 +133,13 @@ impl<'a> Checker<'a> {
             (packets_of_units units.now) self.new) }
     {
         let from = self.counts.packets;
-        let headers = self.hear(again, from, units, stage)?;
-        self.counts.go_on(headers, units.len() as u32);
+        self.hear(again, from, units, stage)?;
+        self.counts.packets += units.len() as u32;
         Ok(())
     }
 
-    // Packets of the frame that was reached, the first of them this one of it: which headers of the
-    // page are among them.
+    // Packets of the frame that was reached, the first of them this one of it: how many headers of
+    // the page are among them.
     #[inline(always)]
     fn hear<A: Audience<Event>>(
         &mut self,
@@ -148,15 +147,15 @@ impl<'a> Checker<'a> {
         from: u32,
         units: &SentUnits<'_>,
         stage: &mut Stage<'_, A>,
-    ) -> Result<Headers, Stopped>
+    ) -> Result<u8, Stopped>
         requires goes_on { A.has_stopped stage.old.device.now ≡ false }
         requires few { length units.now ≤ most_units }
         requires room { self.old.counts.headers < 0xFFFF_FFFF_FF00 }
         requires from { from + most_units ≤ u32.MAX }
         ensures stopped { A.has_stopped stage.new.device.now ≡ is_err result }
         ensures moves { Moves A.is_told A.has_stopped stage.old stage.new }
-        ensures counts { IfOk result (λ headers. (headers.count ≤ 255)
-            × (self.new.counts ≡ with_headers headers.count self.old.counts)) }
+        ensures counts { IfOk result (λ headers. (headers ≤ 255)
+            × (self.new.counts ≡ with_headers headers self.old.counts)) }
         ensures told { (heard last : List (List ℕ))
             → KnowsLast heard last self.old.listener
             → (again ≡ true → last ≡ packets_of_units units.now)
@@ -164,13 +163,13 @@ impl<'a> Checker<'a> {
             (map Says (packets_told self.old.listener.watched self.old.frame from heard
             (packets_of_units units.now) (length (packets_of_units units.now)))) stage.new result
             × IfOk result (λ headers.
-            HasHeard heard (packets_of_units units.now) self.old self.new
-            × AreFound self.old.listener.watched (packets_of_units units.now) headers) }
+            HasHeard from heard (packets_of_units units.now) self.old self.new × (headers
+            ≡ header_count self.old.listener.watched.page (packets_of_units units.now))) }
     {
         let headers = self
             .listener
             .hear_sending(units, again, self.frame, from, stage)?;
-        self.count(headers.count);
+        self.count(headers);
         Ok(headers)
     }
 }

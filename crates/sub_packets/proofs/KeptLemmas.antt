@@ -24,7 +24,7 @@ use Rattle.ttx_page.proofs.TextSpan.{text_span-push}
 use Rattle.sub_rules.specs.Kept.{has_row, header_of_page, last_header}
 use Rattle.sub_rules.specs.PacketTests.{first_of_row}
 use Rattle.sub_rules.specs.declared.packet_rule.Watched.{Watched}
-use Rattle.sub_rules.proofs.PacketLists.{or-none, or_assoc}
+use Rattle.sub_rules.proofs.PacketLists as lists
 
 -- ---- the last header of the page
 
@@ -32,10 +32,11 @@ use Rattle.sub_rules.proofs.PacketLists.{or-none, or_assoc}
 pub last_header-append :
     (page : PageIdValue) (xs ys : List (List ℕ))
     → last_header page (xs ++ ys) ≡ option_or (last_header page ys) (last_header page xs)
-last_header-append page [] ys = sym (or-none (last_header page ys))
+last_header-append page [] ys = sym (lists.or-none (last_header page ys))
 last_header-append page (x ∷ xs) ys =
     ap (λ o. option_or o (header_of_page (kind page x))) (last_header-append page xs ys)
-    ∙ sym (or_assoc (last_header page ys) (last_header page xs) (header_of_page (kind page x)))
+    ∙ sym
+    (lists.or_assoc (last_header page ys) (last_header page xs) (header_of_page (kind page x)))
 
 -- One packet on.
 pub last_header-push :
@@ -96,6 +97,10 @@ pub begins_not : (keeps : Bool) (k : PacketKind)
     → is_this_page k ≡ false
     → begins_text keeps k ≡ false
 begins_not keeps k e = grind (arith, nat_tests)
+
+-- The first or the others.
+pub or_assoc : (a b c : Bool) → ((a || b) || c) ≡ (a || (b || c))
+or_assoc a b c = grind (arith, nat_tests)
 
 -- Whether it begins, one packet on.
 pub beginning-more : (w : Watched) (xs : List (List ℕ)) (x : List ℕ)

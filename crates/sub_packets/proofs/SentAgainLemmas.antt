@@ -16,7 +16,7 @@ use Rattle.ttx_page.specs.Span.{before_end, holds_beginning}
 use Rattle.ttx_page.proofs.SpanLists.{after-append, holds-append_right}
 use Rattle.ttx_page.proofs.TextSpan.{begins_is_header}
 use Rattle.sub_packets.proofs.KeptLemmas.{last_header-append, text_span-begins}
-use Rattle.sub_packets.specs.Listener.{AreFound, BreakNone, Knows, KnowsLast, WereJudged}
+use Rattle.sub_packets.specs.Listener.{BreakNone, Knows, KnowsLast, WereJudged, begins_frame}
 use Rattle.sub_rules.specs.Kept.{last_header}
 use Rattle.sub_rules.specs.PacketRules.{first_header, header_count}
 use Rattle.sub_rules.specs.PacketTests.{broken_rules, breaks, is_other_mode, packet_rules}
@@ -188,7 +188,8 @@ pub heard_again :
     → last ≡ ps
     → BreakNone s.watched heard ps (length ps)
     × KnowsLast (heard ++ ps) ps s
-    × AreFound s.watched ps (record { count = headers; begins = true })
+    × (headers ≡ header_count s.watched.page ps)
+    × ((from : ℕ) → s.begun ≡ begins_frame s.watched from s.begun ps)
 heard_again heard last ps headers s known is same =
     let j = known.last_is headers is in
     let law = law_of_sent_again s.watched j.before last j.begins in
@@ -198,31 +199,52 @@ heard_again heard last ps headers s known is same =
     let alike : LookAlike s.watched heard (heard ++ last) =
     subst (λ xs. LookAlike s.watched xs (xs ++ last)) (sym j.heard_is) law.1 in
     let begun = begun_by s.watched last j.begins in
-    let count = j.count in
-    grind (arith, nat_tests, knows_alike, alike)
+    let begun_is = known.begun_is headers is in (
+      subst (λ (xs : List (List ℕ)). BreakNone s.watched heard xs (length xs)) same clean,
+      grind (arith, nat_tests, knows_alike, alike),
+      sym j.count ∙ ap (header_count s.watched.page) same,
+      λ from.
+          sym
+          (rw (
+            begun_is,
+            sym (ap (holds_beginning s.watched.keeps (kind s.watched.page)) same),
+            begun,
+          )
+          (grind (arith, nat_tests))),
+    )
 
 -- What is kept of the packets heard last, where they were heard just now. For `hear_all`.
 pub kept_last :
-    (w : Watched) (heard ps : List (List ℕ)) (headers : ℕ) (begins clean : Bool) (s : Listener)
+    (w : Watched) (heard ps : List (List ℕ)) (headers from : ℕ) (before begun begins clean : Bool)
+    (s : Listener)
     → s.watched ≡ w
     → Knows (heard ++ ps) s
     → headers ≡ header_count w.page ps
     → (begins ≡ true
     → (0 < length ps) × (begins_text w.keeps (kind w.page (get_or ps 0 [])) ≡ true))
     → (clean ≡ true → BreakNone w heard ps (length ps))
-    → KnowsLast (heard ++ ps) ps (record s { last = cond (begins && clean) (Some headers) None })
-kept_last w heard ps headers begins clean s same known count is none = record {
-  knows = record {
-    serial_is = known.serial_is;
-    open_is = known.open_is;
-    subcode_is = known.subcode_is;
-    sent_is = known.sent_is;
-    page_is = known.page_is;
-    again_is = known.again_is;
-  };
-  last_is = λ m e.
-      subst (λ v. WereJudged v (heard ++ ps) ps m) (sym same) (go begins clean is none m e);
-}
+    → begun ≡ begins_frame w from before ps
+    → KnowsLast (heard ++ ps) ps (record s {
+      begun = begun;
+      last = cond (begins && clean) (Some headers) None;
+    })
+kept_last w heard ps headers from before begun begins clean s same known count is none begun_is
+    = record {
+      knows = record {
+        serial_is = known.serial_is;
+        open_is = known.open_is;
+        subcode_is = known.subcode_is;
+        sent_is = known.sent_is;
+        page_is = known.page_is;
+        again_is = known.again_is;
+      };
+      last_is = λ m e.
+          subst (λ v. WereJudged v (heard ++ ps) ps m) (sym same) (go begins clean is none m e);
+      begun_is = λ m e.
+          let judged = go begins clean is none m e in
+          let begins_here = begun_by w ps judged.begins in
+          begun_is ∙ rw begins_here (grind (arith, nat_tests));
+    }
   where
     first : (xs : List (List ℕ)) → 0 < length xs
         → begins_text w.keeps (kind w.page (get_or xs 0 [])) ≡ true

@@ -1,6 +1,5 @@
 -- What is kept is what the packets say, `shown_is`; the first cell that is not right: `wrong_is`,
--- `known_right`, and where repeats may keep, `wrong_keeping`.
-use Rattle.std.proofs.lemmas.Bool.{cases_Bool}
+-- and where repeats may keep, `wrong_keeping`.
 use Rattle.std.proofs.lemmas.Bool.Decides.{nat_tests}
 use Rattle.std.proofs.Common.{◌≡◌, ℕ, ◌+◌, ◌-◌, ◌<◌, ◌≤◌, ◌⊎◌, ◌||◌, ◌==◌, Bool, true, false, not}
 use Rattle.std.proofs.Common.{List, [], Option, None, Some, MatchOption, option_map, unwrap_or}
@@ -266,7 +265,7 @@ module _ (heard : List (List ℕ)) (s : Listener) (known : Knows heard s) where
       differing_found other s.comparison.page s.comparison.due o
       (λ row column is. let kept_is = shown_is heard s known row column is in rw kept_is refl) found
 
-  -- Where repeats may not keep, the one is the other. For `first_wrong`.
+  -- Where repeats may not keep, the one is the other. For `first_wrong` and `is_known_right`.
   pub wrong_is : (o : Option (ℕ × ℕ))
       → s.watched.keeps ≡ false
       → MatchOption o
@@ -282,31 +281,6 @@ module _ (heard : List (List ℕ)) (s : Listener) (known : Knows heard s) where
       let kept_is = shown_is heard s known row column is in
       let came = row_of_code s.watched.keeps s.watched.page heard row column none in
       grind (arith, nat_tests)) found
-
-  -- Where each cell is what is due, and repeats may not keep or no row lacks, none is wrong. For
-  -- `is_known_right`.
-  pub known_right :
-      ((row column : ℕ)
-      → IsCell row column
-      → cell s.comparison.page row column ≡ cell s.comparison.due row column)
-      → (s.watched.keeps ≡ true
-      → (row column : ℕ)
-      → IsCell row column
-      → get_or s.again (row - 1) false ≡ false
-      → cell s.comparison.due row column ≡ space)
-      → wrong_after s.watched.keeps s.watched.page heard s.comparison.due ≡ None
-  unfolding wrong_after
-  known_right same rows =
-      first_cell-none wrong
-      (λ row column is.
-      let kept_is = shown_is heard s known row column is in
-      let equal = same row column is in
-      let came = row_of_code s.watched.keeps s.watched.page heard row column in
-      let again = known.again_is row is.0 is.1 in
-      elim (cases_Bool s.watched.keeps) [
-        | inl may ↦ let none = rows may row column is in grind (arith, nat_tests)
-        | inr never ↦ let row_came = came never in grind (arith, nat_tests)
-      ])
 
   -- The page that is due, without the rows that came.
   abbrev pub IsMissing : Rows → Type 0

@@ -2,7 +2,7 @@
 -- break. Of the crates above, private functions alone cite this.
 use Rattle.std.specs.Prelude.{◌≡◌, ℕ, ◌-◌, ◌<◌, ◌≤◌, Bool, false, List, [], ◌∷◌, ◌++◌, Option}
 use Rattle.std.specs.Prelude.{None, Some, if◌then◌else◌, is_some, length, option_map, not}
-use Rattle.std.specs.Prelude.{◌+◌, ◌*◌, ◌&&◌, ◌==◌}
+use Rattle.std.specs.Prelude.{◌+◌, ◌*◌, ◌&&◌, ◌||◌, ◌==◌, nat_lt, true}
 use Rattle.std.specs.Prelude.{slice_index_or, take}
 use Rattle.ttx_packet.specs.PageHeader.{c11}
 use Rattle.ttx_packet.specs.declared.header.Header.{Header}
@@ -14,7 +14,6 @@ use Rattle.sub_rules.specs.PacketRules.{codes_of, first_header, header_count}
 use Rattle.sub_rules.specs.PacketTests.{breaks, broken_rules, first_of_row, is_same_bit}
 use Rattle.sub_rules.specs.PacketTests.{packet_rules}
 use Rattle.sub_packets.specs.SentAgain.{BeginsWithHeader}
-use Rattle.sub_packets.specs.declared.last_heard.Headers.{Headers}
 use Rattle.sub_packets.specs.declared.listener.Listener.{Listener}
 use Rattle.sub_rules.specs.declared.packet_rule.PacketRule.{PacketRule}
 use Rattle.sub_rules.specs.declared.packet_rule.Watched.{Watched}
@@ -66,16 +65,17 @@ pub record WereJudged (w : Watched) (heard last : List (List ℕ)) (headers : �
   pub clean : BreakNone w before last (length last)
   pub count : header_count w.page last ≡ headers
 
--- What is found of the headers of the page among packets: how many they are, and whether the text
--- begins with one of them.
-pub record AreFound (w : Watched) (packets : List (List ℕ)) (found : Headers) : Type 0 where
-  pub count : found.count ≡ header_count w.page packets
-  pub begins : found.begins ≡ holds_beginning w.keeps (kind w.page) packets
+-- The text of the page begins with one of the packets of a frame: with one of the `from` packets of
+-- it before these, or with one of these.
+abbrev pub begins_frame : Watched → ℕ → Bool → List (List ℕ) → Bool
+begins_frame w from before packets =
+    (nat_lt 0 from && before) || holds_beginning w.keeps (kind w.page) packets
 
 -- What is kept of all packets heard, and of those heard last.
 pub record KnowsLast (heard last : List (List ℕ)) (s : Listener) : Type 0 where
   pub knows : Knows heard s
   pub last_is : (headers : ℕ) → s.last ≡ Some headers → WereJudged s.watched heard last headers
+  pub begun_is : (headers : ℕ) → s.last ≡ Some headers → s.begun ≡ true
 
 -- ---- packets that are passed
 

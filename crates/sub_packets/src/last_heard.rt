@@ -1,16 +1,8 @@
 //! What is found of the packets heard last: how many headers of the page they hold, whether the
 //! text begins with one of them, or with the first packet, and whether none breaks a rule.
 ghost use Rattle.std.specs.Prelude.{◌≡◌, ◌+◌, ◌<◌, ◌&&◌, ◌||◌, ◌==◌, if◌then◌else◌, None, Some};
+ghost use Rattle.std.specs.Prelude.{nat_lt};
 ghost use Rattle.ttx_pes.specs.PesPacket.{most_units};
-
-/// What is found of the headers of the page among packets.
-#[derive(Clone, Copy)]
-pub struct Headers {
-    /// How many they are.
-    pub count: u8,
-    /// With one of them at least the text begins: it erases the page, or repeats may not keep it.
-    pub begins: bool,
-}
 
 /// One header more, or none.
 pub(crate) fn counted(headers: u8, is_header: bool) -> u8
@@ -25,6 +17,13 @@ pub(crate) fn begins_with(first: bool, k: usize, begins: bool) -> bool
     ensures { result ≡ (if k == 0 then begins else first) }
 {
     if k == 0 { begins } else { first }
+}
+
+/// Whether the text begins with a packet of a frame before packet `from`, where there is one.
+pub(crate) fn has_begun_before(from: u32, begun: bool) -> bool
+    ensures { result ≡ (nat_lt 0 from && begun) }
+{
+    from > 0 && begun
 }
 
 /// Whether the text begins with a packet, one packet on.

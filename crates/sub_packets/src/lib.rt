@@ -6,7 +6,7 @@
 //!
 //! ```text
 //! let mut listener = Listener::new(watched, due);
-//! listener.hear_sending(&units, false, 250, 0, &mut audience)?; // count: 2, begins: true
+//! listener.hear_sending(&units, false, 250, 0, &mut audience)?; // 2 headers of the page
 //! listener.first_wrong(); // Some((22, 7))
 //! ```
 #![tactic(auto)]
@@ -23,7 +23,6 @@ mod undue;
 mod wrong_cell;
 
 pub use comparison::Comparison;
-pub use last_heard::Headers;
 pub use laws::law_of_sent_again;
 pub use listener::Listener;
 pub use telling::tell_if;

@@ -13,12 +13,14 @@ ghost use Rattle.ttx_page.specs.PacketKind.{begins_text, is_this_page, kind};
 ghost use Rattle.ttx_page.specs.Span.{is_open_after};
 ghost use Rattle.ttx_pes.specs.PesPacket.{most_units};
 ghost use Rattle.sub_rules.specs.Events.{packets_told};
-ghost use Rattle.sub_rules.specs.PacketRules.{packets_of_units};
+ghost use Rattle.sub_rules.specs.PacketRules.{header_count, packets_of_units};
 ghost use Rattle.sub_rules.specs.Events.{packet_fault};
 ghost use Rattle.sub_rules.specs.PacketTests.{breaks, packet_rules};
 
 use crate::comparison::Comparison;
-use crate::last_heard::{Headers, begins_with, counted, has_begun, last_headers, stays_clean};
+use crate::last_heard::{
+    begins_with, counted, has_begun, has_begun_before, last_headers, stays_clean,
+};
 use crate::packet_rules::{begins_text, first_serial, is_of_mode, is_serial, text_codes};
 use crate::rule_set::tell_rules;
 use sub_io::{Audience, Stopped};
@@ -50,6 +52,8 @@ pub struct Listener {
     pub(crate) again: [bool; 24],
     /// The page that the packets show, beside the page that is due.
     pub comparison: Comparison,
+    /// The text of the page begins with one of the packets of the last frame.
+    pub begun: bool,
     // How many headers of the page the packets heard last hold, where the text begins with the
     // first of these.
     last: Option<u8>,
@@ -67,8 +71,8 @@ struct Heard {
 }
 
 impl Listener {
-    ghost use Rattle.sub_packets.specs.Listener.{AreFound, IsPassed, Knows, KnowsLast};
-    ghost use Rattle.sub_packets.specs.Listener.{IsAlwaysPassed};
+    ghost use Rattle.sub_packets.specs.Listener.{IsPassed, Knows, KnowsLast, IsAlwaysPassed};
+    ghost use Rattle.sub_packets.specs.Listener.{begins_frame};
     ghost use Rattle.sub_packets.specs.Listener.{is_passed_header, rule_set};
 
     /// Nothing was heard, and this page is due.
@@ -85,6 +89,7 @@ impl Listener {
             sent: [false; 24],
             again: [false; 24],
             comparison: Comparison::new(due),
+            begun: false,
             last: None,
         }
     }
@@ -106,9 +111,9 @@ impl Listener {
         self.watched.complete && self.is_open
     }
 
-    /// Hears packets of a frame, tells which rules they break, and says which headers of the page
-    /// are among them. `again` says that they are those heard last. `from` is the number of the
-    /// first of them in its frame: 0, but after PES packets of the same frame.
+    /// Hears packets of a frame, tells which rules they break, and says how many headers of the
+    /// page are among them. `again` says that they are those heard last. `from` is the number of
+    /// the first of them in its frame: 0, but after PES packets of the same frame.
     ///
     /// Packets that begin with a header with which the text begins and broke no rule break none
     /// again, and leave what is kept as it is: no packet is looked at.
@@ -125,7 +130,7 @@ impl Listener {
         frame: u32,
         from: u32,
         audience: &mut A,
-    ) -> Result<Headers, Stopped>
+    ) -> Result<u8, Stopped>
         requires few { length units.now ≤ most_units }
         requires from { from + most_units ≤ u32.MAX }
         requires goes_on { A.has_stopped audience.old ≡ false }
@@ -137,7 +142,9 @@ impl Listener {
             → (again ≡ true → last ≡ packets_of_units units.now) → MatchResult result
             (λ headers. KnowsLast (heard ++ packets_of_units units.now)
             (packets_of_units units.now) self.new
-            × AreFound self.old.watched (packets_of_units units.now) headers
+            × (headers ≡ header_count self.old.watched.page (packets_of_units units.now))
+            × (self.new.begun ≡ begins_frame self.old.watched from self.old.begun
+            (packets_of_units units.now))
             × Tells A.is_told audience.old audience.new
             (packets_told self.old.watched frame from heard (packets_of_units units.now)
             (length (packets_of_units units.now))))
@@ -146,11 +153,8 @@ impl Listener {
             (length (packets_of_units units.now)))) }
     {
         if again {
-            if let Some(count) = self.last {
-                return Ok(Headers {
-                    count,
-                    begins: true,
-                });
+            if let Some(headers) = self.last {
+                return Ok(headers);
             }
         }
         self.hear_all(units, frame, from, audience)
@@ -165,7 +169,7 @@ impl Listener {
         frame: u32,
         from: u32,
         audience: &mut A,
-    ) -> Result<Headers, Stopped>
+    ) -> Result<u8, Stopped>
         requires few { length units.now ≤ most_units }
         requires from { from + most_units ≤ u32.MAX }
         requires goes_on { A.has_stopped audience.old ≡ false }
@@ -176,7 +180,9 @@ impl Listener {
         ensures knows { (heard : List (List ℕ)) → Knows heard self.old → MatchResult result
             (λ headers. KnowsLast (heard ++ packets_of_units units.now)
             (packets_of_units units.now) self.new
-            × AreFound self.old.watched (packets_of_units units.now) headers
+            × (headers ≡ header_count self.old.watched.page (packets_of_units units.now))
+            × (self.new.begun ≡ begins_frame self.old.watched from self.old.begun
+            (packets_of_units units.now))
             × Tells A.is_told audience.old audience.new
             (packets_told self.old.watched frame from heard (packets_of_units units.now)
             (length (packets_of_units units.now))))
@@ -186,7 +192,7 @@ impl Listener {
     {
         let mut headers = 0;
         let mut first = false;
-        let mut begun = false;
+        let mut begun = has_begun_before(from, self.begun);
         let mut is_clean = true;
         let mut k = 0;
         while k < units.len() {
@@ -202,11 +208,9 @@ impl Listener {
                 k += 1;
             }
         }
+        self.begun = begun;
         self.last = last_headers(first, is_clean, headers);
-        Ok(Headers {
-            count: headers,
-            begins: begun,
-        })
+        Ok(headers)
     }
 
     // The number of the first packet that is not passed, from a number on; how many packets there

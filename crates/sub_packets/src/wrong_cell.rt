@@ -12,21 +12,15 @@ use ttx_page::Page;
 impl Listener {
     ghost use Rattle.sub_packets.specs.Listener.{Knows};
 
-    /// Whether it is known without looking at cells that each is right; where repeats may keep the
-    /// page, by looking at the rows that did not come again.
+    /// Whether it is known without looking that each cell is right: it is not where repeats may
+    /// keep the page, since rows may not have come again.
     #[inline(always)]
     pub fn is_known_right(&self) -> bool
         ensures { (heard : List (List ℕ)) → Knows heard self.now → IsTrue result
             → wrong_after self.now.watched.keeps self.now.watched.page heard
             self.now.comparison.due ≡ None }
     {
-        if !self.comparison.is_known_right() {
-            return false;
-        }
-        if !self.watched.keeps {
-            return true;
-        }
-        !self.lacks_row()
+        self.comparison.is_known_right() && !self.watched.keeps
     }
 
     /// The first cell that is not right: what is kept there is not what is due; or that is text,
@@ -42,16 +36,6 @@ impl Listener {
         }
         let missing = self.missing();
         earlier(differing, missing.first_difference(&Page::blank()))
-    }
-
-    // Whether text is due in a row that did not come since the last header of the page.
-    #[inline(never)]
-    fn lacks_row(&self) -> bool
-        ensures { result ≡ false → (row column : ℕ) → IsCell row column
-            → slice_index_or self.now.again (row - 1) false ≡ false
-            → cell self.now.comparison.due row column ≡ space }
-    {
-        self.missing().cells_not_blank() != 0
     }
 
     // The page that is due, without the rows that came since the last header of the page.

@@ -19,8 +19,7 @@ returns-clause-told g c = λ task sent last keeps.
     let end =
     c.end_sent.ensures.told task sent (length sent - 1) last shut there
     (header_more task sent (length sent - 1) last _ shut _ there
-    (ap (λ (v : CheckerValue). v.counts.headers_before) c.self.view_is ∙ opens.before))
-    (ap (λ (v : CheckerValue). v.counts.begins) c.self.view_is ∙ opens.begins) in (
+    (ap (λ (v : CheckerValue). v.counts.headers_before) c.self.view_is ∙ opens.before)) in (
       passes_same (waiting_some task sent last c.args.self.now keeps opened) end.0,
       follows_all c.end_sent.result task sent last _ some end.1,
     )

@@ -5,6 +5,7 @@ use Rattle.sub_rules.specs.FrameRules.{packets_before}
 use Rattle.sub_rules.specs.Trusted.{Mark}
 use Rattle.sub_rules.specs.Trusted.Mark.{Says}
 use Rattle.sub_rules.specs.declared.event.Event.{Event}
+use Rattle.sub_checker.specs.Checker.{CheckerValue}
 use Rattle.sub_checker.specs.Following.{Follows, Heard}
 use Rattle.sub_checker.specs.Passing.{at_mark}
 use Rattle.sub_checker.proofs.HearingLemmas.{end_mark, ending_marks, first_told, follows_then}
@@ -41,7 +42,7 @@ returns-clause-moves g c =
     c.end_frame.new.self _ _ _ c.end_frame.ensures)
 
 pub returns-in_err-tell_if-clause-told : goal.returns-in_err-tell_if-clause-told
-returns-in_err-tell_if-clause-told g c = λ task frames n last heard there has begins.
+returns-in_err-tell_if-clause-told g c = λ task frames n last heard there has.
     let p = err_from_is_err_and c.from_residual.result c.from_residual.ensures.1 in
     let here = subst (Heard task frames n last) (sym c.self.view_is) heard in
     let first = first_told task frames n last _ here _ _ has c.lacks_first-is_told.ensures in
@@ -55,7 +56,7 @@ returns-in_err-tell_if-clause-told g c = λ task frames n last heard there has b
     )
 
 pub returns-in_err-end_of_frame-clause-told : goal.returns-in_err-end_of_frame-clause-told
-returns-in_err-end_of_frame-clause-told g c = λ task frames n last heard there has begins.
+returns-in_err-end_of_frame-clause-told g c = λ task frames n last heard there has.
     let r = c.from_residual-in_err-end_of_frame in
     let p = err_from_is_err_and r.result r.ensures.1 in
     let here = subst (Heard task frames n last) (sym c.self.view_is) heard in
@@ -73,7 +74,7 @@ returns-in_err-end_of_frame-clause-told g c = λ task frames n last heard there 
     )
 
 pub returns-clause-told : goal.returns-clause-told
-returns-clause-told g c = λ task frames n last heard there has begins.
+returns-clause-told g c = λ task frames n last heard there has.
     let here = subst (Heard task frames n last) (sym c.self.view_is) heard in
     let first = first_told task frames n last _ here _ _ has c.lacks_first-is_told.ensures in
     let due = c.in_ok-end_of_frame.ensures.due in
@@ -82,7 +83,8 @@ returns-clause-told g c = λ task frames n last heard there has begins.
     let told = c.in_ok-end_of_frame.ensures.told (packets_before frames (suc n)) knows in
     let ended = c.in_ok-end_of_frame.ensures.ended (packets_before frames (suc n)) knows in
     let mark =
-    end_mark task frames n last _ heard due _ _ _ _ (c.self-2.view_is ∙ ended) refl begins
+    end_mark task frames n last _ heard due _ _ _ _ (c.self-2.view_is ∙ ended) refl
+    (ap (λ (v : CheckerValue). v.listener.begun) (c.self-2.view_is ∙ ended) ∙ heard.begins)
     c.has_none.ensures.none in (
       ok_whole refl
           (whole_two refl

@@ -1,9 +1,9 @@
 -- The packets, and the headers among them.
 use Rattle.std.proofs.Common.{◌∙◌, length, map, ap, refl, sym, subst}
 use Rattle.std.proofs.lemmas.Result.{err_from_is_err_and}
-use Rattle.sub_packets.specs.Listener.{AreFound, KnowsLast}
+use Rattle.sub_packets.specs.Listener.{KnowsLast, begins_frame}
 use Rattle.sub_rules.specs.Events.{packets_told}
-use Rattle.sub_rules.specs.PacketRules.{packets_of_units}
+use Rattle.sub_rules.specs.PacketRules.{header_count, packets_of_units}
 use Rattle.sub_rules.specs.Trusted.Mark.{Says}
 use Rattle.sub_checker.specs.Checker.{CheckerValue, after_headers}
 use Rattle.sub_checker.proofs.StageLemmas.{Moves-told, ok_whole, told_err, told_ok}
@@ -40,21 +40,20 @@ returns-clause-told g c = λ heard last knows again.
     let here = subst (λ (v : CheckerValue). KnowsLast heard last v.listener) (sym c.self.view_is)
     knows in
     let hears = c.in_ok-headers.ensures.knows heard last here again in
-    let found =
-    subst (λ (v : CheckerValue). AreFound v.listener.watched ps c.in_ok-headers.headers)
-    c.self.view_is hears.1 in (
+    let count =
+    hears.1 ∙ ap (λ (v : CheckerValue). header_count v.listener.watched.page ps) c.self.view_is in (
       ok_whole refl
           (told_ok g.A.Audience.is_told g.A.Audience.has_stopped c.args.stage.now
           c.hear_sending.new.audience _
           (ap (λ (v : CheckerValue). map Says (packets_told v.listener.watched v.frame c.args.from
-          heard ps (length ps))) (sym c.self.view_is)) c.in_ok-headers.ensures.stopped hears.2),
+          heard ps (length ps))) (sym c.self.view_is)) c.in_ok-headers.ensures.stopped hears.3),
       (
         record {
           listener = c.hear_sending.new.self;
-          headers = c.in_ok-headers.headers.count;
+          headers = c.in_ok-headers.headers;
           new_is =
               c.count.ensures
-              ∙ ap (λ (v : CheckerValue). after_headers c.in_ok-headers.headers.count (record v {
+              ∙ ap (λ (v : CheckerValue). after_headers c.in_ok-headers.headers (record v {
                 listener = c.hear_sending.new.self;
               })) c.self.view_is;
           watched =
@@ -64,8 +63,12 @@ returns-clause-told g c = λ heard last knows again.
               c.in_ok-headers.ensures.due
               ∙ ap (λ (v : CheckerValue). v.listener.comparison.due) c.self.view_is;
           knows = hears.0;
-          count = found.count;
+          count = count;
+          begins =
+              hears.2
+              ∙ ap (λ (v : CheckerValue). begins_frame v.listener.watched c.args.from
+              v.listener.begun ps) c.self.view_is;
         },
-        found,
+        count,
       ),
     )

@@ -1,20 +1,19 @@
 -- More packets of the last frame: by TakingLemmas.
-use Rattle.std.proofs.Common.{◌≡◌, ◌∙◌, ◌+◌, ◌-◌, ℕ, length, suc, map, ap, arith, refl, sym}
+use Rattle.std.proofs.Common.{◌≡◌, ◌∙◌, ◌+◌, ◌-◌, ℕ, length, suc, map, ap, arith, subst, sym}
 use Rattle.std.proofs.lemmas.List.{length-map}
 use Rattle.std.proofs.lemmas.Result.{err_from_is_err_and}
 use Rattle.sub_rules.specs.Events.{packets_told}
 use Rattle.sub_rules.specs.FrameRules.{packets_before}
 use Rattle.sub_rules.specs.PacketRules.{packets_of_units}
 use Rattle.sub_rules.specs.Trusted.Mark.{Says}
-use Rattle.sub_checker.specs.Checker.{CheckerValue, gone_on}
-use Rattle.sub_checker.specs.declared.counts.Counts.{Counts}
+use Rattle.sub_checker.specs.Checker.{CheckerValue, HasHeard}
 use Rattle.sub_checker.proofs.MoreLemmas.{more_are}
 use Rattle.sub_checker.proofs.StageLemmas.{passes_err, passes_ok}
 use Rattle.sub_checker.proofs.TakingLemmas.{more_keeps}
 use Rattle.sub_checker.proofs.checker.Checker.take_more.Goals as goal
 
-pub returns-in_err-headers-clause-told : goal.returns-in_err-headers-clause-told
-returns-in_err-headers-clause-told g c = λ task sent last keeps again.
+pub returns-in_err-hear-clause-told : goal.returns-in_err-hear-clause-told
+returns-in_err-hear-clause-told g c = λ task sent last keeps again.
     let p = err_from_is_err_and c.from_residual.result c.from_residual.ensures.1 in
     let opened = c.requires.opened in
     let some = keeps.some opened in
@@ -22,7 +21,7 @@ returns-in_err-headers-clause-told g c = λ task sent last keeps again.
     let all : length sent ≡ suc (length sent - 1) = omega (arith, some) in
     let ps = packets_of_units c.args.units.now in
     let heard =
-    c.in_err-headers.ensures.told (packets_before sent (suc (length sent - 1))) last
+    c.in_err-hear.ensures.told (packets_before sent (suc (length sent - 1))) last
     opens.heard.known.knows again in
     let marks = more_are task sent (length sent - 1) last ps c.args.self.now opens all in
     let from = ap (λ (v : CheckerValue). v.counts.packets) c.self.view_is in
@@ -42,7 +41,7 @@ returns-clause-told g c = λ task sent last keeps again.
     let all : length sent ≡ suc (length sent - 1) = omega (arith, some) in
     let ps = packets_of_units c.args.units.now in
     let heard =
-    c.in_ok-headers.ensures.told (packets_before sent (suc (length sent - 1))) last
+    c.in_ok-hear.ensures.told (packets_before sent (suc (length sent - 1))) last
     opens.heard.known.knows again in
     let marks = more_are task sent (length sent - 1) last ps c.args.self.now opens all in
     let from = ap (λ (v : CheckerValue). v.counts.packets) c.self.view_is in (
@@ -50,13 +49,12 @@ returns-clause-told g c = λ task sent last keeps again.
           (marks ∙ ap (λ (k : ℕ). map Says (packets_told c.args.self.now.listener.watched
           c.args.self.now.frame k (packets_before sent (suc (length sent - 1))) ps (length ps)))
           (sym from)) heard.0,
-      more_keeps task sent last ps c.args.self.now c.hear.new.self _ c.in_ok-headers.headers _ _
-          keeps opened heard.1.0 heard.1.1
-          (ap (λ (v : CheckerValue). record v { counts = c.go_on.new.self }) c.self-2.view_is
-          ∙ ap (λ (m : Counts). record c.hear.new.self { counts = m })
-          (c.go_on.ensures ∙ ap (λ (v : CheckerValue). gone_on c.in_ok-headers.headers c.len.result
-          v.counts) c.self-2.view_is))
-          refl
+      more_keeps task sent last ps c.args.self.now c.hear.new.self _ _ keeps opened
+          (subst (λ (k : ℕ). HasHeard k (packets_before sent (suc (length sent - 1))) ps
+          c.args.self.now c.hear.new.self) from heard.1.0)
+          (ap (λ (v : CheckerValue). record v {
+            counts = record v.counts { packets = v.counts.packets + c.len.result };
+          }) c.self-2.view_is)
           (ap (λ (k : ℕ). c.hear.new.self.counts.packets + k)
           (c.len.ensures.value ∙ sym (length-map _ _))),
     )

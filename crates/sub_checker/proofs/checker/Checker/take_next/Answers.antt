@@ -14,9 +14,9 @@ use Rattle.sub_checker.proofs.HearingLemmas.{packets_are}
 use Rattle.sub_checker.proofs.StageLemmas.{Moves-begun, Moves-trans, ok_whole}
 use Rattle.sub_checker.proofs.StageLemmas.{passes_same, passes_two, stops_one, stops_two, whole_ok}
 use Rattle.sub_checker.proofs.StageLemmas.{whole_two}
-use Rattle.sub_checker.proofs.TakingLemmas.{Keeps-closed, arrived, beginning_here, each_is}
-use Rattle.sub_checker.proofs.TakingLemmas.{next_each, next_heard, next_keeps, next_within}
-use Rattle.sub_checker.proofs.TakingLemmas.{reached_part, some_is}
+use Rattle.sub_checker.proofs.TakingLemmas.{Keeps-closed, arrived, each_is, next_each}
+use Rattle.sub_checker.proofs.TakingLemmas.{next_heard, next_keeps, next_within, reached_part}
+use Rattle.sub_checker.proofs.TakingLemmas.{some_is}
 use Rattle.sub_checker.proofs.TellingLemmas.{ok_map}
 use Rattle.sub_checker.proofs.checker.Checker.take_next.Goals as goal
 
@@ -85,13 +85,11 @@ returns-then-self-eq0-clause-told g c = λ task frames n last follows long sent 
     }) view) in
     let end =
     c.end_sent.ensures.told task frames n ps there sent.there
-    (ap (nat_lt 0) heard.1.1.count
+    (ap (nat_lt 0) heard.1.1
     ∙ ap (λ (t : Task). nat_lt 0 (header_count t.watched.page ps))
     (sym arrives.waits.known.task_is)
     ∙ sym (holds-count task.watched.page ps)
-    ∙ ap (holds_header (kind task.watched.page)) (sym sent.packets_are))
-    (beginning_here task frames n last ps c.reach.new.self c.hear.new.self arrives sent.there
-    sent.packets_are heard.1.0 c.in_ok-headers.headers heard.1.1) in
+    ∙ ap (holds_header (kind task.watched.page)) (sym sent.packets_are)) in
     let shut =
     ap (λ (m : Counts). m.is_open) c.end_sent.ensures.counts
     ∙ ap (λ (v : CheckerValue). v.counts.is_open) view
@@ -132,7 +130,7 @@ returns-clause-told g c = λ task frames n last follows long sent again.
     some_is task frames n last ps c.reach.new.self c.hear.new.self arrives sent.there
     sent.packets_are heard.1.0
     (λ e. not_each (ap (λ (v : CheckerValue). v.within) view ∙ e)) in
-    let before = c.self.inside.counts.headers - c.in_ok-headers.headers.count in
+    let before = c.self.inside.counts.headers - c.in_ok-headers.headers in
     let grown =
     ap (λ (v : CheckerValue). v.counts.headers) view
     ∙ ap (λ (m : Counts). m.headers) c.in_ok-headers.ensures.counts.1 in
@@ -143,14 +141,12 @@ returns-clause-told g c = λ task frames n last follows long sent again.
           c.begin_frame.ensures.begun)
           (whole_ok marks heard.0)),
       next_keeps task frames n last ps c.reach.new.self c.hear.new.self arrives sent.there
-          sent.packets_are heard.1.0 _ c.in_ok-headers.headers before c.len.result within long
-          heard.1.1
+          sent.packets_are heard.1.0 _ before c.len.result within long
           (ap (λ (v : CheckerValue). record v { counts = c.leave_open.new.self }) view
           ∙ ap (λ (m : Counts). record c.hear.new.self { counts = m })
           (c.leave_open.ensures ∙ ap (λ (v : CheckerValue). record v.counts {
             frames = v.counts.frames + 1;
             headers_before = before;
-            begins = c.in_ok-headers.headers.begins;
             packets = c.len.result;
             is_open = true;
           }) view))

@@ -3,7 +3,7 @@ use Rattle.std.proofs.lemmas.Bool.Decides.{nat_tests}
 use Rattle.std.proofs.Common.{◌≡◌, ℕ, ◌+◌, ◌<◌, ◌≤◌, ◌++◌, ◌&&◌, ◌||◌, List, [], ◌∷◌, length, take}
 use Rattle.std.proofs.Common.{get_or, cond, true, refl, sym, ap, ap₂, ◌∙◌, subst, rules}
 use Rattle.std.proofs.Common.{append_assoc, append-nil, arith}
-use Rattle.std.proofs.Common.{map}
+use Rattle.std.proofs.Common.{Bool, map, nat_lt}
 use Rattle.std.specs.List.{filter}
 use Rattle.std.proofs.lemmas.List.{length-map, take_all, take_more}
 use Rattle.ttx_pes.specs.DataUnit.{UnitValue}
@@ -12,7 +12,8 @@ use Rattle.ttx_page.specs.Span.{holds_beginning}
 use Rattle.sub_io.specs.Telling.{Tells, TellsPrefix}
 use Rattle.sub_io.proofs.TellingLemmas.{TellsSome-none, TellsSome-trans, Tells-none}
 use Rattle.sub_rules.specs.Events.{packets_told}
-use Rattle.sub_packets.specs.Listener.{BreakNone, Knows, KnowsLast, rule_set}
+use Rattle.sub_packets.specs.Listener.{BreakNone, Knows, KnowsLast, begins_frame, rule_set}
+use Rattle.sub_packets.proofs.KeptLemmas.{or_assoc}
 use Rattle.sub_rules.specs.PacketRules.{header_count, packets_of_units}
 use Rattle.sub_rules.specs.Events.{packet_fault}
 use Rattle.sub_rules.specs.PacketTests.{breaks, packet_rules}
@@ -37,7 +38,7 @@ loop-k-init g c = record {
   few = omega arith;
   header = refl;
   first = λ e. cc;
-  begun = refl;
+  begun = grind (arith, nat_tests);
   known = λ heard known. (
     subst (λ xs. Knows xs c.args.self.now) (sym (append-nil heard)) known,
     Tells-none c.args.audience.now,
@@ -74,7 +75,10 @@ loop-k-preserved-then-is_passed g c =
       few = omega (arith, i.few, low);
       header = i.header ∙ sym none;
       first = λ e. let b = i.first e in (omega (arith, b.0, low), b.1);
-      begun = i.begun ∙ sym no_beginning;
+      begun =
+          i.begun
+          ∙ sym (ap (λ (b : Bool). (nat_lt 0 c.args.from && c.args.self.now.begun) || b)
+          no_beginning);
       known = λ heard known.
           let before = i.known heard known in
           let run = passed_run w ps c.loop-k.self i.same k c.next_heard-k.result low high passes
@@ -103,11 +107,14 @@ loop-k-preserved g c =
     let begins_here : c.in_ok-heard.heard.begins ≡ begins_text w.keeps (kind w.page p) =
     heard_one.begins ∙ ap (λ v. begins_text v.keeps (kind v.page p)) i.same in
     let begun_more : c.has_begun-begun.result
-    ≡ holds_beginning w.keeps (kind w.page) (take (k + 1) ps) =
+    ≡ begins_frame w c.args.from c.args.self.now.begun (take (k + 1) ps) =
     c.has_begun-begun.ensures
     ∙ ap₂ (λ a b. a || b) i.begun begins_here
-    ∙ sym (beginning-more w (take k ps) p)
-    ∙ sym (ap (holds_beginning w.keeps (kind w.page)) more) in
+    ∙ or_assoc (nat_lt 0 c.args.from && c.args.self.now.begun)
+    (holds_beginning w.keeps (kind w.page) (take k ps)) (begins_text w.keeps (kind w.page p))
+    ∙ ap (λ (b : Bool). (nat_lt 0 c.args.from && c.args.self.now.begun) || b)
+    (sym (beginning-more w (take k ps) p)
+    ∙ sym (ap (holds_beginning w.keeps (kind w.page)) more)) in
     record {
       first = grind arith;
       begun = begun_more;
@@ -179,16 +186,20 @@ returns-clause-knows g c heard known =
     let knows : Knows (heard ++ ps) c.loop-k.self =
     subst (λ xs. Knows (heard ++ xs) c.loop-k.self) all r.0 in
     let count : c.loop-k.headers ≡ header_count w.page ps =
-    i.header ∙ ap (header_count w.page) all in (
-      subst (λ m. KnowsLast (heard ++ ps) ps (record c.loop-k.self { last = m }))
+    i.header ∙ ap (header_count w.page) all in
+    let begun : c.loop-k.begun ≡ begins_frame w c.args.from c.args.self.now.begun ps =
+    i.begun ∙ ap (begins_frame w c.args.from c.args.self.now.begun) all in (
+      subst (λ m. KnowsLast (heard ++ ps) ps (record c.loop-k.self {
+        begun = c.loop-k.begun;
+        last = m;
+      }))
           (sym c.last_headers-self.ensures)
-          (kept_last w heard ps c.loop-k.headers c.loop-k.first c.loop-k.is_clean c.loop-k.self
-          i.same knows count (λ e. let b = i.first e in (omega (arith, b.0, k), b.1))
-          (λ e. subst (BreakNone w heard ps) k (r.2 e))),
-      record {
-        count = count;
-        begins = i.begun ∙ ap (holds_beginning w.keeps (kind w.page)) all;
-      },
+          (kept_last w heard ps c.loop-k.headers c.args.from c.args.self.now.begun c.loop-k.begun
+          c.loop-k.first c.loop-k.is_clean c.loop-k.self i.same knows count
+          (λ e. let b = i.first e in (omega (arith, b.0, k), b.1))
+          (λ e. subst (BreakNone w heard ps) k (r.2 e)) begun),
+      count,
+      begun,
       subst
           (λ n. Tells g.A.Audience.is_told c.args.audience.now c.loop-k.audience
           (packets_told w c.args.frame c.args.from heard ps n)) k r.1,

@@ -2,10 +2,9 @@
 use Rattle.std.proofs.Common.{◌≡◌, ◌≤◌, ◌<◌, ℕ, List, [], ◌++◌, take, get_or, length}
 use Rattle.std.proofs.Common.{◌-◌, true, false}
 use Rattle.ttx_page.specs.PacketKind.{begins_text, kind}
-use Rattle.ttx_page.specs.Span.{holds_beginning}
 use Rattle.sub_io.specs.Telling.{Tells, TellsSome}
 use Rattle.sub_rules.specs.Events.{packets_told}
-use Rattle.sub_packets.specs.Listener.{BreakNone, Knows}
+use Rattle.sub_packets.specs.Listener.{BreakNone, Knows, begins_frame}
 use Rattle.sub_rules.specs.PacketRules.{header_count, packets_of_units}
 use Rattle.sub_packets.proofs.listener.Listener.hear_all.Given as goal
 
@@ -30,7 +29,7 @@ invariant-loop-k g l = record {
       ≡ true);
   begun :
       l.begun
-      ≡ holds_beginning l.initial.self.watched.keeps (kind l.initial.self.watched.page)
+      ≡ begins_frame l.initial.self.watched l.from l.initial.self.begun
       (take l.k (packets_of_units l.units));
   known :
       (heard : List (List ℕ))

@@ -11,10 +11,11 @@ returns-in-Some-clause-knows g c heard last known same =
     let ps = packets_of_units c.args.units.now in
     let w = c.args.self.now.watched in
     let again =
-    heard_again heard last ps c.in-Some.count c.args.self.now known c.in-Some.is
+    heard_again heard last ps c.in-Some.headers c.args.self.now known c.in-Some.is
     (same c.if-again.true) in (
       again.1,
       again.2,
+      again.3 c.args.from,
       rw (packets_told-none w c.args.frame c.args.from heard ps (length ps) again.0)
           (Tells-none c.args.audience.now),
     )

@@ -7,4 +7,5 @@ pub returns-clause-knows : goal.returns-clause-knows
 returns-clause-knows c last = record {
   knows = knows_none _ refl refl refl refl refl (grind arith);
   last_is = λ headers e. cc;
+  begun_is = λ headers e. cc;
 }
