@@ -1,4 +1,5 @@
 pub mod CarrierLemmas
+pub mod ExampleLemmas
 pub mod LeadsLemmas
 pub mod LossGoodLemmas
 pub mod LossLaw
