@@ -37,7 +37,7 @@ use Rattle.sub_checker.specs.Telling.{CountsRead}
 use Rattle.sub_checker.specs.declared.telling.Accepted.{Accepted}
 use Rattle.sub_laws.specs.Planned.{planned}
 use Rattle.sub_laws.proofs.GoodLemmas.{rises_each, whole-is}
-use Rattle.sub_laws.proofs.GoodWithinLemmas.{law_of_good_within, law_of_no_delay}
+use Rattle.sub_laws.proofs.GoodWithinLemmas.{begins_in, law_of_good_within, law_of_no_delay}
 use Rattle.sub_laws.proofs.GoodWithinLemmas.{law_of_plan_repeats}
 use Rattle.sub_laws.proofs.JoinedRisingLemmas.{joined-rising}
 use Rattle.sub_laws.proofs.PesFileLemmas.{carried_is_read, law_of_exact_frames}
@@ -84,13 +84,22 @@ ReadsSoFar programme options bytes result =
 -- What is good by options keeps the promises of a transmission whose repeats may keep the page.
 promises_of_repeats :
     (programme : ProgrammeValue) (transmission : Transmission) (options : OptionsValue)
+    → IsProgramme programme.drawing programme.records
     → GoodBy options.keeps programme transmission options
     → HasPromisesOfRepeats programme transmission options
-promises_of_repeats programme transmission options good =
+promises_of_repeats programme transmission options is good =
     let both = law_of_good_repeats options.keeps in
     record {
       recovers = λ anew class. (both anew class programme transmission options good).0;
       shown = λ anew class. (both anew class programme transmission options good).1;
+      finishes = record {
+        again = good.again;
+        subtitles = λ k d within low high. good.subtitles k d within;
+        begun = λ from k d within before.
+            let begins =
+            begins_in programme transmission is good.rules.starts good.rules.lasts k d within in
+            absurd (omega arith);
+      };
     }
 
 module _ (programme : ProgrammeValue) (options : OptionsValue) (is : IsOptions options)
@@ -294,7 +303,7 @@ module _ (programme : ProgrammeValue) (options : OptionsValue) (is : IsOptions o
       accepted = λ looked fine. accepted_from result (decides fine);
       serves = λ t carries ok.
           let good = accepted_is t result decides carries ok in
-          (good, promises_of_repeats programme t options good);
+          (good, promises_of_repeats programme t options p good);
       counts = λ t carries. counts_from t result decides carries;
       first = λ looked fine. first_from result (decides fine);
       read = so_far;

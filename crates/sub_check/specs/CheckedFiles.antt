@@ -34,6 +34,7 @@ use Rattle.sub_rules.specs.Repeats.{GoodBy}
 use Rattle.sub_laws.specs.Delay.{HasPromisesWithDelay}
 use Rattle.sub_laws.specs.OnScreen.{Complete}
 use Rattle.sub_laws.specs.Repeats.{RecoversForgetting, ShownForgetting}
+use Rattle.sub_laws.specs.ToldRepeats.{FinishesInTimeBy}
 use Rattle.sub_rules.specs.PesFrames.{Carries, CarriesBy}
 use Rattle.sub_rules.specs.PesReading.{pes_file_of}
 use Rattle.sub_laws.specs.Stretch.{HasPromises}
@@ -165,6 +166,10 @@ pub record HasPromisesOfRepeats
       (anew : Bool) (class : ReceiverClass)
       → ShownForgetting options.keeps anew class programme transmission options
       (first_frame transmission) (last_frame transmission)
+  -- Each page is whole in time: without frames that may be late, at the end of each frame.
+  pub finishes :
+      FinishesInTimeBy options.keeps programme transmission options (first_frame transmission)
+      (last_frame transmission)
 
 -- The bytes of both files are accepted by options, whatever these are: they mean some subtitles and
 -- a transmission of these that is good by them.
