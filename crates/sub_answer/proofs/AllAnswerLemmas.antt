@@ -22,7 +22,7 @@ use Rattle.stl_rows.specs.declared.layout.Drawing.{Drawing}
 use Rattle.sub_plan.specs.Options.{OptionsValue}
 use Rattle.sub_check.specs.CheckedFiles.{all_events_by, all_events_of, answer_by, first_answer}
 use Rattle.sub_rules.specs.Events.{first_told}
-use Rattle.sub_check.proofs.FilesLemmas.{accepted-loads, accepted-loads_within}
+use Rattle.sub_check.proofs.FilesLemmas.{accepted-loads, accepted-loads_by, accepted-loads_within}
 use Rattle.sub_check.proofs.RuleToldLemmas.{first_of_rule}
 use Rattle.sub_check.proofs.FirstToldLemmas.{of_rule}
 use Rattle.sub_rules.specs.declared.event.Event.TheVariants.{Ended, PassedUntil, Told, Trusted}
@@ -42,7 +42,8 @@ use Rattle.sub_listing.specs.Told.{line_of, status_of}
 use Rattle.sub_listing.specs.declared.status.Status.{Status}
 use Rattle.sub_listing.specs.declared.status.Status.TheVariants.{Done, Fault, Refused}
 use Rattle.sub_listing.proofs.PrintingLemmas.{printed-status}
-use Rattle.sub_answer.proofs.BothFilesLemmas.{Exactly, exactly-accepted, exactly-accepted_within}
+use Rattle.sub_answer.proofs.BothFilesLemmas.{Exactly, exactly-accepted, exactly-accepted_by}
+use Rattle.sub_answer.proofs.BothFilesLemmas.{exactly-accepted_within}
 use Rattle.sub_answer.proofs.BothFilesLemmas.{pes-fails, status-told, stl-fails}
 
 -- A sink in a call, by what it had taken and has taken.
@@ -224,8 +225,9 @@ answers_cut drawing options stl pes first Untouched old new given t failing = re
   unjudged = λ other. absurd (other refl);
   checked = λ other. absurd (other refl);
   ends = record {
-    done = λ none file heard bytes known other. absurd (other refl);
-    done_within = λ file heard bytes known other. absurd (other refl);
+    done = λ none at_once file heard bytes known other. absurd (other refl);
+    done_within = λ none file heard bytes known other. absurd (other refl);
+    done_by = λ file heard bytes known other. absurd (other refl);
     fault = λ is stl_same pes_same out_same.
         let risen = t.prints.cut_count failing in absurd (omega (arith, risen, out_same));
   };
@@ -273,22 +275,31 @@ answers_end
       checked = λ other. t.checked holds;
       ends = status-told drawing options stl pes (sink old.contents old.count end end_count)
           (all_listing t.number t.events t.answer) status t.answer _ printed t.sources
-          (λ none runs file heard bytes known.
+          (λ none at_once runs file heard bytes known.
           done-exactly drawing options file bytes pes.told t.number t.events t.answer _ known runs
           t.ended
           (t.listed file heard)
           (λ a is.
           exactly-accepted drawing options file bytes (first_answer t.events a) loading
-          (λ p loads. ((rw is at (t.checked holds file heard bytes known)) p loads).1 none))
+          (λ p loads.
+          ((rw is at (t.checked holds file heard bytes known)) p loads).2 none at_once))
           (accepted-loads drawing options file bytes loading))
-          (λ runs file heard bytes known.
+          (λ none runs file heard bytes known.
           done-exactly drawing options file bytes pes.told t.number t.events t.answer _ known runs
           t.ended
           (t.listed file heard)
           (λ a is.
           exactly-accepted_within drawing options file bytes (first_answer t.events a) loading
-          (λ p loads. ((rw is at (t.checked holds file heard bytes known)) p loads).0))
+          (λ p loads. ((rw is at (t.checked holds file heard bytes known)) p loads).1 none))
           (accepted-loads_within drawing options file bytes loading))
+          (λ runs file heard bytes known.
+          done-exactly drawing options file bytes pes.told t.number t.events t.answer _ known runs
+          t.ended
+          (t.listed file heard)
+          (λ a is.
+          exactly-accepted_by drawing options file bytes (first_answer t.events a) loading
+          (λ p loads. ((rw is at (t.checked holds file heard bytes known)) p loads).0))
+          (accepted-loads_by drawing options file bytes loading))
           (answer-fails t.number t.events t.answer t.ended)
           (λ block memory text.
           memory-last drawing options stl.told pes.told old.contents end t.number t.events t.answer

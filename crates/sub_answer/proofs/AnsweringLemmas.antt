@@ -15,7 +15,8 @@ use Rattle.stl_rows.specs.declared.layout.Drawing.{Drawing}
 use Rattle.stl_rows.specs.Loading.{FailsLoading, LawOfLoading, TellsFault, loaded}
 use Rattle.stl_rows.specs.Programme.{ProgrammeValue}
 use Rattle.sub_plan.specs.Options.{OptionsValue}
-use Rattle.sub_check.specs.CheckedFiles.{AreChecked, IsCheckedWithin, TellsSubtitles}
+use Rattle.sub_check.specs.CheckedFiles.{AreChecked, IsCheckedBy, IsCheckedWithin}
+use Rattle.sub_check.specs.CheckedFiles.{TellsSubtitles}
 use Rattle.sub_rules.specs.Events.{first_told}
 use Rattle.ttx_pes.specs.declared.fault.PesFault.TheVariants as pes_fault
 use Rattle.sub_answer.proofs.FailedReadLemmas.{no_events}
@@ -35,7 +36,8 @@ use Rattle.sub_listing.specs.FirstPacket.{StartsAt}
 use Rattle.sub_listing.specs.Listing.{PrintsOrFails}
 use Rattle.sub_listing.specs.declared.status.Status.{Status}
 use Rattle.sub_listing.specs.declared.status.Status.TheVariants.{Done, Fault}
-use Rattle.sub_answer.proofs.BothFilesLemmas.{Exactly, exactly-accepted, exactly-accepted_within}
+use Rattle.sub_answer.proofs.BothFilesLemmas.{Exactly, exactly-accepted, exactly-accepted_by}
+use Rattle.sub_answer.proofs.BothFilesLemmas.{exactly-accepted_within}
 use Rattle.sub_answer.proofs.BothFilesLemmas.{status-told}
 use Rattle.sub_answer.proofs.BothFilesLemmas.{told-fails, told-not_done, told-runs}
 
@@ -133,16 +135,21 @@ as_answered
       checked = checked;
       ends = status-told drawing options stl pes out (verdict number answer) status answer _
           printed sources
-          (λ none other file told bytes heard.
+          (λ none at_once other file told bytes heard.
           let are = rw heard at (checked file told) in
           done-exactly drawing options file bytes number answer _ are
           (exactly-accepted drawing options file bytes answer loading
-          (λ p loads. are.checked p loads none bytes refl)) other)
-          (λ other file told bytes heard.
+          (λ p loads. are.checked p loads none at_once bytes refl)) other)
+          (λ none other file told bytes heard.
           let are = rw heard at (checked file told) in
           done-exactly drawing options file bytes number answer _ are
           (exactly-accepted_within drawing options file bytes answer loading
-          (λ p loads. are.within p loads bytes refl)) other)
+          (λ p loads. are.within p loads none bytes refl)) other)
+          (λ other file told bytes heard.
+          let are = rw heard at (checked file told) in
+          done-exactly drawing options file bytes number answer _ are
+          (exactly-accepted_by drawing options file bytes answer loading
+          (λ p loads. are.checked_by p loads bytes refl)) other)
           (answer-fails number answer)
           (λ block memory line. (
             block,
@@ -153,9 +160,10 @@ as_answered
           ));
     }
 
--- What is answered where the source failed before its first PES packet was found. For `check_from`.
+-- What is answered where the source failed before its first PES packet was found: by whatever
+-- options, and where each header has to erase the page. For `check_from`.
 pub no_piece_read : (programme : ProgrammeValue) (options : OptionsValue) (bytes : List ℕ)
-    → IsCheckedWithin programme options bytes (Err (fault.Pes 0 pes_fault.Read))
+    → IsCheckedBy programme options bytes (Err (fault.Pes 0 pes_fault.Read))
 no_piece_read programme options bytes = record {
   accepted = λ own fine. absurd (true≢false fine);
   serves = λ frames carries ok. absurd (true≢false (sym ok));
@@ -166,6 +174,14 @@ no_piece_read programme options bytes = record {
       rw none (omega arith, ap first_told (no_events programme options bytes));
   content = λ frame row column is. cc;
   schedule = λ serial same some slow own fine. absurd (true≢false fine);
+}
+
+pub no_piece_read_within : (programme : ProgrammeValue) (options : OptionsValue) (bytes : List ℕ)
+    → IsCheckedWithin programme options bytes (Err (fault.Pes 0 pes_fault.Read))
+no_piece_read_within programme options bytes = record {
+  accepted = λ own fine. absurd (true≢false fine);
+  serves = λ frames carries ok. absurd (true≢false (sym ok));
+  content = λ frame row column is. cc;
 }
 
 -- An answer that tells that a source failed has the status `Fault`.

@@ -1,8 +1,8 @@
 -- What the status of a check tells of both files, by the listing that goes with it. Main lemmas:
--- status-told, exactly-accepted, exactly-accepted_within.
+-- status-told, exactly-accepted, exactly-accepted_within, exactly-accepted_by.
 use Rattle.std.proofs.Common.{◌≡◌, ◌≢◌, ◌↔◌, ◌∙◌, ap, arith, refl, sym, subst, ℕ, List, Bool, true}
 use Rattle.std.proofs.Common.{false, Result, Ok, Err}
-use Rattle.std.specs.Prelude.{⊤, IsOk}
+use Rattle.std.specs.Prelude.{⊤, IsFalse, IsOk}
 use Rattle.std.proofs.lemmas.Bool.{true≢false}
 use Rattle.std.proofs.lemmas.Bool.Decides.{nat_tests}
 use Rattle.std.specs.Io.KnownBytes.{Appends}
@@ -23,9 +23,11 @@ use Rattle.sub_rules.specs.Fault.{is_subtitle_fault}
 use Rattle.sub_rules.specs.declared.fault.CheckFault.{CheckFault}
 use Rattle.sub_rules.specs.declared.fault.CheckFault.TheVariants as fault
 use Rattle.sub_checker.specs.declared.telling.Accepted.{Accepted}
-use Rattle.sub_check.specs.CheckedFiles.{IsAccepted, IsAcceptedWithin, IsChecked, IsCheckedWithin}
-use Rattle.sub_check.proofs.FilesLemmas.{accepted-loads, accepted-loads_within, as_accepted}
-use Rattle.sub_check.proofs.FilesLemmas.{as_accepted_within, of_accepted, of_accepted_within}
+use Rattle.sub_check.specs.CheckedFiles.{IsAccepted, IsAcceptedBy, IsAcceptedWithin, IsChecked}
+use Rattle.sub_check.specs.CheckedFiles.{IsCheckedBy, IsCheckedWithin}
+use Rattle.sub_check.proofs.FilesLemmas.{accepted-loads, accepted-loads_by, accepted-loads_within}
+use Rattle.sub_check.proofs.FilesLemmas.{as_accepted, as_accepted_by, as_accepted_within}
+use Rattle.sub_check.proofs.FilesLemmas.{of_accepted, of_accepted_by, of_accepted_within}
 use Rattle.sub_listing.specs.DeviceCall.{SinkCall, SourceCall}
 use Rattle.sub_listing.specs.Faults.{kind_by}
 use Rattle.sub_listing.specs.Listing.{Listing, PrintsOrFails}
@@ -130,6 +132,23 @@ exactly-accepted_within drawing options file bytes answer loading checked = reco
   loads = accepted-loads_within drawing options file bytes loading;
 }
 
+pub exactly-accepted_by :
+    (drawing : Drawing) (options : OptionsValue) (file bytes : List ℕ)
+    (answer : Result Accepted CheckFault)
+    → LawOfLoading
+    → ((programme : ProgrammeValue)
+    → loaded drawing file ≡ Ok programme
+    → IsCheckedBy programme options bytes answer)
+    → Exactly drawing file answer (IsAcceptedBy drawing options file bytes)
+exactly-accepted_by drawing options file bytes answer loading checked = record {
+  exactly = λ p loads looked fine.
+      let exact = (checked p loads).accepted looked fine in (
+        λ ok. as_accepted_by drawing options file bytes loading p loads (exact.0 ok),
+        λ is. exact.1 (of_accepted_by drawing options file bytes loading p loads is),
+      );
+  loads = accepted-loads_by drawing options file bytes loading;
+}
+
 -- The status that was printed with a listing, by what that tells of the files.
 pub status-told :
     {Counts : Type 0} {AtBlock AtPes : ℕ → Type 0} {Untouched : Type 0} {is_of_subtitles : Bool}
@@ -138,15 +157,21 @@ pub status-told :
     (PrintsMemory : Type 0)
     → PrintsOrFails out listing status
     → TellsSources AtBlock AtPes Untouched is_of_subtitles stl pes answer
-    → (options.within ≡ 0
+    → (IsFalse options.keeps
+    → options.within ≡ 0
     → listing.status ≢ Fault
     → IfTold stl.told (λ file.
     IfTold pes.told (λ bytes.
     (listing.status ≡ Done) ↔ IsAccepted drawing options file bytes)))
-    → (listing.status ≢ Fault
+    → (IsFalse options.keeps
+    → listing.status ≢ Fault
     → IfTold stl.told (λ file.
     IfTold pes.told (λ bytes.
     (listing.status ≡ Done) ↔ IsAcceptedWithin drawing options file bytes)))
+    → (listing.status ≢ Fault
+    → IfTold stl.told (λ file.
+    IfTold pes.told (λ bytes.
+    (listing.status ≡ Done) ↔ IsAcceptedBy drawing options file bytes)))
     → (listing.status ≡ Fault → failed is_failure answer ≡ true)
     → ((block : ℕ)
     → answer ≡ Err (fault.Subtitles (load_fault block load.Memory))
@@ -154,14 +179,17 @@ pub status-told :
     → PrintsMemory)
     → TellsStatus drawing options stl pes out PrintsMemory status
 status-told drawing options stl pes out listing status answer PrintsMemory printed sources done
-    done_within fails memory =
+    done_within done_by fails memory =
     record {
-      done = λ none file told bytes heard other.
+      done = λ none at_once file told bytes heard other.
           let is = printed-status out listing status printed other in
-          rw is (done none (λ failing. other (is ∙ failing)) file told bytes heard);
-      done_within = λ file told bytes heard other.
+          rw is (done none at_once (λ failing. other (is ∙ failing)) file told bytes heard);
+      done_within = λ none file told bytes heard other.
           let is = printed-status out listing status printed other in
-          rw is (done_within (λ failing. other (is ∙ failing)) file told bytes heard);
+          rw is (done_within none (λ failing. other (is ∙ failing)) file told bytes heard);
+      done_by = λ file told bytes heard other.
+          let is = printed-status out listing status printed other in
+          rw is (done_by (λ failing. other (is ∙ failing)) file told bytes heard);
       fault = λ is stl_same pes_same out_same.
           let whole = printed-whole out listing status printed out_same in
           let wanted =

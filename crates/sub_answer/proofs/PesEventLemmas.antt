@@ -1,11 +1,11 @@
 -- What a printer was told of a PES file, and what is answered by it. Main lemmas: after_pes,
--- both_answers.
+-- all_answers.
 use Rattle.std.proofs.Common.{◌≡◌, ◌∙◌, ap, refl, sym, subst, arith, ℕ, ◌+◌, ◌≤◌}
 use Rattle.std.proofs.Common.{zero, suc, List, take, length, Bool, true, false, Option}
 use Rattle.std.proofs.Common.{Some, None, Result, Ok, Err, ◌-◌}
 use Rattle.std.proofs.lemmas.Bool.{true≢false}
 use Rattle.std.proofs.lemmas.Bool.Decides.{nat_tests}
-use Rattle.std.specs.Prelude.{IfOk, IfErr, IfSome, is_none}
+use Rattle.std.specs.Prelude.{IfOk, IfErr, IfSome, IsFalse, is_none}
 use Rattle.sub_io.specs.Device.{RisesIf, failed}
 use Rattle.sub_io.specs.Reading.{IfTold}
 use Rattle.sub_io.specs.Telling.{Tells, TellsSome}
@@ -15,7 +15,8 @@ use Rattle.stl_rows.specs.Judged.{JudgedValue, known}
 use Rattle.stl_rows.specs.Programme.{ProgrammeValue}
 use Rattle.sub_plan.specs.FrameTime.{clock_of}
 use Rattle.sub_plan.specs.Options.{OptionsValue}
-use Rattle.sub_check.specs.CheckedFiles.{IsChecked, IsCheckedWithin, TellsEvents, all_events_by}
+use Rattle.sub_check.specs.CheckedFiles.{IsChecked, IsCheckedBy, IsCheckedWithin, TellsEvents}
+use Rattle.sub_check.specs.CheckedFiles.{all_events_by}
 use Rattle.sub_check.specs.CheckedFiles.{all_events_of, events_of_first_by, first_answer}
 use Rattle.sub_check.specs.CheckedFiles.{frames_read}
 use Rattle.sub_checker.specs.Telling.{CountsRead}
@@ -90,16 +91,23 @@ read_at : (f : CheckFault)
 read_at (fault.Pes n pes_fault.Read) is = (n, refl)
 read_at f is = cc
 
--- What `check_all` answers within frames, and where the page has to be whole at once, of a
--- programme of which all is known. For `tell_transmission`.
-pub both_answers : (judged : JudgedValue) (options : OptionsValue) (pes : Option (List ℕ))
+-- What `check_all` answers by whatever options, where each header has to erase the page, and where
+-- the page has to be whole at once too, of a programme of which all is known. For
+-- `tell_transmission`.
+pub all_answers : (judged : JudgedValue) (options : OptionsValue) (pes : Option (List ℕ))
     (r : Result (Option Accepted) CheckFault)
     → ((programme : ProgrammeValue)
     → judged ≡ known programme
+    → IfTold pes (λ bytes. IfOk r (λ counts. IfSome counts (λ a. IsCheckedBy programme options
+    bytes (first_answer (all_events_of programme options bytes) a)))))
+    → ((programme : ProgrammeValue)
+    → judged ≡ known programme
+    → IsFalse options.keeps
     → IfTold pes (λ bytes. IfOk r (λ counts. IfSome counts (λ a. IsCheckedWithin programme options
     bytes (first_answer (all_events_of programme options bytes) a)))))
     → ((programme : ProgrammeValue)
     → judged ≡ known programme
+    → IsFalse options.keeps
     → options.within ≡ 0
     → IfTold pes (λ bytes. IfOk r (λ counts. IfSome counts (λ a. IsChecked programme options
     bytes (first_answer (all_events_of programme options bytes) a)))))
@@ -108,10 +116,13 @@ pub both_answers : (judged : JudgedValue) (options : OptionsValue) (pes : Option
     → judged ≡ known programme
     → IfOk r (λ counts. IfSome counts (λ a. IsAnswer programme options
     bytes (first_answer (all_events_of programme options bytes) a))))
-both_answers judged options pes (Ok (Some a)) within at_once bytes heard programme is =
-    (within programme is bytes heard, λ none. at_once programme is none bytes heard)
-both_answers judged options pes (Ok None) within at_once bytes heard programme is = tt
-both_answers judged options pes (Err f) within at_once bytes heard programme is = tt
+all_answers judged options pes (Ok (Some a)) by within at_once bytes heard programme is = (
+  by programme is bytes heard,
+  λ none. within programme is none bytes heard,
+  λ none whole. at_once programme is none whole bytes heard,
+)
+all_answers judged options pes (Ok None) by within at_once bytes heard programme is = tt
+all_answers judged options pes (Err f) by within at_once bytes heard programme is = tt
 
 -- What is told where nothing of the subtitle file is refused is told of its programme.
 events_known : (judged : JudgedValue) (programme : ProgrammeValue) (options : OptionsValue)

@@ -1,5 +1,5 @@
 -- What the answers to `check` and to `check --all` both say of a subtitle file and a PES file.
-use Rattle.std.specs.Prelude.{◌≡◌, ◌≢◌, ◌↔◌, ℕ, Bool, true, Result, Err}
+use Rattle.std.specs.Prelude.{◌≡◌, ◌≢◌, ◌↔◌, ℕ, Bool, true, IsFalse, Result, Err}
 use Rattle.sub_io.specs.Device.{RisesIf, failed}
 use Rattle.sub_io.specs.Reading.{IfTold}
 use Rattle.ttx_pes.specs.declared.fault.PesFault.TheVariants.{Read}
@@ -7,7 +7,7 @@ use Rattle.stl_rows.specs.Fault.{is_read}
 use Rattle.stl_rows.specs.declared.fault.LoadFault.{LoadFault}
 use Rattle.stl_rows.specs.declared.layout.Drawing.{Drawing}
 use Rattle.sub_plan.specs.Options.{OptionsValue}
-use Rattle.sub_check.specs.CheckedFiles.{IsAccepted, IsAcceptedWithin}
+use Rattle.sub_check.specs.CheckedFiles.{IsAccepted, IsAcceptedBy, IsAcceptedWithin}
 use Rattle.sub_rules.specs.Fault.{is_pes_read, is_stl_read}
 use Rattle.sub_rules.specs.declared.fault.CheckFault.{CheckFault}
 use Rattle.sub_rules.specs.declared.fault.CheckFault.TheVariants.{Pes, Subtitles}
@@ -36,18 +36,26 @@ pub record TellsStatus
     (drawing : Drawing) (options : OptionsValue) (stl pes : SourceCall) (out : SinkCall)
     (PrintsMemory : Type 0) (status : Status)
     : Type 0 where
-  -- Failing devices and want of memory aside, it is `Done` exactly where the files are accepted.
+  -- Failing devices and want of memory aside, it is `Done` exactly where the files are accepted:
+  -- where each header of the page has to erase it, and where repeats may keep it too, `done_by`.
   pub done :
-      options.within ≡ 0
+      IsFalse options.keeps
+      → options.within ≡ 0
       → IfTold stl.told (λ file.
       IfTold pes.told (λ bytes.
       status ≢ Fault
       → (status ≡ Done) ↔ IsAccepted drawing options file bytes))
   pub done_within :
-      IfTold stl.told (λ file.
+      IsFalse options.keeps
+      → IfTold stl.told (λ file.
       IfTold pes.told (λ bytes.
       status ≢ Fault
       → (status ≡ Done) ↔ IsAcceptedWithin drawing options file bytes))
+  pub done_by :
+      IfTold stl.told (λ file.
+      IfTold pes.told (λ bytes.
+      status ≢ Fault
+      → (status ≡ Done) ↔ IsAcceptedBy drawing options file bytes))
   -- It is `Fault` only where a device failed, or want of memory is printed.
   pub fault :
       status ≡ Fault

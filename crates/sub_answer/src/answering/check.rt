@@ -1,5 +1,5 @@
 //! `check STL PES`: checks a PES file against a subtitle file.
-ghost use Rattle.std.specs.Prelude.{◌≡◌, ◌+◌, ℕ, Err, false, true};
+ghost use Rattle.std.specs.Prelude.{◌≡◌, ◌+◌, ℕ, Err, IsFalse, false, true};
 ghost use Rattle.sub_io.specs.Device.{CountsIf, failed};
 ghost use Rattle.sub_io.specs.Reading.{IfTold};
 ghost use Rattle.ttx_pes.specs.Reader.{FailsAtPacket};
@@ -7,7 +7,8 @@ ghost use Rattle.stl_rows.specs.Layout.{drawing_within};
 ghost use Rattle.stl_rows.specs.Fault.{is_read};
 ghost use Rattle.stl_rows.specs.Loading.{FailsLoading};
 ghost use Rattle.stl_rows.specs.declared.fault.LoadFault.{LoadFault};
-ghost use Rattle.sub_check.specs.CheckedFiles.{AreChecked, IsChecked, IsCheckedWithin};
+ghost use Rattle.sub_check.specs.CheckedFiles.{AreChecked, IsChecked, IsCheckedBy};
+ghost use Rattle.sub_check.specs.CheckedFiles.{IsCheckedWithin};
 ghost use Rattle.sub_rules.specs.Fault.{is_pes_read, is_stl_read, is_subtitle_fault};
 ghost use Rattle.sub_answer.specs.Answering.{AnswersCheck, verdict};
 ghost use Rattle.sub_listing.specs.DeviceCall.{CanFail, CountsFault, sink_call, source_call};
@@ -114,10 +115,13 @@ fn check_from<N: FirstPacket<T>, T: Source>(
     options: &Options,
 ) -> Answer
     requires { CanFail (T.failure_count pes.old) }
-    ensures checked { options.now.within ≡ 0 → IfTold (T.remaining pes.old) (λ bytes.
+    ensures checked { IsFalse options.now.keeps → options.now.within ≡ 0
+        → IfTold (T.remaining pes.old) (λ bytes.
         IsChecked programme.now options.now bytes result.result) }
-    ensures within { IfTold (T.remaining pes.old) (λ bytes.
+    ensures within { IsFalse options.now.keeps → IfTold (T.remaining pes.old) (λ bytes.
         IsCheckedWithin programme.now options.now bytes result.result) }
+    ensures checked_by { IfTold (T.remaining pes.old) (λ bytes.
+        IsCheckedBy programme.now options.now bytes result.result) }
     ensures starts { StartsAt (N.number pes.old)
         (source_call T.remaining T.failure_count pes.old pes.new) result.first }
     ensures read { (index : ℕ)

@@ -9,7 +9,7 @@ use Rattle.sub_listing.specs.DeviceCall.{source_call}
 use Rattle.sub_listing.specs.Printer.{PrinterValue, PrintsEvent, printer_value}
 use Rattle.std.proofs.Common.{Option}
 use Rattle.sub_listing.specs.declared.printer.Printer.{Printer}
-use Rattle.sub_answer.proofs.PesEventLemmas.{after_pes, both_answers, with_first}
+use Rattle.sub_answer.proofs.PesEventLemmas.{after_pes, all_answers, with_first}
 use Rattle.sub_answer.proofs.FailedReadLemmas.{error_fails, tells_none}
 use Rattle.sub_listing.proofs.PrinterLemmas.{has_stopped, same_all, still_goes}
 use Rattle.sub_answer.proofs.answering.check_all.tell_transmission.Goals as goal
@@ -52,11 +52,13 @@ returns-in-Ok-clause-told g c =
     c.check_all.result _ (has_stopped _ _)
     (λ holds quiet. still_goes _ _ _ c.requires.out holds quiet)
     e.some (λ bytes told. e.told bytes (told_kept _ _ bytes found.kept told))
-    (both_answers c.args.judging.now _ _ c.check_all.result
+    (all_answers c.args.judging.now _ _ c.check_all.result
     (λ programme is bytes told.
-    e.first_within programme is bytes (told_kept _ _ bytes found.kept told))
-    (λ programme is zero bytes told.
-    e.first programme is zero bytes (told_kept _ _ bytes found.kept told)))
+    e.first_by programme is bytes (told_kept _ _ bytes found.kept told))
+    (λ programme is none bytes told.
+    e.first_within programme is none bytes (told_kept _ _ bytes found.kept told))
+    (λ programme is none zero bytes told.
+    e.first programme is none zero bytes (told_kept _ _ bytes found.kept told)))
     e.stopped e.goes_on e.only (rw same at e.count)
     (λ index is. fails_piece_kept index _ _ _ found.kept (e.read index is)))
 
