@@ -1,3 +1,4 @@
 pub mod Apart
 pub mod FileCalls
+pub mod MemoryFiles
 pub mod Opening

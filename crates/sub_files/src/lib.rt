@@ -11,9 +11,11 @@
 mod apart;
 mod file_system;
 mod files;
+mod memory;
 mod opening;
 
 pub use apart::Found;
 pub use file_system::{FileSystem, SystemFiles};
 pub use files::{CreatedFile, PesFile, StlFile};
+pub use memory::{MemFile, MemFiles};
 pub use opening::{BUFFER, Opened, open, room, size_of_rooms};
