@@ -6,4 +6,5 @@ judged     pairs judged in process, and what is sent
 muxed      transport streams with video
 parts      values: parts with answers, carriers, sendings
 runner     finds them and runs them side by side
+scenario   pairs at random, by numbers
 """

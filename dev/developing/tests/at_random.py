@@ -1,5 +1,5 @@
-"""Calls of qc at random, each made by a number: a programme, how it is sent and recorded, what goes
-wrong on the way, and the options; and all that is said then, on the terminal and in files.
+"""Calls of qc at random, each made by a number, and all that is said then, on the terminal and in
+files.
 
 `dev/vectors/calls.tsv` has what was said of each when somebody last looked at it: the words, the
 last line, and sums of all lines, of the JSON result, and of the other files. A change that is meant
@@ -16,34 +16,21 @@ import importlib.util
 import io
 import json
 import os
-import random
 import re
 import subprocess
 import sys
 import tempfile
-import threading
-import time
 from typing import Any, Iterator, NamedTuple, Sequence
 
 from subtitles.calls.main import main
 from subtitles.core.built import TOP
-from subtitles.core.pes import (
-    data_field, pes_packet, pes_packets, pts_bytes, pts_in, teletext_packets)
-from subtitles.core.stl import NEW_LINE, boxed, gsi_block, subtitle_blocks
-from subtitles.core.teletext import odd
-from subtitles.core.times import CLOCK, FRAMES_OF_A_DAY, TICKS, ticks_between, time_of
 from subtitles.core.words import run
 from subtitles.qc import steps
 from subtitles.qc.ending import Ending
-from .muxed import (
-    AHEAD, MPEG_2, PRIVATE, TELETEXT_PID, VIDEO_PID, Maker, mpeg_2_picture, spaced,
-    teletext_descriptor, video_packet)
+from .scenario import Scenario
 
 VECTORS = os.path.join(TOP, "dev", "vectors", "calls.tsv")
-SECOND_PID = 0x102
 EACH = 20  # calls of which the results are collected
-TEXTS = [b"Good evening.", b"Here is the news.", b"It costs \xa35, or \xa47.",
-         b"Thank you, Anne.", b"No!", b"Yes."]
 VOLATILE = [(re.compile(r"\d{4}-\d\d-\d\d[T ]\d\d:\d\d:\d\d(\.\d+)?"), "DATE"),
             (re.compile('<dl class="made">.*?</dl>|PROGRAM</td><td.*?</tr>'), "MADE"),
             (re.compile(r"subttx-qc-\w+"), "FOLDER"), (re.compile(r'"seconds": [\d.]+'), "SECONDS"),
@@ -51,26 +38,6 @@ VOLATILE = [(re.compile(r"\d{4}-\d\d-\d\d[T ]\d\d:\d\d:\d\d(\.\d+)?"), "DATE"),
             # How much of a feed is read before it has its verdict.
             (re.compile(r"feed \d+ [0-9a-f]{64}|feed</td><td>[\d,]+ bytes</td>.*?</code>"
                         r'|"feed",\s*"size": \d+,\s*"sha256": "[0-9a-f]+"'), "READ")]
-Sent = list[tuple[int, bytes]]  # PTS, and the PES packet
-Text = tuple[bytes, ...]  # the lines of a subtitle
-
-
-class Written(NamedTuple):
-    """A subtitle as it is written."""
-
-    number: int
-    begin: int
-    end: int
-    row: int
-    justify: int
-    lines: Text
-
-    def blocks(self) -> bytes:
-        """Its TTI blocks."""
-        return subtitle_blocks(self.number, self.begin, self.end, self.row, self.justify,
-                               (NEW_LINE * 2).join(self.lines))
-
-
 OF_FEED = "verdict", "line"  # of a JSON result
 FILES = ("one.json", "one.csv", "one.xml", "out/one.html", "out/one.txt", "out/one.1.html",
          "out/one.2.html", "out/one.json", "out/index.html")
@@ -85,259 +52,6 @@ class Said(NamedTuple):
     lines: list[str]
     files: dict[str, str]
     result: str
-
-
-class Scenario:
-    """A pair of files and a call, in the folder in which the process is."""
-
-    def __init__(self, number: int, program: str) -> None:
-        self.chance, self.program = random.Random(number), program
-        self.is_feed = number % 6 == 5
-        self.words: list[str] = []
-        self.every = self.chance.choice((1, 25, 25, 50, 50, 250, 250))
-        self.origin = self.chance.choice((0, 90_000, CLOCK - 900_000 * TICKS, CLOCK - 5))
-        self.has_break = self.some(18)
-        self.times = self.some_times()
-        self.subtitles = self.some_subtitles()
-        self.write("one.stl", self.subtitles)
-        self.write("sent.stl", self.others() if self.some(45) else self.subtitles)
-
-    def some(self, percent: int) -> bool:
-        return self.chance.randrange(100) < percent
-
-    def some_times(self) -> list[tuple[int, int]]:
-        """When the subtitles come and go; some touch."""
-        frame = self.chance.choice((100, 900_000, 900_000, FRAMES_OF_A_DAY - 2500))
-        found = []
-        for _ in range(24 if self.has_break else self.chance.choice((2, 3, 4, 5, 7, 9, 12))):
-            end = frame + self.chance.randrange(25, 90)
-            found.append((frame, end))
-            frame = end + self.chance.choice((0, 0, 5, 40, 120))
-        return found
-
-    def a_line(self) -> bytes:
-        return boxed(self.chance.choice(TEXTS), self.chance.choice((b"", b"", b"\x03")))
-
-    def some_subtitles(self) -> list[Written]:
-        """What the subtitle file has; seldom a letter that no cell has, or a TCO that is the TCI.
-        """
-        chance, found = self.chance, list[Written]()
-        of_none, empty = (chance.randrange(200) for _ in range(2))  # most often no subtitle
-        for number, (begin, end) in enumerate(self.times, chance.choice((1, 1, 7))):
-            lines = [self.a_line() for _ in range(chance.choice((1, 1, 2)))]
-            lines[0] += b" \xf9" * (number == of_none)
-            found.append(Written(number, begin, begin if number == empty else end,
-                                 23 - 2 * len(lines), chance.choice((1, 2, 2, 3)), tuple(lines)))
-        return found
-
-    def others(self) -> list[Written]:
-        """What somebody else sends: one or two subtitles are other ones."""
-        chance, found = self.chance, list(self.subtitles)
-        for _ in range(chance.choice((1, 1, 2))):
-            at = chance.randrange(len(found))
-            one, by, kind = found[at], chance.choice((1, 2, 4, 6, 12, 30)), chance.randrange(11)
-            last = found[-1]
-            found[at:at + 1] = [[one._replace(lines=(self.a_line(), *one.lines[1:]))],
-                                [one._replace(lines=chance.choice(found).lines)],
-                                [one._replace(lines=one.lines[:1])],
-                                [one._replace(row=one.row - 2)],
-                                [one._replace(justify=one.justify % 3 + 1)],
-                                [one._replace(lines=tuple(
-                                    one.replace(b"\x0b\x0b", b"\x06\x0b\x0b")
-                                    for one in one.lines))],
-                                [one._replace(begin=min(one.begin + by, one.end - 1))],
-                                [one._replace(begin=max(one.begin - by, 0))],
-                                [one._replace(end=one.end + by)],
-                                [one._replace(end=max(one.end - by, one.begin + 1))],
-                                [one]][kind]
-            if kind == 10:
-                found.append(last._replace(number=last.number + 1, begin=last.end + by - 1,
-                                           end=last.end + by + 50, lines=(self.a_line(),)))
-        for at, (one, other) in enumerate(zip(found, found[1:])):  # no two at once
-            found[at] = one._replace(end=min(one.end, max(other.begin, one.begin + 1)))
-        return found
-
-    def write(self, name: str, subtitles: list[Written]) -> None:
-        """Writes a subtitle file."""
-        blocks = b"".join(one.blocks() for one in subtitles)
-        data = gsi_block(b"At random", len(blocks) // 128 + self.some(5), len(subtitles), 0,
-                         self.chance.choice((b"09", b"09", b"08")))
-        code = time_of(self.times[0][0] - 40).replace(":", "").encode()
-        with open(name, "wb") as file:
-            file.write(data[:256] + code + data[264:] + blocks)
-
-    # What is sent, and what goes wrong.
-
-    def scheduled(self, name: str, *words: str) -> Sent:
-        """The program's own transmission."""
-        subprocess.run([self.program, "schedule", "sent.stl", name, "--every", str(self.every),
-                        "--origin", str(self.origin), *words], stdout=subprocess.DEVNULL,
-                       check=False)
-        if not os.path.exists(name):
-            return []
-        with open(name, "rb") as file:
-            return [(pts_in(one), one) for one in pes_packets(file)]
-
-    def wrong(self, sent: Sent) -> Sent:
-        """One thing more that goes wrong."""
-        chance = self.chance
-        first = chance.randrange(len(sent))
-        last = min(len(sent), first + chance.choice((1, 1, 2, 5, 1000)))
-        by = chance.choice((1, 2, 3, 5, 6, 40, -1, -3)) * TICKS
-        kind = chance.choice((0, 0, 1, 1, 2, 3, 4, 5, 6, 7, 8, 9, 10, 10, 11, 12))
-        if kind == 0:
-            return [(pts + by * (first <= at < last), one) for at, (pts, one) in enumerate(sent)]
-        if kind == 1:
-            return [pair for at, pair in enumerate(sent) if not first <= at < min(last, first + 5)]
-        if kind == 2:
-            return sent + [(pts + 3000 * TICKS, one) for pts, one in sent]
-        if kind == 3:
-            other = chance.randrange(len(sent))
-            return [(pts, sent[{first: other, other: first}.get(at, at)][1])
-                    for at, (pts, _) in enumerate(sent)]
-        if kind == 4:
-            return [(pts + chance.randrange(-300, 300), one) for pts, one in sent]
-        if kind == 5:
-            return [(pts + at * chance.choice((1, 2)), one) for at, (pts, one) in enumerate(sent)]
-        if kind == 6:
-            return [(pts + by, one) for pts, one in sent]
-        if kind == 7:
-            return [pair for at, pair in enumerate(sent)
-                    for _ in range(1 + (first <= at < last))]
-        if kind > 9:
-            return self.split(sent, first, last, kind)
-        place, byte = (chance.randrange(100, 130), odd(chance.randrange(0x41, 0x5B))) \
-            if kind == 8 else (chance.choice((6, 7, 8, 45, 47, 49, 50, 95, 96)), 0x15)
-        return [(pts, one[:place] + bytes([byte]) + one[place + 1:] if at == first else one)
-                for at, (pts, one) in enumerate(sent)]
-
-    def split(self, sent: Sent, first: int, last: int, kind: int) -> Sent:
-        """Some in two: the header, and what comes after it a frame, or a field, later; or without
-        the first packet, or the last."""
-        later = self.chance.choice((TICKS, TICKS, TICKS // 2, 3 * TICKS))
-        found: Sent = []
-        for at, (pts, one) in enumerate(sent):
-            packets = teletext_packets(data_field(one))
-            if kind == 10 and len(packets) > 2:
-                found += [(pts, pes_packet(0, packets[:1])), (pts + later, pes_packet(
-                    0, packets[1:]))]
-            elif kind > 10 and first <= at < last:
-                found.append((pts, pes_packet(0, packets[kind == 11:len(packets) - (kind == 12)])))
-            else:
-                found.append((pts, one))
-        return found
-
-    def broken(self, sent: Sent) -> Sent:
-        """A break, before a subtitle in the middle."""
-        middle = self.origin + TICKS * (self.times[12][0] - 2)
-        later = self.chance.choice((300, 700, 700, -5000)) * TICKS
-        self.words += ["--breaks", "1"] if self.some(90) else []
-        return [(pts + later * (ticks_between(middle % CLOCK, pts % CLOCK) >= 0), one)
-                for pts, one in sent]
-
-    def recorded(self, sent: Sent, second: Sent) -> bytes:
-        """A transport stream: video, PCR, Teletext, at times of two PIDs, in which some is lost."""
-        chance = self.chance
-        own = teletext_descriptor(chance.choice((b"eng", b"eng", b"ger")), chance.choice((2, 2, 1)),
-                                  chance.choice((0x88, 0x88, 0x88, 0x89)))
-        maker = Maker([(VIDEO_PID, MPEG_2, b""), (TELETEXT_PID, PRIVATE, own),
-                       (SECOND_PID, PRIVATE, teletext_descriptor(page=0x50, magazine=1))])
-        begin = self.origin + TICKS * (self.times[0][0] - 40)
-        jump, at, frame = chance.choice((0, 0, 0, 5_000_000)), 0, 0
-        waiting = sorted([(0, *one) for one in sent] + [(1, *one) for one in second],
-                         key=lambda one: ticks_between(begin, one[1]))
-        pieces: list[bytes] = []
-        for frame in range(max(ticks_between(begin, pts) for _, pts, _ in waiting) // TICKS + 60):
-            now = begin + TICKS * frame
-            if frame % 12 == 0:
-                maker.put_tables()
-            maker.put_pcr(now - AHEAD + jump * (frame > 150))
-            while at < len(waiting) and ticks_between(waiting[at][1], now % CLOCK) >= 0:
-                maker.put(SECOND_PID if waiting[at][0] else TELETEXT_PID, waiting[at][2])
-                at += 1
-            maker.put(VIDEO_PID, video_packet(now, mpeg_2_picture()), frame % 12 == 0)
-            for _ in range(8):
-                maker.put_packet(VIDEO_PID, 0, b"\x55" * 184)
-            pieces.append(maker.data)
-            maker.data = b""
-        data = b"".join(pieces)
-        for _ in range(chance.choice((0, 0, 1, 2))):
-            lost = chance.randrange(len(data) // 188) * 188
-            data = data[:lost] + data[lost + 188 * chance.choice((1, 16, 40, 400)):]
-        return spaced(data, 192) if self.some(15) else data
-
-    def record(self) -> str:
-        """Writes the recording; its name."""
-        sent = self.scheduled("sent.pes")
-        sent = self.broken(sent) if self.has_break else sent
-        several = (0, 0, 1) if self.has_break else (0, 1, 1, 1, 2)
-        for _ in range(self.chance.choice(several) if sent else 0):
-            sent = self.wrong(sent) or sent
-        sent = [(pts % CLOCK, one[:9] + pts_bytes(pts % CLOCK) + one[14:]) for pts, one in sent]
-        if self.some(45):
-            data, name = b"".join(one for _, one in sent), "one.pes"
-            data = data[:len(data) - self.chance.randrange(1, 99)] if self.some(5) else data
-        elif not sent:
-            data, name = b"", "one.ts"
-        else:
-            second = self.scheduled("second.pes", "--page", "150") if self.some(30) else []
-            data, name = self.recorded(sent, second), "one.ts"
-        if not self.is_feed:
-            with open(name, "wb") as file:
-                file.write(data)
-            return name
-        os.mkfifo("feed")
-        threading.Thread(target=send, args=(os.path.abspath("feed"), data), daemon=True).start()
-        return "feed"
-
-    # The options.
-
-    def call(self) -> list[str]:
-        """The words of the call."""
-        recording = self.record()
-        chance, words = self.chance, ["one.stl", recording, "--every", str(self.every), *self.words]
-        clock = chance.randrange(100)
-        if clock < 35:
-            off = chance.choice((0, 0, 0, TICKS, -3 * TICKS, 9))
-            words += ["--origin", str((self.origin + off) % CLOCK)]
-        elif clock < 45:
-            words += ["--start", chance.choice(("tcp", time_of(self.times[0][0] - 40)))]
-        for percent, more in ((30, ["--within", str(chance.choice((1, 2, 5)))]),
-                              (20, ["--no-complete"]), (15, ["--strict"]), (15, ["--allow-lost"]),
-                              (5, ["--option", chance.choice(("auto", "german"))]),
-                              (4, ["--page", "150"]), (3, ["--pes", "0-99999"]),
-                              (30, ["--csv", "one.csv"]), (20, ["--junit", "one.xml"]),
-                              (20, ["-o", "out"]), (8, ["--keep", "-o", "out"])):
-            words += more if self.some(percent) else []
-        if self.some(15) and recording == "one.ts":
-            words += ["--pid", chance.choice(("0x101", "0x101", "0x102", "0x103"))]
-        if self.some(20):
-            with open("severity", "w", encoding="utf-8") as file:
-                file.write(chance.choice(("72 warning\n", "others warning\n72 error\n",
-                                          "others warning\n", "45 warning\n61 warning\n")))
-            words += ["--severity", "severity"]
-        return [*words, "--json", "one.json"]
-
-    def tools(self, recording: str) -> list[list[str]]:
-        """The words of other tools on the same files."""
-        chance, first, last = self.chance, self.times[0][0], self.times[-1][1]
-        begin, end = (time_of(max(0, min(one + chance.randrange(-60, 60), FRAMES_OF_A_DAY - 1)))
-                      for one in (first, last))
-        stream = ["--pid", "0x101"] if recording == "one.ts" else []
-        within = chance.choice(("0", "0", "2"))
-        more = ["-p", self.program, *stream, "--within", within, "--every", str(self.every)]
-        return [["origin", "one.stl", recording, *more[:-2], *self.words],
-                ["cut", recording, "--stl", "one.stl", "--origin", str(self.origin), *more],
-                ["part", "one.stl", "--from", begin, "--to", max(begin, end), "-o", "other"],
-                ["text", "sent.stl"], *[["ts2pes", recording, "-p", self.program]] * bool(stream)]
-
-
-def send(path: str, data: bytes) -> None:
-    """Sends a feed, if somebody hears it, no faster than `survey` tells of it."""
-    with contextlib.suppress(OSError), open(os.open(path, os.O_WRONLY), "wb", 0) as file:
-        for at in range(0, len(data), 1 << 16):
-            file.write(data[at:at + (1 << 16)])
-            time.sleep(0.002)
 
 
 def tool_here(command: Sequence[str], **options: Any) -> Any:

@@ -28,8 +28,8 @@ from subtitles.qc.severity import Severity
 from subtitles.qc.speech import Speech
 from subtitles.qc.typed import Typed
 from subtitles.qc.verdict import Verdict
-from .at_random import send
 from .bench import Case, packets
+from .scenario import send
 
 Sent = list[tuple[int, list[bytes]]]  # PTS, and the Teletext packets then
 Change = Callable[[Sent], Sent]

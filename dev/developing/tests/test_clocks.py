@@ -3,7 +3,6 @@ clock by the first picture of a transport stream.
 """
 from __future__ import annotations
 
-import re
 import shutil
 import subprocess
 
@@ -11,7 +10,7 @@ from subtitles.core.stl import boxed, gsi_block, subtitle_blocks
 from subtitles.core.times import CLOCK, TICKS, time_of
 from .bench import Case, example, example_bytes, moved
 from .judged import Judged, Sent, in_pipe, joined, judged, late, programme, sendings
-from .muxed import H_264, HEVC, MPEG_2, mpeg_2_picture, programme as stream_with
+from .muxed import H_264, HEVC, MPEG_2, programme as stream_with
 from .test_qc import FITTED, TS, in_two_parts, lines_of, qc
 
 FIRST, EACH, LASTS = 900_000, 125, 60  # frames: of the first subtitle, from one to the next, of one

@@ -328,7 +328,7 @@ class Watched(Case):
 
         with mock.patch.object(watching, "Stopping", lambda: stopping), \
                 mock.patch.object(watching, "LOOK", 0.01), mock.patch.object(Watch, "due", look), \
-                mock.patch.object(watching.Calls, "judge", judge), \
+                mock.patch("subtitles.calls.batch.Calls.judge", judge), \
                 contextlib.redirect_stdout(io.StringIO()) as out:
             watching.watch(self.words(program=self.bench.program, jobs=4), "tools/qc")
         self.must("once", sorted(begun) == ["a", "b"] and len(out.getvalue().splitlines()) == 2,

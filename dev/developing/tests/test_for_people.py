@@ -7,7 +7,7 @@ from subtitles.core.times import CLOCK, TICKS
 from subtitles.reading.timeline import Span
 from subtitles.reading.finding import drift_of
 from .bench import Case
-from .parts import PAGE, timeline_of
+from .parts import timeline_of
 
 
 class Words(Case):

@@ -8,7 +8,7 @@ from subtitles.core.programme import Subtitle
 from subtitles.core.times import TICKS, Between
 from subtitles.qc.clock import RECORDING, Clock
 from subtitles.qc.fitting import Found
-from subtitles.qc.moved import pieces_of
+from subtitles.qc.moved import Piece, moves_told, pieces_of
 from subtitles.reading.moving import Stage, joined, part_inside, stages_of
 from subtitles.reading.survey import Packets, Run, survey
 from .bench import Case, moved, packets
@@ -227,6 +227,22 @@ class Pieces(Case):
                 self.must(f"{name}, {len(several)}", made == wanted, made)
             self.must(f"{name}: each", all(any(Between(*one[3]).has(each.begin) for one in made)
                                            for each in own))
+
+    def test_told(self) -> None:
+        """Where one ends and the next begins: apart, or where both carry the page; not over a
+        break."""
+        for last, first, goes, words, time in (
+                (99, 120, NEW, "between 00:00:03:24 and 00:00:04:20: what was sent between is not "
+                 "trusted", "00:00:04:20"),
+                (120, 99, NEW, "at 00:00:03:24, where both carry it", "00:00:04:20"),
+                (99, 99, NEW, "at 00:00:03:24, where both carry it", "00:00:03:24"),
+                (99, 120, None, None, None)):
+            one, other = (Piece(Stage(Packets(pid), (0, 9)), Found(begin, end, Clock(0, RECORDING)),
+                                Between(), None, to) for pid, begin, end, to in (
+                (OLD, 0, last, goes), (NEW, first, 200, None)))
+            told = [(each.line.partition("0x111 ")[2], each.time)
+                    for each in moves_told([one, other], "888")]
+            self.must(f"{last} {first} {goes}", told == [(words, time)] * (goes is not None), told)
 
     def test_joined(self) -> None:
         """By numbers of their own, and back again."""

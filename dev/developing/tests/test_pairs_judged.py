@@ -188,6 +188,14 @@ class Said(Case):
                   and (causes[0]["cause"], causes[0]["frames"], causes[0]["text"]) ==
                   ("late", 7, "Number 52"), causes)
 
+    def test_list_of_a_subtitle_file(self) -> None:
+        """Its first forty lines, how many more there are, and the last."""
+        found = judged(self, programme(self, times(45), text=b"\xc2e", name="accents.stl"))
+        said = [f"refused 50 Character block {number} at 0" for number in range(1, 41)]
+        at = found.said.index(said[0])
+        self.must("lines", found.said[at:at + 42] == [*said, ".. 5 more lines", "45 faults"],
+                  found.said)
+
     def test_texts_of_others(self) -> None:
         """A subtitle in whose place another one is sent, the first too: which, and what."""
         for number in (5, 1):

@@ -1,7 +1,6 @@
 """How far the sending is that would fit where another page is held than the one that is due."""
 from __future__ import annotations
 
-import bisect
 from ..core.times import time_of
 from ..reading.receiver import BLANK_PAGE, Rows
 from .seen import Changes

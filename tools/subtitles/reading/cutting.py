@@ -6,7 +6,6 @@ from typing import Iterator, NamedTuple
 
 from ..core.files import whole_bytes
 from ..core.stl import frames_of_all, readable
-from ..core.teletext import page_name
 from ..core.times import FRAMES_OF_A_DAY, TICKS, frame_in, pts_of, ticks_between, time_of
 from ..core.words import Stop, counted
 from .survey import BLANK, CLOSED, ERASE, HEADER, OPEN, Packets, Range, Run

@@ -1,0 +1,232 @@
+"""The words of a call, at each bound; files that are read, and written whole or not at all."""
+from __future__ import annotations
+
+import argparse
+import contextlib
+import os
+import shlex
+import shutil
+import sys
+from types import SimpleNamespace
+from typing import Any, Callable
+from unittest import mock
+
+from subtitles.core import manual, words
+from subtitles.core.files import (
+    Input, is_replaced, naming, plain_name, temporary_folder, whole_file)
+from subtitles.core.words import Stop
+from .bench import Case, alone
+from .test_tables_of_files import refused
+
+
+class Words(Case):
+    """The words of a call."""
+
+    def test_values(self) -> None:
+        """Of each option the least and the most, what is beyond, and what is none."""
+        none: Any = None
+        many = "9" * 5000
+        of_words: list[tuple[Callable[[str], object], dict[str, object]]] = [
+            (words.page_word, {"888": (0, 0x88), "8FF": none, "": none}),
+            (words.time_word, {"00:00:00:00": 0, "23:59:59:24": 2_159_999, "24:00:00:00": none}),
+            (words.origin_word, {"0": 0, "8589934591": 8_589_934_591, "8589934592": none,
+                                 "-1": none, "000": 0, "0007": 7, "": none, "\u0661": none,
+                                 many: none,
+                                 "00000000000000": 0, "0x1": none}),
+            (words.range_word, {"0-0": (0, 0), "0-99": (0, 99), "1-0": none, "5": none, "-": none,
+                                "999999999999-999999999999": (999_999_999_999,) * 2,
+                                "1-1000000000000": none, "1-2-3": none, "\u0661-\u0662": none}),
+            (words.every_word, {"1": 1, "2160000": 2_160_000, "0": none, "2160001": none, "0001": 1,
+                                "": none, "01500": 1500, "-5": none, many: none, "\u0661": none,
+                                "00": none}),
+            (words.within_word, {"0": 0, "50": 50, "51": none, "00": 0, "050": 50, "": none,
+                                 "-1": none, many: none, "\u0661": none}),
+            (words.breaks_word, {"0": 0, "999": 999, "1000": none, "-1": none, "": none,
+                                 "\u0661": none}),
+            (words.start_word, {"tcp": "tcp", "10:00:00:00": "10:00:00:00", "TCP": none,
+                                "24:00:00:00": none}),
+            (words.pid_word, {"0": 0, "8190": 8190, "0x1FFE": 8190, "8191": none, "-1": none,
+                              "0x101": 257, "x": none, "": none}),
+            (words.packet_size_word, {"188": 188, "192": 192, "204": 204, "0188": none,
+                                      "190": none})]
+        for call, texts in of_words:
+            for text, wanted in texts.items():
+                try:
+                    found = call(text)
+                except argparse.ArgumentTypeError:
+                    found = None
+                self.assertEqual(found, wanted, f"{call.__name__} {text[:20]}")
+
+    def test_options(self) -> None:
+        for pid, size, wanted in ((None, 188, []), (None, 204, []),
+                                  (0x101, 188, ["--pid", "0x101"]),
+                                  (0, 192, ["--pid", "0x0", "--packet-size", "192"])):
+            self.assertEqual(words.stream_words(pid, size), wanted)
+        self.assertEqual([words.within_words(one) for one in (0, 1)], [[], ["--within", "1"]])
+        self.assertEqual([words.counted(one, "fault") for one in (0, 1, 2)],
+                         ["0 faults", "1 fault", "2 faults"])
+        self.assertEqual([words.range_words(*one) for one in ((0, 0), (1, 1), (0, 1), (0, 2))],
+                         ["0 frames", "1 frame", "0 to 1 frame", "0 to 2 frames"])
+        self.assertEqual(words.pid_name(0x1A), "PID 0x1A")
+        parser = words.Words("")
+        words.add_page(parser)
+        words.add_within(parser)
+        self.assertEqual(vars(parser.parse_args([])), {"page": (0, 0x88), "within": 0})
+
+    def test_shown(self) -> None:
+        """Characters that a terminal obeys, at each end of their ranges."""
+        for text, wanted in (("\x1f ~\x7f", "\\x1f ~\\x7f"), ("\x80\x9f\xa0", "\\u0080\\u009f\xa0"),
+                             ("\u061c\u061b", "\\u061c\u061b"), ("\u200d\u200e\u200f\u2010",
+                                                                 "\u200d\\u200e\\u200f\u2010"),
+                             ("\u2027\u2028\u202e\u202f", "\u2027\\u2028\\u202e\u202f"),
+                             ("\u2065\u2066\u2069\u206a", "\u2065\\u2066\\u2069\u206a"),
+                             ("\udc80\udcff", "\\x80\\xff"), ("\udc7f\ud800", "\\udc7f\\ud800"),
+                             ("a\nb\0", "a\\x0ab\\x00")):
+            self.assertEqual(words.shown(text), wanted)
+            self.assertTrue(words.quoted(text).startswith("$'"))
+        for text in ("plain", "two words", "it's", "a\\b", ""):
+            self.assertEqual(shlex.split(words.quoted(text)), [text])
+        for text in ("it's\na\\n", "\x1b[1m"):
+            done = self.call(["bash", "-c", f"printf %s {words.quoted(text)}"])
+            self.assertEqual(done.out.decode(), text)
+
+    def test_ends(self) -> None:
+        """The line of what ends a tool early."""
+        for reason, wanted in (
+                (Stop("a  line\nof two"), "a line of two"), (KeyboardInterrupt(), "stopped"),
+                (OSError(2, "No such file", "a.stl"), "a.stl: No such file"),
+                (OSError(28, "No space"), "the output: No space"),
+                (OSError(2, "No such file", ""), "an empty name: No such file"),
+                (OSError("a  word"), "the output: a word"),
+                (ValueError("x  y"), "a mistake of this tool, ValueError in no line: x y")):
+            self.assertEqual(words.line_of(reason), wanted)
+        for value, lines in (("0", 0), ("1", 1)):
+            with mock.patch.dict(os.environ, {"SUBTTX_DEBUG": value}), \
+                    mock.patch("traceback.print_exception") as traced:
+                words.line_of(ValueError("x"))
+                words.line_of(Stop("x"))
+            self.assertEqual(traced.call_count, lines)
+        for name, wanted in (("a", "a"), ("-", "./-"), ("-a", "./-a"), ("=a", "./=a"),
+                             ("+a", "./+a"), ("@a", "./@a"), ("a-", "a-"), ("/-a", "/-a")):
+            self.assertEqual(plain_name(name), wanted)
+
+    def test_inputs(self) -> None:
+        """An error names what was typed alone; a pipe that answers at once is waited for."""
+        with self.assertRaises(OSError) as told, naming("typed"):
+            raise OSError(2, "No such file", "one", None, "two")
+        self.assertEqual((told.exception.filename, told.exception.filename2), ("typed", None))
+        came = [None, None, b"some"]
+        pipe: Any = SimpleNamespace(read=lambda size: came.pop(0), close=lambda: None)
+        with Input(os.devnull) as source, mock.patch("select.select") as waited:
+            source.file.close()
+            source.file = pipe
+            self.assertEqual((source.read(5), waited.call_count), (b"some", 2))
+        for code, status in ((3, 3), (None, 0), (0, 0)):
+            with mock.patch("sys.argv", ["tool", "word"]):
+                self.assertEqual(words.answer(lambda line: sys.exit(code)), status)
+                self.assertEqual(words.answer(len), 1)
+
+    def test_manual(self) -> None:
+        """A row of which the cure is that of the one before, as it is or with more."""
+        path = self.write("chapter", b"""# Refusals
+| Number | Name | Means | Do |
+|---|---|---|---|
+| 10 | One | first | mend it |
+| 11 | Two | second | the same |
+| 12 | Three | [a](b) | third | the same, twice |
+""")
+        with mock.patch.object(manual, "CHAPTER", path):
+            self.assertEqual(manual.meanings(), {
+                10: ("One", "first", "mend it"), 11: ("Two", "second", "mend it"),
+                12: ("Three", "third", "mend it, twice")})
+        with mock.patch.object(manual, "CHAPTER", self.path("none")):
+            self.assertEqual(manual.meanings(), {})
+
+    def test_outputs(self) -> None:
+        """What is written takes a name whole or not at all, and never that of an input."""
+        one, two = self.write("one", b"old"), self.write("two", b"input")
+        of_inputs: list[tuple[list[str | None], bool]] = [
+            ([], False), ([two], False), ([None, two, one], True), ([one, two], True),
+            ([self.path("none")], False)]
+        for inputs, is_refused in of_inputs:
+            def write() -> None:
+                with whole_file(one, inputs) as file:
+                    file.write(b"new")
+
+            self.write("one", b"old")
+            self.assertEqual((bool(refused(write)), self.read("one")),
+                             (is_refused, b"old" if is_refused else b"new"))
+        os.symlink(one, self.path("link"))
+        for path in (self.path("link"), os.path.join(self.folder, ".", "one")):
+            self.assertTrue(refused(lambda: whole_file(path, [one]).__enter__()))
+        self.assertEqual(self.read("one"), b"new")
+        with whole_file(self.path("link"), []) as file:
+            file.write(b"linked")
+        self.assertEqual((self.read("one"), os.path.islink(self.path("link"))), (b"linked", True))
+        mask = os.umask(0o027)
+        for path in (one, self.path("new")):
+            with whole_file(path, []) as file:
+                file.write(b"new")
+            self.assertEqual(os.stat(path).st_mode & 0o777, 0o640)
+        os.umask(mask)
+        with self.assertRaises(KeyError), whole_file(one, []) as file:
+            file.write(b"half")
+            raise KeyError
+        self.assertEqual((self.read("one"), is_replaced(one), is_replaced("/dev/null"),
+                          is_replaced(self.path("none")), is_replaced("-")),
+                         (b"new", True, False, True, False))
+
+
+class Signals(Case):
+    """A signal while a file is written."""
+
+    @alone
+    def test_as_the_file_takes_its_name(self) -> None:
+        """Just before that the file stays as it was, just behind it the new one stands; either way
+        it is the signal that is told."""
+        for is_before in (True, False):
+            path = self.write("file", b"old")
+
+            def replaced(name: str, target: str) -> None:
+                if not is_before:
+                    os.rename(name, target)
+                raise KeyboardInterrupt
+
+            told: BaseException | None = None
+            try:
+                with mock.patch("subtitles.core.files.os.replace", replaced), \
+                        whole_file(path, []) as file:
+                    file.write(b"new")
+            except (KeyboardInterrupt, OSError) as reason:
+                told = reason
+            self.must("the signal", isinstance(told, KeyboardInterrupt), told)
+            self.must(f"{is_before}", self.read("file") == (b"old" if is_before else b"new"))
+            self.must("nothing is left", os.listdir(self.folder) == ["file"],
+                      os.listdir(self.folder))
+
+
+    @alone
+    def test_of_a_folder(self) -> None:
+        """Once it is made, among what is done in it, and while it goes: it is gone."""
+        for place in ("os.mkdir", "shutil.rmtree", ""):
+            def interrupted(path: str, *words: Any, **more: Any) -> None:
+                seen.append(path)
+                if place != "shutil.rmtree":
+                    made(path, *words, **more)
+                if len(seen) == 1:
+                    raise KeyboardInterrupt
+                made(path, *words, **more)
+
+            seen: list[str] = []
+            made: Any = os.mkdir if place == "os.mkdir" else shutil.rmtree
+            patched: Any = mock.patch(f"subtitles.core.files.{place}", interrupted) if place else \
+                contextlib.nullcontext()
+            with mock.patch("tempfile.tempdir", self.folder), self.assertRaises(KeyboardInterrupt):
+                with patched, temporary_folder("one-") as folder:
+                    self.must("there", os.path.dirname(folder) == self.folder and os.stat(
+                        folder).st_mode & 0o777 == 0o700)
+                    for name in ("one", "two"):
+                        os.mkdir(os.path.join(folder, name))
+                    if not place:
+                        raise KeyboardInterrupt
+            self.must(f"{place}: nothing is left", os.listdir(self.folder) == [])
