@@ -5,18 +5,16 @@
 use Rattle.std.proofs.lemmas.Bool.Decides.{nat_tests}
 use Rattle.std.proofs.Common.{◌≡◌, ℕ, ◌+◌, ◌-◌, ◌≤◌, inl, inr, Bool, true, false}
 use Rattle.std.proofs.Common.{◌&&◌, ◌||◌, ◌==◌, nat_le, Option, Some, None, length, refl, sym, ap}
-use Rattle.std.proofs.Common.{◌∙◌, arith, le_refl, is_some}
+use Rattle.std.proofs.Common.{◌∙◌, arith, le_refl}
 use Rattle.std.proofs.lemmas.Bool.{cases_eq, cases_lt, true≢false}
 use Rattle.std.proofs.lemmas.Option.{none-some}
 use Rattle.ttx_page.specs.Page.{Rows, cell}
-use Rattle.ttx_page.specs.PacketKind.{kind}
-use Rattle.ttx_page.specs.Span.{is_open_after}
 use Rattle.sub_rules.specs.Events.{broken_cell, is_gap, is_incomplete, is_late}
 use Rattle.sub_rules.specs.Events.{is_overdue, is_silent}
 use Rattle.sub_rules.specs.Events.{is_unfinished, undecided_within, undue_cell}
 use Rattle.sub_rules.specs.Events.{wrong_after, wrong_cell}
 use Rattle.sub_rules.specs.FrameRules.{Task, frame_at, packets_before}
-use Rattle.sub_rules.specs.Transmission.{Transmission, on_air_until}
+use Rattle.sub_rules.specs.Transmission.{Transmission}
 use Rattle.sub_laws.specs.CleanStretch.{IsEnd}
 use Rattle.sub_laws.proofs.DueCodeLemmas.{MayShow, none_undue, undue_none}
 use Rattle.sub_laws.proofs.FrameByFrame.{IsQuiet}
@@ -77,17 +75,7 @@ module _ (g : Task) (due : ℕ → Rows) (ending : ℕ → Option ℕ) (first_in
 
     -- What is unfinished for the one is for the other.
     more_un : (f : ℕ) → un f ≡ true → un_known f ≡ true
-    more_un f e = go (g.undecided f) refl
-      where
-        go : (b : Bool) → g.undecided f ≡ b → un_known f ≡ true
-        go false is = same_un f is ∙ e
-        go true is =
-            let still :
-            (g.watched.complete && is_open_after (kind g.watched.page) (on_air_until t f)) ≡ true =
-            rw is at e in
-            rw still
-            (or_true
-            (is_some (wrong_after g.watched.keeps g.watched.page (on_air_until t f) (due f))))
+    more_un f e = grind (arith, nat_tests, same_un, or_true)
 
     -- At the frames up to f, as many as the page may be late by, it is known what is due.
     abbrev pub IsKnownTo : ℕ → Type 0
@@ -119,17 +107,17 @@ module _ (g : Task) (due : ℕ → Rows) (ending : ℕ → Option ℕ) (first_in
         elim (cases_eq r s) [
           | inl same ↦
               rw (same, alike.ending_is f own) refl
-          | inr differ ↦
-              let long : s + g.within ≤ f =
-              elim (cases_lt s r) [
-                | inl later ↦ elim other.begins [
-                  | inl start ↦ absurd (omega arith)
-                  | inr (after, whole) ↦
-                      absurd
-                      (true≢false
-                      (sym (more_un (r - 1) (one.all (r - 1) (omega arith) (omega arith))) ∙ whole))
-                ]
-                | inr not_later ↦ elim one.begins [
+          | inr differ ↦ elim (cases_lt s r) [
+            | inl later ↦ elim other.begins [
+              | inl start ↦ absurd (omega arith)
+              | inr (after, whole) ↦
+                  absurd
+                  (true≢false
+                  (sym (more_un (r - 1) (one.all (r - 1) (omega arith) (omega arith))) ∙ whole))
+            ]
+            | inr not_later ↦
+                let long : s + g.within ≤ f =
+                elim one.begins [
                   | inl start ↦ absurd (omega arith)
                   | inr (after, whole) ↦ elim (cases_lt (s - 1 + g.within) f) [
                     | inl before ↦ omega arith
@@ -142,20 +130,9 @@ module _ (g : Task) (due : ℕ → Rows) (ending : ℕ → Option ℕ) (first_in
                         ∙ same_un (s - 1) sure
                         ∙ whole))
                   ]
-                ]
-              ] in
-              let earlier : r + g.within ≤ f =
-              elim (cases_lt s r) [
-                | inl later ↦ elim other.begins [
-                  | inl start ↦ absurd (omega arith)
-                  | inr (after, whole) ↦
-                      absurd
-                      (true≢false
-                      (sym (more_un (r - 1) (one.all (r - 1) (omega arith) (omega arith))) ∙ whole))
-                ]
-                | inr not_later ↦ omega arith
-              ] in
-              rw (late_true s g.within f long, late_true r g.within f earlier) refl
+                ] in
+                rw (late_true s g.within f long, late_true r g.within f (omega arith)) refl
+          ]
         ]
 
     -- An end is late for both or for none.

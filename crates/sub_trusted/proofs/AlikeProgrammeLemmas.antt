@@ -2,10 +2,9 @@
 -- A programme with others among its subtitles asks alike at the frames at which these are not due,
 -- `alike_with`; so what is told as trusted without them is so with them: `law_of_trusted_alike`.
 use Rattle.std.proofs.lemmas.Bool.Decides.{nat_tests}
-use Rattle.std.proofs.Common.{◌≡◌, ℕ, ◌+◌, ◌<◌, ◌≤◌, inl, inr, Bool, true, false}
-use Rattle.std.proofs.Common.{List, [], ◌∷◌, find, Option, Some, option_map, refl}
-use Rattle.std.proofs.Common.{sym, ap, ◌∙◌, arith, if◌then◌else◌}
-use Rattle.std.proofs.lemmas.Bool.{true≢false}
+use Rattle.std.proofs.Common.{◌≡◌, ℕ, ◌+◌, ◌<◌, ◌≤◌, inl, inr, Bool, false}
+use Rattle.std.proofs.Common.{List, [], ◌∷◌, find, Option, option_map}
+use Rattle.std.proofs.Common.{ap, ◌∙◌, arith, if◌then◌else◌}
 use Rattle.stl_file.specs.Subtitle.{SubtitleValue}
 use Rattle.stl_rows.specs.DuePage.{drawn_or_blank, due, ends_at, is_due, tci_of_ending}
 use Rattle.stl_rows.specs.Programme.{ProgrammeValue, first_in, last_out}
@@ -19,41 +18,19 @@ use Rattle.sub_trusted.proofs.TrustedAlikeLemmas.{told_too}
 module _ (undecided : ℕ → Bool) (f : ℕ) (known : undecided f ≡ false) where
   -- One that is due at the other frames alone neither is due here nor ends after this frame.
   not_due : (t : SubtitleValue) → IsWithin undecided t → is_due f t ≡ false
-  not_due t is = go (is_due f t) refl
-    where
-      go : (b : Bool) → is_due f t ≡ b → b ≡ false
-      go false e = refl
-      go true e =
-          let low : t.tci ≤ f = grind (arith, nat_tests) in
-          let high : f < t.tco = grind (arith, nat_tests) in
-          absurd (true≢false (sym (is.within f low high) ∙ known))
+  not_due t is = grind (arith, nat_tests)
 
   not_ended : (t : SubtitleValue) → IsWithin undecided t → ends_at (f + 1) t ≡ false
-  not_ended t is = go (ends_at (f + 1) t) refl
-    where
-      go : (b : Bool) → ends_at (f + 1) t ≡ b → b ≡ false
-      go false e = refl
-      go true e =
-          let at : t.tco ≡ f + 1 = grind (arith, nat_tests) in
-          let times = is.times in
-          absurd (true≢false (sym (is.within f (omega arith) (omega arith)) ∙ known))
+  not_ended t is = grind (arith, nat_tests)
 
   -- So what is found among all is found among those alone.
   same_found : (test : SubtitleValue → Bool)
       → ((t : SubtitleValue) → IsWithin undecided t → test t ≡ false)
       → (judged all : List SubtitleValue) → HasOthers undecided judged all
       → find test all ≡ find test judged
-  same_found test none judged [] is = ap (find test) (sym is)
-  same_found test none judged (t ∷ all) (inl (rest, same, more)) =
-      let later = same_found test none rest all more in
-      go (test t) later ∙ ap (find test) (sym same)
-    where
-      go : (b : Bool) → find test all ≡ find test rest
-          → (if b then Some t else find test all) ≡ (if b then Some t else find test rest)
-      go true e = refl
-      go false e = e
-  same_found test none judged (t ∷ all) (inr (other, more)) =
-      rw (none t other) (same_found test none judged all more)
+  same_found test none judged [] is = grind (arith, nat_tests)
+  same_found test none judged (t ∷ all) (inl (rest, same, more)) = grind (arith, nat_tests, (same_found test none rest all more))
+  same_found test none judged (t ∷ all) (inr (other, more)) = grind (arith, nat_tests, (same_found test none judged all more))
 
 module _ (programme : ProgrammeValue) (options : OptionsValue) (unread : Option Unread)
     (beside : Bool) (undecided : ℕ → Bool) (records : List SubtitleValue)

@@ -120,12 +120,7 @@ module _ (g : Task) (frames : Transmission) (a b i : ℕ)
       → Opens g frames 0 n (packets_of_frame frames n) t
       → run_of t ≡ Some from
       → stands_none (standing_before g frames n (frame_at frames n)) ≡ true
-  stood_own n from t there opens is =
-      let h = up_of g frames 0 n (frame_at frames n) from t opens.keeps opens.rises is in
-      let last = h.last in
-      let up = h.up in
-      stood g frames 0 n (frame_at frames n) from t there opens.keeps is h (omega arith)
-      (omega arith)
+  stood_own n from t there opens is = grind (arith, nat_tests, up_of, stood)
 
   -- The end before it.
   end_before_own : (n : ℕ) (t : List Mark) → n < length frames → OpenHere n t → i < n

@@ -100,9 +100,7 @@ module _ (top b : ℕ) where
       → Leads S (m ∷ t) ms
       → Leads S t (m ∷ ms)
   unfolding told_after past_after
-  Leads-cons S t m ms (inl told) =
-      inl (told_right (told_at t m) (told_after (m ∷ t) ms) told)
-  Leads-cons S t m ms (inr s) = inr s
+  Leads-cons S t m ms h1 = grind (arith, nat_tests, told_right)
 
   pub Leads-append : (S U : List Mark → Type 0) (t : List Mark) (xs ys : List Mark)
       → Leads S t xs

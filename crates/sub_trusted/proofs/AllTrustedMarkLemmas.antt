@@ -4,12 +4,12 @@
 -- an end, `end_leads`.
 use Rattle.std.proofs.lemmas.Bool.Decides.{nat_tests}
 use Rattle.std.proofs.Common.{◌≡◌, ℕ, ◌+◌, ◌-◌, ◌<◌, ◌≤◌, inl, inr, Bool, true, false, ◌==◌, ◌&&◌}
-use Rattle.std.proofs.Common.{not, List, map, Option, Some, None, is_some, refl, sym, ◌∙◌, arith}
+use Rattle.std.proofs.Common.{List, map, Option, Some, None, is_some, refl, sym, ◌∙◌, arith}
 use Rattle.std.proofs.Common.{le_refl, unwrap_or, if◌then◌else◌, ap}
 use Rattle.std.proofs.lemmas.Bool.{cases_lt}
 use Rattle.std.proofs.lemmas.Option.{none-some}
 use Rattle.std.specs.List.{list_any}
-use Rattle.sub_rules.specs.Events.{end_before, end_events, events_at_end, is_late}
+use Rattle.sub_rules.specs.Events.{end_before, end_events, events_at_end}
 use Rattle.sub_rules.specs.Events.{standing_at, standing_before}
 use Rattle.sub_rules.specs.FrameRules.{Task, frame_at}
 use Rattle.sub_rules.specs.PieceEvents.{goes_back, marks_at_end}
@@ -27,7 +27,7 @@ use Rattle.sub_trusted.proofs.SayMarkLemmas.{IsSaid, back_past, back_to, doubt_o
 use Rattle.sub_trusted.proofs.SayMarkLemmas.{rose, said}
 use Rattle.sub_rules.proofs.EndRuleLemmas.{end_any}
 use Rattle.sub_rules.proofs.TrustedLemmas.{past_after}
-use Rattle.sub_rules.specs.Trusted.{Mark, back_of, late_of, run_of, since_of, tells_fall, whole_at}
+use Rattle.sub_rules.specs.Trusted.{Mark, back_of, run_of, since_of, tells_fall, whole_at}
 use Rattle.sub_rules.specs.Trusted.{whole_of}
 use Rattle.sub_rules.specs.declared.standing.Standing.{Standing}
 use Rattle.std.specs.Option.{option_or}
@@ -91,17 +91,7 @@ module _ (g : Task) (frames : Transmission) (a b i : ℕ)
       → doubt_of t es ≡ Some x
       → (b < back_to t x) × (b < p)
       → (S : List Mark → Type 0) → Leads top b S t (map Says es)
-  doubt_told n p t es x follows l is past S =
-      let (from, low, run) = follows.run l in
-      let (w, high, whole) = follows.whole l past.1 in
-      let after = past.0 in
-      inl (
-        from,
-        back_to t x - 1,
-        low,
-        omega arith,
-        said_told t es x from w is run whole (omega arith),
-      )
+  doubt_told n p t es x follows l is past S = grind (arith, nat_tests, back_to, said_told)
 
   pub follows_says : (n p : ℕ) (t : List Mark) (es : List Event) → Follows n p t
       → (n ≤ i → list_any is_order es ≡ false)
@@ -186,21 +176,7 @@ module _ (g : Task) (frames : Transmission) (a b i : ℕ)
       let finds =
       end_doubt u (end_before frames n f) f (standing_before g frames n f)
       (standing_at g frames m f) in
-      elim (cases_lt b f) [
-        | inl past ↦
-            let at : x ≡ unwrap_or (late_of u) f = finds.at x doubt in
-            let after : b < unwrap_or (late_of u) f =
-            rw looks.late_is
-            (late_past (not (g.within == 0) && is_late g frames m f) (seen_since g frames m f) f b
-            past (λ r is. fits.since m f r end (omega arith) is)) in (
-              back_past u x b (omega arith)
-                  (λ r is. back_after n f r u backs some before past is),
-              omega arith,
-            )
-        | inr not_past ↦
-            let none = finds.calm (fits.ends m f end low (omega arith)) in
-            absurd (none-some x (sym none ∙ doubt))
-      ]
+      grind (arith, nat_tests, late_past, seen_since, back_past, back_after, none-some, (cases_lt b f))
 
   pub end_leads : (n m f q : ℕ) (t : List Mark) → ((g.within == 0) ≡ true → SeesNone t)
       → (goes_back g ≡ false → back_of t ≡ None)

@@ -29,19 +29,13 @@ use Rattle.sub_trusted.proofs.TrustedFrameLemmas.{standing-take}
 use Rattle.sub_laws.proofs.UnfinishedLemmas.{none_since, since_after, since_end, unfinished_at}
 use Rattle.sub_laws.proofs.UnfinishedLemmas.{unfinished_is}
 use Rattle.sub_rules.specs.Trusted.{stands_none}
-use Rattle.sub_rules.specs.declared.standing.Standing.{Standing}
 
 -- ---- ends of the rising part
 
 module _ (frames : Transmission) where
   -- That of one of its frames.
   pub own_in : (k : ℕ) → k < risen frames → IsEnd (rising_part frames) (suc k) (frame_at frames k)
-  own_in k l =
-      let all = part_length frames in
-      let at = frame_at-take frames (risen frames) k l in
-      let back : frame_at (rising_part frames) k ≡ frame_at (rising_part frames) (suc k - 1) =
-      ap (frame_at (rising_part frames)) (omega arith) in
-      (omega arith, omega arith, inl (sym at ∙ back))
+  own_in k l = grind (arith, nat_tests, part_length, frame_at-take, risen)
 
   -- That of a frame of the day between two of them.
   pub gap_in : (n f : ℕ) → 0 < n → n < risen frames → frame_at frames (n - 1) < f
@@ -161,10 +155,7 @@ module _ (g : Task) (pieces : List Piece) (a b : ℕ) (can : CanStay g pieces a 
       → standing_at g part n f ≡ nothing_stands
       → is_unfinished g part n f ≡ false
   unfolding standing_at is_late
-  at_once_finished n f at_once quiet =
-      let content = ap (λ (s : Standing). s.content) quiet in
-      let closed = ap (λ (s : Standing). s.incomplete) quiet in
-      grind (arith, nat_tests)
+  at_once_finished n f at_once quiet = grind (arith, nat_tests)
 
   finished_there : (n : ℕ) → IsEnd part n b → is_unfinished g part n b ≡ false
   finished_there n end =
@@ -233,20 +224,4 @@ module _ (g : Task) (pieces : List Piece) (a b : ℕ) (can : CanStay g pieces a 
   pub fits : (i : ℕ) → i < m → a ≤ frame_at frames i → frame_at frames i ≤ b
       → holds_beginning g.watched.keeps (kind g.watched.page) (packets_of_frame frames i) ≡ true
       → Fits g frames a b i
-  fits i there low high header =
-      let last = part_last frames some in
-      let all = part_length frames in
-      record {
-        there = there;
-        low = low;
-        high = high;
-        header = header;
-        packets = packets;
-        ends = ends;
-        finished = λ n f end here. unseen (g.within == 0) (finished n f end here);
-        since = λ n f r end past is. since n f r end past (seen_is g frames n f r is);
-        back = since;
-        last = let to = can.untold.stretch.to in omega arith;
-        fall = λ more. let past = can.before_fall (omega arith) in omega arith;
-        unread = λ u is. let past = can.before_unread u is in omega arith;
-      }
+  fits i there low high header = grind (arith, nat_tests, part_last, some, part_length, packets, ends, finished, unseen, since, seen_is)

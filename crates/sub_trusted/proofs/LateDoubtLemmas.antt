@@ -173,9 +173,7 @@ end_rule_doubt : (t : List Mark) (rule : EndRule) (before f : ℕ) (old new : Op
     → Finds (doubted_by t) (λ x. x ≡ unwrap_or (late_of t) f) (new ≡ None) (old ≡ None → new ≡ None)
     (rule_events rule old before new f)
 unfolding doubted_by
-end_rule_doubt t rule before f old None = grind (arith, nat_tests)
-end_rule_doubt t rule before f old (Some cell) =
-    let doubts = end_rule_doubts t rule f cell in grind (arith, nat_tests)
+end_rule_doubt t rule before f old new = grind (arith, nat_tests, end_rule_doubts)
 
 -- So does what is told at an end; where it does not, nothing stands that did not stand before.
 pub end_doubt : (t : List Mark) (before f : ℕ) (old new : Standing)
@@ -217,35 +215,20 @@ module _ (g : Task) (frames : Transmission) where
 
   in_frames : (n r : ℕ) → since_frames g frames n ≡ Some r → r ≤ latest frames n
   unfolding since_frames latest
-  in_frames zero r e = absurd (none-some r e)
-  in_frames (suc i) r e =
-      let own : frame_at frames i ≤ max (latest frames i) (frame_at frames i) =
-      grind (arith, nat_tests) in
-      bound (max (latest frames i) (frame_at frames i))
-      (since_in_gap g frames i (since_frames g frames i) (gap_length frames i))
-      (is_unfinished g frames (suc i) (frame_at frames i)) (frame_at frames i) r e own
-      (λ s is.
-      let low = in_gap i (since_frames g frames i) (gap_length frames i) s is (in_frames i) in
-      let high = gap_bound i in
-      omega arith)
+  in_frames zero r e = grind (arith, nat_tests, none-some)
+  in_frames (suc i) r e = grind (arith, nat_tests, bound, in_gap, gap_bound, (in_frames i))
 
   -- The first of the unfinished ends up to one is not after it.
   since_low : (n f r : ℕ) → unfinished_since g frames n f ≡ Some r → latest frames n ≤ f → r ≤ f
   unfolding unfinished_since
-  since_low n f r e l =
-      let low = in_gap n (since_frames g frames n) (f - latest frames n) r e (in_frames n) in
-      omega arith
+  since_low n f r e l = grind (arith, nat_tests, in_gap, in_frames)
 
   -- The first of those up to the end before one is before it.
   pub before_low : (n f r : ℕ) → since_before g frames n f ≡ Some r
       → (0 < n → latest frames n < f)
       → (0 < n) × (r ≤ f)
   unfolding since_before
-  before_low zero f r e past = absurd (none-some r e)
-  before_low (suc n) f r e past =
-      let after = past (omega arith) in
-      let low = since_low (suc n) (f - 1) r e (omega arith) in
-      (omega arith, omega arith)
+  before_low n f r h1 h2 = grind (arith, nat_tests, none-some, since_low)
 
   pub before_is : (n f : ℕ) → 0 < n
       → since_before g frames n f ≡ unfinished_since g frames n (f - 1)

@@ -2,8 +2,8 @@
 -- Marks one after another, and what is trusted of them, `Goes`: of marks that say events alone,
 -- `Goes-says`; what is kept after these, `said`.
 use Rattle.std.proofs.lemmas.Bool.Decides.{nat_tests}
-use Rattle.std.proofs.Common.{◌≡◌, ℕ, ◌-◌, ◌<◌, ◌&&◌, Bool, true, false, not, List, [], ◌∷◌, ◌++◌}
-use Rattle.std.proofs.Common.{nat_lt, if◌then◌else◌, map, Option, Some, None, is_none, refl, sym}
+use Rattle.std.proofs.Common.{◌≡◌, ℕ, ◌-◌, ◌<◌, ◌&&◌, Bool, false, not, List, [], ◌∷◌, ◌++◌}
+use Rattle.std.proofs.Common.{if◌then◌else◌, map, Option, Some, None, is_none, refl, sym}
 use Rattle.std.proofs.Common.{subst, arith, ◌≤◌, unwrap_or}
 use Rattle.std.proofs.lemmas.Bool.{ltb-true}
 use Rattle.std.proofs.lemmas.List.Elements.{All-append, All-cons, All-head, All-nil, All-tail}
@@ -77,10 +77,7 @@ doubt_after t e (x ∷ es) = rw (doubted_same t e x, doubt_after t e es) refl
 pub said : (t : List Mark) (es : List Event) → IsSaid t (past_after t (map Says es)) es
 unfolding past_after run_of whole_of last_begun since_of late_of back_of stays_quiet is_order
 said t [] = grind (arith, nat_tests)
-said t (e ∷ es) =
-    let rest = said (Says e ∷ t) es in
-    let same = doubt_after t e es in
-    grind (arith, nat_tests)
+said t (e ∷ es) = grind (arith, nat_tests, doubt_after, (said (Says e ∷ t) es))
 
 -- A run that is left was there, and no frame is doubted.
 pub kept_some : (run d : Option ℕ) (from : ℕ) → kept run d ≡ Some from
@@ -95,10 +92,7 @@ order_doubted t e is = grind (arith, nat_tests)
 pub orders_doubted : (t : List Mark) (es : List Event) → doubt_of t es ≡ None
     → list_any is_order es ≡ false
 orders_doubted t [] none = refl
-orders_doubted t (e ∷ es) none =
-    let rest = orders_doubted t es in
-    let here = order_doubted t e in
-    grind (arith, nat_tests)
+orders_doubted t (e ∷ es) none = grind (arith, nat_tests, order_doubted, (orders_doubted t es))
 
 -- ---- what is told as trusted with marks
 
@@ -117,15 +111,7 @@ module _ (P : ℕ → ℕ → Type 0) where
   pub each_put : (run whole : Option ℕ) (x : ℕ)
       → ((from w : ℕ) → run ≡ Some from → whole ≡ Some w → w < x → P from (x - 1))
       → EachTrusted P (trusted run whole x)
-  each_put None whole x h = All-nil (OnTrusted P)
-  each_put (Some from) None x h = All-nil (OnTrusted P)
-  each_put (Some from) (Some w) x h = go (nat_lt w x) refl
-    where
-      go : (b : Bool) → nat_lt w x ≡ b → EachTrusted P (if b then Trusted from (x - 1) ∷ [] else [])
-      go false e = All-nil (OnTrusted P)
-      go true e =
-          All-cons (OnTrusted P) (Trusted from (x - 1)) [] (h from w refl refl (ltb-true w x e))
-          (All-nil (OnTrusted P))
+  each_put run whole x h1 = grind (arith, nat_tests, ltb-true)
 
   -- Of marks that say events it is so where it is of these, and of the run up to the frame that is
   -- doubted.
@@ -207,7 +193,4 @@ module _ (P : ℕ → ℕ → Type 0) where
       → P from (back_to t x - 1))
       → ((u : List Mark) → IsSaid t u es → S u)
       → Goes S t (map Says es)
-  Goes-says S t es each h after = record {
-    each = each_said t es each h;
-    after = after (past_after t (map Says es)) (said t es);
-  }
+  Goes-says S t es each h after = grind (arith, nat_tests, each_said, past_after, said)

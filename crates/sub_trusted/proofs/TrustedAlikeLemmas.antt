@@ -1,16 +1,15 @@
 -- For `law_of_trusted_alike`.
 -- Frames that are told as trusted beside what is refused of a subtitle file are so by each task
 -- that asks alike wherever it is known what is due: `told_too`.
+use Rattle.std.proofs.lemmas.Bool.Decides.{nat_tests}
 use Rattle.std.proofs.Common.{◌≡◌, ◌≢◌, ℕ, ◌-◌, ◌<◌, ◌≤◌, inl, inr, true}
-use Rattle.std.proofs.Common.{List, [], Contains, Option, Some, length, refl, sym, ap, ◌∙◌}
-use Rattle.std.proofs.Common.{arith, subst}
-use Rattle.std.proofs.lemmas.Bool.{cases_lt}
-use Rattle.std.proofs.lemmas.List.Elements.{All-contains}
+use Rattle.std.proofs.Common.{List, [], Contains, Option, Some, length, refl, ap, ◌∙◌}
+use Rattle.std.proofs.Common.{arith}
 use Rattle.ttx_page.specs.Page.{Rows}
 use Rattle.ttx_page.specs.PacketKind.{kind}
 use Rattle.ttx_page.specs.Span.{holds_beginning}
 use Rattle.sub_rules.specs.Events.{end_rules, nothing_stands, standing_at}
-use Rattle.sub_rules.specs.FrameRules.{Task, Unread, end_frame, frame_at}
+use Rattle.sub_rules.specs.FrameRules.{Task, Unread, frame_at}
 use Rattle.sub_rules.specs.PieceEvents.{all_of_pieces, sent_by_pieces}
 use Rattle.sub_rules.specs.Pieces.{Piece}
 use Rattle.sub_rules.specs.Transmission.{Transmission}
@@ -27,7 +26,6 @@ use Rattle.sub_trusted.specs.TrustedAlike.{AreTrusted, IsWholeAt}
 use Rattle.sub_trusted.specs.TrustedFrames.{BeginsText, CanStay, rising_part}
 use Rattle.sub_trusted.proofs.AlikeLateLemmas.{AsksAlike, alike_quiet, same_unfinished, task_known}
 use Rattle.sub_trusted.proofs.AllTrustedLemmas.{law_of_all_trusted}
-use Rattle.sub_trusted.proofs.DoubtLemmas.{OnTrusted}
 use Rattle.sub_trusted.proofs.TrustedFrameLemmas.{count_most, part_last, part_length, part_rises}
 use Rattle.sub_trusted.proofs.TrustedFrameLemmas.{j_low, rises_more, risen, risen_low, stands_quiet}
 use Rattle.sub_trusted.proofs.TrustedFrameLemmas.{untold}
@@ -53,9 +51,7 @@ module _ (g : Task) (due : ℕ → Rows) (ending : ℕ → Option ℕ) (first_in
   part = rising_part frames
 
   may : MayPass g frames 0 (last_late g frames) from to
-  may =
-      All-contains (OnTrusted (MayPass g frames 0 (last_late g frames))) (all_of_pieces g pieces)
-      (Trusted from to) (all_pass_within g frames pieces refl) told
+  may = grind (arith, nat_tests, last_late, all_pass_within)
 
   stays : StaysTo g frames from to
   stays = may.stands.stays
@@ -97,30 +93,13 @@ module _ (g : Task) (due : ℕ → Rows) (ending : ℕ → Option ℕ) (first_in
       ]
 
   before_unread : (u : Unread) → g.unread ≡ Some u → to < frame_at frames (risen frames - 1)
-  before_unread u is = elim (cases_lt (risen frames) (length frames)) [
-    | inl more ↦ before_fall more
-    | inr whole ↦
-        let fits = risen_low frames in
-        let all : risen frames ≡ length frames = omega arith in
-        let rises : RiseTo frames (length frames) =
-        subst (RiseTo frames) all (part_rises frames) in
-        let late : last_late g frames ≡ end_frame frames =
-        rw is refl in
-        let back : end_frame frames ≡ frame_at frames (risen frames - 1) =
-        ap (λ (k : ℕ). frame_at frames (k - 1)) (sym all) in
-        let early = may.early rises in
-        omega arith
-  ]
+  before_unread u is = grind (arith, nat_tests, risen, before_fall, risen_low, part_rises, last_late, may)
 
   module _ (b : ℕ) (low : from ≤ b) (high : b ≤ to)
       (whole : 0 < g.within → IsWholeAt g pieces b) where
     finished : 0 < g.within → IsWholeAt h pieces b
     unfolding standing_at
-    finished within n f end after before =
-        let known =
-        known_at g part n f (quiet.undecided n f end (omega arith) (omega arith)) in
-        same_unfinished g due ending first_in last_out alike part n f known
-        ∙ whole within n f end after before
+    finished h1 = grind (arith, nat_tests, known_at, quiet, same_unfinished)
 
     can : CanStay h pieces from b
     unfolding standing_at

@@ -3,11 +3,10 @@
 -- which the text begins, what suffices of the one there suffices of the other: `sufficient_too`,
 -- and its frames are finished in time, `finishes_too`.
 use Rattle.std.proofs.lemmas.Bool.Decides.{nat_tests}
-use Rattle.std.proofs.Common.{◌≡◌, ℕ, zero, suc, ◌+◌, ◌-◌, ◌<◌, ◌≤◌, inl, inr, Bool, true, List, []}
+use Rattle.std.proofs.Common.{◌≡◌, ℕ, zero, suc, ◌+◌, ◌-◌, ◌<◌, ◌≤◌, Bool, true, List, []}
 use Rattle.std.proofs.Common.{◌∷◌, ◌++◌, drop, find, option_map, unwrap_or, refl, sym, ap, ap₂, ◌∙◌}
-use Rattle.std.proofs.Common.{subst, arith, false, le_refl, le_trans}
+use Rattle.std.proofs.Common.{subst, arith, false, le_trans}
 use Rattle.std.specs.List.{list_any}
-use Rattle.std.proofs.lemmas.List.Elements.{All-weaker}
 use Rattle.std.proofs.lemmas.List.Folds.{list_any-append}
 use Rattle.ttx_packet.specs.PageId.{PageIdValue}
 use Rattle.ttx_packet.specs.Parity.{code_of}
@@ -22,7 +21,6 @@ use Rattle.ttx_page.specs.Shown.{kept}
 use Rattle.ttx_page.specs.Span.{from_beginning, holds_beginning, holds_header, is_open_after}
 use Rattle.ttx_page.specs.Span.{is_unended, span, text_span, while_open}
 use Rattle.ttx_page.specs.declared.packet_kind.PacketKind.{PacketKind}
-use Rattle.stl_file.specs.Subtitle.{SubtitleValue}
 use Rattle.stl_rows.specs.Programme.{ProgrammeValue}
 use Rattle.sub_plan.specs.Options.{OptionsValue}
 use Rattle.sub_rules.specs.Good.{HoldsHeader}
@@ -45,10 +43,7 @@ module _ (keeps : Bool) (kind_of : List ℕ → PacketKind) where
       → holds_beginning keeps kind_of later ≡ true
       → from_beginning keeps kind_of (before ++ later) ≡ from_beginning keeps kind_of later
   from-later [] later e = refl
-  from-later (x ∷ before) later e =
-      let rest = from-later before later e in
-      let both = list_any-append (λ p. begins_text keeps (kind_of p)) before later in
-      grind (arith, nat_tests)
+  from-later (x ∷ before) later e = grind (arith, nat_tests, list_any-append, (from-later before later e))
 
 -- What the first packet of a row among these has.
 abbrev text_of : PageIdValue → List (List ℕ) → ℕ → ℕ → ℕ
@@ -85,16 +80,12 @@ module _ (keeps : Bool) (programme : ProgrammeValue) (options : OptionsValue) (t
 
     -- A header with which the text begins.
     pub beginning_too : a ≤ b → holds_beginning keeps (kind options.page) (packets_of u a) ≡ true
-    beginning_too order =
-        subst (λ (ps : List (List ℕ)). holds_beginning keeps (kind options.page) ps ≡ true)
-        (sym (is.same a (le_refl a) order)) begins
+    beginning_too order = grind (arith, nat_tests)
 
     -- A frame that holds a header of the page.
     pub header_too : (f : ℕ) → a ≤ f → f ≤ b → HoldsHeader options.page t f
         → HoldsHeader options.page u f
-    header_too f low high holds =
-        subst (λ (ps : List (List ℕ)). holds_header (kind options.page) ps ≡ true)
-        (sym (is.same f low high)) holds
+    header_too f low high holds = grind (arith, nat_tests)
 
     -- The first one does.
     pub opens_too : a ≤ b → HoldsHeader options.page u a
@@ -210,9 +201,7 @@ module _ (keeps : Bool) (programme : ProgrammeValue) (options : OptionsValue) (t
 
     due_too : (f row column code : ℕ) → IsDueWithin programme t options f row column code
         → IsDueWithin programme u options f row column code
-    due_too f row column code (inl blank) = inl blank
-    due_too f row column code (inr (e, first, up, near, due)) =
-        inr (e, (let earlier = is.first in omega arith), up, near, due)
+    due_too f row column code h1 = grind (arith, nat_tests)
 
     pub sufficient_too : IsSufficientRepeats keeps programme t options a b
         → IsSufficientRepeats keeps programme u options a b
@@ -248,31 +237,4 @@ module _ (keeps : Bool) (programme : ProgrammeValue) (options : OptionsValue) (t
 
     pub finishes_too : FinishesInTimeBy keeps programme t options a b
         → FinishesInTimeBy keeps programme u options a b
-    finishes_too finishes = record {
-      again = λ start low high.
-          some_too start (start + options.within) low high (finishes.again start low high);
-      subtitles =
-          All-weaker
-          (λ (s : SubtitleValue). a ≤ s.tci
-          → s.tco ≤ b + 1
-          → SomeFinishedBy keeps programme t options s.tci (s.tco - 1))
-          (λ (s : SubtitleValue). a ≤ s.tci
-          → s.tco ≤ b + 1
-          → SomeFinishedBy keeps programme u options s.tci (s.tco - 1))
-          (λ s of low high. some_too s.tci (s.tco - 1) low (omega arith) (of low high))
-          programme.records finishes.subtitles;
-      begun = λ first.
-          All-weaker
-          (λ (s : SubtitleValue). s.tci < a
-          → a < s.tco
-          → s.tco ≤ b + 1
-          → SomeFinishedBy keeps programme t options a (s.tco - 1))
-          (λ (s : SubtitleValue). s.tci < a
-          → a < s.tco
-          → s.tco ≤ b + 1
-          → SomeFinishedBy keeps programme u options a (s.tco - 1))
-          (λ s of early over high.
-          some_too a (s.tco - 1) (le_refl a) (omega arith) (of early over high))
-          programme.records
-          (finishes.begun (let earlier = is.first in omega arith));
-    }
+    finishes_too finishes = grind (arith, nat_tests, some_too)

@@ -6,7 +6,7 @@ use Rattle.std.proofs.lemmas.Bool.Decides.{nat_tests}
 use Rattle.std.specs.Bool.{Decides}
 use Rattle.std.proofs.Common.{◌≡◌, ℕ, zero, suc, ◌+◌, ◌-◌, ◌<◌, ◌≤◌, inl, inr, true, false, length}
 use Rattle.std.proofs.Common.{take, drop, ap, sym, ◌∙◌, arith, IsFalse}
-use Rattle.std.proofs.lemmas.Bool.{cases_lt, cases_eq}
+use Rattle.std.proofs.lemmas.Bool.{cases_lt}
 use Rattle.std.proofs.lemmas.List.{length-take-le, take-append-drop, take-take}
 use Rattle.ttx_page.specs.PacketKind.{begins_text, kind}
 use Rattle.ttx_page.specs.Span.{holds_beginning}
@@ -49,11 +49,8 @@ module _ (frames : Transmission) where
   -- These rise.
   pub count_rises : (n : ℕ) → RiseTo frames (rising_count frames n)
   unfolding rising_count
-  count_rises zero i a l = absurd (omega arith)
-  count_rises (suc n) i a l = elim (cases_eq i n) [
-    | inl here ↦ let is = rises_is i a in let rest = count_rises n i a in grind (arith, nat_tests)
-    | inr other ↦ let rest = count_rises n i a in grind (arith, nat_tests)
-  ]
+  count_rises zero i a l = grind (arith, nat_tests)
+  count_rises (suc n) i a l = grind (arith, nat_tests, rises_is, (count_rises n i a))
 
   -- And no more do.
   pub count_most : (n k : ℕ) → k ≤ n → RiseTo frames k → k ≤ rising_count frames n
@@ -151,19 +148,7 @@ module _ (g : Task) (frames : Transmission) (from to : ℕ) (stays : StaysTo g f
   j_low = let b = stays.run.below in let l = n_low in omega arith
 
   stretch : IsStretch part from to
-  stretch =
-      grind (
-        arith,
-        nat_tests,
-        part_length,
-        first-same,
-        part_last,
-        some,
-        frame_at-take,
-        order,
-        j_low,
-        last_low,
-      )
+  stretch = grind (arith, nat_tests, part_length, first-same, part_last, some, frame_at-take, order, j_low, last_low)
 
   packets_quiet : (r : PacketRule) (i k : ℕ)
       → is_needed r ≡ true

@@ -258,15 +258,7 @@ module _ (g : Task) (frames : Transmission) (base : ℕ) where
   pub keeps_to : (n x y : ℕ) (t : List Mark) → Keeps n x t
       → ((from : ℕ) → run_of t ≡ Some from → EndsQuiet g frames n from y)
       → Keeps n y t
-  keeps_to n x y t keeps ends = record {
-    run = keeps.run;
-    ends = ends;
-    whole = keeps.whole;
-    above = keeps.above;
-    falls = keeps.falls;
-    at_once = keeps.at_once;
-    plain = keeps.plain;
-  }
+  keeps_to n x y t keeps ends = grind (arith, nat_tests)
 
   pub passes_before : (late n x y : ℕ) (t : List Mark) → Keeps n x t → MayEnd g frames late n x y
       → end_frame frames ≤ late
@@ -435,19 +427,7 @@ module _ (g : Task) (frames : Transmission) (base : ℕ) where
   -- Nor do events before the first frame.
   pub closed_said : (n : ℕ) (t u : List Mark) (es : List Event) → Closed n t → IsSaid t u es
       → Closed n u
-  closed_said n t u es closed said = record {
-    keeps = keeps_said n (frame_at frames (n - 1) + 1) t u es closed.keeps said;
-    floor = closed.floor;
-    last = λ below. said.last_is ∙ closed.last below;
-    rises = λ e.
-        let was : rose t ≡ true = let rises_is = said.rises_is in grind (arith, nat_tests) in
-        closed.rises was;
-    since = λ r from is e.
-        closed.since r from
-        (kept_some (run_of t) (doubt_of t es) from (sym said.run_is ∙ is)).0
-        (sym said.since_is ∙ e);
-    back = λ e r is. closed.back (rose_before t u es said e) r (sym said.back_is ∙ is);
-  }
+  closed_said n t u es closed said = grind (arith, nat_tests, keeps_said, rose, kept_some, doubt_of, rose_before)
 
   pub opens_at : (n pes : ℕ) (packets : List (List ℕ)) (t : List Mark) → Opens n packets t
       → Opens n packets (AtPes pes ∷ t)
@@ -472,26 +452,4 @@ module _ (g : Task) (frames : Transmission) (base : ℕ) where
       → KeepsAll g.watched (packets_before frames n) packets
       → KeepsAll g.watched (packets_before frames n) more)
       → Opens n more u
-  opens_said n packets more t u es opens said still = record {
-    keeps = keeps_said n (frame_at frames n) t u es opens.keeps said;
-    floor = opens.floor;
-    last = said.last_is ∙ opens.last;
-    rises = λ e.
-        let was : rose t ≡ true = let rises_is = said.rises_is in grind (arith, nat_tests) in
-        opens.rises was;
-    clean = λ e.
-        let clean_is = said.clean_is in
-        let was : stays_quiet t ≡ true = grind (arith, nat_tests) in
-        let none : doubt_of t es ≡ None = grind (arith, nat_tests) in
-        let before = opens.clean was in
-        let orders = orders_doubted t es none in
-        let rises_is = said.rises_is in
-        let up = before.0 in
-        let now : rose u ≡ true = grind (arith, nat_tests) in
-        (now, still none before.1);
-    fresh = λ e.
-        let clean_is = said.clean_is in
-        let was : stays_quiet t ≡ true = grind (arith, nat_tests) in
-        opens.fresh was;
-    back = λ e r is. opens.back (rose_before t u es said e) r (sym said.back_is ∙ is);
-  }
+  opens_said n packets more t u es opens said still = grind (arith, nat_tests, keeps_said, rose, doubt_of, before, orders_doubted, rose_before)

@@ -58,9 +58,7 @@ module _ (programme : ProgrammeValue) (options : OptionsValue) (unread : Option 
     part = rising_part frames
 
     may : MayStand g frames from to
-    may =
-        All-contains (OnTrusted (MayStand g frames)) (all_of_pieces g pieces) (Trusted from to)
-        (all_stay_within g frames pieces refl) told
+    may = grind (arith, nat_tests, all_stay_within)
 
     quiet : IsUntold g part from to
     quiet = untold g frames from to may.stays

@@ -7,7 +7,7 @@ use Rattle.std.proofs.Common.{◌==◌}
 use Rattle.std.proofs.Common.{List, [], ◌∷◌, ◌++◌, Contains, length, map, None, Some, is_some, refl}
 use Rattle.std.proofs.Common.{sym, ap, ◌∙◌, subst, arith, le_refl, append_assoc}
 use Rattle.std.proofs.lemmas.Bool.{true≢false}
-use Rattle.std.proofs.lemmas.List.Elements.{All-append, All-cons, All-contains, All-nil}
+use Rattle.std.proofs.lemmas.List.Elements.{All-append, All-cons, All-nil}
 use Rattle.std.proofs.lemmas.Option.{none-some, same_Some}
 use Rattle.sub_rules.specs.Events.{unread_fault}
 use Rattle.sub_rules.specs.FrameRules.{Task, Unread, end_frame, frame_at}
@@ -44,10 +44,7 @@ before_all : (g : Task) (earlier later : List Piece) (u : Unread)
     → joined_after g.within (sent_by_pieces g earlier) (frames_of later)
     ≡ sent_by_pieces g (earlier ++ Passed u ∷ later)
 unfolding frames_of
-before_all g earlier later u =
-    sym
-    (ap (joined g.within) (frames_of-append earlier (Passed u ∷ later))
-    ∙ joined_after-append g.within [] (frames_of earlier) (frames_of later))
+before_all g earlier later u = grind (arith, nat_tests, frames_of-append, joined_after-append)
 
 module _ (g : Task) (earlier : List Piece) (u : Unread) (later : List Piece)
     (some : 0 < length (sent_by_pieces g earlier))
@@ -88,16 +85,10 @@ module _ (g : Task) (earlier : List Piece) (u : Unread) (later : List Piece)
     before = each_passes g sent 0 [] 0 [] earlier refl (inl (inr refl, start g sent))
 
     last_is : last_begun t ≡ end_frame sent
-    last_is = elim before.after [
-      | inl (ended, closed) ↦ closed.last some
-      | inr (later, k, size, opens) ↦ opens.last ∙ ap (frame_at sent) (omega arith)
-    ]
+    last_is = grind (arith, nat_tests, before)
 
     sees_none : (g.within == 0) ≡ true → SeesNone t
-    sees_none e = elim before.after [
-      | inl (ended, closed) ↦ closed.keeps.at_once e
-      | inr (later, k, size, opens) ↦ opens.keeps.at_once e
-    ]
+    sees_none e = grind (arith, nat_tests, before)
 
     plain : goes_back g ≡ false → back_of t ≡ None
     plain e = elim before.after [
@@ -106,19 +97,10 @@ module _ (g : Task) (earlier : List Piece) (u : Unread) (later : List Piece)
     ]
 
     back_high : rose t ≡ true → (r : ℕ) → back_of t ≡ Some r → r ≤ end_frame sent
-    back_high rises r is = elim before.after [
-      | inl (ended, closed) ↦ (closed.back rises r is).1
-      | inr (later, k, size, opens) ↦
-          let low = opens.back rises r is in
-          let at : frame_at sent k ≡ end_frame sent = ap (frame_at sent) (omega arith) in
-          omega arith
-    ]
+    back_high rises r is = grind (arith, nat_tests, before)
 
     run_up : (from : ℕ) → run_of t ≡ Some from → rose t ≡ true
-    run_up from is = elim before.after [
-      | inl (ended, closed) ↦ run_rises (rose t) (run_of t) from closed.keeps.falls is
-      | inr (later, k, size, opens) ↦ run_rises (rose t) (run_of t) from opens.keeps.falls is
-    ]
+    run_up from is = grind (arith, nat_tests, before, run_rises, rose)
 
     -- ---- it
 
@@ -306,8 +288,4 @@ passed_outside g pieces from to told earlier later u is some few =
     let own = frame_is g sent frames grown (length sent - 1) size i (omega arith) in
     let last = frame_is g sent frames grown (length sent - 1) size (i - 1) (omega arith) in
     omega arith) in
-    subst (λ (f : ℕ). (f < from) ⊎ (to < f)) (sym (last-same sent))
-    (All-contains (OnTrusted (Outside g earlier u later some rises))
-    (all_of_pieces g (earlier ++ Passed u ∷ later)) (Trusted from to)
-    (each_outside g earlier u later some rises)
-    (subst (λ (ps : List Piece). Contains (all_of_pieces g ps) (Trusted from to)) is told))
+    grind (arith, nat_tests, last-same, each_outside)

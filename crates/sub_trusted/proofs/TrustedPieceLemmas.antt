@@ -2,7 +2,7 @@
 -- What is told as trusted of pieces may stay, within however many frames the page has to be whole:
 -- `all_stay_within`; and what is told from a piece on, `each_passes` and `all_pass`.
 use Rattle.std.proofs.lemmas.Bool.Decides.{nat_tests}
-use Rattle.std.proofs.Common.{◌≡◌, ℕ, suc, ◌+◌, ◌≤◌, inl, inr, Bool, true, false, not, ◌||◌}
+use Rattle.std.proofs.Common.{◌≡◌, ℕ, suc, ◌+◌, ◌≤◌, Bool, true, false, not, ◌||◌}
 use Rattle.std.proofs.Common.{List, [], ◌∷◌, ◌++◌, length, map, Option, Some, is_some, refl, sym}
 use Rattle.std.proofs.Common.{subst, arith, append-nil, unwrap_or, if◌then◌else◌}
 use Rattle.std.proofs.lemmas.List.Elements.{All-append, All-cons, All-nil}
@@ -202,14 +202,7 @@ module _ (g : Task) (frames : Transmission) where
   told_stays : (pieces : List Piece) → sent_by_pieces g pieces ≡ frames
       → EachTrusted (Last g frames 0) (told_of_pieces g pieces)
   unfolding told_of_pieces
-  told_stays pieces all =
-      subst
-      (λ (fs : Transmission). EachTrusted (Last g frames 0) (told_after []
-      (marks_of_each g [] 0 pieces
-      ++ marks_of_waiting g fs
-      ++ marks_of_closing g fs (length pieces) (length fs))))
-      (sym all)
-      (all_pass g frames 0 [] 0 (length pieces) [] pieces all (inl (inr refl, start)))
+  told_stays pieces all = grind (arith, nat_tests, all_pass, start)
 
   -- What is told as trusted of pieces may pass, and stay.
   pub all_pass_within : (pieces : List Piece) → sent_by_pieces g pieces ≡ frames
@@ -223,6 +216,4 @@ module _ (g : Task) (frames : Transmission) where
 
   pub all_stay_within : (pieces : List Piece) → sent_by_pieces g pieces ≡ frames
       → EachTrusted (MayStand g frames) (all_of_pieces g pieces)
-  all_stay_within pieces all =
-      each-weaker (Last g frames 0) (MayStand g frames) (all_of_pieces g pieces)
-      (λ from to p. p.stands) (all_pass_within pieces all)
+  all_stay_within pieces all = grind (arith, nat_tests, each-weaker, all_pass_within)

@@ -7,7 +7,7 @@ use Rattle.std.proofs.Common.{◌≡◌, ℕ, zero, suc, ◌+◌, ◌-◌, ◌<�
 use Rattle.std.proofs.Common.{◌==◌, ◌&&◌, Bool, None, if◌then◌else◌, List, [], ◌∷◌, ◌++◌}
 use Rattle.std.proofs.Common.{length, map, Some, refl, sym, ◌∙◌, subst, arith, le_refl}
 use Rattle.std.proofs.Common.{unwrap_or, is_some, ap}
-use Rattle.std.proofs.lemmas.Bool.{cases_lt, true≢false}
+use Rattle.std.proofs.lemmas.Bool.{cases_lt}
 use Rattle.std.proofs.lemmas.List.Elements.{All-cons, All-nil}
 use Rattle.std.proofs.lemmas.Option.{same_Some}
 use Rattle.std.specs.List.{list_any}
@@ -256,20 +256,14 @@ module _ (g : Task) (frames : Transmission) (base : ℕ) where
       → run_of t ≡ Some from
       → x ≤ frame_at frames (n - 1)
       → back_to t x ≤ frame_at frames (n - 1)
-  closed_back n x from t closed run low =
-      back_low t x (frame_at frames (n - 1)) low
-      (λ r is.
-      (closed.back (run_rises (rose t) (run_of t) from closed.keeps.falls run) r is).1)
+  closed_back n x from t closed run low = grind (arith, nat_tests, back_low, run_rises, rose)
 
   opens_back : (n x from : ℕ) (packets : List (List ℕ)) (t : List Mark)
       → Opens g frames base n packets t
       → run_of t ≡ Some from
       → x ≤ frame_at frames n
       → back_to t x ≤ frame_at frames n
-  opens_back n x from packets t opens run low =
-      back_low t x (frame_at frames n) low
-      (λ r is.
-      opens.back (run_rises (rose t) (run_of t) from opens.keeps.falls run) r is)
+  opens_back n x from packets t opens run low = grind (arith, nat_tests, back_low, run_rises, rose)
 
   pub order_step : (n : ℕ) (t : List Mark) → n < length frames → Closed g frames base n t
       → Tells (Arrives g frames base n 0) t (map Says (order_events g frames n))
@@ -364,33 +358,7 @@ module _ (g : Task) (frames : Transmission) (base : ℕ) where
   pub begins_back : (n : ℕ) (t : List Mark) → Opens g frames base n [] t → goes_back g ≡ true
       → Opens g frames base n [] (GoesBack (since_before g frames n (frame_at frames n)) ∷ t)
   unfolding run_of whole_of last_begun since_of late_of back_of stays_quiet tells_fall
-  begins_back n t opens back =
-      let keeps = opens.keeps in
-      record {
-        keeps = record {
-          run = keeps.run;
-          ends = keeps.ends;
-          whole = keeps.whole;
-          above = keeps.above;
-          falls = keeps.falls;
-          at_once = λ e.
-              let none = keeps.at_once e in
-              record { since = none.since; late = none.late; whole = none.whole };
-          plain = λ e. absurd (true≢false (sym back ∙ e));
-        };
-        floor = opens.floor;
-        last = opens.last;
-        rises = opens.rises;
-        clean = opens.clean;
-        fresh = opens.fresh;
-        back = λ e r is.
-            (before_low g frames n (frame_at frames n) r is
-            (λ some.
-            let rises = opens.rises e in
-            let up = rises n some (omega arith) in
-            let last = latest_at frames n (λ i a b. rises i a (omega arith)) some in
-            omega arith)).1;
-      }
+  begins_back n t opens back = grind (arith, nat_tests, before_low, latest_at)
 
   goes_back_tells : (n : ℕ) (t : List Mark) (b : Bool) → goes_back g ≡ b
       → Opens g frames base n [] t
