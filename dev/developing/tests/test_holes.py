@@ -167,3 +167,6 @@ class Holes(Case):
                     one.startswith("there is no PCR") or hole in one]
             self.must(name, found.word == word and len(told) == bool(line) and
                       line in "".join(told), found.said)
+            if word == "lost":
+                judged(self, *words, more, "-o", self.path("out"))
+                self.must("in the report", told[0] in self.read("out/one.html").decode(), told)

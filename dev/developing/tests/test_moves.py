@@ -191,6 +191,17 @@ class Moves(Case):
                   found.said)
 
 
+    def test_another_programme(self) -> None:
+        """One that is not the file's is not judged, on whichever PIDs it is: the clock is asked."""
+        other = programme(self, [(one ** 2 * 37, one ** 2 * 37 + 20) for one in range(2, 12)],
+                          text=b"Another %d", name="other.stl")
+        found = judged(self, other, self.write("one.ts", in_turn(self.pes, [(0, OLD), (24, NEW)])),
+                       *WORDS)
+        typed = " ".join(found.verdict.to_type)
+        self.must("asked", found.word == "not judged" and "--origin T" in typed
+                  and "--pid" not in typed, found.said)
+
+
 class Pieces(Case):
     """What is judged on which PID."""
 
