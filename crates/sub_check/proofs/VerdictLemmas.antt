@@ -282,7 +282,8 @@ module _ (programme : ProgrammeValue) (options : OptionsValue) (is : IsOptions o
       ap (joined options.within) all.0 ∙ joined-rising options.within frames good.rules.rising in
       absurd
       (not_refused f decides all.1
-      (subst (λ (t : Transmission). GoodBy options.keeps programme t options) (sym same) good) all.2)
+      (subst (λ (t : Transmission). GoodBy options.keeps programme t options) (sym same) good)
+      all.2)
 
   module _ (result : Result Accepted CheckFault)
       (decides : failed is_pes_read result ≡ false → Decides programme options bytes result)

@@ -3,7 +3,8 @@ ghost use Rattle.std.specs.Prelude.{◌≡◌, IfErr, IfOk, ok_or, option_map, t
 ghost use Rattle.std.specs.Result.{result_map_both};
 ghost use Rattle.clap.specs.Words.{first_of, found_of, rows_of};
 ghost use Rattle.sub_words.specs.Arguments.{allowing_of, argument, is_given, layout_of, listed_of};
-ghost use Rattle.sub_words.specs.Arguments.{given_as, keeping_of, options_of, pacing_of, packet_size_of};
+ghost use Rattle.sub_words.specs.Arguments.{given_as, keeping_of, options_of, pacing_of};
+ghost use Rattle.sub_words.specs.Arguments.{packet_size_of};
 ghost use Rattle.sub_words.specs.Arguments.{pes_packets_of, range_given_of, required_pid_of};
 ghost use Rattle.sub_words.specs.Arguments.{scope_of, stream_of, survey_options_of};
 ghost use Rattle.sub_words.specs.Texts.{frame_of_text};
