@@ -7,11 +7,16 @@ from types import SimpleNamespace
 from typing import Any, Sequence
 
 from subtitles.core.times import CLOCK, TICKS
+from subtitles.qc.clock import RECORDING, Clock
+from subtitles.qc.fitting import Found
+from subtitles.qc.steps import Steps
 from subtitles.reading.cutting import cut_of
-from subtitles.reading.gaps import SECOND, Jump, jumps_of, places_of
+from subtitles.reading.finding import drift_of
+from subtitles.reading.gaps import SECOND, Jump, Place, jumps_of, line_of, places_of, what_of
 from subtitles.reading.stretches import LACKED, Stretch, by_breaks
 from subtitles.reading.survey import Clocked, Mark, Packets, Run, Survey
 from subtitles.reading.timing import strange_of
+from .parts import asked_for
 
 
 def packets_with(pts: Sequence[int | None], **more: Any) -> Packets:
@@ -116,6 +121,50 @@ class Times(unittest.TestCase):
                             (clocked(5, -99_000, "whole"), [Jump(5, -108_000)])):
             self.assertEqual(list(jumps_of(packets_with([], clocked=[one]))), wanted, one)
 
+    def test_words_of_places(self) -> None:
+        """What is missing, and between which PTS."""
+        for place, words in (
+                (Place(1, 2), "a break in the stream"), (Place(1, 2, 1), "1 TS packet lost"),
+                (Place(1, 2, 2, 1), "2 TS packets lost, 1 TS packet scrambled"),
+                (Place(1, 2, missing=225_000), "TS packets of 2.50 s are missing, by the PCR and "
+                 "the counters of other PIDs")):
+            self.assertEqual(what_of(place), words)
+        for place, words in (
+                (Place(3600, 7200, 1), "between PTS 3600 and 7200, 00:00:00:01 and 00:00:00:02 on"),
+                (Place(None, 7200, 1), "before PTS 7200, 00:00:00:02 on"),
+                (Place(3600, None, 1), "after PTS 3600, 00:00:00:01 on")):
+            self.assertEqual(line_of(place, 0), f"{words}: 1 TS packet lost")
+        words = f"between PTS {CLOCK - 3600} and 3600, 00:00:00:01 and 00:00:00:03 on: "
+        for first, last in ((CLOCK - 7200, 3600), (CLOCK - 7201, 3599)):
+            said = line_of(Place(CLOCK - 3600, last, 1, 2), first)
+            self.assertEqual(said, words.replace(" 3600", f" {last}") +
+                             "1 TS packet lost, 2 TS packets scrambled")
+        self.assertEqual(line_of(Place(None, 3600, 0), None),
+                         "before PTS 3600, 00:00:00:01 on: a break in the stream")
+        self.assertEqual(line_of(Place(None, None, 1), None), "1 TS packet lost")
 
-if __name__ == "__main__":
-    unittest.main()
+    def test_drift_of_origins(self) -> None:
+        """Origins that go on by a frame each, as a drift lets them; breaks are none."""
+        cases: list[tuple[str, list[tuple[int, int]], int | None]] = [
+            ("50 ppm", [(0, 0), (9000, 3600), (29_000, 7200), (49_000, 10_800)], 50),
+            ("back", [(0, 0), (9000, -3600), (29_000, -7200)], -50),
+            ("over the clock", [(0, CLOCK - 3600), (9000, 0), (29_000, 3600)], 50),
+            ("two", [(0, 0), (9000, 3600)], None), ("one", [(0, 0)], None), ("none", [], None),
+            ("breaks", [(0, 0), (9000, 90_000), (29_000, 180_000)], None),
+            ("both ways", [(0, 0), (9000, 3600), (29_000, 0)], None),
+            ("uneven", [(0, 0), (9000, 3600), (10_500, 7200), (90_000, 10_800)], None)]
+        for name, parts, ppm in cases:
+            found = drift_of(parts)
+            self.assertEqual(found, ppm, name)
+
+    def test_what_is_near_in_a_feed(self) -> None:
+        """Of the time bases the last in which PES packets come near the time of the subtitles."""
+        steps = Steps.__new__(Steps)
+        steps.asked = asked_for("a.stl", "a.pes", "--every", "25")
+        for frames, wanted in (([0, 110, 120, 600] * 2, (4, 6)), ([600, 700], None),
+                               ([0, 110, 120, 600, -9, -8], (0, 2)),
+                               ([600, 700, 800, 900, 50, 60], (4, 5)),
+                               ([110, 120, 600, 700, 400, 410], (0, 1))):
+            recording: Any = SimpleNamespace(packets=packets_with([TICKS * one for one in frames]))
+            found = steps.near(recording, Found(110, 120, Clock(0, RECORDING)), 0)
+            self.assertEqual(found, wanted, frames)
