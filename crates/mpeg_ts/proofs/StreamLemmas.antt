@@ -4,7 +4,7 @@ use Rattle.std.proofs.Common.{◌≡◌, ◌≢◌, ℕ, zero, suc, ◌+◌, ◌
 use Rattle.std.proofs.Common.{length}
 use Rattle.std.proofs.Common.{take, drop, Option, Some, None, Bool, true, false, refl, sym, ap, ◌∙◌}
 use Rattle.std.proofs.Common.{arith, append_assoc, length-append, length-drop, drop-drop, rules}
-use Rattle.std.proofs.Common.{get_or, inl, length-take, length-take-le}
+use Rattle.std.proofs.Common.{get_or, inl, length-take, length-take-le, take-append-drop}
 use Rattle.std.proofs.lemmas.Bool.Decides.{nat_tests}
 use Rattle.std.proofs.lemmas.List.{append-nil, drop-append-le, drop-take, drop_all, get_or-take}
 use Rattle.std.proofs.lemmas.List.{take-take}
@@ -207,6 +207,67 @@ stream_skipped distance number run in_step j bytes far many skips going idle =
     ∙ ap (λ l. given_later (handed_over j) (notes distance number run l))
     (all_skipped distance in_step bytes far many skips)
     ∙ skipped_notes distance run j more going idle)
+
+-- A byte that is no sync byte, and not the last of a hole.
+junk_byte : (distance number run : ℕ) (j : JoiningValue) (x : ℕ) (rest : List ℕ)
+    → 188 ≤ distance
+    → (x ≡ 0x47 → ⊥)
+    → (run + 1 ≡ hole_size distance → ⊥)
+    → has_ended j.part ≡ false
+    → j.pending ≡ []
+    → stream_gives distance number (run + 1) false j rest
+    ≡ stream_gives distance number run false j (x ∷ rest)
+junk_byte distance number run j x rest far other no_hole going idle =
+    by_bool (nat_lt (length (x ∷ rest)) 188)
+    (λ lt. let short : length (x ∷ rest) < 188 = grind (arith, nat_tests) in
+    stream_end distance number (run + 1) false j rest (omega (arith, short)) idle
+    ∙ sym (stream_end distance number run false j (x ∷ rest) short idle))
+    (λ ge. let long : 188 ≤ length (x ∷ rest) = grind (arith, nat_tests) in
+    let begins : begins_packet distance false (x ∷ rest) ≡ false = grind (arith, nat_tests) in
+    let same : after_skipped distance run j ≡ j = grind (arith, nat_tests) in
+    ap (λ (k : JoiningValue). stream_gives distance number (run + 1) false k rest) (sym same)
+    ∙ stream_skipped distance number run false j (x ∷ rest) far long begins going idle)
+
+-- The bytes up to a place, and the one there.
+take-one : (at : ℕ) (bytes rest : List ℕ)
+    → at < length bytes
+    → take (suc at) bytes ++ rest ≡ take at bytes ++ (slice_index bytes at ∷ rest)
+take-one at [] rest lt = absurd (omega arith)
+take-one zero (x ∷ xs) rest lt = refl
+take-one (suc at) (x ∷ xs) rest lt = ap (λ l. x ∷ l) (take-one at xs rest (omega arith))
+
+-- One more of them. For `junk_size`.
+pub junk_passed : (distance number run at : ℕ) (j : JoiningValue) (bytes rest : List ℕ)
+    → 188 ≤ distance
+    → at < length bytes
+    → (slice_index bytes at ≡ 0x47 → ⊥)
+    → (run < hole_size distance → run + (at + 1) < hole_size distance)
+    → has_ended j.part ≡ false
+    → j.pending ≡ []
+    → ((more : List ℕ)
+    → (run < hole_size distance → run + at < hole_size distance)
+    → stream_gives distance number (run + at) false j more
+    ≡ stream_gives distance number run false j (take at bytes ++ more))
+    → stream_gives distance number (run + (at + 1)) false j rest
+    ≡ stream_gives distance number run false j (take (at + 1) bytes ++ rest)
+junk_passed distance number run at j bytes rest far within other room going idle before =
+    let not_last : (run + at) + 1 ≡ hole_size distance → ⊥ =
+    λ last. by_lt run (hole_size distance)
+    (λ lt. omega (arith, room lt, last)) (λ ge. omega (arith, ge, last)) in
+    let there : run < hole_size distance → run + at < hole_size distance =
+    λ lt. omega (arith, room lt) in
+    let sum : run + (at + 1) ≡ (run + at) + 1 = omega arith in
+    let next : suc at ≡ at + 1 = omega arith in
+    ap (λ (n : ℕ). stream_gives distance number n false j rest) sum
+    ∙ junk_byte distance number (run + at) j (slice_index bytes at) rest far other not_last going
+    idle
+    ∙ before (slice_index bytes at ∷ rest) there
+    ∙ ap (stream_gives distance number run false j) (sym (take-one at bytes rest within)
+    ∙ ap (λ (n : ℕ). take n bytes ++ rest) next)
+  where
+    by_lt : {P : Type 0} (m n : ℕ) → (m < n → P) → (n ≤ m → P) → P
+    by_lt m n h1 h2 = by_bool (nat_lt m n)
+        (λ lt. h1 (grind (arith, nat_tests))) (λ ge. h2 (grind (arith, nat_tests)))
 
 -- ---- the bytes that were taken
 
@@ -418,9 +479,49 @@ pub other_pid : (v : StreamValue) (p : List ℕ)
     → v ≡ record v { joining = after_packet v.number p v.joining }
 other_pid v p h1 = grind (arith, nat_tests)
 
+-- What is left after bytes that are held and that no packet begins at. For `skip_on`.
+pub junk_given : (v w : StreamValue) (count : ℕ) (bytes : List ℕ)
+    → count ≤ length v.window.held
+    → v.in_step ≡ false
+    → v.lead ≡ 0
+    → w.distance ≡ v.distance
+    → w.number ≡ v.number
+    → w.run ≡ v.run + count
+    → w.in_step ≡ v.in_step
+    → w.joining ≡ v.joining
+    → w.lead ≡ count - length v.window.held
+    → w.window.held ≡ drop count v.window.held
+    → w.window.left ≡ v.window.left
+    → ((rest : List ℕ) → stream_gives v.distance v.number (v.run + count) false v.joining rest
+    ≡ stream_gives v.distance v.number v.run false v.joining (take count v.window.held ++ rest))
+    → given_of w bytes ≡ given_of v bytes
+junk_given v w count bytes h1 h2 h3 h4 h5 h6 h7 h8 h9 h10 h11 h12 =
+    let none : w.lead ≡ 0 = omega (arith, h1, h9) in
+    let behind = take v.window.left bytes in
+    let all : v.window.held ++ behind ≡ take count v.window.held
+    ++ (drop count v.window.held ++ behind) =
+    ap (λ (l : List ℕ). l ++ behind) (sym (take-append-drop count v.window.held))
+    ∙ append_assoc (take count v.window.held) (drop count v.window.held) behind in
+    rw (none, h3, h4, h5, h6, h7, h2, h8, h10, h11)
+    (h12 (drop count v.window.held ++ behind)
+    ∙ ap (stream_gives v.distance v.number v.run false v.joining) (sym all))
+
 pub ruleset packets = packet_taken
 
-pub ruleset skips = byte_skipped
+-- A byte that is skipped may end a hole, and no more.
+pub skipped_idle : (distance run : ℕ) (j : JoiningValue)
+    → (after_skipped distance run j).pending ≡ j.pending
+skipped_idle distance run j = by_bool (run + 1 == hole_size distance)
+    (λ yes. rw yes refl) (λ no. rw no refl)
+
+pub skipped_going : (distance run : ℕ) (j : JoiningValue)
+    → has_ended (after_skipped distance run j).part ≡ has_ended j.part
+skipped_going distance run j = by_bool (run + 1 == hole_size distance)
+    (λ yes. rw yes refl) (λ no. rw no refl)
+
+pub ruleset skips = (byte_skipped, skipped_idle, skipped_going)
+
+pub ruleset junk = (junk_passed, junk_given)
 
 -- ---- `step` and `read_on`
 

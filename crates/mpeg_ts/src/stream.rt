@@ -5,6 +5,7 @@ ghost use Rattle.std.specs.Prelude.{Ok, false, is_ok, slice_index, true};
 ghost use Rattle.std.specs.Io.KnownBytes.{IsAtEnd, Keeps};
 ghost use Rattle.sub_io.specs.Asking.{Asks};
 ghost use Rattle.sub_io.specs.Device.{CanFail, CountsFailure};
+ghost use Rattle.mpeg_ts.specs.GoodPackets.{hole_size};
 ghost use Rattle.mpeg_ts.specs.Joining.{AreLentWhole, JoiningValue, has_ended};
 ghost use Rattle.mpeg_ts.specs.PacketSize.{bytes_of};
 ghost use Rattle.mpeg_ts.specs.PacketsInStep.{begins_packet, bytes_needed, lead_size};
@@ -106,6 +107,29 @@ fn place_behind_others(bytes: &[u8], from: usize, distance: usize, number: u16) 
             return at;
         }
         at += distance;
+    }
+    at
+}
+
+// How many bytes stand before the first sync byte: out of step no packet begins at one of them. The
+// last byte of a hole may not be among them.
+#[tactic(auto, using(crate::proofs::StreamLemmas::junk))]
+fn junk_size(bytes: &[u8]) -> usize
+    ensures within { result ≤ length bytes.now }
+    ensures gives { (distance number run : ℕ) (joining : JoiningValue) (rest : List ℕ)
+        → 188 ≤ distance
+        → (run < hole_size distance → run + result < hole_size distance)
+        → has_ended joining.part ≡ false
+        → joining.pending ≡ []
+        → stream_gives distance number (run + result) false joining rest
+        ≡ stream_gives distance number run false joining (take result bytes.now ++ rest) }
+{
+    let mut at = 0;
+    while at < bytes.len() {
+        if bytes[at] == SYNC_BYTE {
+            return at;
+        }
+        at += 1;
     }
     at
 }
@@ -267,12 +291,43 @@ impl Stream {
         ensures gives { (bytes : List ℕ)
             → begins_packet self.old.distance self.old.in_step (bytes_ahead self.old bytes) ≡ false
             → given_of self.new bytes ≡ given_of self.old bytes }
+        ensures idle { self.new.joining.pending ≡ [] }
+        ensures going { has_ended self.new.joining.part ≡ false }
+        ensures out { self.new.in_step ≡ false }
         ensures fewer { bytes_at_most self.new < bytes_at_most self.old }
     {
         self.join_skipped();
         self.advance(1);
         self.in_step = false;
         self.run += 1;
+    }
+
+    // Whether so many bytes that were taken may end a hole.
+    fn may_end_hole(&self, count: usize) -> bool
+        requires { count ≤ length self.now.window.held }
+        ensures { result ≡ false → self.now.run < hole_size self.now.distance
+            → self.now.run + count < hole_size self.now.distance }
+    {
+        let hole = 15 * self.distance as u64;
+        self.run < hole && hole <= self.run + count as u64
+    }
+
+    // Skips the bytes up to the next sync byte, as far as they were taken. A byte that may be the
+    // last of a hole is left to `skip`.
+    #[tactic(auto, using(crate::proofs::StreamLemmas::junk))]
+    fn skip_on(&mut self)
+        requires idle { self.old.joining.pending ≡ [] }
+        requires going { has_ended self.old.joining.part ≡ false }
+        requires out { self.old.in_step ≡ false }
+        ensures gives { (bytes : List ℕ) → given_of self.new bytes ≡ given_of self.old bytes }
+        ensures most { bytes_at_most self.new ≤ bytes_at_most self.old }
+    {
+        let count = junk_size(self.window.held());
+        if count == 0 || self.may_end_hole(count) {
+            return;
+        }
+        self.lead = self.window.advance(count);
+        self.run += count as u64;
     }
 
     // Notes a hole where the byte that is skipped next is its last.
@@ -309,6 +364,7 @@ impl Stream {
             self.take_packet();
         } else {
             self.skip();
+            self.skip_on();
         }
         Ok(true)
     }
