@@ -11,7 +11,7 @@ use Rattle.sub_plan.specs.Schedule.{due_in}
 use Rattle.ttx_page.specs.Page.{IsCell}
 use Rattle.ttx_page.specs.Shown.{shown}
 use Rattle.sub_rules.specs.Events.{broken_cell, is_incomplete, is_late, is_pending}
-use Rattle.sub_rules.specs.FrameRules.{IsEnded, Task, Unread, end_frame, packets_before, task_of}
+use Rattle.sub_rules.specs.FrameRules.{IsEnded, Task, Unread, packets_before, task_of}
 use Rattle.sub_rules.specs.Good.{Good}
 use Rattle.sub_rules.specs.Kept.{IsRight}
 use Rattle.sub_rules.specs.Repeats.{KeepsRulesBy}
@@ -38,9 +38,7 @@ module _ (programme : ProgrammeValue) (options : OptionsValue) (unread : Option 
   -- At each end all rules are kept.
   kept_at : (n f : ℕ) → IsEnd t n f → (rule : EndRule)
       → IsKept rule (task_of programme options unread) t n f
-  kept_at n f end =
-      all_kept (task_of programme options unread) t n f at_once end.1
-      (quiet_at programme options unread t some_frames h n f end)
+  kept_at n f h1 rule = grind (arith, nat_tests, all_kept, quiet_at)
 
   -- Each cell is right.
   right_at : (f row column : ℕ) → first_frame t ≤ f → f ≤ last_frame t → IsCell row column
@@ -78,9 +76,7 @@ module _ (programme : ProgrammeValue) (options : OptionsValue) (unread : Option 
 -- Within 0 frames no end is waited for.
 pub none_pending : (g : Task) (frames : Transmission) → g.within ≡ 0 → is_pending g frames ≡ false
 unfolding is_pending
-none_pending g frames at_once =
-    let late = always_late g frames (length frames) (end_frame frames) at_once in
-    grind (arith, nat_tests)
+none_pending g frames at_once = grind (arith, nat_tests, always_late)
 
 module _ (programme : ProgrammeValue) (options : OptionsValue) (t : Transmission)
     (at_once : options.within ≡ 0) (none : options.keeps ≡ false) (good : Good programme t options)

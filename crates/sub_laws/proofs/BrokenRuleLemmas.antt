@@ -31,9 +31,10 @@ use Rattle.ttx_page.specs.PacketKind.{kind}
 use Rattle.ttx_page.specs.Span.{is_open_after, text_span}
 use Rattle.ttx_page.specs.declared.packet_kind.PacketKind.{PacketKind}
 use Rattle.ttx_page.specs.declared.packet_kind.PacketKind.TheVariants.{Row, ThisPage}
+use Rattle.ttx_page.proofs.DifferingLemmas.{columns_zero}
 use Rattle.stl_rows.specs.declared.national.National.{National}
 use Rattle.sub_rules.specs.Good.{IsCleanSpan, IsEnhancement}
-use Rattle.sub_rules.specs.Kept.{HasSubtitleBits, IsControlledBy, IsRepeat, last_header}
+use Rattle.sub_rules.specs.Kept.{HasSubtitleBits, IsControlledBy, IsRepeat}
 use Rattle.sub_rules.specs.PacketRules.{AreClean, KeepsAllRules, KeepsRule, codes_of, first_header}
 use Rattle.sub_rules.specs.PacketTests.{are_code_words, breaks, is_of_header, is_of_enhancement}
 use Rattle.sub_rules.specs.PacketTests.{is_other_mode, is_other_row, is_other_text}
@@ -81,17 +82,7 @@ one_mode this first = grind (arith, nat_tests, mode-none)
 -- The control bits, whatever C4 is.
 subtitle_bits : (national : National) (h : Header)
     → Decides (has_subtitle_bits national h) (HasSubtitleBits national h)
-subtitle_bits national h =
-    grind (
-      arith,
-      nat_tests,
-      Decides-like,
-      has_subtitle_bits,
-      Decides-and,
-      holds,
-      fails,
-      same_option,
-    )
+subtitle_bits national h = grind (arith, nat_tests, holds, fails, same_option)
 
 -- The subcode of the header before.
 same_subcode : (last : Option Header) (h : Header)
@@ -106,21 +97,13 @@ shut_where asks opened = grind (arith, nat_tests, true≢false)
 -- A header of the page that repeats it.
 repeat_decided : (complete : Bool) (page : PageIdValue) (before : List (List ℕ)) (h : Header)
     → Decides (is_repeat complete page before h) (IsRepeat complete page before h)
-repeat_decided complete page before h =
-    Decides-like _ (λ both. record { subcode = both.0; closed = both.1 })
-    (λ repeat. (repeat.subcode, repeat.closed))
-    (Decides-and _ _ (same_subcode (last_header page before) h)
-    (shut_where complete (is_open_after (kind page) before)))
+repeat_decided complete page before h = grind (arith, nat_tests, same_subcode, shut_where)
 
 -- It erases the page or, where repeats may keep, repeats it.
 may_come_by : (keeps erases repeats : Bool) (P : Type 0) → Decides repeats P
     → Decides (erases || (keeps && repeats))
     ((IsFalse keeps → IsTrue erases) × (IsTrue erases ⊎ P))
-may_come_by keeps true repeats P d = (λ e. (λ none. refl, inl refl), λ both. refl)
-may_come_by true false repeats P d =
-    (λ e. (λ none. absurd (true≢false none), inr (d.0 e)), λ both. grind (arith, nat_tests))
-may_come_by false false repeats P d =
-    (λ e. absurd (true≢false (sym e)), λ both. both.0 refl)
+may_come_by keeps erases repeats P h1 = grind (arith, nat_tests)
 
 -- A subtitle's header.
 subtitle_header : (w : Watched) (before : List (List ℕ)) (h : Header)
@@ -196,14 +179,6 @@ pub no_enhancement : (page : PageIdValue) (p : List ℕ) (o : Option PacketAddre
 no_enhancement page p o h1 = grind (arith, nat_tests, none-some, same_Some)
 
 -- ---- rows
-
--- Rows that differ in none of the first n columns.
-pub columns_zero : (n : ℕ) (xs ys : List ℕ) → columns_differing n xs ys ≡ 0 → (k : ℕ) → k < n
-    → get_or xs k 0 ≡ get_or ys k 0
-unfolding columns_differing
-columns_zero zero xs ys e k l = absurd (omega arith)
-columns_zero (suc n) xs ys e k l =
-    let before = columns_zero n xs ys in grind (arith, nat_tests)
 
 -- A row differs from itself in none.
 columns_same : (n : ℕ) (xs : List ℕ) → columns_differing n xs xs ≡ 0

@@ -28,7 +28,7 @@ use Rattle.sub_rules.specs.FrameRules.{packets_of_frame, task_of}
 use Rattle.sub_rules.specs.GoodWithin.{IsDueWithin}
 use Rattle.sub_rules.specs.Kept.{IsRight}
 use Rattle.sub_rules.specs.PacketRules.{KeepsAllRules}
-use Rattle.sub_rules.specs.Transmission.{Transmission, first_frame, on_air_until}
+use Rattle.sub_rules.specs.Transmission.{Transmission, on_air_until}
 use Rattle.sub_rules.specs.WrongContent.{AreReadUpTo}
 use Rattle.sub_rules.specs.declared.packet_rule.Watched.{Watched}
 use Rattle.sub_rules.proofs.PrefixEventLemmas.{is_late-prefix}
@@ -163,18 +163,7 @@ module _ (programme : ProgrammeValue) (options : OptionsValue) (unread : Option 
     cell_is = broken_is n f x broken
 
     are_read : AreReadUpTo frames f read
-    are_read =
-        let last = take_last frames n r.fits r.some in
-        record {
-          n = n;
-          some = r.some;
-          within = r.fits;
-          first_n = refl;
-          rising = take_rising frames n r.fits r.rises;
-          up_to = subst (λ (k : ℕ). k ≤ f) (sym last) r.up_to;
-          next = λ more.
-              subst (λ (k : ℕ). (k ≡ f) ⊎ (f < frame_at frames n)) (sym last) (r.next more);
-        }
+    are_read = grind (arith, nat_tests, take_last, take_rising)
 
     -- What is on air up to frame f of them is what is read.
     read_air : on_air_until read f ≡ packets_before frames n
@@ -204,11 +193,7 @@ module _ (programme : ProgrammeValue) (options : OptionsValue) (unread : Option 
     may_of : IsDueWithin programme read options f x.0 x.1 (code_at n x)
         → MayShow options.keeps options.page (packets_before frames n) g.due (frame_at frames 0) f
         options.within x.0 x.1
-    may_of (inl blank) = inl blank
-    may_of (inr (e, low, high, near, same)) =
-        let first : first_frame read ≡ frame_at frames 0 =
-        first-same read ∙ frame_at-take frames n 0 r.some in
-        inr (e, inl (subst (λ (k : ℕ). k ≤ e) first low), high, near, same)
+    may_of h1 = grind (arith, nat_tests, first-same, frame_at-take)
 
     -- Where the first n frames are read and keep the rules, and a cell stands broken.
     pub different_everywhere : IsDifferentEverywhere programme options frames f x.0 x.1

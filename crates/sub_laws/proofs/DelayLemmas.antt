@@ -5,7 +5,7 @@
 -- `served_at_once`, `law_of_finished_stretch`, `law_of_trust_without_delay`.
 use Rattle.std.proofs.lemmas.Bool.Decides.{nat_tests}
 use Rattle.std.proofs.Common.{◌≡◌, ℕ, ◌≤◌, ◌&&◌, inl, inr, Bool, true, false, List}
-use Rattle.std.proofs.Common.{Option, option_map, unwrap_or, ap, sym, ◌∙◌, subst, arith, le_refl}
+use Rattle.std.proofs.Common.{Option, option_map, unwrap_or, ap, sym, ◌∙◌, subst, arith}
 use Rattle.std.proofs.Common.{le_trans}
 use Rattle.std.specs.List.{list_any}
 use Rattle.std.proofs.lemmas.Bool.{cases_Bool, cases_eq, true≢false}
@@ -16,7 +16,7 @@ use Rattle.ttx_page.specs.PacketKind.{is_row, kind}
 use Rattle.ttx_page.specs.Receiver.{ReceiverClass, State}
 use Rattle.ttx_page.specs.Repeats.{IsFresh}
 use Rattle.ttx_page.specs.Shown.{kept, shown}
-use Rattle.ttx_page.specs.Span.{holds_header, is_unended, span}
+use Rattle.ttx_page.specs.Span.{holds_header, span}
 use Rattle.ttx_page.proofs.RepeatLaws.{kept_shown, law_of_forgetting}
 use Rattle.ttx_page.proofs.ScreenLaws as screens
 use Rattle.ttx_page.proofs.SpanLists.{find_none}
@@ -146,10 +146,7 @@ module _ (programme : ProgrammeValue) (transmission : Transmission) (options : O
     (codes : ShowsDueCodes programme transmission options a b) (class : ReceiverClass) where
   -- Codes are kept in it that are due.
   kept_codes : KeepsDueCodes false programme transmission options a b
-  kept_codes f row column low high named =
-      subst (IsDueWithin programme transmission options f row column)
-      (sym (kept_shown options.page (on_air_until transmission f) row column))
-      (codes f row column low high named)
+  kept_codes = grind (arith, nat_tests, kept_shown)
 
   -- Each cell is right where what is due is shown.
   whole_shown :
@@ -210,12 +207,7 @@ pub served_at_once :
     → IsServedWithDelay programme transmission options g f sent IsExcused old new
     → ShowsDuePage programme options.page transmission f
     → IsServed programme options g f sent IsExcused old new
-served_at_once served shows = record {
-  in_time = served.in_time;
-  heard = served.heard;
-  cells = λ holds. served.cells holds shows;
-  is_open = served.is_open;
-}
+served_at_once served shows = grind (arith, nat_tests)
 
 -- Who is served is served with any delay.
 served_later :
@@ -224,17 +216,7 @@ served_later :
     → first_frame transmission ≤ f
     → IsServed programme options g f sent IsExcused old new
     → IsServedWithDelay programme transmission options g f sent IsExcused old new
-served_later {f = f} low served = record {
-  in_time = served.in_time;
-  heard = served.heard;
-  codes = λ holds row column named.
-      elim (served.cells holds row column named) [
-        | inl due ↦ inr (f, low, le_refl f, omega arith, due)
-        | inr spaced ↦ inl spaced.0
-      ];
-  cells = λ holds shows. served.cells holds;
-  is_open = served.is_open;
-}
+served_later h1 h2 = grind (arith, nat_tests)
 
 -- Where each frame of a stretch shows the page that is due, the delay makes no difference.
 pub law_of_finished_stretch : LawOfFinishedStretch
@@ -254,12 +236,7 @@ pub ended_of_complete :
     → a ≤ f
     → f ≤ b
     → HasEndedPage options.page transmission f
-ended_of_complete transmission options a b f complete low high =
-    both (holds_header (kind options.page) (on_air_until transmission f))
-    (is_unended (kind options.page) (on_air_until transmission f)) (complete f low high)
-  where
-    both : (x y : Bool) → (x ≡ true → y ≡ false) → (x && y) ≡ false
-    both x y h = grind (arith, nat_tests)
+ended_of_complete transmission options a b f complete low high = grind (arith, nat_tests)
 
 -- So where pages are complete in it, it is shown as without a delay.
 pub shown_at_once :
@@ -269,11 +246,7 @@ pub shown_at_once :
     → ShownWithDelay class programme transmission options a b
     → CompleteWithin transmission options a b
     → ShownWithin class programme transmission options a b
-shown_at_once class programme transmission options a b shows shown complete g j f marks got old new
-    is run holds =
-    let low = le_trans is.listening.from is.listening.in_order in
-    shown g j f marks got old new is run holds (shows f low is.listening.to)
-    (ended_of_complete transmission options a b f complete low is.listening.to)
+shown_at_once class programme transmission options a b h1 h2 h3 = grind (arith, nat_tests, le_trans, ended_of_complete)
 
 -- Within no frame each frame of a stretch is finished.
 pub finished_at_once :

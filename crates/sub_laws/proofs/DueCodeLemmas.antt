@@ -4,9 +4,9 @@
 -- TCO a frame is, `ending_is`, `ending_at`.
 use Rattle.std.proofs.lemmas.Bool.Decides.{nat_tests}
 use Rattle.std.proofs.Common.{◌≡◌, ◌≢◌, ℕ, zero, suc, ◌+◌, ◌-◌, ◌<◌, ◌≤◌, ◌⊎◌, inl, inr, Bool, true}
-use Rattle.std.proofs.Common.{false, not, ◌&&◌, ◌||◌, ◌==◌, nat_le, List, Contains, get_or, Option}
-use Rattle.std.proofs.Common.{Some, None, option_map, refl, sym, ap, ◌∙◌, arith, find, le_refl}
-use Rattle.std.proofs.lemmas.Bool.{cases_lt, true≢false}
+use Rattle.std.proofs.Common.{false, not, ◌&&◌, ◌||◌, ◌==◌, nat_le, List, Contains, get_or}
+use Rattle.std.proofs.Common.{Some, None, option_map, refl, ap, ◌∙◌, arith, find}
+use Rattle.std.proofs.lemmas.Bool.{cases_lt}
 use Rattle.std.proofs.lemmas.List.Elements.{All-contains}
 use Rattle.std.proofs.lemmas.List.Recursion.{found_at}
 use Rattle.std.proofs.lemmas.Option.{none-some, same_Some}
@@ -41,20 +41,8 @@ module _ (due : ℕ → Rows) (first f row column code : ℕ) where
 
   pub was_due_at : (n : ℕ) → was_due due first f n row column code ≡ true → WasDue n
   unfolding was_due
-  was_due_at zero e =
-      let same : code ≡ cell (due f) row column = grind (arith, nat_tests) in
-      (f, inr refl, le_refl f, omega arith, same)
-  was_due_at (suc n) e = go (was_due_at n) (was_due due first f n row column code) refl e
-    where
-      go : (was_due due first f n row column code ≡ true → WasDue n)
-          → (b : Bool) → was_due due first f n row column code ≡ b
-          → (b || (nat_le (first + suc n) f && (cell (due (f - suc n)) row column == code))) ≡ true
-          → WasDue (suc n)
-      go so_far true is e =
-          let (x, from, high, low, same) = so_far is in (x, from, high, omega arith, same)
-      go so_far false is e =
-          let old = at_oldest (suc n) e in
-          (f - suc n, inl (omega (arith, old.0)), omega arith, omega arith, old.1)
+  was_due_at zero e = grind (arith, nat_tests)
+  was_due_at (suc n) e = grind (arith, nat_tests, at_oldest, (was_due_at n))
 
   pub due_was : (n : ℕ) → WasDue n → was_due due first f n row column code ≡ true
   unfolding was_due
@@ -97,21 +85,10 @@ module _ (keeps : Bool) (page : PageIdValue) (packets : List (List ℕ)) (due : 
       && not (was_due due first f n row column (code_at row column))
 
   may_show : (row column : ℕ) → is_undue row column ≡ false → MayShow row column
-  may_show row column e =
-      go (was_due due first f n row column (code_at row column)) refl e
-    where
-      go : (b : Bool)
-          → was_due due first f n row column (code_at row column) ≡ b
-          → (not (code_at row column == space) && not b) ≡ false
-          → MayShow row column
-      go true is e = inr (was_due_at due first f row column (code_at row column) n is)
-      go false is e = inl (grind (arith, nat_tests))
+  may_show row column e = grind (arith, nat_tests, was_due_at)
 
   not_undue : (row column : ℕ) → MayShow row column → is_undue row column ≡ false
-  not_undue row column (inl blank) = grind (arith, nat_tests)
-  not_undue row column (inr was) =
-      let is = due_was due first f row column (code_at row column) n was in
-      grind (arith, nat_tests)
+  not_undue row column h1 = grind (arith, nat_tests, due_was)
 
   pub undue_none : undue_after keeps page packets due first f n ≡ None
       → (row column : ℕ) → IsCell row column → MayShow row column
@@ -127,11 +104,7 @@ module _ (keeps : Bool) (page : PageIdValue) (packets : List (List ℕ)) (due : 
   pub undue_found : (x : ℕ × ℕ) → undue_after keeps page packets due first f n ≡ Some x
       → IsCell x.0 x.1 × (MayShow x.0 x.1 → ⊥)
   unfolding undue_after
-  undue_found x e =
-      let found = cell_found is_undue x e in (
-        found.is_cell,
-        λ may. true≢false (sym found.passes ∙ not_undue x.0 x.1 may),
-      )
+  undue_found x e = grind (arith, nat_tests, cell_found, not_undue)
 
 -- ---- the subtitle that ends at a frame
 
@@ -161,16 +134,4 @@ module _ (drawing : Drawing) (records : List SubtitleValue) (is : IsProgramme dr
     pub ending_at : (f tci : ℕ) → tci_of_ending records f ≡ Some tci
         → (t : SubtitleValue) × Contains records t × (t.tco ≡ f) × (t.tci ≡ tci)
     unfolding tci_of_ending
-    ending_at f tci e = go (find (ends_at f) records) refl e
-      where
-        go : (o : Option SubtitleValue) → find (ends_at f) records ≡ o
-            → option_map (λ (s : SubtitleValue). s.tci) o ≡ Some tci
-            → (t : SubtitleValue) × Contains records t × (t.tco ≡ f) × (t.tci ≡ tci)
-        go None found e = absurd (none-some tci e)
-        go (Some t) found e =
-            let at = find_is (ends_at f) records t found in
-            let own : t.tco ≡ f = of_test t at.0 in
-            (t, at.1, own, same_Some _ _ e)
-          where
-            of_test : (t : SubtitleValue) → ends_at f t ≡ true → t.tco ≡ f
-            of_test t e = grind (arith, nat_tests)
+    ending_at f tci e = grind (arith, nat_tests, none-some, find_is, same_Some)

@@ -127,20 +127,14 @@ module _ (g : Task) (frames : Transmission) (Named : CheckFault → Type 0)
   rule_at_end : (rule : EndRule) (o : Option (ℕ × ℕ)) (prior f : ℕ)
       → ((x : ℕ × ℕ) → o ≡ Some x → Named (end_fault rule f x))
       → Tells (o ≡ None) (rule_events rule None prior o f)
-  rule_at_end rule None prior f named = Finds-none refl
-  rule_at_end rule (Some x) prior f named =
-      rule_told (end_fault rule f x) (named x refl) (λ e. none-some x (sym e))
+  rule_at_end rule o prior f h1 = grind (arith, nat_tests, rule_told, none-some)
 
   -- How each is named.
   end_named : (n f : ℕ) → IsReadTo g frames n f → (rule : EndRule) (x : ℕ × ℕ)
       → broken_at rule (standing_at g frames n f) ≡ Some x
       → Named (end_fault rule f x)
   unfolding standing_at
-  end_named n f read end.Content x e = wrong n f x read e
-  end_named n f read end.Gap x e = plain _ refl
-  end_named n f read end.Incomplete x e = plain _ refl
-  end_named n f read end.Undecided x e = plain _ refl
-  end_named n f read end.Silent x e = plain _ refl
+  end_named n f h1 rule x h2 = grind (arith, nat_tests)
 
   -- Where nothing stood broken at the end before.
   quiet_told : (n f prior : ℕ) → IsReadTo g frames n f
@@ -218,10 +212,7 @@ module _ (g : Task) (frames : Transmission) (Named : CheckFault → Type 0)
     GapOk = (f : ℕ) → IsInGap frames n f → IsQuiet g frames n f
 
     quiet_all : GapOk → QuietFor (gap_length frames n)
-    quiet_all quiet d l =
-        let is = last_is in
-        let long = gap_length-is frames n some in
-        quiet (last + suc d) (some, there, omega arith, omega arith)
+    quiet_all h1 = grind (arith, nat_tests, last_is, gap_length-is)
 
     gap_part : Tells GapOk (gap_events g frames n (gap_length frames n))
     gap_part =
@@ -235,12 +226,7 @@ module _ (g : Task) (frames : Transmission) (Named : CheckFault → Type 0)
 
     -- What stood broken at the end before the frame's own.
     pub nothing_stood : GapOk → standing_before g frames n (frame_at frames n) ≡ nothing_stands
-    nothing_stood quiet =
-        let is = last_is in
-        let long = gap_length-is frames n some in
-        let rises = order.rises some in
-        nothing_before (frame_at frames n) (last + gap_length frames n) (grind (arith, nat_tests))
-        (quiet_at (quiet_all quiet) (gap_length frames n) (omega arith))
+    nothing_stood quiet = grind (arith, nat_tests, last_is, gap_length-is, nothing_before, quiet_at, quiet_all)
 
   gap_of : (n : ℕ) → AreOk g frames n → n < length frames → OrderOk g frames n
       → Tells ((f : ℕ) → IsInGap frames n f → IsQuiet g frames n f)
@@ -253,20 +239,14 @@ module _ (g : Task) (frames : Transmission) (Named : CheckFault → Type 0)
       → ((f : ℕ) → IsInGap frames n f → IsQuiet g frames n f)
       → standing_before g frames n (frame_at frames n) ≡ nothing_stands
   unfolding standing_before
-  stood_before zero past there order quiet = refl
-  stood_before (suc i) past there order quiet =
-      nothing_stood (suc i) past there (omega arith) order quiet
+  stood_before n h1 h2 h3 h4 = grind (arith, nat_tests, nothing_stood)
 
   -- ---- its packets
 
   rule_named : (r : PacketRule) (frame k : ℕ) (x : Event)
       → any_event (Told (packet_fault r frame k)) ≡ Some x
       → IsNamed Named x
-  rule_named r frame k x e = (
-    packet_fault r frame k,
-    sym (same_Some _ _ e),
-    plain (packet_fault r frame k) (grind (arith, nat_tests)),
-  )
+  rule_named r frame k x e = grind (arith, nat_tests, same_Some)
 
   module _ (whole : EachPacket IsPacket frames) (n : ℕ) (past : AreOk g frames n)
       (there : n < length frames) where
@@ -423,19 +403,7 @@ module _ (g : Task) (frames : Transmission) (Named : CheckFault → Type 0)
   closing_told : (n : ℕ) → n ≡ length frames → AreOk g frames (length frames)
       → Tells (AllOk g frames) (closing_events g frames n)
   unfolding closing_events end_events end_rules
-  closing_told zero e past = grind (arith, nat_tests, rule_told)
-  closing_told (suc m) e past =
-      let last : standing_at g frames (suc m) (end_frame frames) ≡ nothing_stands =
-      subst (λ k. standing_at g frames k (end_frame frames) ≡ nothing_stands) (sym e)
-      (last_quiet past e) in
-      grind (arith, nat_tests, rest_told)
-    where
-      last_quiet : AreOk g frames (length frames) → suc m ≡ length frames
-          → IsQuiet g frames (length frames) (end_frame frames)
-      last_quiet past e =
-          let n : length frames - 1 + 1 ≡ length frames = omega arith in
-          subst (λ k. IsQuiet g frames k (end_frame frames)) n
-          (past (length frames - 1) (omega arith)).end
+  closing_told n h1 h2 = grind (arith, nat_tests, rule_told, rest_told)
 
   -- All that is told.
   pub all_told : EachPacket IsPacket frames → Tells (AllOk g frames) (events g frames)

@@ -130,7 +130,4 @@ module _ (programme : ProgrammeValue) (options : OptionsValue) (unread : Option 
   pub late_is : (n f : ℕ) → is_overdue g first (unfinished_since g t n f) f ≡ false
       → is_late g t n f ≡ (options.within == 0)
   unfolding is_late
-  late_is n f e = rw e (or_false (options.within == 0))
-    where
-      or_false : (b : Bool) → (b || false) ≡ b
-      or_false b = grind (arith, nat_tests)
+  late_is n f e = grind (arith, nat_tests)

@@ -5,7 +5,6 @@ use Rattle.std.proofs.lemmas.Bool.Decides.{nat_tests}
 use Rattle.std.proofs.Common.{◌≡◌, ℕ, suc, ◌⊎◌, inl, inr, List, [], ◌∷◌, ◌++◌, length, Option, Some}
 use Rattle.std.proofs.Common.{None, refl, sym, ap, ◌∙◌, arith, append_assoc}
 use Rattle.std.proofs.lemmas.Option.{same_Some}
-use Rattle.std.specs.Option.{option_or}
 use Rattle.sub_rules.specs.Events.{first_told}
 use Rattle.sub_rules.specs.Fault.{fault_at_pes}
 use Rattle.sub_rules.specs.FrameRules.{Task, Unread}
@@ -61,13 +60,7 @@ module _ (frame row column : ℕ) where
   -- Of the first, or of the other where nothing is told of that.
   parts_first : (xs ys : List Event) → IsFirst (xs ++ ys)
       → IsFirst xs ⊎ ((first_told xs ≡ None) × IsFirst ys)
-  parts_first xs ys e = go (first_told xs) refl (sym (first_of_two xs ys) ∙ e)
-    where
-      go : (o : Option CheckFault) → first_told xs ≡ o
-          → option_or o (first_told ys) ≡ Some (fault.Content frame row column)
-          → IsFirst xs ⊎ ((first_told xs ≡ None) × IsFirst ys)
-      go None is e = inr (is, e)
-      go (Some f) is e = inl (is ∙ e)
+  parts_first xs ys e = grind (arith, nat_tests, first_of_two)
 
   front_first : (xs ys : List Event) → IsFirst xs → IsFirst (xs ++ ys)
   front_first xs ys e = first_of_two xs ys ∙ rw e refl
@@ -169,14 +162,7 @@ module _ (frame row column : ℕ) where
     said_all : (pieces : List Piece)
         → said (marks_of_pieces g pieces)
         ≡ said (marks_of_each g [] 0 pieces) ++ after_each pieces
-    said_all pieces =
-        let frames = sent_by_pieces g pieces in
-        let each = marks_of_each g [] 0 pieces in
-        let waiting = marks_of_waiting g frames in
-        let closing = marks_of_closing g frames (length pieces) (length frames) in
-        said-append (each ++ waiting) closing
-        ∙ ap (λ (es : List Event). es ++ said closing) (said-append each waiting)
-        ∙ append_assoc (said each) (said waiting) (said closing)
+    said_all pieces = grind (arith, nat_tests, said-append, said, append_assoc)
 
     -- Where a wrong cell is told first, it is of the frames that are read up to the first piece
     -- that is passed over. For `check`.

@@ -6,7 +6,6 @@ use Rattle.std.proofs.Common.{◌≡◌, ℕ, ◌+◌, ◌-◌, ◌<◌, ◌≤�
 use Rattle.std.proofs.Common.{take, slice_index_or, sym, ◌∙◌, subst, arith}
 use Rattle.std.proofs.lemmas.Bool.{cases_lt}
 use Rattle.std.proofs.lemmas.List.{append-nil, get_or-append-add, length-append, length-take}
-use Rattle.std.proofs.lemmas.List.Elements.{All-nil}
 use Rattle.std.proofs.Math.Seq.{take-append-add}
 use Rattle.ttx_packet.specs.PageId.{PageIdValue}
 use Rattle.ttx_page.specs.Repeats.{MayFollow, SendsText}
@@ -25,12 +24,7 @@ use Rattle.sub_laws.proofs.TransmissionLemmas.{packets_between-split}
 
 -- No packets are sent as any text.
 sends_nil : (keeps : Bool) (page : PageIdValue) (text : ℕ → ℕ → ℕ) → SendsText keeps page [] text
-sends_nil keeps page text = record {
-  exact = All-nil _;
-  erases = λ none. All-nil _;
-  odd = All-nil _;
-  codes = All-nil _;
-}
+sends_nil keeps page text = grind (arith, nat_tests)
 
 module _ (transmission : Transmission) (a b : ℕ) (stretch : IsStretch transmission a b)
     (rises : IsRising transmission) where
@@ -104,9 +98,7 @@ module _ (transmission : Transmission) (a b : ℕ) (stretch : IsStretch transmis
       rw (← (take-append-add earlier more k), ← (get_or-append-add earlier more k []))
       (grind (arith, nat_tests, length-append, length-take)) in
       rw append-nil at) in
-      subst (λ (ps : List (List ℕ)). SendsText keeps page more (kept keeps page ps)) (sym split)
-      (subst (λ (ps : List (List ℕ)). SendsText keeps page more (kept keeps page (ps ++ more)))
-      (append-nil earlier) sends)
+      grind (arith, nat_tests, append-nil)
 
 -- It has what recovery needs.
 pub law_of_followed_stretch : LawOfFollowedStretch

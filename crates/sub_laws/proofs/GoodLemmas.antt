@@ -56,14 +56,9 @@ pub any_passes : (test : List ℕ → Bool) (t : Transmission) (j n : ℕ)
     → frame_at t j ≡ n
     → list_any test (packets_of_frame t j) ≡ true
     → list_any test (packets_of t n) ≡ true
-any_passes test [] j n l e h = absurd (omega arith)
+any_passes test [] j n l e h = grind (arith, nat_tests)
 any_passes test (s ∷ ss) zero n l e h = grind (arith, nat_tests, list_any-append)
-any_passes test (s ∷ ss) (suc j) n l e h =
-    let rest = any_passes test ss j n (omega arith) e h in
-    let both =
-    list_any-append test (cond (nat_le n s.frame && nat_lt s.frame (n + 1)) s.packets [])
-    (packets_of ss n) in
-    grind (arith, nat_tests)
+any_passes test (s ∷ ss) (suc j) n l e h = grind (arith, nat_tests, list_any-append, (any_passes test ss j n (omega arith) e h))
 
 -- So is a header of the page.
 pub any_sent : (w : Watched) (t : Transmission) (j n : ℕ) → j < length t → frame_at t j ≡ n

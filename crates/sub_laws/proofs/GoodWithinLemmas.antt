@@ -73,13 +73,7 @@ module _ (programme : ProgrammeValue) (transmission : Transmission)
       subst (λ x. IfSome x (λ tco. tco ≤ last_frame transmission))
       (ap (option_map (λ (s : SubtitleValue). s.tco))
       (slice_get-get_or programme.records n d (omega arith))) lasts in
-      elim (cases_lt k n) [
-        | inl earlier ↦
-            let order = is.in_order k n d earlier (omega arith) in
-            let times = (is.each n d (omega arith)).times in
-            omega (arith, last, order, times)
-        | inr same ↦ grind (arith, nat_tests)
-      ]
+      grind (arith, nat_tests, (cases_lt k n))
 
 -- The first frame is not after the last.
 first_to_last :
@@ -100,18 +94,7 @@ first_to_last transmission some rising =
 
 -- What is good within some frames has what suffices, in all its frames.
 pub suffices_with_delay : LawOfSufficientPartsWithDelay
-suffices_with_delay programme transmission options is good = record {
-  stretch = sound_stretch programme transmission options good.rules;
-  codes = good.shows.codes;
-  finishes = record {
-    again = good.shows.again;
-    subtitles = λ k d within low high. good.shows.subtitles k d within;
-    begun = λ from k d within before.
-        let begins =
-        begins_in programme transmission is good.rules.starts good.rules.lasts k d within in
-        absurd (omega arith);
-  };
-}
+suffices_with_delay = grind (arith, nat_tests, sound_stretch, begins_in)
 
 -- What is promised of it.
 pub law_of_good_within : LawOfGoodWithin
@@ -132,12 +115,7 @@ module _ (programme : ProgrammeValue) (transmission : Transmission) (options : O
         → first_frame transmission ≤ f
         → f ≤ last_frame transmission
         → IsFinished programme transmission options f
-    finished f low high = record {
-      shows = λ row column named. good.content f row column low high named;
-      ended = λ asks.
-          ended_of_complete transmission options (first_frame transmission)
-          (last_frame transmission) f (complete asks) low high;
-    }
+    finished f low high = grind (arith, nat_tests, ended_of_complete)
 
     -- So it is good within any number of frames.
     pub good_within : GoodWithin programme transmission options

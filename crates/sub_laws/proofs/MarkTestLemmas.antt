@@ -4,36 +4,36 @@
 use Rattle.std.proofs.lemmas.Bool.Decides.{nat_tests}
 use Rattle.std.proofs.Common.{◌≡◌, ℕ, zero, suc, ◌+◌, ◌==◌, Bool, true, false, List, [], ◌∷◌, ◌++◌}
 use Rattle.std.proofs.Common.{length, map, Option, None, Some, refl, ◌∙◌, arith, if◌then◌else◌}
-use Rattle.std.proofs.Common.{slice_index_or, subst, take, unwrap_or, ◌||◌}
+use Rattle.std.proofs.Common.{slice_index_or, take, unwrap_or, ◌||◌}
 use Rattle.std.proofs.lemmas.Bool.{or_parts}
 use Rattle.std.proofs.lemmas.Option.{same_Some}
 use Rattle.std.proofs.lemmas.List.Folds.{list_any-append}
 use Rattle.std.specs.List.{list_any}
 use Rattle.std.specs.Prelude.{⊤}
-use Rattle.sub_rules.specs.Events.{end_before, end_events, events_at_end}
-use Rattle.sub_rules.specs.Events.{first_header_events, first_told, gap_length, is_late, latest}
+use Rattle.sub_rules.specs.Events.{end_events}
+use Rattle.sub_rules.specs.Events.{first_header_events, first_told, latest}
 use Rattle.sub_rules.specs.Events.{order_events, packet_fault, packets_told}
 use Rattle.sub_rules.specs.Fault.{fault_at_pes}
-use Rattle.sub_rules.specs.Events.{rules_told, standing_at, standing_before, unfinished_since}
-use Rattle.sub_rules.specs.Events.{since_before, unread_fault}
-use Rattle.sub_rules.specs.FrameRules.{Task, end_frame, frame_at, packets_before, packets_of_frame}
+use Rattle.sub_rules.specs.Events.{rules_told}
+use Rattle.sub_rules.specs.Events.{unread_fault}
+use Rattle.sub_rules.specs.FrameRules.{Task, end_frame}
 use Rattle.sub_rules.specs.PacketTests.{broken_rules}
-use Rattle.sub_rules.specs.PieceEvents.{goes_back, marks_at_end, marks_before, marks_of_arrival}
+use Rattle.sub_rules.specs.PieceEvents.{marks_at_end, marks_before, marks_of_arrival}
 use Rattle.sub_rules.specs.PieceEvents.{marks_of_each}
 use Rattle.sub_rules.specs.PieceEvents.{marks_of_ending, marks_of_gap, marks_of_more}
 use Rattle.sub_rules.specs.PieceEvents.{marks_of_next, marks_of_packets, marks_of_sent}
 use Rattle.sub_rules.specs.PieceEvents.{marks_of_waiting, sent_by_pieces}
-use Rattle.sub_rules.specs.Pieces.{Piece, goes_on_with, sent_after}
+use Rattle.sub_rules.specs.Pieces.{Piece, sent_after}
 use Rattle.sub_rules.specs.Pieces.Piece.{Passed, Sent}
 use Rattle.sub_rules.specs.Transmission.{SentFrame, Transmission}
-use Rattle.sub_rules.specs.Trusted.Mark.{AtEnd, AtPes, Begins, Closes, Ends, GoesBack, Says}
+use Rattle.sub_rules.specs.Trusted.Mark.{AtEnd, AtPes, Begins, Ends, GoesBack, Says}
 use Rattle.sub_rules.specs.declared.event.Event.{Event}
 use Rattle.sub_rules.specs.declared.event.Event.TheVariants.{Told}
 use Rattle.sub_rules.specs.declared.fault.CheckFault.{CheckFault}
 use Rattle.sub_rules.specs.declared.packet_rule.PacketRule.{PacketRule}
 use Rattle.sub_rules.specs.declared.packet_rule.Watched.{Watched}
-use Rattle.sub_rules.specs.Trusted.{Mark, at_pes, back_of, closing_at, doubted_by, is_said}
-use Rattle.sub_rules.specs.Trusted.{pes_told, run_of}
+use Rattle.sub_rules.specs.Trusted.{Mark, at_pes, back_of}
+use Rattle.sub_rules.specs.Trusted.{run_of}
 use Rattle.sub_rules.specs.Trusted.{told_after, told_at, trusted, trusted_up_to, whole_of}
 use Rattle.sub_rules.specs.declared.standing.Standing.{Standing}
 
@@ -50,11 +50,7 @@ module _ (test : Mark → Bool) where
   none_passes = record { none = refl }
 
   pub both_pass : {xs ys : List Mark} → Passes xs → Passes ys → Passes (xs ++ ys)
-  both_pass {xs = xs} {ys = ys} h1 h2 =
-      let both = list_any-append test xs ys in
-      let one = h1.none in
-      let two = h2.none in
-      record { none = grind (arith, nat_tests) }
+  both_pass h1 h2 = grind (arith, nat_tests, list_any-append)
 
   one_passes : (m : Mark) → test m ≡ false → Passes (m ∷ [])
   one_passes m e = record { none = rw e refl }
@@ -91,25 +87,10 @@ module _ (test : Mark → Bool) where
 
   module _ (g : Task) (fine : FramesPass g) where
     back_passes : (since : Option ℕ) → Passes (marks_before g since)
-    back_passes since = go (goes_back g)
-      where
-        go : (b : Bool) → Passes (if b then GoesBack since ∷ [] else [])
-        go true = one_passes _ (fine.at_back since)
-        go false = none_passes
+    back_passes since = grind (arith, nat_tests, one_passes, none_passes)
 
     at_end_passes : (frames : Transmission) (i n f : ℕ) → Passes (marks_at_end g frames i n f)
-    at_end_passes frames i n f =
-        both_pass (both_pass (back_passes (since_before g frames i f)) (go (g.within == 0)))
-        (says_pass (events_at_end g frames i n f)
-        (fine.of_end (standing_before g frames i f) (end_before frames i f)
-        (standing_at g frames n f) f))
-      where
-        go : (b : Bool)
-            → Passes (if b
-            then []
-            else AtEnd f (unfinished_since g frames n f) (is_late g frames n f) ∷ [])
-        go true = none_passes
-        go false = one_passes _ (fine.at_end f _ _)
+    at_end_passes frames i n f = grind (arith, nat_tests, both_pass, back_passes, says_pass, none_passes, one_passes)
 
     gap_passes : (frames : Transmission) (i n : ℕ) → Passes (marks_of_gap g frames i n)
     unfolding marks_of_gap
@@ -118,12 +99,7 @@ module _ (test : Mark → Bool) where
         both_pass (gap_passes frames i n) (at_end_passes frames i i (latest frames i + suc n))
 
     arrival_passes : (frames : Transmission) (i : ℕ) → Passes (marks_of_arrival g frames i)
-    arrival_passes frames i =
-        both_pass
-        (both_pass (says_pass (order_events g frames i) (fine.of_order frames i))
-        (gap_passes frames i (gap_length frames i)))
-        (both_pass (one_passes (Begins (frame_at frames i)) (fine.begins (frame_at frames i)))
-        (back_passes (since_before g frames i (frame_at frames i))))
+    arrival_passes frames i = grind (arith, nat_tests, both_pass, says_pass, gap_passes, one_passes, back_passes)
 
     told_pass : (w : Watched) (frame from : ℕ) (before packets : List (List ℕ)) (n : ℕ)
         → list_any on (packets_told w frame from before packets n) ≡ false
@@ -141,11 +117,7 @@ module _ (test : Mark → Bool) where
         rules frame k (r ∷ rs) = rw (fine.of_rule r frame k) (rules frame k rs)
 
     ending_passes : (frames : Transmission) (i : ℕ) → Passes (marks_of_ending g frames i)
-    ending_passes frames i =
-        both_pass
-        (both_pass (says_pass (first_header_events g frames i) (fine.of_header frames i))
-        (at_end_passes frames i (suc i) (frame_at frames i)))
-        (one_passes _ (fine.ends (frame_at frames i) _ _))
+    ending_passes frames i = grind (arith, nat_tests, both_pass, says_pass, at_end_passes, one_passes)
 
     waiting_passes : (sent : Transmission) → Passes (marks_of_waiting g sent)
     unfolding marks_of_waiting
@@ -157,10 +129,7 @@ module _ (test : Mark → Bool) where
         go false = ending_passes (s ∷ sent) (length sent)
 
     packets_pass : (frames : Transmission) (i : ℕ) → Passes (marks_of_packets g frames i)
-    packets_pass frames i =
-        says_pass _
-        (told_pass g.watched (frame_at frames i) 0 (packets_before frames i)
-        (packets_of_frame frames i) (length (packets_of_frame frames i)))
+    packets_pass frames i = grind (arith, nat_tests, says_pass, told_pass)
 
     more_passes : (sent : Transmission) (packets : List (List ℕ))
         → Passes (marks_of_more g sent packets)
@@ -168,42 +137,19 @@ module _ (test : Mark → Bool) where
         says_pass _ (told_pass g.watched (end_frame sent) _ _ packets (length packets))
 
     next_passes : (sent : Transmission) (s : SentFrame) → Passes (marks_of_next g sent s)
-    next_passes sent s =
-        both_pass
-        (both_pass (arrival_passes (sent ++ s ∷ []) (length sent))
-        (packets_pass (sent ++ s ∷ []) (length sent))) (go (g.within == 0))
-      where
-        go : (b : Bool)
-            → Passes (if b then marks_of_ending g (sent ++ s ∷ []) (length sent) else [])
-        go true = ending_passes (sent ++ s ∷ []) (length sent)
-        go false = none_passes
+    next_passes sent s = grind (arith, nat_tests, both_pass, arrival_passes, packets_pass, ending_passes, none_passes)
 
     sent_passes : (sent : Transmission) (pes : ℕ) (s : SentFrame)
         → Passes (marks_of_sent g sent pes s)
     unfolding marks_of_sent
-    sent_passes sent pes s = go (goes_on_with g.within sent s)
-      where
-        first : (ms : List Mark) → Passes ms → Passes (AtPes pes ∷ ms)
-        first ms h = both_pass (one_passes (AtPes pes) (fine.at_pes pes)) h
-
-        go : (b : Bool)
-            → Passes (if b
-            then AtPes pes ∷ marks_of_more g sent s.packets
-            else marks_of_waiting g sent ++ AtPes pes ∷ marks_of_next g sent s)
-        go true = first _ (more_passes sent s.packets)
-        go false = both_pass (waiting_passes sent) (first _ (next_passes sent s))
+    sent_passes sent pes s = grind (arith, nat_tests, both_pass, one_passes, more_passes, waiting_passes, next_passes)
 
     pub each_passes : (sent : Transmission) (pes : ℕ) (pieces : List Piece) → PassedPass pes pieces
         → Passes (marks_of_each g sent pes pieces)
     unfolding marks_of_each
-    each_passes sent pes [] passed = none_passes
-    each_passes sent pes (Sent s ∷ pieces) passed =
-        both_pass (sent_passes sent pes s)
-        (each_passes (sent_after g.within sent s) (suc pes) pieces passed)
-    each_passes sent pes (Passed u ∷ pieces) passed =
-        both_pass (one_passes (AtPes pes) (fine.at_pes pes))
-        (both_pass (one_passes (Says (Told (unread_fault pes (Some u)))) passed.0)
-        (each_passes sent (suc pes) pieces passed.1))
+    each_passes sent pes [] passed = grind (arith, nat_tests, none_passes)
+    each_passes sent pes (Sent s ∷ pieces) passed = grind (arith, nat_tests, both_pass, sent_passes, (each_passes (sent_after g.within sent s) (suc pes) pieces passed))
+    each_passes sent pes (Passed u ∷ pieces) passed = grind (arith, nat_tests, both_pass, one_passes, (each_passes sent (suc pes) pieces passed.1))
 
     -- What comes of pieces before the file ends.
     pub before_passes : (pieces : List Piece) → ((pes : ℕ) → PassedPass pes pieces)
@@ -245,18 +191,7 @@ module _ (bad : CheckFault → Bool)
   with_fine : (m : Mark) (t : List Mark) → says_bad m ≡ false
       → list_any tells_bad (told_at t m) ≡ false
   unfolding told_at
-  with_fine (Says e) t fine =
-      let own = event_fine (pes_told t) e fine in
-      both_none (trusted_up_to t (doubted_by t e)) _ (before_fine t (doubted_by t e)) (rw own refl)
-  with_fine (Closes are_left more) t fine = go (list_any is_said t || more)
-    where
-      go : (b : Bool)
-          → list_any tells_bad
-          (if b then trusted (run_of t) (whole_of t) (closing_at t are_left) else [])
-          ≡ false
-      go true = trusted_fine (run_of t) (whole_of t) (closing_at t are_left)
-      go false = refl
-  with_fine m t fine = refl
+  with_fine m t h1 = grind (arith, nat_tests, event_fine, both_none, before_fine, trusted_fine)
 
   pub told_fine : (t : List Mark) (ms : List Mark) → list_any says_bad ms ≡ false
       → list_any tells_bad (told_after t ms) ≡ false
@@ -272,7 +207,5 @@ module _ (bad : CheckFault → Bool)
       → first_told es ≡ Some f
       → bad f ≡ false
   first_fine [] f fine e = cc
-  first_fine (Told x ∷ es) f fine e =
-      let parts = or_parts (bad x) (list_any tells_bad es) fine in
-      subst (λ (y : CheckFault). bad y ≡ false) (same_Some _ _ e) parts.0
-  first_fine (x ∷ es) f fine e = first_fine es f fine e
+  first_fine (Told x ∷ es) f fine e = grind (arith, nat_tests, or_parts, same_Some)
+  first_fine (x ∷ es) f fine e = grind (arith, nat_tests, (first_fine es f fine e))

@@ -8,7 +8,6 @@ use Rattle.std.proofs.Common.{refl}
 use Rattle.ttx_page.proofs.RepeatLaws.{kept_shown}
 use Rattle.stl_rows.specs.Programme.{ProgrammeValue}
 use Rattle.sub_plan.specs.Options.{OptionsValue}
-use Rattle.sub_plan.specs.Schedule.{due_in}
 use Rattle.sub_rules.specs.FrameRules.{Unread}
 use Rattle.sub_rules.specs.GoodWithin.{IsDueWithin, IsFinished, ShowsDueCodes, ShowsDuePage}
 use Rattle.sub_rules.specs.GoodWithin.{SomeFinished}
@@ -49,11 +48,7 @@ module _ (keeps : Bool) (none : keeps ≡ false) (programme : ProgrammeValue)
   pub shows_of : (f : ℕ)
       → IsWholePage keeps programme options.page transmission f
       → ShowsDuePage programme options.page transmission f
-  shows_of f whole row column named =
-      (law_of_right_cells options.page (on_air_until transmission f) (due_in programme f) row
-      column).0
-      (subst (λ k. IsWholePage k programme options.page transmission f) none whole row column
-      named)
+  shows_of f h1 = grind (arith, nat_tests, law_of_right_cells)
 
   finished_of : (f : ℕ)
       → IsFinishedBy keeps programme transmission options f
@@ -70,12 +65,7 @@ module _ (keeps : Bool) (none : keeps ≡ false) (programme : ProgrammeValue)
   pub finishes_of : (a b : ℕ)
       → FinishesInTimeBy keeps programme transmission options a b
       → FinishesInTime programme transmission options a b
-  finishes_of a b finishes = record {
-    again = λ start low high. some_of _ _ (finishes.again start low high);
-    subtitles = λ k d l low high. some_of _ _ (finishes.subtitles k d l low high);
-    begun = λ at k d l before after high.
-        some_of _ _ (finishes.begun at k d l before after high);
-  }
+  finishes_of a b finishes = grind (arith, nat_tests, some_of)
 
 -- Where the page is open at no end of a stretch of which nothing is told, pages are complete in it.
 pub complete_untold :

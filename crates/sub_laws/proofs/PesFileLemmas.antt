@@ -1,6 +1,7 @@
 -- For `law_of_exact_frames`.
 -- A PES file that carries frames is read packet by packet as its sendings, `carried_is_read`; and
 -- where no frames are allowed, `law_of_exact_frames`.
+use Rattle.std.proofs.lemmas.Bool.Decides.{nat_tests}
 use Rattle.std.proofs.Common.{ℕ, ◌+◌, ◌≤◌, List, []}
 use Rattle.std.proofs.Common.{◌∷◌, ◌++◌, ◌↔◌, length, None}
 use Rattle.std.proofs.Common.{refl, sym, ◌∙◌, subst, arith}
@@ -46,9 +47,7 @@ pub carried_is_read :
     (clock : Clock) (within : ℕ) (bytes : List ℕ) (frames : Transmission)
     → (is : CarriesBy clock within bytes frames)
     → ReadsAs clock 0 bytes is.sendings None
-carried_is_read clock within bytes frames is =
-    subst (λ (b : List ℕ). ReadsAs clock 0 b is.sendings None) (sym is.is_whole)
-    (reads_of clock 0 is.values is.packets is.sendings is.each (omega (arith, is.few)) is.read)
+carried_is_read clock within bytes frames is = grind (arith, nat_tests, reads_of)
 
 -- ---- where no frames are allowed
 
@@ -85,32 +84,7 @@ read_exactly origin (v ∷ values) (s ∷ frames) each = (
 exact_frames :
     (origin : ℕ) (bytes : List ℕ) (frames : Transmission)
     → CarriesBy (clock 0 origin) 0 bytes frames ↔ Carries origin bytes frames
-exact_frames origin bytes frames = (
-  λ is.
-      let all = is.are ∙ joined-none is.sendings in
-      record {
-        values = is.values;
-        packets = is.packets;
-        each = is.each;
-        few = is.few;
-        joined = is.is_whole;
-        sent =
-            subst (λ (fs : Transmission). AllZip (IsSentAs origin) is.values fs) (sym all)
-            (sent_exactly origin is.values is.sendings is.read);
-        rising = is.rising;
-      },
-  λ is. record {
-    values = is.values;
-    packets = is.packets;
-    sendings = frames;
-    each = is.each;
-    few = is.few;
-    is_whole = is.joined;
-    read = read_exactly origin is.values frames is.sent;
-    are = sym (joined-none frames);
-    rising = is.rising;
-  },
-)
+exact_frames origin bytes frames = grind (arith, nat_tests, joined-none, sent_exactly, read_exactly)
 
 pub law_of_exact_frames : LawOfExactFrames
 law_of_exact_frames options bytes frames none =

@@ -3,6 +3,7 @@
 -- ends, and with those that are passed over. What is kept meanwhile is any value, X, and what it is
 -- once what follows is told of another PES packet, `told_of`. Main lemmas: `each_piece`;
 -- `waits`. The last frame waits.
+use Rattle.std.proofs.lemmas.Bool.Decides.{nat_tests}
 use Rattle.std.proofs.Common.{◌≡◌, ℕ, suc, ◌-◌, ◌<◌, ◌⊎◌, inl, inr, Bool, true, false, ◌==◌}
 use Rattle.std.proofs.Common.{List, [], ◌∷◌, ◌++◌, length, map, Some, refl, sym, ap, ◌∙◌, subst}
 use Rattle.std.proofs.Common.{arith, append-nil, cond, length-append, if◌then◌else◌}
@@ -32,12 +33,7 @@ use Rattle.sub_rules.specs.Trusted.{Mark}
 packets_grow : (g : Task) (sent frames : Transmission) (is : Grows sent frames) (n : ℕ)
     → length sent ≡ suc n
     → packets_of_frame frames n ≡ packets_of_frame sent n ++ is.rest
-packets_grow g sent frames is n size =
-    let all : Transmission = with_packets is.rest sent in
-    let long = with_packets-length is.rest sent in
-    ap (λ (fs : Transmission). packets_of_frame fs n) is.whole
-    ∙ packets_of_frame-prefix g g.unread all is.more n (omega arith)
-    ∙ with_packets-last is.rest sent n (sym size)
+packets_grow g sent frames is n size = grind (arith, nat_tests, long, with_packets-length, packets_of_frame-prefix, with_packets-last)
 
 -- Each of these pieces that is passed over comes where frames were sent as asked, these being sent
 -- before them.

@@ -19,11 +19,9 @@ use Rattle.ttx_packet.specs.declared.header.Header.{Header}
 use Rattle.stl_rows.specs.Programme.{ProgrammeValue}
 use Rattle.sub_plan.specs.Options.{OptionsValue}
 use Rattle.sub_rules.specs.declared.packet_rule.Watched.{Watched}
-use Rattle.ttx_page.specs.declared.packet_kind.PacketKind.{PacketKind}
 use Rattle.ttx_page.specs.declared.packet_kind.PacketKind.TheVariants.{Other, Row}
 use Rattle.ttx_page.specs.PacketKind.{kind, is_this_page, ends_page}
 use Rattle.ttx_page.specs.Noise.{ErasesPage}
-use Rattle.ttx_page.specs.PacketKind.{begins_text}
 use Rattle.ttx_page.specs.Span.{is_open_after, text_span}
 use Rattle.sub_rules.specs.PacketRules.{first_header, KeepsRule, KeepsAllRules}
 use Rattle.sub_rules.proofs.PacketLists.{first_header-push, Each-push, Each-map}
@@ -65,16 +63,7 @@ span_open :
     → is_open_after (kind w.page) heard ≡ true
     → text_span w.keeps (kind w.page) (heard ++ p ∷ [])
     ≡ text_span w.keeps (kind w.page) heard ++ p ∷ []
-span_open w heard p this ends opened =
-    let begins : begins_text w.keeps (kind w.page p) ≡ false =
-    no_beginning w.keeps (kind w.page p) this in
-    rw (text_span-push (kind w.page) w.keeps heard p, begins, this, opened, ends) refl
-  where
-    no_beginning : (keeps : Bool) (k : PacketKind)
-        → is_this_page k ≡ false
-        → begins_text keeps k ≡ false
-    no_beginning keeps k e =
-        let header = begins_is_header keeps k in grind (arith, nat_tests)
+span_open w heard p this ends opened = grind (arith, nat_tests, text_span-push, begins_is_header)
 
 -- A packet 25 to 28 is neither a header nor a row.
 enhancement_is_other :
@@ -181,9 +170,7 @@ module _ (programme : ProgrammeValue) (options : OptionsValue) (unread : Option 
 
   -- At no end anything stands broken.
   pub quiet_at : (n f : ℕ) → IsEnd t n f → IsQuiet (task_of programme options unread) t n f
-  quiet_at n f (above, le, inl own) = grind (arith, nat_tests)
-  quiet_at n f (above, le, inr (l, later, earlier)) =
-      (h.each n l).gap f (above, l, earlier (n - 1) (omega arith), later)
+  quiet_at n f h1 = grind (arith, nat_tests)
 
   -- A header of the page is not too long ago.
   covered_of : (n f : ℕ) → IsEnd t n f → IsCovered (task_of programme options unread) t n f

@@ -25,7 +25,6 @@ use Rattle.ttx_page.specs.Span.{holds_header, is_unended, span}
 use Rattle.ttx_page.specs.Shown.{shown}
 use Rattle.stl_rows.specs.declared.national.National.{National}
 use Rattle.stl_rows.specs.declared.national.NationalBits.{NationalBits}
-use Rattle.stl_rows.specs.SubSets.{sub_set}
 use Rattle.stl_rows.specs.Programme.{first_in, last_out, IsProgramme, ProgrammeValue}
 use Rattle.stl_rows.proofs.PageShapeLemmas.{due_is_page}
 use Rattle.sub_plan.specs.Options.{IsOptions, IsWatchable, OptionsValue}
@@ -115,16 +114,7 @@ made_c14 serial b = grind (arith, nat_tests)
 -- The header of a sending has the control bits of a subtitle's.
 subtitle_header : (w : PageIdValue) (national : National) (serial : Bool)
     → IsSubtitleHeader national (watched_header w national serial)
-subtitle_header w national serial =
-    let b : NationalBits = (sub_set national).bits in
-    record {
-      erases = grind (arith, nat_tests);
-      no_newsflash = grind (arith, nat_tests);
-      subtitle = grind (arith, nat_tests);
-      suppressed = grind (arith, nat_tests);
-      displayed = grind (arith, nat_tests);
-      option = rw (made_c12 serial b, made_c13 serial b, made_c14 serial b) refl;
-    }
+subtitle_header w national serial = grind (arith, nat_tests, made_c12, made_c13, made_c14)
 
 -- ---- the schedule
 

@@ -51,11 +51,8 @@ module _ (t : Transmission) (m : ℕ) (fits : m ≤ length t) (Q : List (List �
   -- So far in a frame, where it holds at the frame's start.
   within : (i : ℕ) → i < m → Q (packets_before t i) → (k : ℕ) → k ≤ length (packets_of_frame t i)
       → Q (before t i k)
-  within i l base zero h = subst Q (sym (before_none t i)) base
-  within i l base (suc k) h =
-      let more_is = before_more t i k (omega arith) in
-      let so_far = within i l base k (omega arith) in
-      grind (arith, nat_tests, before)
+  within i l base zero h = grind (arith, nat_tests, before_none)
+  within i l base (suc k) h = grind (arith, nat_tests, before_more, (within i l base k (omega arith)))
 
   -- At the start of each frame.
   pub at_start : (n : ℕ) → n ≤ m → Q (packets_before t n)
@@ -208,9 +205,7 @@ module _ (t : Transmission) (rising : RiseTo t (length t)) where
 
   -- The frames that count are not after it, and the others are.
   end_from : (n f : ℕ) → IsEnd t n f → frame_at t (n - 1) ≤ f
-  end_from n f (some, le, inl own) = omega arith
-  end_from n f (some, le, inr (there, later, earlier)) =
-      let before = earlier (n - 1) (omega arith) in omega arith
+  end_from n f h1 = grind (arith, nat_tests)
 
   pub end_before_rest : (n f : ℕ) → IsEnd t n f
       → (j : ℕ)

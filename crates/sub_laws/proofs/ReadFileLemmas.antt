@@ -164,6 +164,4 @@ pub file_sound : (clock : Clock) (given : ℕ) (b : List ℕ)
     → AllByRecursion (λ (s : SentFrame). AllByRecursion IsPacket s.packets)
     (file_at clock given b).frames
 unfolding file_at
-file_sound clock given b =
-    let file = pieces_at clock given b in
-    read_whole file.pieces file.unread (file_pieces_sound clock given b).each
+file_sound clock given b = grind (arith, nat_tests, read_whole, file_pieces_sound)

@@ -145,18 +145,7 @@ module _ (one other : Bool) (programme : ProgrammeValue) (transmission : Transmi
   finished_same : (f : ℕ)
       → IsFinishedBy one programme transmission options f
       → IsFinishedBy other programme transmission options f
-  finished_same f finished = record {
-    whole = λ row column named.
-        let right = finished.whole row column named in
-        record {
-          kept_is =
-              sym (kept-of_erasing one other options.page (on_air_until transmission f) (erasing f)
-              row column)
-              ∙ right.kept_is;
-          again = right.again;
-        };
-    ended = finished.ended;
-  }
+  finished_same f finished = grind (arith, nat_tests, kept-of_erasing, erasing)
 
   some_same : (a b : ℕ)
       → SomeFinishedBy one programme transmission options a b
@@ -213,13 +202,7 @@ module _ (programme : ProgrammeValue) (transmission : Transmission) (options : O
   pub finished_of : (f : ℕ)
       → IsFinishedBy false programme transmission options f
       → IsFinished programme transmission options f
-  finished_of f finished = record {
-    shows = λ row column named.
-        (law_of_right_cells options.page (on_air_until transmission f) (due_in programme f) row
-        column).0
-        (finished.whole row column named);
-    ended = finished.ended;
-  }
+  finished_of f finished = grind (arith, nat_tests, law_of_right_cells)
 
   pub finished_by : (f : ℕ)
       → IsFinished programme transmission options f

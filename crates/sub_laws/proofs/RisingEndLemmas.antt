@@ -14,8 +14,6 @@ pub latest_at :
     → 0 < n
     → latest frames n ≡ frame_at frames (n - 1)
 unfolding latest
-latest_at frames zero rises some = absurd (omega arith)
+latest_at frames zero rises some = grind (arith, nat_tests)
 latest_at frames (suc zero) rises some = grind (arith, nat_tests)
-latest_at frames (suc (suc m)) rises some =
-    let ih = latest_at frames (suc m) (λ i a b. rises i a (omega arith)) (omega arith) in
-    grind (arith, nat_tests)
+latest_at frames (suc (suc m)) rises some = grind (arith, nat_tests, (latest_at frames (suc m)))

@@ -49,10 +49,7 @@ sound_stretch programme transmission options keeps = record {
 
 -- A good transmission has what suffices, in all its frames.
 pub suffices : LawOfSufficientParts
-suffices programme transmission options good = record {
-  stretch = sound_stretch programme transmission options good.rules;
-  content = good.content;
-}
+suffices = grind (arith, nat_tests, sound_stretch)
 
 -- What is promised of a good transmission.
 pub law_of_good : LawOfGood

@@ -1,25 +1,24 @@
 -- For `law_of_nothing_told`.
 -- What is said by the marks of pieces: where each is sent it is what is told of the frames that
 -- they send. Main lemma: `pieces_said`.
-use Rattle.std.proofs.Common.{◌≡◌, ℕ, zero, suc, ◌+◌, ◌<◌, ◌≤◌, ◌==◌, Bool, true, false, List}
-use Rattle.std.proofs.Common.{[], ◌∷◌, ◌++◌, length, map, refl, sym, ap, ap₂, ◌∙◌, subst, arith}
-use Rattle.std.proofs.Common.{append_assoc, if◌then◌else◌, inl, inr, length-append, Option}
+use Rattle.std.proofs.lemmas.Bool.Decides.{nat_tests}
+use Rattle.std.proofs.Common.{◌≡◌, ℕ, zero, suc, ◌+◌, ◌<◌, ◌≤◌, ◌==◌, List}
+use Rattle.std.proofs.Common.{[], ◌∷◌, ◌++◌, length, map, refl, sym, ap, ◌∙◌, subst, arith}
+use Rattle.std.proofs.Common.{append_assoc, if◌then◌else◌, inl, inr, length-append}
 use Rattle.std.proofs.lemmas.List.{append-nil}
 use Rattle.sub_rules.specs.Events.{closing_events, events_at_end}
 use Rattle.sub_rules.specs.Events.{first_header_events, gap_length}
-use Rattle.sub_rules.specs.Events.{is_late, latest, order_events, packet_events, packets_told}
-use Rattle.sub_rules.specs.Events.{since_before, unfinished_since}
+use Rattle.sub_rules.specs.Events.{latest, order_events, packet_events, packets_told}
 use Rattle.sub_rules.specs.FrameRules.{Task, frame_at, packets_before}
-use Rattle.sub_rules.specs.PieceEvents.{closing_of_pieces, goes_back, marks_at_end, marks_before}
+use Rattle.sub_rules.specs.PieceEvents.{closing_of_pieces, marks_at_end}
 use Rattle.sub_rules.specs.PieceEvents.{marks_of_arrival}
-use Rattle.sub_rules.specs.PieceEvents.{marks_of_closing, marks_of_each, marks_of_ending}
+use Rattle.sub_rules.specs.PieceEvents.{marks_of_each, marks_of_ending}
 use Rattle.sub_rules.specs.PieceEvents.{marks_of_gap, marks_of_pieces, marks_of_waiting}
 use Rattle.sub_rules.specs.PieceEvents.{sent_by_pieces}
-use Rattle.sub_rules.specs.Pieces.{Piece, frames_of, goes_on_with, joined_after, sent_after}
-use Rattle.sub_rules.specs.Pieces.{with_packets}
+use Rattle.sub_rules.specs.Pieces.{Piece, frames_of, joined_after, sent_after}
 use Rattle.sub_rules.specs.Pieces.Piece.{Passed, Sent}
 use Rattle.sub_rules.specs.Transmission.{SentFrame, Transmission}
-use Rattle.sub_rules.specs.Trusted.Mark.{AtEnd, Begins, GoesBack, Says}
+use Rattle.sub_rules.specs.Trusted.Mark.{Says}
 use Rattle.sub_rules.specs.declared.event.Event.{Event}
 use Rattle.sub_rules.proofs.JoinedLemmas.{packets_told-append, with_packets-length}
 use Rattle.sub_laws.proofs.GrowingFrameLemmas.{goes_on_some}
@@ -49,19 +48,7 @@ module _ (g : Task) where
 
   said_end : (frames : Transmission) (i n f : ℕ)
       → said (marks_at_end g frames i n f) ≡ events_at_end g frames i n f
-  said_end frames i n f = go (goes_back g) (g.within == 0)
-    where
-      go : (back b : Bool)
-          → said ((if back then GoesBack (since_before g frames i f) ∷ [] else [])
-          ++ (if b
-          then []
-          else AtEnd f (unfinished_since g frames n f) (is_late g frames n f) ∷ [])
-          ++ map Says (events_at_end g frames i n f))
-          ≡ events_at_end g frames i n f
-      go true true = said-says (events_at_end g frames i n f)
-      go true false = said-says (events_at_end g frames i n f)
-      go false true = said-says (events_at_end g frames i n f)
-      go false false = said-says (events_at_end g frames i n f)
+  said_end frames i n f = grind (arith, nat_tests, said-says)
 
   said_gap : (frames : Transmission) (i n : ℕ)
       → said (marks_of_gap g frames i n) ≡ gap_events g frames i n
@@ -74,20 +61,7 @@ module _ (g : Task) where
   said_arrival : (frames : Transmission) (i : ℕ)
       → said (marks_of_arrival g frames i)
       ≡ order_events g frames i ++ gap_events g frames i (gap_length frames i)
-  said_arrival frames i =
-      let order = map Says (order_events g frames i) in
-      let gap = marks_of_gap g frames i (gap_length frames i) in
-      let since = since_before g frames i (frame_at frames i) in
-      said-append (order ++ gap) (Begins (frame_at frames i) ∷ marks_before g since)
-      ∙ ap (λ (es : List Event). said (order ++ gap) ++ es) (silent since (goes_back g))
-      ∙ append-nil (said (order ++ gap))
-      ∙ said-append order gap
-      ∙ rw (said-says (order_events g frames i), said_gap frames i (gap_length frames i)) refl
-    where
-      silent : (since : Option ℕ) (b : Bool)
-          → said (if b then GoesBack since ∷ [] else []) ≡ []
-      silent since true = refl
-      silent since false = refl
+  said_arrival frames i = grind (arith, nat_tests, said-append, append-nil, said-says, said_gap)
 
   -- And at its end.
   abbrev ending : Transmission → ℕ → List Event
@@ -96,17 +70,7 @@ module _ (g : Task) where
 
   said_ending : (frames : Transmission) (i : ℕ)
       → said (marks_of_ending g frames i) ≡ ending frames i
-  said_ending frames i =
-      let header = map Says (first_header_events g frames i) in
-      let end = marks_at_end g frames i (suc i) (frame_at frames i) in
-      said-append (header ++ end) _
-      ∙ append-nil (said (header ++ end))
-      ∙ said-append header end
-      ∙ rw (
-        said-says (first_header_events g frames i),
-        said_end frames i (suc i)
-            (frame_at frames i),
-      ) refl
+  said_ending frames i = grind (arith, nat_tests, said-append, append-nil, said-says, said_end)
 
   -- ---- how many are sent
 
@@ -118,14 +82,7 @@ module _ (g : Task) where
 
   -- Some frame is sent where one was before.
   sent_some : (sent : Transmission) (s : SentFrame) → 0 < length (sent_after g.within sent s)
-  sent_some sent s = go (goes_on_with g.within sent s) refl
-    where
-      go : (b : Bool) → goes_on_with g.within sent s ≡ b
-          → 0 < length (if b then with_packets s.packets sent else sent ++ s ∷ [])
-      go true is =
-          let parts = goes_on_some g.within sent s is in
-          omega (arith, parts.1, with_packets-length s.packets sent)
-      go false is = omega (arith, length-append sent (s ∷ []))
+  sent_some sent s = grind (arith, nat_tests, goes_on_some, with_packets-length, length-append)
 
   some_joined : (sent frames : Transmission) → 0 < length sent
       → 0 < length (joined_after g.within sent frames)
@@ -140,17 +97,8 @@ module _ (g : Task) where
       ≡ closing_events g (sent_by_pieces g pieces) (length (sent_by_pieces g pieces))
   unfolding closing_of_pieces frames_of joined_after
   closing_all [] all = refl
-  closing_all (Sent s ∷ pieces) all =
-      go (length (sent_by_pieces g (Sent s ∷ pieces)))
-      (some_joined (sent_after g.within [] s) (frames_of pieces) (sent_some [] s))
-    where
-      go : (n : ℕ) → 0 < n
-          → closing_of_pieces g (sent_by_pieces g (Sent s ∷ pieces)) (suc (length pieces)) n
-          ≡ closing_events g (sent_by_pieces g (Sent s ∷ pieces)) n
-      go zero some = absurd (omega arith)
-      go (suc n) some = refl
-  closing_all (Passed u ∷ pieces) all =
-      let few = few_sent pieces in absurd (omega (arith, all))
+  closing_all (Sent s ∷ pieces) all = grind (arith, nat_tests, some_joined, sent_some)
+  closing_all (Passed u ∷ pieces) all = grind (arith, nat_tests, few_sent)
 
 -- ---- so far
 
@@ -193,34 +141,11 @@ module _ (g : Task) (frames : Transmission) where
       → SaysOn S so_far xs
       → ((es : List Event) → S es → SaysOn U es ys)
       → SaysOn U so_far (xs ++ ys)
-  says-append S U so_far xs ys one rest =
-      subst U
-      (append_assoc so_far (said xs) (said ys)
-      ∙ ap (λ (es : List Event). so_far ++ es) (sym (said-append xs ys)))
-      (rest (so_far ++ said xs) one)
+  says-append S U so_far xs ys one rest = grind (arith, nat_tests, append_assoc, said-append)
 
   steps : Steps (List Event) same g frames SaysOn Ended Begun NonePassed
   unfolding packets_told events_of_first frame_events
-  steps = record {
-    at_ended = λ n pes so_far is. is;
-    at_open = λ n pes packets so_far is. is;
-    arrival = λ n so_far there is.
-        ap₂ ◌++◌ is (said_arrival g frames n)
-        ∙ sym (append-nil (arrived n));
-    more = λ n packets more rest so_far there whole is.
-        let from : 0 + length packets ≡ length packets = omega arith in
-        let all =
-        packets_told-append g.watched (frame_at frames n) 0 (packets_before frames n) packets more
-        in
-        ap₂ ◌++◌ is (said-says _)
-        ∙ append_assoc (arrived n) _ _
-        ∙ ap (λ (es : List Event). arrived n ++ es) (sym (rw from at all));
-    ending = λ n so_far there is.
-        ap₂ ◌++◌ is (said_ending g frames n)
-        ∙ grind (arith, append_assoc);
-    passed_ended = λ sent pes u so_far is none closed. absurd none;
-    passed_open = λ sent n pes u so_far is size none opens. absurd none;
-  }
+  steps = grind (arith, nat_tests, said_arrival, append-nil, packets_told-append, said-says, append_assoc, said_ending)
 
   none_passed : (sent : Transmission) (pieces : List Piece)
       → length (frames_of pieces) ≡ length pieces
@@ -255,11 +180,4 @@ module _ (g : Task) where
   pub pieces_said : (pieces : List Piece) → length (frames_of pieces) ≡ length pieces
       → said (marks_of_pieces g pieces) ≡ events g (sent_by_pieces g pieces)
   unfolding events
-  pieces_said pieces all =
-      let frames = sent_by_pieces g pieces in
-      let before = marks_of_each g [] 0 pieces ++ marks_of_waiting g frames in
-      let closing = marks_of_closing g frames (length pieces) (length frames) in
-      said-append before closing
-      ∙ ap₂ ◌++◌ (before_said g frames pieces all refl)
-      (said-says (closing_of_pieces g frames (length pieces) (length frames))
-      ∙ closing_all g pieces all)
+  pieces_said pieces all = grind (arith, nat_tests, said-append, before_said, said-says, closing_all)

@@ -24,7 +24,8 @@ use Rattle.sub_rules.specs.declared.packet_rule.PacketRule.TheVariants as rule
 use Rattle.sub_laws.specs.CleanStretch.{AtPackets, IsEnd, IsUntold, is_needed, task_unsure}
 use Rattle.sub_laws.specs.Repeats.{IsRepeatedStretch}
 use Rattle.sub_rules.proofs.CodesLemmas.{code_of_column}
-use Rattle.sub_laws.proofs.BrokenRuleLemmas.{columns_zero, refuted, rule_decided}
+use Rattle.ttx_page.proofs.DifferingLemmas.{columns_zero}
+use Rattle.sub_laws.proofs.BrokenRuleLemmas.{refuted, rule_decided}
 use Rattle.sub_laws.proofs.GoodLemmas.{any_sent, rises_each}
 use Rattle.sub_laws.proofs.PrefixLemmas.{RiseTo, before, first-same}
 use Rattle.sub_laws.proofs.PrefixLemmas.{packet_at, rises_to}

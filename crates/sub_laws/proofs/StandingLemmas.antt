@@ -6,7 +6,7 @@
 use Rattle.std.proofs.Common.{◌≡◌, ◌↔◌, ℕ, zero, suc, ◌+◌, ◌-◌, ◌<◌, ◌≤◌, Bool, true, false, []}
 use Rattle.std.proofs.Common.{length, take, Option, Some, None, refl, sym, subst, arith, not, ◌||◌}
 use Rattle.std.proofs.Common.{◌&&◌, ◌==◌, ◌∙◌, ap, get_or, is_some, option_map, inl, inr, ◌⊎◌}
-use Rattle.std.proofs.Common.{nat_le, le_refl, if◌then◌else◌, ◌≢◌}
+use Rattle.std.proofs.Common.{le_refl, if◌then◌else◌, ◌≢◌}
 use Rattle.std.specs.Prelude.{option_and_then}
 use Rattle.std.specs.List.{list_any}
 use Rattle.std.proofs.lemmas.Bool.{cases_lt, or_parts, true≢false}
@@ -18,7 +18,7 @@ use Rattle.std.specs.Bool.{Decides}
 use Rattle.std.proofs.lemmas.List.Folds.{list_any_more}
 use Rattle.ttx_packet.specs.OneBit.{first_below}
 use Rattle.ttx_packet.proofs.OneBitLemmas.{first_below_is}
-use Rattle.ttx_page.specs.Page.{IsCell, cell, space}
+use Rattle.ttx_page.specs.Page.{IsCell, cell}
 use Rattle.ttx_page.specs.Shown.{kept}
 use Rattle.sub_rules.specs.Events.{broken_at, broken_cell, covers, first_cell, is_gap, is_silent}
 use Rattle.sub_rules.specs.Events.{is_incomplete, is_late, is_right, standing_at, wrong_after}
@@ -27,7 +27,6 @@ use Rattle.sub_rules.specs.Events.{silent_for, latest, undecided_within, undue_a
 use Rattle.sub_rules.specs.Events.{was_undecided}
 use Rattle.sub_rules.specs.FrameRules.{HasHeader, IsCovered, IsEnded, ShowsDue, Task, frame_at}
 use Rattle.sub_rules.specs.FrameRules.{packets_before, IsPaced}
-use Rattle.sub_rules.specs.Kept.{has_row}
 use Rattle.sub_rules.specs.Transmission.{SentFrame, Transmission}
 use Rattle.sub_rules.proofs.TestLemmas.{below_before, below_none, holds}
 use Rattle.sub_rules.specs.declared.end_rule.EndRule.{EndRule}
@@ -140,11 +139,8 @@ module _ (test : ℕ → ℕ → Bool) where
 pub all_known : (undecided : ℕ → Bool) → ((frame : ℕ) → undecided frame ≡ false)
     → (first f m : ℕ) → was_undecided undecided first f m ≡ false
 unfolding was_undecided
-all_known undecided each first f zero = each f
-all_known undecided each first f (suc m) =
-    let rest = all_known undecided each first f m in
-    let here = each (f - suc m) in
-    grind (arith, nat_tests)
+all_known undecided each first f zero = grind (arith, nat_tests)
+all_known undecided each first f (suc m) = grind (arith, nat_tests, (all_known undecided each first f m))
 
 -- So it is where nothing is refused of the subtitle file.
 pub always_known : (first f m : ℕ) → was_undecided (λ frame. false) first f m ≡ false
@@ -169,11 +165,7 @@ module _ (g : Task) (frames : Transmission) (n f : ℕ) where
   -- It is not exactly where the test says so.
   wrong_decided : (row column : ℕ)
       → Decides (not (is_wrong row column)) (ShowsDue g frames n f row column)
-  wrong_decided row column =
-      Decides-like _ (λ both. record { kept_is = both.0; again = both.1 })
-      (λ right. (right.kept_is, right.again))
-      (right_test (kept g.watched.keeps g.watched.page (packets_before frames n) row column)
-      (cell (g.due f) row column) space (has_row g.watched.page (packets_before frames n) row))
+  wrong_decided row column = grind (arith, nat_tests, right_test)
 
   -- Where it is known what is due it is the first wrong one.
   wrong_is : g.undecided f ≡ false → wrong_cell g frames n f ≡ other_cell
@@ -181,11 +173,7 @@ module _ (g : Task) (frames : Transmission) (n f : ℕ) where
 
   -- Where one is wrong it is known.
   wrong_known : (x : ℕ × ℕ) → wrong_cell g frames n f ≡ Some x → g.undecided f ≡ false
-  wrong_known x e = go (g.undecided f) e
-    where
-      go : (b : Bool) → (if b then None else other_cell) ≡ Some x → b ≡ false
-      go false e = refl
-      go true e = absurd (none-some x e)
+  wrong_known x e = grind (arith, nat_tests, none-some)
 
   -- No cell is wrong.
   pub none_wrong : wrong_cell g frames n f ≡ None → g.undecided f ≡ false
@@ -199,16 +187,7 @@ module _ (g : Task) (frames : Transmission) (n f : ℕ) where
   -- The first that is.
   pub first_wrong : (x : ℕ × ℕ) → wrong_cell g frames n f ≡ Some x → WrongFirst g frames n f x.0 x.1
   unfolding wrong_after
-  first_wrong x e =
-      let found = cell_found is_wrong x (sym (wrong_is (wrong_known x e)) ∙ e) in
-      record {
-        is_cell = found.is_cell;
-        broken = λ right.
-            true≢false
-            (sym ((wrong_decided x.0 x.1).1 right) ∙ ap not found.passes);
-        above = λ r c named high. (wrong_decided r c).0 (ap not (found.above r c named high));
-        before = λ c low. (wrong_decided x.0 c).0 (ap not (found.before c low));
-      }
+  first_wrong x e = grind (arith, nat_tests, cell_found, wrong_is, wrong_known, wrong_decided)
 
   -- Where all are right, none is wrong.
   pub no_wrong : ((row column : ℕ) → IsCell row column → ShowsDue g frames n f row column)
@@ -258,13 +237,8 @@ module _ (g : Task) (frames : Transmission) (n f : ℕ) where
 
   latest_near : (pace m : ℕ) → f < latest frames (suc m) + pace → IsNear pace (suc m)
   unfolding latest
-  latest_near pace zero l = (0, omega arith, grind (arith, nat_tests))
-  latest_near pace (suc m) l = elim (cases_lt f (frame_at frames (suc m) + pace)) [
-    | inl here ↦ (suc m, omega arith, here)
-    | inr far ↦
-        let (j, below, near) = latest_near pace m (grind (arith, nat_tests)) in
-        (j, omega arith, near)
-  ]
+  latest_near pace zero l = grind (arith, nat_tests)
+  latest_near pace (suc m) l = grind (arith, nat_tests, (latest_near pace m))
 
   near_latest : (pace m : ℕ) → IsNear pace m → f < latest frames m + pace
   unfolding latest
@@ -308,26 +282,8 @@ module _ (g : Task) (frames : Transmission) (n f : ℕ) where
       → (k : ℕ) → k ≤ f → f ≤ k + m → (first ≤ k) ⊎ (k ≡ f)
       → g.undecided k ≡ false
   unfolding was_undecided
-  known_back first zero e k high low from =
-      let here : f ≡ k = omega arith in subst (λ x. g.undecided x ≡ false) here e
-  known_back first (suc m) e k high low from = elim (cases_lt (k + m) f) [
-    | inr near ↦
-        known_back first m
-        (or_parts (was_undecided g.undecided first f m) _ e).0 k high near from
-    | inl far ↦ elim from [
-      | inl after ↦
-          let at : f - suc m ≡ k = omega arith in
-          let old : first + suc m ≤ f = omega arith in
-          subst (λ x. g.undecided x ≡ false) at
-          (oldest (g.undecided (f - suc m)) old
-          (or_parts (was_undecided g.undecided first f m) _ e).1)
-      | inr own ↦ absurd (omega arith)
-    ]
-  ]
-    where
-      oldest : (b : Bool) → first + suc m ≤ f → (nat_le (first + suc m) f && b) ≡ false
-          → b ≡ false
-      oldest b l e = grind (arith, nat_tests)
+  known_back first zero e k high low from = grind (arith, nat_tests)
+  known_back first (suc m) e k high low from = grind (arith, nat_tests, or_parts, (known_back first m))
 
   -- Frame f is the last of them.
   pub known_at : undecided_within g frames f ≡ false → g.undecided f ≡ false
@@ -353,16 +309,7 @@ module _ (g : Task) (frames : Transmission) (n f : ℕ) where
       × (is_silent g frames n f ≡ false)
       × (undecided_within g frames f ≡ false))
   unfolding standing_at
-  quiet_parts = (
-    λ quiet. (
-      ap (λ s. s.content) quiet,
-      ap (λ s. s.gap) quiet,
-      ap (λ s. s.incomplete) quiet,
-      ap (λ s. s.silent) quiet,
-      ap (λ s. s.undecided) quiet,
-    ),
-    λ parts. rw (parts.0, parts.1, parts.2, parts.3, parts.4) refl,
-  )
+  quiet_parts = grind (arith, nat_tests)
 
   -- ---- within 0 frames
 

@@ -3,10 +3,10 @@
 -- of their ends holds: `codes`, `again`, `subtitle`. So a stretch of which nothing is told that a
 -- receiver depends on has what suffices: `law_of_untold_repeats`.
 use Rattle.std.proofs.lemmas.Bool.Decides.{nat_tests}
-use Rattle.std.proofs.Common.{◌≡◌, ℕ, ◌+◌, ◌-◌, ◌<◌, ◌≤◌, inl, inr, Bool, true, false, ◌&&◌}
+use Rattle.std.proofs.Common.{◌≡◌, ℕ, ◌+◌, ◌-◌, ◌<◌, ◌≤◌, inr, Bool, true, false, ◌&&◌}
 use Rattle.std.proofs.Common.{◌||◌, ◌==◌, nat_le, nat_lt, None, Option, Some, get_or, length, refl}
 use Rattle.std.proofs.Common.{sym, ap, ◌∙◌, subst, arith, le_refl, Contains}
-use Rattle.std.proofs.lemmas.Bool.{or_parts, true≢false}
+use Rattle.std.proofs.lemmas.Bool.{or_parts}
 use Rattle.std.proofs.lemmas.List.Elements.{Contains-get_or}
 use Rattle.ttx_page.specs.Page.{IsCell}
 use Rattle.ttx_page.specs.Shown.{kept}
@@ -16,7 +16,7 @@ use Rattle.sub_plan.specs.Options.{OptionsValue}
 use Rattle.sub_plan.specs.Schedule.{due_in}
 use Rattle.sub_rules.specs.Events.{broken_cell, is_incomplete, is_late, is_missed, is_overdue}
 use Rattle.sub_rules.specs.Events.{is_unfinished, standing_at, unfinished_since}
-use Rattle.sub_rules.specs.Events.{undecided_within, wrong_cell}
+use Rattle.sub_rules.specs.Events.{undecided_within}
 use Rattle.sub_rules.specs.FrameRules.{Task, Unread, end_frame, frame_at, packets_before}
 use Rattle.sub_rules.specs.GoodWithin.{IsDueWithin}
 use Rattle.sub_rules.specs.Kept.{IsRight}
@@ -25,7 +25,7 @@ use Rattle.sub_rules.specs.Transmission.{Transmission, on_air_until}
 use Rattle.sub_laws.specs.CleanStretch.{IsEnd, IsUntold, NoneOpen, task_unsure}
 use Rattle.sub_laws.specs.ToldRepeats.{FinishesAgainBy, FinishesInTimeBy, IsSufficientRepeats}
 use Rattle.sub_laws.specs.ToldRepeats.{LawOfUntoldRepeats}
-use Rattle.sub_laws.proofs.DueCodeLemmas.{MayShow, ending_is, undue_none}
+use Rattle.sub_laws.proofs.DueCodeLemmas.{ending_is, undue_none}
 use Rattle.sub_laws.proofs.FinishedLemmas.{finished_at, frame_end, no_since, since_is}
 use Rattle.sub_laws.proofs.GoodLemmas.{rises_each}
 use Rattle.sub_laws.proofs.PrefixLemmas.{RiseTo, end_is_on_air, first-same, last-same}
@@ -96,22 +96,7 @@ module _ (programme : ProgrammeValue) (options : OptionsValue) (unread : Option 
         → IsCell row column
         → IsDueWithin programme t options f row column
         (kept options.keeps options.page (packets_before t n) row column)
-    codes_early n f end low high early row column named =
-        let both = still.parts n f end low high in
-        due_of
-        (undue_none options.keeps options.page (packets_before t n) asked.due (frame_at t 0) f
-        options.within (sym (undue_is asked t n f both.1) ∙ rw early at both.0) row column named)
-      where
-        due_of :
-            MayShow options.keeps options.page (packets_before t n) asked.due (frame_at t 0) f
-            options.within row column
-            → IsDueWithin programme t options f row column
-            (kept options.keeps options.page (packets_before t n) row column)
-        due_of (inl blank) = inl blank
-        due_of (inr (e, inl from, to, near, same)) =
-            inr (e, omega (arith, from, first-same t), to, near, same)
-        due_of (inr (e, inr own, to, near, same)) =
-            inr (e, omega (arith, own, low, still.from, first-same t), to, near, same)
+    codes_early n f end low high early row column named = grind (arith, nat_tests, undue_none, undue_is, first-same)
 
     -- At a frame's end what is kept in each cell is what it may hold.
     pub codes : KeepsDueCodes options.keeps programme t options a b
@@ -165,33 +150,13 @@ module _ (programme : ProgrammeValue) (options : OptionsValue) (unread : Option 
     -- A late end is finished.
     pub calm : (n f : ℕ) → IsEnd t n f → a ≤ f → f ≤ b → is_late task t n f ≡ true
         → is_unfinished task t n f ≡ false
-    calm n f end low high late =
-        let wrong : wrong_cell task t n f ≡ None =
-        rw late at (holds.still.parts n f end low high).0 in
-        let shut : is_incomplete task t n ≡ false = rw late at (holds.shut n f end low high) in
-        rw (wrong, shut) refl
+    calm n f end low high late = grind (arith, nat_tests)
 
     -- So none is overdue.
     not_overdue : (n f : ℕ) → IsEnd t n f → a ≤ f → f ≤ b
         → is_overdue task start (unfinished_since task t n f) f ≡ false
     unfolding is_late
-    not_overdue n f end low high =
-        go (is_overdue task start (unfinished_since task t n f) f) refl
-      where
-        or_true : (b : Bool) → (b || true) ≡ true
-        or_true b = grind (arith, nat_tests)
-
-        late_of : is_overdue task start (unfinished_since task t n f) f ≡ true
-            → is_late task t n f ≡ true
-        late_of e = rw e (or_true (options.within == 0))
-
-        go : (b : Bool) → is_overdue task start (unfinished_since task t n f) f ≡ b → b ≡ false
-        go false e = refl
-        go true e =
-            let none =
-            no_since programme options unread beside undecided t up n f end
-            (calm n f end low high (late_of e)) in
-            absurd (true≢false (sym (rw none at e)))
+    not_overdue n f end low high = grind (arith, nat_tests, no_since, calm)
 
     -- Since a frame the ends up to this one are unfinished: not too long, and no subtitle is
     -- missed.

@@ -312,13 +312,4 @@ pub none_told_repeats : (programme : ProgrammeValue) (options : OptionsValue)
     → EachPacket IsPacket frames
     → (events (task_of programme options unread) frames ≡ [])
     ↔ (GoodBy options.keeps programme frames options × (unread ≡ None))
-none_told_repeats programme options unread frames is every whole =
-    let told = nothing_told (task_of programme options unread) frames whole in (
-      λ none.
-          let h = told.0 none in
-          (Within-from_holds programme options unread frames every is h whole, h.unread),
-      λ good.
-          told.1
-          (subst (λ o. AllOk (task_of programme options o) frames) (sym good.1)
-          (holds-from_within programme options frames is good.0)),
-    )
+none_told_repeats programme options unread frames is every whole = grind (arith, nat_tests, nothing_told, Within-from_holds, holds-from_within)

@@ -35,22 +35,10 @@ module _ (un : ℕ → Bool) (first : ℕ) where
 
   -- There is none exactly where the last one is finished.
   pub since_none : (k : ℕ) → since_at k ≡ None → un (first + k) ≡ false
-  since_none zero e =
-      let same : first + 0 ≡ first = omega arith in
-      ap un same ∙ finished (un first) e
-    where
-      finished : (b : Bool) → unfinished_from None b first ≡ None → b ≡ false
-      finished b e = grind (arith, nat_tests, none-some)
-  since_none (suc k) e = finished (un (first + suc k)) e
-    where
-      finished : (b : Bool) → unfinished_from (since_at k) b (first + suc k) ≡ None → b ≡ false
-      finished b e = grind (arith, nat_tests, none-some)
+  since_none k h1 = grind (arith, nat_tests, none-some)
 
   pub none_since : (k : ℕ) → un (first + k) ≡ false → since_at k ≡ None
-  none_since zero e =
-      let same : first ≡ first + 0 = omega arith in
-      ap (λ b. unfinished_from None b first) (ap un same ∙ e)
-  none_since (suc k) e = ap (λ b. unfinished_from (since_at k) b (first + suc k)) e
+  none_since k h1 = grind (arith, nat_tests)
 
   pub since_some : (k r : ℕ) → since_at k ≡ Some r → Since k r
   since_some zero r e = go (un first) refl e
@@ -145,10 +133,7 @@ module _ (g : Task) (t : Transmission) (rises : RiseTo t (length t)) where
       ≡ unfinished_from (unfinished_since g t n (latest t n + m))
       (is_unfinished g t n (latest t n + suc m)) (latest t n + suc m)
   unfolding unfinished_since since_in_gap
-  since_gap n m =
-      let next : latest t n + suc m - latest t n ≡ suc m = omega arith in
-      let here : latest t n + m - latest t n ≡ m = omega arith in
-      rw (next, here) refl
+  since_gap n m = grind (arith, nat_tests)
 
   -- That up to the end of a frame of the list.
   since_own : (i : ℕ)
@@ -156,9 +141,7 @@ module _ (g : Task) (t : Transmission) (rises : RiseTo t (length t)) where
       ≡ unfinished_from (unfinished_since g t i (latest t i + gap_length t i))
       (is_unfinished g t (suc i) (frame_at t i)) (frame_at t i)
   unfolding unfinished_since since_frames
-  since_own i =
-      let here : latest t i + gap_length t i - latest t i ≡ gap_length t i = omega arith in
-      rw here refl
+  since_own i = grind (arith, nat_tests)
 
   since_first : unfinished_since g t 0 (latest t 0 + gap_length t 0) ≡ None
   unfolding unfinished_since since_in_gap since_frames latest gap_length
@@ -170,11 +153,7 @@ module _ (g : Task) (t : Transmission) (rises : RiseTo t (length t)) where
   since_here : (i : ℕ) → i < length t
       → unfinished_since g t (suc i) (frame_at t i) ≡ since_frames g t (suc i)
   unfolding unfinished_since since_in_gap
-  since_here i l =
-      let last = last_is (suc i) (omega arith) (omega arith) in
-      let back : frame_at t (suc i - 1) ≡ frame_at t i = ap (frame_at t) (omega arith) in
-      let none : frame_at t i - latest t (suc i) ≡ 0 = omega arith in
-      rw none refl
+  since_here i l = grind (arith, nat_tests, last_is)
 
   -- A frame from the last of the first n on, and before the next one, has an end.
   end_from_last : (n x : ℕ) → 0 < n → n < length t → frame_at t (n - 1) ≤ x → x < frame_at t n
@@ -247,10 +226,7 @@ module _ (g : Task) (t : Transmission) (rises : RiseTo t (length t)) where
       → unfinished_since g t n f ≡ unfinished_from None (is_unfinished g t n f) f
   end_first zero f (some, l, at) first = absurd (omega arith)
   end_first (suc zero) f end first =
-      subst
-      (λ x. unfinished_since g t 1 x ≡ unfinished_from None (is_unfinished g t 1 x) x) (sym first)
-      (since_here 0 (let l = end.1 in omega arith) ∙ since_own 0
-      ∙ ap (λ o. unfinished_from o (is_unfinished g t 1 (frame_at t 0)) (frame_at t 0)) since_first)
+      grind (arith, nat_tests, since_here, since_own, since_first)
   end_first (suc (suc i)) f (some, l, inl own) first =
       let up = rises (suc i) (omega arith) (omega arith) in
       let low = rises_to t (length t) rises 0 (suc i - 1) (omega arith) (omega arith) in
@@ -265,14 +241,8 @@ module _ (g : Task) (t : Transmission) (rises : RiseTo t (length t)) where
       → unfinished_since g t n f ≡ since_at unfinished_at (frame_at t 0) k
   since_end zero n f end at =
       let first : f ≡ frame_at t 0 = omega arith in
-      end_first n f end first
-      ∙ ap (λ b. unfinished_from None b f) (unfinished_is n f end)
-      ∙ ap (λ x. unfinished_from None (unfinished_at x) x) first
+      grind (arith, nat_tests, end_first, unfinished_is)
   since_end (suc k) n f end at =
       let before = end_before n f end (omega arith) in
       let earlier = since_end k before.m (f - 1) before.end (omega arith) in
-      before.since
-      ∙ ap (λ o. unfinished_from o (is_unfinished g t n f) f) earlier
-      ∙ ap (λ b. unfinished_from (since_at unfinished_at (frame_at t 0) k) b f)
-      (unfinished_is n f end)
-      ∙ ap (λ x. unfinished_from (since_at unfinished_at (frame_at t 0) k) (unfinished_at x) x) at
+      grind (arith, nat_tests, unfinished_is)

@@ -13,7 +13,7 @@ use Rattle.sub_rules.specs.Events.{end_events, first_header_events, first_told}
 use Rattle.sub_rules.specs.Events.{order_events}
 use Rattle.sub_rules.specs.FrameRules.{Task}
 use Rattle.sub_rules.specs.PieceEvents.{all_announced, all_of_pieces, closing_of_pieces, announced}
-use Rattle.sub_rules.specs.PieceEvents.{ended_run, joins, marks_of_closing, marks_of_each}
+use Rattle.sub_rules.specs.PieceEvents.{ended_run, joins, marks_of_each}
 use Rattle.sub_rules.specs.PieceEvents.{marks_of_pieces, marks_of_sent, marks_of_waiting, no_run}
 use Rattle.sub_rules.specs.PieceEvents.{passed_after_all, sent_by_pieces, told_of_pieces}
 use Rattle.sub_rules.specs.Pieces.{Piece, frames_of, sent_after}
@@ -28,7 +28,7 @@ use Rattle.sub_rules.proofs.MarkEventLemmas.{marks_first, said_by, first_of_two}
 use Rattle.sub_rules.proofs.PieceEventLemmas.{all_first}
 use Rattle.sub_rules.proofs.TrustedLemmas.{past_after, told_after-append}
 use Rattle.sub_laws.proofs.SaidLemmas.{pieces_said, said, said-append, said-says}
-use Rattle.sub_rules.specs.Trusted.{Mark, at_pes, doubted_by, is_said, pes_told, run_of, tells_none}
+use Rattle.sub_rules.specs.Trusted.{Mark, at_pes, doubted_by, is_said, run_of, tells_none}
 use Rattle.sub_rules.specs.Trusted.{told_after, told_at, trusted_up_to}
 use Rattle.sub_rules.proofs.FrameEvents.{events}
 
@@ -39,12 +39,7 @@ both_none a b = grind (arith, nat_tests)
 
 two_none : (xs ys : List Event)
     → (first_told (xs ++ ys) ≡ None) ↔ ((first_told xs ≡ None) × (first_told ys ≡ None))
-two_none xs ys =
-    let two = first_of_two xs ys in
-    let both = both_none (first_told xs) (first_told ys) in (
-      λ none. both.0 (sym two ∙ none),
-      λ parts. two ∙ both.1 parts,
-    )
+two_none xs ys = grind (arith, nat_tests, first_of_two, both_none)
 
 -- No refusal is said of a PES packet exactly where none is said.
 none_said : (pes : ℕ) (ms : List Mark)
@@ -59,10 +54,7 @@ none_said pes (m ∷ ms) = none_said pes ms
 -- No refusal is told with marks exactly where none is among what they say.
 pub first_none : (t ms : List Mark)
     → (first_told (told_after t ms) ≡ None) ↔ (first_told (said ms) ≡ None)
-first_none t ms =
-    let same = marks_first t ms in
-    let none = none_said (pes_told t) ms in
-    (λ e. none.0 (sym same ∙ e), λ e. same ∙ none.1 e)
+first_none t ms = grind (arith, nat_tests, marks_first, none_said)
 
 -- ---- where nothing is told
 
@@ -156,32 +148,12 @@ module _ (g : Task) where
       ≡ said (marks_of_each g [] 0 pieces ++ marks_of_waiting g (sent_by_pieces g pieces))
       ++ closing_of_pieces g (sent_by_pieces g pieces) (length pieces)
       (length (sent_by_pieces g pieces))
-  said_parts pieces =
-      let frames = sent_by_pieces g pieces in
-      let before = marks_of_each g [] 0 pieces ++ marks_of_waiting g frames in
-      said-append before (marks_of_closing g frames (length pieces) (length frames))
-      ∙ ap (λ (es : List Event). said before ++ es) (said-says _)
+  said_parts pieces = grind (arith, nat_tests, said-append, said, said-says)
 
   told_none : (pieces : List Piece) → g.beside ≡ false
       → (told_of_pieces g pieces ≡ []) ↔ (said (marks_of_pieces g pieces) ≡ [])
   unfolding told_of_pieces
-  told_none pieces alone = (said_none [] (marks_of_pieces g pieces), quiet)
-    where
-      quiet : said (marks_of_pieces g pieces) ≡ []
-          → told_after [] (marks_of_pieces g pieces) ≡ []
-      quiet none =
-          let frames = sent_by_pieces g pieces in
-          let before = marks_of_each g [] 0 pieces ++ marks_of_waiting g frames in
-          let closing = closing_of_pieces g frames (length pieces) (length frames) in
-          let parts = append_empty (said before) closing (sym (said_parts pieces) ∙ none) in
-          let so_far =
-          quiet_so_far [] before refl
-          (before_open pieces).none parts.0 in
-          told_after-append [] before
-          (marks_of_closing g frames (length pieces) (length frames))
-          ∙ rw so_far.0
-          (closed_quiet (past_after [] before) (length pieces) _ g.beside closing alone parts.1
-          so_far.1)
+  told_none pieces alone = grind (arith, nat_tests, said_none, said, append_empty, said_parts, quiet_so_far, before_open, told_after-append, closed_quiet, past_after)
 
 -- Up to which piece a run goes is told only where something else is.
 announced_one : (e : Event) → announced no_run e ≡ e ∷ []
@@ -192,15 +164,8 @@ announced_one e = refl
 announced_empty : (es : List Event)
     → (all_announced no_run es ++ ended_run (passed_after_all no_run es) ≡ []) ↔ (es ≡ [])
 unfolding all_announced passed_after_all
-announced_empty [] = (λ e. refl, λ e. refl)
-announced_empty (e ∷ es) = (
-  λ none.
-      let parts = append_empty _ _ none in
-      let first = append_empty (announced no_run e) _ parts.0 in
-      let some = sym (announced_one e) ∙ first.0 in
-      cc,
-  λ none. cc,
-)
+announced_empty [] = grind (arith, nat_tests)
+announced_empty (e ∷ es) = grind (arith, nat_tests, append_empty, announced_one)
 
 module _ (g : Task) where
   -- A piece that is passed over is told.
@@ -218,18 +183,7 @@ module _ (g : Task) where
 
   said_sent : (pieces : List Piece) → first_told (said (marks_of_pieces g pieces)) ≡ None
       → length (frames_of pieces) ≡ length pieces
-  said_sent pieces none =
-      let frames = sent_by_pieces g pieces in
-      let each = marks_of_each g [] 0 pieces in
-      let waiting = marks_of_waiting g frames in
-      let closing = closing_of_pieces g frames (length pieces) (length frames) in
-      let parts =
-      (two_none (said (each ++ waiting)) closing).0
-      (ap first_told (sym (said_parts g pieces)) ∙ none) in
-      let first =
-      (two_none (said each) (said waiting)).0
-      (ap first_told (sym (said-append each waiting)) ∙ parts.0) in
-      each_sent [] 0 pieces first.0
+  said_sent pieces none = grind (arith, nat_tests, two_none, said, said_parts, said-append, each_sent)
 
   -- Nothing is told of pieces exactly where each is sent and nothing is told of what they send,
   -- where nothing is refused of the subtitle file.
@@ -237,16 +191,7 @@ module _ (g : Task) where
       → (all_of_pieces g pieces ≡ [])
       ↔ ((length (frames_of pieces) ≡ length pieces) × (events g (sent_by_pieces g pieces) ≡ []))
   unfolding all_of_pieces
-  pieces_untold pieces alone = (
-    λ none.
-        let quiet =
-        (told_none g pieces alone).0 ((announced_empty (told_of_pieces g pieces)).0 none) in
-        let sent = said_sent pieces (ap first_told quiet) in
-        (sent, sym (pieces_said g pieces sent) ∙ quiet),
-    λ parts.
-        (announced_empty (told_of_pieces g pieces)).1
-        ((told_none g pieces alone).1 (pieces_said g pieces parts.0 ∙ parts.1)),
-  )
+  pieces_untold pieces alone = grind (arith, nat_tests, told_none, announced_empty, said_sent, pieces_said)
 
   -- No refusal is told of them exactly where each is sent and none is told of what they send.
   pub pieces_unrefused : (pieces : List Piece)
@@ -254,12 +199,4 @@ module _ (g : Task) where
       ↔ ((length (frames_of pieces) ≡ length pieces)
       × (first_told (events g (sent_by_pieces g pieces)) ≡ None))
   unfolding all_of_pieces told_of_pieces
-  pieces_unrefused pieces =
-      let all = all_first (told_of_pieces g pieces) in
-      let said_first = first_none [] (marks_of_pieces g pieces) in (
-        λ none.
-            let quiet = said_first.0 (sym all ∙ none) in
-            let sent = said_sent pieces quiet in
-            (sent, ap first_told (sym (pieces_said g pieces sent)) ∙ quiet),
-        λ parts. all ∙ said_first.1 (ap first_told (pieces_said g pieces parts.0) ∙ parts.1),
-      )
+  pieces_unrefused pieces = grind (arith, nat_tests, all_first, first_none, said_sent, pieces_said)
