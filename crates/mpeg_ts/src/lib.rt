@@ -19,6 +19,7 @@ mod joining;
 mod mark;
 mod packet_size;
 mod part_bytes;
+mod passing;
 mod pes_source;
 mod pid;
 mod stream;

@@ -11,10 +11,9 @@ ghost use Rattle.mpeg_ts.specs.PacketSize.{bytes_of};
 ghost use Rattle.mpeg_ts.specs.PacketsInStep.{begins_packet, bytes_needed, lead_size};
 ghost use Rattle.mpeg_ts.specs.Stream.{after_packet, after_skipped, bytes_ahead, bytes_at_most};
 ghost use Rattle.mpeg_ts.specs.Stream.{given_of, gives_some, start_of_stream, still_given};
-ghost use Rattle.mpeg_ts.specs.Stream.{stream_gives};
-ghost use Rattle.mpeg_ts.specs.TransportPacket.{pid, sync_byte};
 
 use crate::joining::Joining;
+use crate::passing::{junk_size, packet_in, place_behind_others};
 use crate::transport_packet::{PACKET, SYNC_BYTE, pid_of};
 use crate::window::Window;
 use crate::{PacketSize, Pid};
@@ -74,73 +73,6 @@ fn packet_at(window: &Window, place: usize) -> &[u8; PACKET]
     ensures { result.now ≡ take 188 (drop place window.now.held) }
 {
     packet_in(window.held(), place)
-}
-
-// The packet at that place of bytes.
-#[inline(always)]
-fn packet_in(bytes: &[u8], place: usize) -> &[u8; PACKET]
-    requires { place + 188 ≤ length bytes.now }
-    ensures { result.now ≡ take 188 (drop place bytes.now) }
-{
-    let (_, ahead) = bytes.split_at(place);
-    ahead.first_chunk().unwrap()
-}
-
-// The place behind the packets of other PIDs that stand in the bytes from a place on: that of a
-// packet of the PID, of a byte that is no sync byte, or of fewer bytes than the distance.
-#[tactic(auto, using(crate::proofs::StreamLemmas::others))]
-fn place_behind_others(bytes: &[u8], from: usize, distance: usize, number: u16) -> usize
-    requires from { from ≤ length bytes.now }
-    requires near { 188 ≤ distance }
-    ensures from { from ≤ result }
-    ensures within { result ≤ length bytes.now }
-    ensures gives { (rest : List ℕ) (joining : JoiningValue)
-        → has_ended joining.part ≡ false
-        → joining.pending ≡ []
-        → stream_gives distance number 0 true joining rest
-        ≡ stream_gives distance number 0 true joining (drop from (take result bytes.now ++ rest)) }
-{
-    let mut at = from;
-    while bytes.len() - at >= distance {
-        let (_, unit) = bytes.split_at(at);
-        if unit[0] != SYNC_BYTE || unit_pid(unit) == number {
-            return at;
-        }
-        at += distance;
-    }
-    at
-}
-
-// How many bytes stand before the first sync byte: out of step no packet begins at one of them. The
-// last byte of a hole may not be among them.
-#[tactic(auto, using(crate::proofs::StreamLemmas::junk))]
-fn junk_size(bytes: &[u8]) -> usize
-    ensures within { result ≤ length bytes.now }
-    ensures gives { (distance number run : ℕ) (joining : JoiningValue) (rest : List ℕ)
-        → 188 ≤ distance
-        → (run < hole_size distance → run + result < hole_size distance)
-        → has_ended joining.part ≡ false
-        → joining.pending ≡ []
-        → stream_gives distance number (run + result) false joining rest
-        ≡ stream_gives distance number run false joining (take result bytes.now ++ rest) }
-{
-    let mut at = 0;
-    while at < bytes.len() {
-        if bytes[at] == SYNC_BYTE {
-            return at;
-        }
-        at += 1;
-    }
-    at
-}
-
-// The PID of the packet that begins the bytes.
-#[inline(always)]
-fn unit_pid(unit: &[u8]) -> u16
-    requires { 188 ≤ length unit.now }
-    ensures { result ≡ pid unit.now }
-{
-    (unit[1] % 0x20) as u16 * 0x100 + unit[2] as u16
 }
 
 impl Stream {
@@ -314,6 +246,7 @@ impl Stream {
 
     // Skips the bytes up to the next sync byte, as far as they were taken. A byte that may be the
     // last of a hole is left to `skip`.
+    #[inline(never)]
     #[tactic(auto, using(crate::proofs::StreamLemmas::junk))]
     fn skip_on(&mut self)
         requires idle { self.old.joining.pending ≡ [] }

@@ -3,7 +3,7 @@ use Rattle.std.proofs.Common.{◌≡◌, ◌≤◌, ◌-◌, ◌+◌, ◌<◌, L
 use Rattle.mpeg_ts.specs.GoodPackets.{hole_size}
 use Rattle.mpeg_ts.specs.Joining.{JoiningValue, has_ended}
 use Rattle.mpeg_ts.specs.Stream.{stream_gives}
-use Rattle.mpeg_ts.proofs.stream.junk_size.Given as goal
+use Rattle.mpeg_ts.proofs.passing.junk_size.Given as goal
 
 abbrev pub invariant-loop-at : goal.invariant-loop-at
 invariant-loop-at l = record {

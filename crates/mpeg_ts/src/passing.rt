@@ -1,0 +1,77 @@
+//! Bytes that are passed over where they stand: packets of other PIDs, and bytes that belong to no
+//! packet.
+ghost use Rattle.std.specs.Prelude.{◌≡◌, ◌+◌, ◌<◌, ◌≤◌, List, ℕ, [], ◌++◌, drop, take, length, false};
+ghost use Rattle.std.specs.Prelude.{slice_index, true};
+ghost use Rattle.mpeg_ts.specs.GoodPackets.{hole_size};
+ghost use Rattle.mpeg_ts.specs.Joining.{JoiningValue, has_ended};
+ghost use Rattle.mpeg_ts.specs.Stream.{stream_gives};
+ghost use Rattle.mpeg_ts.specs.TransportPacket.{pid, sync_byte};
+
+use crate::transport_packet::{PACKET, SYNC_BYTE};
+
+// The packet at that place of bytes.
+#[inline(always)]
+pub(crate) fn packet_in(bytes: &[u8], place: usize) -> &[u8; PACKET]
+    requires { place + 188 ≤ length bytes.now }
+    ensures { result.now ≡ take 188 (drop place bytes.now) }
+{
+    let (_, ahead) = bytes.split_at(place);
+    ahead.first_chunk().unwrap()
+}
+
+// The place behind the packets of other PIDs that stand in the bytes from a place on: that of a
+// packet of the PID, of a byte that is no sync byte, or of fewer bytes than the distance.
+#[tactic(auto, using(crate::proofs::StreamLemmas::others))]
+pub(crate) fn place_behind_others(bytes: &[u8], from: usize, distance: usize, number: u16) -> usize
+    requires from { from ≤ length bytes.now }
+    requires near { 188 ≤ distance }
+    ensures from { from ≤ result }
+    ensures within { result ≤ length bytes.now }
+    ensures gives { (rest : List ℕ) (joining : JoiningValue)
+        → has_ended joining.part ≡ false
+        → joining.pending ≡ []
+        → stream_gives distance number 0 true joining rest
+        ≡ stream_gives distance number 0 true joining (drop from (take result bytes.now ++ rest)) }
+{
+    let mut at = from;
+    while bytes.len() - at >= distance {
+        let (_, unit) = bytes.split_at(at);
+        if unit[0] != SYNC_BYTE || unit_pid(unit) == number {
+            return at;
+        }
+        at += distance;
+    }
+    at
+}
+
+// How many bytes stand before the first sync byte: out of step no packet begins at one of them. The
+// last byte of a hole may not be among them.
+#[tactic(auto, using(crate::proofs::StreamLemmas::junk))]
+pub(crate) fn junk_size(bytes: &[u8]) -> usize
+    ensures within { result ≤ length bytes.now }
+    ensures gives { (distance number run : ℕ) (joining : JoiningValue) (rest : List ℕ)
+        → 188 ≤ distance
+        → (run < hole_size distance → run + result < hole_size distance)
+        → has_ended joining.part ≡ false
+        → joining.pending ≡ []
+        → stream_gives distance number (run + result) false joining rest
+        ≡ stream_gives distance number run false joining (take result bytes.now ++ rest) }
+{
+    let mut at = 0;
+    while at < bytes.len() {
+        if bytes[at] == SYNC_BYTE {
+            return at;
+        }
+        at += 1;
+    }
+    at
+}
+
+// The PID of the packet that begins the bytes.
+#[inline(always)]
+fn unit_pid(unit: &[u8]) -> u16
+    requires { 188 ≤ length unit.now }
+    ensures { result ≡ pid unit.now }
+{
+    (unit[1] % 0x20) as u16 * 0x100 + unit[2] as u16
+}
