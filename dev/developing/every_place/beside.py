@@ -2,7 +2,7 @@
 prints, worked out by hand.
 
 A subtitle is written as its frames, counted from 10:00:00:00, and its text: `0 50 Hi`. A
-transmission is written as in `within`; `k` is a header that keeps the page.
+transmission is written as in `within`.
 """
 from __future__ import annotations
 
@@ -15,18 +15,23 @@ from .one_file import CS, JC, TCO
 from .one_rule import FIRST
 from .within import pes_file
 
-TEXTS = {"Hi": HI, "Ho": HI.replace(b"i", b"o"), "Bad": HI.replace(b"i", b"\xe6")}
+# A text and the row of its first line.
+TEXTS = {"Hi": (22, HI), "Ho": (22, HI.replace(b"i", b"o")), "Bad": (22, HI.replace(b"i", b"\xe6")),
+         "Up": (20, HI), "Two": (20, HI + b"\x8a\x8a" + HI)}
+
+Asked = tuple[str, ...]  # words, and the lines that are told then
 
 
 def stl_of(subtitles: str, *changes: tuple[int, int]) -> bytes:
     """A file of these subtitles, with these bytes at places of the second one's block."""
     blocks = b""
     for number, (tci, tco, text) in enumerate(map(str.split, subtitles.split(","))):
-        blocks += subtitle_blocks(number, FIRST + int(tci), FIRST + int(tco), 22, 2, TEXTS[text])
+        row, letters = TEXTS[text]
+        blocks += subtitle_blocks(number, FIRST + int(tci), FIRST + int(tco), row, 2, letters)
     return poked(HELLO[:GSI] + blocks, {GSI + TTI + at: byte for at, byte in changes})
 
 
-def of_files(stl: bytes, pes: bytes, *asked: tuple[str, ...]) -> list[KnownCall]:
+def of_files(stl: bytes, pes: bytes, *asked: Asked) -> list[KnownCall]:
     """A pair with each of some words, and what is told then."""
     made = []
     for words, *lines in asked:
@@ -37,7 +42,7 @@ def of_files(stl: bytes, pes: bytes, *asked: tuple[str, ...]) -> list[KnownCall]
     return made
 
 
-def of_pair(subtitles: str, packets: str, *asked: tuple[str, ...],
+def of_pair(subtitles: str, packets: str, *asked: Asked,
             changes: tuple[tuple[int, int], ...] = ()) -> list[KnownCall]:
     """The same of subtitles and packets, both written."""
     made = of_files(stl_of(subtitles, *changes), pes_file(packets), *asked)

@@ -1,7 +1,7 @@
 """Pairs with the lines that `check --all --within N` prints of them, worked out by hand.
 
 A transmission is written as in `one_rule`: `o` is row 22 with an o in place of its i, and `e` with
-an even byte in place of its H, and `k` is a header that keeps the page.
+an even byte in place of its H. What `keeping` has besides is named there.
 """
 from __future__ import annotations
 
@@ -12,10 +12,13 @@ from .calls import KnownCall, known_pair
 from .known import (
     EARLY_WRONG, HELLO, LAST, ROW, SENT, accepted, ended, poked, refused, stands, told, trusted,
     wrong)
-from .one_rule import CLOSING, FIRST, HEADER, PAGE, header, pes_packets_of
+from .one_rule import CLOSING, FIRST, HEADER, PAGE, coded, header, pes_packets_of
 
+KEEPS, SUBCODE_1 = header(c4="15"), {4: 0x02}
 PACKETS = {"h": HEADER, "r": ROW, "c": CLOSING, "o": poked(ROW, {22: 0xEF}),
-           "e": poked(ROW, {21: 0x48}), "k": header(c4="15")}
+           "e": poked(ROW, {21: 0x48}), "s": coded("15 9B"), "r2": poked(ROW, {1: 0x8C}),
+           "k": KEEPS, "x": header(c4="15", c5_c6="15"), "k1": poked(KEEPS, SUBCODE_1),
+           "h1": poked(HEADER, SUBCODE_1), "p": coded("15 15 15 02 15 D0 15 15 15 15")}
 
 
 def pes_file(packets: str, *changes: tuple[int, int, int]) -> bytes:

@@ -10,11 +10,13 @@ from random import Random
 from developing.every_place.beside import OF_KEEPING, OF_PARTS, OF_REFUSED
 from developing.every_place.calls import KnownCall, answer_to
 from developing.every_place.carried_laws import LAWS, random_packets
+from developing.every_place.keeping import KNOWN_KEEPING, OF_PACE
 from developing.every_place.mistakes import Mistake, told_apart
 from developing.every_place.recorded import RECORDED
 from developing.every_place.recordings import UNSEEN
 from developing.every_place.streams import multiplexed, with_losses
 from developing.every_place.trying import status_of
+from developing.every_place.wrong_keeping import OF_SILENCE, WRONG_KEEPING
 from developing.every_place.wrong_recordings import WRONG
 
 SEEDS = 150
@@ -34,6 +36,12 @@ class Known(unittest.TestCase):
 
     def test_beside_refused_subtitles(self) -> None:
         self.have_answers([*OF_REFUSED, *OF_KEEPING, *OF_PARTS])
+
+    def test_headers_that_keep(self) -> None:
+        self.have_answers(KNOWN_KEEPING)
+
+    def test_pauses(self) -> None:
+        self.have_answers(OF_PACE)
 
 
 class Statuses(unittest.TestCase):
@@ -62,6 +70,12 @@ class Told(unittest.TestCase):
 
     def test_mistakes_in_recordings(self) -> None:
         self.are_told(WRONG, "recorded", "RECORDED")
+
+    def test_mistakes_of_headers_that_keep(self) -> None:
+        self.are_told(WRONG_KEEPING, "keeping", "KNOWN_KEEPING")
+
+    def test_mistakes_of_pauses(self) -> None:
+        self.are_told(OF_SILENCE, "keeping", "OF_PACE")
 
 
 class Promised(unittest.TestCase):
