@@ -5,13 +5,14 @@ from __future__ import annotations
 
 import io
 from random import Random
+from typing import NamedTuple
 
 from subtitles.core.layout import FLAGS, NUMBERS
 from subtitles.core.pes import pes_packet, pes_packets, pts_in
 from subtitles.core.stl import GSI, TTI
-from subtitles.core.teletext import CODE_WORDS, NUMBER
+from subtitles.core.teletext import CODE_WORDS, NUMBER, odd, packet as teletext_packet
 from subtitles.core.times import FRAMES_OF_A_DAY, frame_of_code, time_code, time_of
-from .broken import MOST_LINES, teletext_in
+from .broken import LETTERS, MOST_LINES, teletext_in
 
 DISPLAY = 11  # where a GSI block has its DSC
 TAKES_KEEPING = False  # whether the program has --keeping: not yet
@@ -19,7 +20,7 @@ CODES = [0x0A, 0x0B, 0x0B, 0x0D, 0x07, 0x03, 0x01, 0x0C]
 WRONG_LAYOUTS = ["", "fit,fit", "Fit", "before=0", "left=40", "after=0A*", "row=+1", "strip=20"]
 WRONG_PACES = ["0", "2160001", "", "x", "+1", "00000000001"]
 WRONG_TIMES = ["", "24:00:00:00", "1:00:00:00", "10:00:00:25", "10:00:00"]
-SUBCODE, S2_C4 = 4, 5  # places of a header's numbers among its bytes
+SUBCODE, S2_C4, S4_C6 = 4, 5, 7  # places of a header's numbers among its bytes
 
 
 def codes(chance: Random, most: int, some: list[int]) -> str:
@@ -70,25 +71,72 @@ def as_open(stl: bytes, chance: Random) -> bytes:
     return stl[:DISPLAY] + chance.choice([b"0", b"0", b" ", b"3"]) + stl[DISPLAY + 1:]
 
 
+class Repeats(NamedTuple):
+    """How a house sends pages again: how often a header keeps the page where it is the one before
+    once more, and where it is another one; how often what such a header is sent with is otherwise,
+    and whether each page has a subcode of its own."""
+
+    often: float
+    seldom: float
+    wrong: float
+    turns: bool
+
+
+def with_header(chance: Random, teletext: list[bytes], subcode: int, keeps: bool) -> None:
+    """The header in front with this subcode, and with C4 clear where it keeps the page; seldom with
+    C6 clear too."""
+    head = bytearray(teletext[0])
+    head[SUBCODE] = CODE_WORDS[subcode]
+    if keeps:
+        head[S2_C4] = CODE_WORDS[(NUMBER[head[S2_C4]] or 0) & 7]
+    if keeps and chance.random() < 0.02:
+        head[S4_C6] = CODE_WORDS[(NUMBER[head[S4_C6]] or 0) & 7]
+    teletext[0] = bytes(head)
+
+
+def send_otherwise(chance: Random, teletext: list[bytes]) -> None:
+    """What stands behind a header otherwise than it was sent before: a row less, or more, or with
+    another byte, no closing header, rows where the page is not open, or the header once more."""
+    at, way = chance.randrange(1, len(teletext)), chance.randrange(9)
+    one = bytearray(teletext[at])
+    if way < 3:
+        del teletext[at]
+    elif way == 3:
+        one[chance.randrange(2, 42)] ^= 0x80
+        teletext[at] = bytes(one)
+    elif way == 4:
+        one[chance.randrange(10, 42)] = odd(chance.choice(LETTERS))
+        teletext[at] = bytes(one)
+    elif way == 5:
+        text = chance.choice([b" " * 40, bytes(chance.choices(LETTERS, k=40))])
+        teletext.insert(at, teletext_packet(0, chance.randrange(1, 25), [], text))
+    elif way == 6:  # the page ends before a row, or does not
+        teletext.insert(chance.randrange(len(teletext)), teletext.pop())
+    elif way == 7:
+        teletext.pop()
+    else:
+        teletext.insert(chance.randrange(1, len(teletext) + 1), teletext[0])
+
+
 def without_erasing(chance: Random, pes: bytes) -> bytes:
     """A transmission with headers that keep the page, most often where it is sent again; seldom
-    with a row left out there, or another subcode."""
+    with something else behind them there, or another subcode."""
     made: list[bytes] = []
     before: list[bytes] = []
-    often = chance.choice([0.3, 0.9, 1.0])
+    repeats = Repeats(chance.choice([0.3, 0.9, 1.0]), chance.choice([0, 0, 0, 0.08, 1.0]),
+                      chance.choice([0, 0, 0, 0.04, 0.2]), chance.random() < 0.1)
+    subcode = chance.choice([0, 0, 1])
     for packet in pes_packets(io.BytesIO(pes)):
         teletext = teletext_in(bytearray(packet))
         is_repeat = teletext == before
         before = list(teletext)
-        if teletext and chance.random() < (often if is_repeat else 0.08):
-            head = bytearray(teletext[0])
-            number = NUMBER[head[S2_C4]]
-            head[S2_C4] = CODE_WORDS[(number or 0) & 7]
-            if chance.random() < 0.04:
-                head[SUBCODE] = CODE_WORDS[chance.randrange(4)]
-            teletext[0] = bytes(head)
-            if len(teletext) > 2 and chance.random() < 0.06:
-                del teletext[chance.randrange(1, len(teletext))]
+        if repeats.turns and not is_repeat or chance.random() < repeats.wrong / 4:
+            subcode = chance.randrange(4)
+        if teletext:
+            keeps = chance.random() < (repeats.often if is_repeat else repeats.seldom)
+            with_header(chance, teletext, subcode, keeps)
+            if keeps and len(teletext) > 1 and chance.random() < repeats.wrong:
+                send_otherwise(chance, teletext)
         made.append(pes_packet(pts_in(packet), teletext) if len(teletext) < MOST_LINES
                     else bytes(packet))
     return b"".join(made)

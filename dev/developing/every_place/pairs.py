@@ -231,9 +231,10 @@ def with_refused(house: Random, stl: bytes, words: list[str], is_sure: bool) -> 
     return stl
 
 
-def random_pair(seed: int, schedule: Schedule, is_refused: bool = False) -> Pair:
-    """A pair at random; where that is asked, some of its subtitles are refused. `schedule` gives
-    the transmission of a subtitle file, by words."""
+def random_pair(seed: int, schedule: Schedule, is_refused: bool = False,
+                is_keeping: bool = False) -> Pair:
+    """A pair at random; where that is asked, some of its subtitles are refused, or headers keep the
+    page. `schedule` gives the transmission of a subtitle file, by words."""
     chance, house = Random(seed), Random(f"house {seed}")
     words = random_words(chance)
     subtitles = random_subtitles(chance, words["--option"])
@@ -249,9 +250,9 @@ def random_pair(seed: int, schedule: Schedule, is_refused: bool = False) -> Pair
     if not pes:  # there is nothing to send by these words
         drawn = part = []
         pes = schedule(stl, [*listed(words), *flags, *mode])
-    if keeps := TAKES_KEEPING and house.random() < 0.2:
+    if keeps := is_keeping or TAKES_KEEPING and house.random() < 0.2:
         pes = without_erasing(house, pes)
-        flags += ["--keeping"] if house.random() < 0.85 else []
+        flags += ["--keeping"] if house.random() < 0.9 else []
     is_late = chance.random() < (0.9 if within else 0.1)
     if is_late:
         pes = sent_late(chance, pes, within or chance.randrange(3), int(words["--origin"]))

@@ -83,11 +83,12 @@ def whole_pair(chance: Random, schedule: Schedule) -> Pair:
     return Pair(stl, schedule(stl, listed(words)), listed(words))
 
 
-def random_calls(seed: int, schedule: Schedule) -> list[Call]:
-    """Calls about a stream at random that carries a transmission at random. `schedule` gives the
-    transmission of a subtitle file, by words."""
+def random_calls(seed: int, schedule: Schedule, is_keeping: bool = False) -> list[Call]:
+    """Calls about a stream at random that carries a transmission at random, of which headers keep
+    the page where that is asked. `schedule` gives the transmission of a subtitle file, by words."""
     chance = Random(f"recording {seed}")
-    pair = whole_pair(chance, schedule) if chance.random() < 0.6 else random_pair(seed, schedule)
+    pair = whole_pair(chance, schedule) if chance.random() < 0.6 and not is_keeping else \
+        random_pair(seed, schedule, False, is_keeping)
     packets = pieces_of(pair.pes)[0][:MOST_PACKETS]
     pid, size = chance.choice([0x101, 0x1001, chance.randrange(0x1FFF)]), chance.choice(SIZES)
     stream = random_stream(chance, packets, pid, size)

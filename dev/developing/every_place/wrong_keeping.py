@@ -16,7 +16,8 @@ IN_DEFINITIONS = [
     ("all that was sent held where no header erases", "(erasing[-1:] or headers[:1])",
      "(erasing[-1:] or headers[-1:])"),
     ("the page kept from its first header on", "(erasing[-1:] or headers[:1])", "headers[:1]"),
-    ("rows held that came while the page was not open", "        elif is_open:\n", "        else:\n"),
+    ("rows held that came while the page was not open", "        elif is_open:\n",
+     "        else:\n"),
     ("a subcode that is not compared",
      "(last is None or subcode_of(last.data) == subcode_of(packet.data))", "True"),
     ("a subcode compared with the last header that erases",
@@ -46,7 +47,8 @@ WRONG_KEEPING = [
 
 # The same of how far apart PES packets are.
 OF_SILENCE = [
-    Mistake("79 of headers of the page", "definitions", "for one in sent)}", "for one in headers)}"),
+    Mistake("79 of headers of the page", "definitions", "for one in sent)}",
+            "for one in headers)}"),
     Mistake("a pace of one frame less", "definitions", "frame < one + options.pace for",
             "frame < one + options.pace - 1 for"),
     Mistake("a pace of one frame more", "definitions", "frame < one + options.pace for",
