@@ -8,8 +8,8 @@ spaces.
 """
 from __future__ import annotations
 
-from .beside import ALL, Asked, of_pair
-from .calls import Answer, Call, KnownCall
+from .beside import Asked, of_pair
+from .calls import ALL, Answer, Call, KnownCall
 from .known import LAST, accepted, refused, stands, trusted, wrong
 from .within import pes_file
 

@@ -11,7 +11,8 @@ from subtitles.qc.asked import Asked, add_pair_options, asked_with
 from subtitles.qc.checking import Answer
 from subtitles.qc.clock import GIVEN, Clock
 from subtitles.qc.verdict import Part
-from subtitles.reading.survey import Packets, survey
+from subtitles.reading.packets import Packets
+from subtitles.reading.survey import survey
 from subtitles.reading.timeline import Timeline
 from .bench import Case
 

@@ -21,7 +21,7 @@ from subtitles.core.times import ALL_DAY, Between
 from subtitles.core.told import told_of
 from subtitles.qc.beside import Counts, beside_of, due_beside, is_judged_beside
 from subtitles.qc.subtitle_file import SubtitleFile
-from subtitles.reading.survey import Packets, Run
+from subtitles.reading.packets import Packets, Run
 from .bench import Case, packets
 from .judged import Judged, joined, judged, late, sendings
 from .parts import answer, part_with

@@ -18,8 +18,8 @@ from subtitles.core.told import told_of
 from subtitles.qc.delays import frames_of
 from subtitles.qc.due_pages import DuePages
 from subtitles.qc.naming import Causes
+from subtitles.reading.packets import Packets
 from subtitles.reading.receiver import BLANK_PAGE, Rows
-from subtitles.reading.survey import Packets
 from subtitles.reading.timeline import Span, Timeline
 from .. import DEV
 from .parts import PAGE

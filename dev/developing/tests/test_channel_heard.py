@@ -16,7 +16,8 @@ from subtitles.core.times import CLOCK, TICKS
 from subtitles.core.words import Stop
 from subtitles.qc.unclear import Unclear
 from subtitles.reading.moving import way_of
-from subtitles.reading.survey import Announced, Programme, Run
+from subtitles.reading.packets import Run
+from subtitles.reading.survey import Announced, Programme
 from .bench import Case
 from .listings import SECOND, Lines
 from .parts import CLOSING, HEADER, PAGE, row

@@ -23,7 +23,7 @@ from subtitles.qc.asked import add_pair_options, asked_of_line
 from subtitles.qc.clock import START, Clock
 from subtitles.qc.delays import frames_until
 from subtitles.qc.fitting import Found, refuse, with_delay
-from subtitles.reading.survey import Packets
+from subtitles.reading.packets import Packets
 from subtitles.reading.timeline import FEW, Span, Timeline
 from subtitles.qc.names import Names
 from subtitles.qc.options import passed_words

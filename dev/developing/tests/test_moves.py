@@ -10,7 +10,8 @@ from subtitles.qc.clock import RECORDING, Clock
 from subtitles.qc.fitting import Found
 from subtitles.qc.moved import Piece, moves_told, pieces_of
 from subtitles.reading.moving import Stage, joined, part_inside, stages_of
-from subtitles.reading.survey import Packets, Run, survey
+from subtitles.reading.packets import Packets, Run
+from subtitles.reading.survey import survey
 from .bench import Case, moved, packets
 from .judged import in_pipe, judged, programme
 from .muxed import MPEG_2, PRIVATE, TELETEXT_PID, VIDEO_PID, Maker, teletext_descriptor

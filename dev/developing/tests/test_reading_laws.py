@@ -11,8 +11,8 @@ from subtitles.core.times import CLOCK, FRAMES_OF_A_DAY, TICKS, frame_in
 from subtitles.reading.alignment import AGAIN, Edge, Shown, bases_of, edges_of
 from subtitles.reading.cutting import cut_of
 from subtitles.reading.finding import Origin, Sought, packets_of as packets_of_run, take_one, take_parts
+from subtitles.reading.packets import Change, Packets, Run
 from subtitles.reading.stretches import by_breaks, find_row, parts_of, runs_of
-from subtitles.reading.survey import Change, Packets, Run
 
 SEEDS = range(20)
 Sending = tuple[int, bytes]  # a PTS that does not wrap, and the letters of the page then

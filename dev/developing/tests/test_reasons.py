@@ -9,8 +9,8 @@ from subtitles.qc.due_pages import DuePages
 from subtitles.qc.pes_header import header_length, header_words
 from subtitles.reading.finding import other_words
 from subtitles.reading.gaps import Place, places_of, what_of
+from subtitles.reading.packets import Clocked, Mark, Packets, Run
 from subtitles.reading.subcodes import subcode_of, turns_of
-from subtitles.reading.survey import Clocked, Mark, Packets, Run
 from .bench import Case, packets
 from .judged import Sent, in_pipe, joined, judged, programme, sendings
 from .muxed import AHEAD, TELETEXT_PID, Maker, components, put_teletext

@@ -27,7 +27,8 @@ from subtitles.qc.within import Trying, is_accepted, line_of
 from subtitles.reading.cutting import Cut
 from subtitles.reading.finding import OfPart, Origin, Sought
 from subtitles.reading.gaps import Jump
-from subtitles.reading.survey import Announced, Packets
+from subtitles.reading.packets import Packets
+from subtitles.reading.survey import Announced
 from .bench import Case
 from .parts import CLOSING, HEADER, PAGE, asked_for, packets_told
 from .test_character_sets import naming

@@ -13,8 +13,9 @@ from subtitles.qc.steps import Steps
 from subtitles.reading.cutting import cut_of
 from subtitles.reading.finding import drift_of
 from subtitles.reading.gaps import SECOND, Jump, Place, jumps_of, line_of, places_of, what_of
+from subtitles.reading.packets import Clocked, Mark, Packets, Run
 from subtitles.reading.stretches import LACKED, Stretch, by_breaks
-from subtitles.reading.survey import Clocked, Mark, Packets, Run, Survey
+from subtitles.reading.survey import Survey
 from subtitles.reading.timing import strange_of
 from .parts import asked_for
 

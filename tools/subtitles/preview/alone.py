@@ -25,7 +25,8 @@ from ..qc.sums import Files
 from ..qc.typed import line_of as command_of
 from ..qc.unclear import Unclear
 from ..qc.verdict import Part, Verdict
-from ..reading.survey import PES, Packets, survey
+from ..reading.packets import PES, Packets
+from ..reading.survey import survey
 from .program import NoReport, Program
 from .report import Report, Subject
 

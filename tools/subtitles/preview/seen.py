@@ -10,8 +10,8 @@ from typing import Iterator, NamedTuple
 from ..core.spans import Span, Spans
 from ..core.teletext import page_name, page_of
 from ..core.times import FRAMES_OF_A_DAY, NO_FRAME
+from ..reading.packets import HEADER
 from ..reading.receiver import Rows, State, control_words
-from ..reading.survey import HEADER
 from ..reading.timeline import Timeline
 from .program import Verdict
 

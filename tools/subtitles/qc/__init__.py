@@ -32,6 +32,7 @@ made_with     the program, and what PROVED says of it
 why           why the content of a part is refused
 naming        the causes of a list
 causes        the cause of a subtitle, by what is due and what is held
+sendings      which page transmission is of which subtitle
 due_pages     the subtitles with the pages that are due
 beside        what is judged beside subtitles that are refused
 lettering     what a person reads on a page, and where two differ

@@ -17,8 +17,8 @@ from ..core.teletext import Page
 from ..core.times import TICKS, frame_of_code
 from ..core.told import CHARACTER, EMPTY, LETTERS, STL_FAULTS, UNDECIDED, Told
 from ..core.words import counted
+from ..reading.packets import PES, Packets, Run
 from ..reading.receiver import BLANK_PAGE, Rows
-from ..reading.survey import PES, Packets, Run
 from ..reading.timeline import Timeline
 from .due_pages import DuePages
 from .fault_words import WORDS

@@ -5,8 +5,8 @@ import itertools
 from typing import NamedTuple, Sequence
 
 from ..core.told import CONTROL, GAP, Told
+from ..reading.packets import Packets, Run
 from ..reading.receiver import OLD, Rows
-from ..reading.survey import Packets, Run
 from ..reading.timeline import Timeline
 
 

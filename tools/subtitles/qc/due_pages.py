@@ -12,8 +12,9 @@ from ..core.files import temporary_folder, whole_bytes
 from ..core.programme import Programme, Subtitle, subtitles_read, subtitles_shown
 from ..core.teletext import Page, page_name
 from ..core.times import ALL_DAY, Between
+from ..reading.packets import PES, Packets
 from ..reading.receiver import BLANK_PAGE, Rows
-from ..reading.survey import PES, Packets, survey
+from ..reading.survey import survey
 from ..reading.timeline import Timeline
 from .lettering import words_on
 from .unclear import Unclear

@@ -7,7 +7,8 @@ from typing import Callable
 from ..core.times import FRAMES_OF_A_DAY, TICKS, frame_in, ticks_between, wrapped
 from ..reading.cutting import Cut, cut_of
 from ..reading.finding import Agreement, Origin
-from ..reading.survey import Packets, Survey
+from ..reading.packets import Packets
+from ..reading.survey import Survey
 from ..reading.timing import late_of
 from .asked import Asked
 from .start import Began, began, is_known

@@ -17,7 +17,8 @@ from typing import BinaryIO, Iterator
 from ..core.files import STANDARD
 from ..core.words import counted, stream_words
 from ..reading.moving import joined, stages_of
-from ..reading.survey import PES, Mark, Packets, Survey, survey, words_of
+from ..reading.packets import PES, Mark, Packets
+from ..reading.survey import Survey, survey, words_of
 from .asked import Asked
 from .ending import Ending
 from .speech import Speech

@@ -7,7 +7,7 @@ from typing import NamedTuple, Sequence
 from ..core.times import TICKS, time_of
 from ..core.words import counted
 from ..reading.finding import Origin
-from ..reading.survey import Range
+from ..reading.packets import Range
 from .clock import RECORDING, Clock
 from .unclear import Unclear
 

@@ -11,9 +11,9 @@ from ..core.told import (
     PASSED_OVER, Told)
 from ..core.words import MOST_EVERY, counted, pid_name
 from ..reading.gaps import why_refused
+from ..reading.packets import HEADER
 from ..reading.receiver import national_option
 from ..reading.repeat import longest_gap
-from ..reading.survey import HEADER
 from .asked import Asked
 from .cells import place_of
 from .midnight import midnight_words

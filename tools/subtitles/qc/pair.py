@@ -11,7 +11,7 @@ from ..core.times import ALL_DAY, time_of
 from ..core.told import CONTENT, CONTROL, EMPTY, LOST_PACKETS, WITH_CAUSE
 from ..core.words import Stop, counted, pid_name
 from ..reading.finding import runs_line
-from ..reading.survey import HEADER
+from ..reading.packets import HEADER
 from ..reading.timeline import Span, timeline_near
 from . import warned
 from .asked import Asked

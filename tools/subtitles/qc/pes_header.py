@@ -5,7 +5,7 @@ Teletext has PES headers of 45 bytes and PES packets of 184 N bytes (EN 300 472,
 from __future__ import annotations
 
 from ..core.words import pid_name
-from ..reading.survey import PES
+from ..reading.packets import PES
 
 LOOKED_AT = 1 << 26  # bytes
 BEGINS, ADAPTED = 0x40, 0x20  # bits of a TS packet's second byte, and of its fourth

@@ -13,7 +13,8 @@ from ..core.times import ticks_between
 from ..core.words import PACKET_SIZES, Stop, counted, shown, stream_words
 from ..reading.gaps import TOLD, Place, line_of, places_of, why_refused
 from ..reading.moving import Stage, joined, stages_of
-from ..reading.survey import PES, Packets, Survey, survey, words_of
+from ..reading.packets import PES, Packets
+from ..reading.survey import Survey, survey, words_of
 from ..reading.timing import reach_of
 from .asked import Asked
 from .ending import Ending

@@ -8,7 +8,8 @@ from ..core.stl import GSI
 from ..core.times import (
     EARLY, TICKS, frame_in, frame_of, frame_of_code, ticks_between, time_of, wrapped)
 from ..core.words import counted, pid_name, shown
-from ..reading.survey import Packets, Survey
+from ..reading.packets import Packets
+from ..reading.survey import Survey
 from .asked import Asked
 from .clock import START, TCP, Clock
 from .unclear import Unclear

@@ -12,7 +12,7 @@ from ..core.told import STL_FAULTS, number_of
 from ..core.words import Stop, line_of
 from ..reading.cutting import Cut, cut_of
 from ..reading.finding import Origin, Sought, find
-from ..reading.survey import Packets, Range
+from ..reading.packets import Packets, Range
 from ..reading.timeline import LEAST
 from .asked import MOST_TRIED, Asked
 from .checking import Answer, check

@@ -9,8 +9,8 @@ from ..core.national import BY_BITS, RESERVED
 from ..core.times import ALL_DAY, Between, time_of
 from ..core.told import EMPTY, LOST_PACKETS, PASSED_OVER, STL_FAULTS
 from ..reading.gaps import Place
+from ..reading.packets import PES, Packets, Range
 from ..reading.receiver import national_option
-from ..reading.survey import PES, Packets, Range
 from ..reading.timeline import Timeline
 from . import sentence
 from .asked import Asked

@@ -8,8 +8,9 @@ from ..core.times import FRAMES_OF_A_DAY, NO_FRAME, frame_in, frames_at, time_of
 from ..core.words import counted, pid_name, shown
 from ..reading.gaps import SECOND, jumps_of
 from ..reading.languages import ANY, names_of
+from ..reading.packets import Packets
 from ..reading.repeat import measured
-from ..reading.survey import KINDS, SUBTITLE_KINDS, Announced, Packets, Survey
+from ..reading.survey import KINDS, SUBTITLE_KINDS, Announced, Survey
 from ..reading.timeline import FEW, PAUSE
 from ..reading.timing import SAID, strange_of
 from .asked import LC, Asked

@@ -2,6 +2,7 @@
 
 Nothing here judges, and no byte of a recording is read: `subttx survey` reads it.
 
+packets      PES packets of a PID as values
 survey       what `survey` tells of a recording, as values
 timeline     what a receiver holds of a page when
 streams      the PES packets of a PID, for the tools that are told it

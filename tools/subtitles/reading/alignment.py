@@ -16,7 +16,7 @@ import operator
 from typing import Hashable, Iterator, NamedTuple, Sequence
 
 from ..core.times import EARLY, TICKS, wrapped
-from .survey import HEADER, Change, Packets, Range, Texts
+from .packets import HEADER, Change, Packets, Range, Texts
 
 VOTES = 1_000_000  # pairs of edges and changes; of longer files some changes vote for all
 REPEATED = 20  # subtitles with the same letters; where there are more, their text does not vote

@@ -8,7 +8,7 @@ from ..core.files import whole_bytes
 from ..core.stl import frames_of_all, readable
 from ..core.times import FRAMES_OF_A_DAY, TICKS, frame_in, pts_of, ticks_between, time_of
 from ..core.words import Stop, counted
-from .survey import BLANK, CLOSED, ERASE, HEADER, OPEN, Packets, Range, Run
+from .packets import BLANK, CLOSED, ERASE, HEADER, OPEN, Packets, Range, Run
 
 SKIPPED = 1 << 31  # ticks of a run that may be skipped: it does not reach around the clock
 AFTER = 2  # PES packets in a row after the last frame, with which reading ends

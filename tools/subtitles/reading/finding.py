@@ -12,9 +12,9 @@ from ..core.times import (
     time_of, wrapped)
 from ..core.words import Stop, counted, range_words
 from .alignment import MOST_APART, Base, Fit, Shown, bases_of
+from .packets import STRAY, Packets, Range
 from .stretches import IN_A_ROW, Part, Run, Stretch, by_breaks, find_row, parts_of, runs_of
 from .subcodes import subcode_words, turns_of
-from .survey import STRAY, Packets, Range
 
 NEAR = 10 * FRAMES_A_SECOND  # to the origin 0
 NAMED = 5  # origins that are as good, or other pages

@@ -6,7 +6,7 @@ from typing import Iterator, NamedTuple
 
 from ..core.times import TICKS, ticks_between, time_of, wrapped
 from ..core.words import counted, pid_name
-from .survey import Clocked, Packets
+from .packets import Clocked, Packets
 
 SECOND = 90_000  # ticks
 TOLD = 20  # places that are told one by one

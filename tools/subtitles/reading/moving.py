@@ -9,7 +9,8 @@ from ..core.teletext import Page
 from ..core.times import frame_in, ticks_between, wrapped
 from ..core.words import pid_name
 from .gaps import SECOND
-from .survey import HEADER, Packets, Programme, Range, Survey
+from .packets import HEADER, Packets, Range
+from .survey import Programme, Survey
 
 MOST_OVERLAP, MOST_PAUSE = 10 * SECOND, 3600 * SECOND  # ticks between two of them
 

@@ -8,7 +8,8 @@ from ..core.files import STANDARD
 from ..core.teletext import Page
 from ..core.words import PACKET_SIZE, Stop, Words, packet_size_word, pid_word
 from .gaps import why_refused
-from .survey import PES, Packets, survey
+from .packets import PES, Packets
+from .survey import survey
 
 
 def add_stream(parser: Words) -> None:

@@ -3,7 +3,7 @@ from __future__ import annotations
 
 from typing import Sequence
 
-from .survey import Packets, Range
+from .packets import Packets, Range
 
 FEWEST = 4  # turns from one sub-page to another, of which they alternate
 

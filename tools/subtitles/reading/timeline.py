@@ -13,8 +13,8 @@ from typing import Iterator, NamedTuple, Sequence
 from ..core.teletext import Page
 from ..core.times import FRAMES_OF_A_DAY, NO_FRAME, frames_at, wrapped
 from .cutting import cut_of
+from .packets import CLOSED, ERASE, HEADER, OPEN, STRAY, Packets, Range, Run, Texts
 from .receiver import BLANK_PAGE, HIT, OLD, OLD_PAGE, TUNED, Rows, State
-from .survey import CLOSED, ERASE, HEADER, OPEN, STRAY, Packets, Range, Run, Texts
 
 CLEARED = bytes(0x20 if code in (OLD, HIT) else code for code in range(256))
 PAUSE = 2  # frames in a row without a PES packet: more are a pause of what sends one in each frame

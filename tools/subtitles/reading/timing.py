@@ -6,7 +6,8 @@ from typing import Iterator, NamedTuple
 
 from ..core.times import ticks_between, wrapped
 from .gaps import SECOND
-from .survey import Packets, Survey
+from .packets import Packets
+from .survey import Survey
 
 MOST_LATE = 60  # samples, of which the latest PTS tells how late others may be
 SAID = {"behind": "are behind the PCR", "early": "are more than a second ahead of the PCR",

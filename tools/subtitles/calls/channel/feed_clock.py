@@ -4,7 +4,7 @@ from __future__ import annotations
 from typing import Iterator, NamedTuple
 
 from ...core.times import FRAMES_A_SECOND, TICKS, ticks_between, time_of, wrapped
-from ...reading.survey import Run
+from ...reading.packets import Run
 
 SECOND = TICKS * FRAMES_A_SECOND
 MINUTE = 60 * SECOND

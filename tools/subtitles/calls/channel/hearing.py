@@ -15,7 +15,8 @@ from ...qc.asked import Asked
 from ...qc.recording import refuse
 from ...reading.gaps import Place, hole_of, why_refused
 from ...reading import moving
-from ...reading.survey import HEADER, PES, Packets, Run, Survey, words_of
+from ...reading.packets import HEADER, PES, Packets, Run
+from ...reading.survey import Survey, words_of
 from .awaited import Changes
 from .feed_clock import MINUTE, SECOND, FeedClock, jump_of, times_of
 from .lacking import KEPT, Losses, Silence
