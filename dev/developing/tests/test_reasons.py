@@ -4,7 +4,7 @@ from __future__ import annotations
 from subtitles.core.pes import pts_in
 from subtitles.core.teletext import CODE_WORDS, address_of, header_of, packet
 from subtitles.core.times import TICKS
-from subtitles.qc.causes import EVEN, IN_PARTS, UNERASED, UNSEEN, Namer
+from subtitles.qc.causes import EVEN, IN_PARTS, UNSEEN, Namer
 from subtitles.qc.due_pages import DuePages
 from subtitles.qc.pes_header import header_length, header_words
 from subtitles.reading.finding import other_words
@@ -56,22 +56,21 @@ class Reasons(Case):
         """C4 is clear in all headers: that is told, and nothing of PES packets of one frame."""
         path = self.write("one.pes", joined(all_changed(self.sent, 3, 8, 0)))
         found = judged(self, self.stl, path, "--origin", "0", *WORDS)
-        words = "C4 (erase page) is clear: a repeat that does not erase"
+        words = "C4 (erase page) is clear in 49 of 49 headers, and what these repeat is whole " \
+            "wherever the page is as it is due: --keeping judges by it"
         self.must("said", found.word == "refused" and found.verdict.sentence ==
                   f"Refused: at 00:00:04:00 {words}; in all 49 faults." and
                   found.result["hints"] == [f"67: {words}"] and
                   not any(IN_PARTS in line for line in found.said), found.said)
 
     def test_hidden(self) -> None:
-        """Why a page is not due at a frame at whose end it is held: several PES packets, cells that
-        nobody sent, bytes of even parity."""
+        """Why a page is not due at a frame at whose end it is held: several PES packets, bytes of
+        even parity."""
         text = row(20, b"Text")
-        clear = changed(HEADER, 3, 8, 0)
         even = text[:10] + bytes([text[10] ^ 0x80]) + text[11:]
         for name, sent, words in (
                 ("two of a frame", [(0, [HEADER, text, CLOSING]), (0, [HEADER, CLOSING])],
                  IN_PARTS),
-                ("nobody erased", [(0, [clear, text, CLOSING])], UNERASED),
                 ("even parity", [(0, [HEADER, even, CLOSING])], EVEN),
                 ("whole", [(0, [HEADER, text, CLOSING])], "")):
             held = timeline_of(self, joined(sent), within=1)

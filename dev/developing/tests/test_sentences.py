@@ -9,7 +9,7 @@ from subtitles.core.national import OPTIONS
 from subtitles.core.told import told_of
 from subtitles.qc.causes import NAMES
 from subtitles.qc.fault_words import WORDS
-from subtitles.qc.hints import control_words
+from subtitles.qc.headers import control_words
 from subtitles.qc.sentence import SAID, Seen, of_causes, sentence_of
 from subtitles.qc.severity import REFUSALS
 from subtitles.qc.status import ACCEPTED, LOST, NOT_JUDGED, REFUSED, WAIVED, WARNED
@@ -35,9 +35,8 @@ class Words(unittest.TestCase):
             ("back", header(), "french", ["the header is English: --option english"]),
             ("reserved", header(national=7), "czech",
              ["C12, C13 and C14 are set, which is reserved"]),
-            ("two", header(erase=0, national=4), "english",
-             ["C4 (erase page) is clear: a repeat that does not erase",
-              "the header is German: --option german"]),
+            ("two", header(subtitle=0, national=4), "english",
+             ["C6 (subtitle) is clear", "the header is German: --option german"]),
         ]
         for name, numbers, option, words in cases:
             with self.subTest(name):

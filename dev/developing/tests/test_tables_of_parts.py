@@ -6,7 +6,7 @@ import unittest
 
 from subtitles.core.pes import pes_packet
 from subtitles.core.stl import gsi_block, tti_block
-from subtitles.qc.hints import control_words
+from subtitles.qc.headers import control_words
 from subtitles.qc.lettering import (
     ATTRIBUTES, attribute_words, code_words, is_moved, is_part, place_words, text_of, words_on)
 from subtitles.qc.names import Names, again
@@ -157,7 +157,7 @@ class Pages(Case):
         """Each bit of a header of subtitles wrong by itself."""
         good = [8, 8, 0, 8, 0, 8, 1, 0]
         of_bits: list[tuple[int, int, list[str]]] = [
-            (0, 8, []), (3, 0, ["C4"]), (5, 0, ["C6"]), (6, 0, ["C7"]), (5, 12, ["C5"]),
+            (0, 8, []), (3, 0, []), (5, 0, ["C6"]), (6, 0, ["C7"]), (5, 12, ["C5"]),
             (6, 9, ["C10"]), (5, 4, ["C6", "C5"]), (7, 8, ["the header is German"]),
             (7, 14, ["C12, C13 and C14"])]
         for place, value, words in of_bits:

@@ -39,6 +39,8 @@ lettering     what a person reads on a page, and where two differ
 option_advice what to do about a letter that the national option lacks
 as_sent       the layout of a recording, looked for and told
 layouts       which layout draws subtitles as they were sent
+headers       what is wrong with the control bits of headers
+keeping       headers that keep the page, and whether what is sent with them is whole
 hints         what to know of the first fault of some numbers, beside its place
 midnight      times that fall at midnight, and what to do about them
 off_frame     PTS that are no whole frames: jitter, and drift

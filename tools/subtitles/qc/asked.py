@@ -16,7 +16,8 @@ from ..core.times import FRAMES_OF_A_DAY, Between, frame_of, time_of
 from ..core.words import (
     Stop, Words, add_page, add_within, breaks_word, every_word, origin_word, pid_word, range_word,
     start_word, within_words)
-from .options import AUTO, FROM, LAYOUT, OPEN, TO, add_passed_on, passed_words, words_of_pages
+from .options import (
+    AUTO, FROM, KEEPING, LAYOUT, OPEN, TO, add_passed_on, passed_words, words_of_pages)
 
 AUTO_OF_FEED = ("--layout auto reads all that was sent before it judges: try a recording of the "
                 "feed first, and give the TEXT that is found there")
@@ -82,6 +83,15 @@ class Asked:
     def is_open(self) -> bool:
         """Whether open subtitles are taken too."""
         return OPEN in self.passed_on
+
+    @property
+    def may_keep(self) -> bool:
+        """Whether headers that repeat the page may keep it."""
+        return KEEPING in self.passed_on
+
+    def keeping(self) -> Asked:
+        """The same, and they may."""
+        return dataclasses.replace(self, passed_on={**self.passed_on, KEEPING: ""})
 
     @property
     def handed_on(self) -> dict[str, str]:

@@ -2,15 +2,17 @@
 from __future__ import annotations
 
 import functools
-from typing import NamedTuple
+from typing import Callable, NamedTuple
 
 from ..core.programme import Subtitle
 from ..core.teletext import page_name
 from ..core.times import time_of
 from ..core.words import counted
-from ..reading.receiver import BLANK_PAGE, HIT, OLD, Rows
+from ..reading.receiver import BLANK_PAGE, HIT, Rows
 from ..reading.subcodes import subcode_words, turns_of
-from ..reading.timeline import LEAST, Span
+from ..reading.timeline import LEAST, Span, Timeline
+from .due_pages import DuePages
+from .keeping import left_at
 from .lettering import attribute_words, is_moved, is_part, place_words, words_on
 from .sendings import Sendings
 
@@ -22,7 +24,7 @@ UNSEEN = "not all that was sent then can be read"
 NOT_RECEIVED = "not received"  # in place of that, where packets are lost
 NEXT = "the page that comes at the last TCO is the next programme's"
 IN_PARTS = "as it is due only after another PES packet of the same frame"
-UNERASED = "C4 (erase page) is clear in each header: cells that nobody sent are not erased"
+REPEATED = "left out where a header with C4 (erase page) clear repeats the page"
 EVEN = "a byte of its rows has even parity"
 
 
@@ -57,7 +59,12 @@ class Faulty:
 
 
 class Namer(Sendings):
-    """Names the causes of subtitles by what is held."""
+    """Names the causes of subtitles by what is held, and by the row that is told at a frame."""
+
+    def __init__(self, programme: DuePages, held: Timeline,
+                 row_at: Callable[[int], int | None] = lambda frame: None) -> None:
+        super().__init__(programme, held)
+        self.row_at = row_at
 
     def cause(self, place: int, faulty: Faulty) -> Cause:
         """The cause of a subtitle; where no PES packet came it is that."""
@@ -198,12 +205,14 @@ class Namer(Sendings):
 
     def hidden_words(self, frame: int) -> str:
         """Why `check` tells another page at a frame than the one that is held after it."""
-        if len(self.held.members(frame)) > 1:
+        rows = left_at(self.held, self.programme.page_at(frame), frame, self.row_at(frame))
+        if len(self.held.members(frame)) > 1 and not (rows and self.held.within):
             return IN_PARTS
         if not self.held.is_seen(frame, frame):
             return UNSEEN
-        cells = b"".join(self.held.state_at(frame).rows)
-        return UNERASED if OLD in cells else EVEN if HIT in cells else ""
+        if rows:
+            return f"{rows} {REPEATED}"
+        return EVEN if HIT in b"".join(self.held.state_at(frame).rows) else ""
 
     @functools.cached_property
     def subcode_words(self) -> str:

@@ -8,16 +8,17 @@ from ..core.told import CONTROL, GAP, Told
 from ..reading.packets import Packets, Run
 from ..reading.receiver import OLD, Rows
 from ..reading.timeline import Timeline
+from .headers import Headed, headed
 
 
 class Place(NamedTuple):
     """A PES packet, `None` in a gap between two, its PTS, and the page that is held then; of one
-    whose control bits are refused (67) the eight numbers of each header of the page."""
+    whose control bits are refused (67) each header of the page."""
 
     pes: int | None
     pts: int | None
     rows: Rows | None
-    headers: Sequence[bytes] = ()
+    headers: Sequence[Headed] = ()
 
 
 NOWHERE = Place(None, None, None)
@@ -40,7 +41,7 @@ def place_of(fault: Told, packets: Packets, held: Timeline | None,
             fault, held.state_after(one.first).rows)), members[-1])]
     one = members[-1] if fault.packet is None else member_of(members, fault.packet)
     return Place(one.first, one.pts, held.state_after(members[-1].first).rows,
-                 headers_of(one) if fault.number == CONTROL else ())
+                 headed(one, held.state_after(one.first - 1)) if fault.number == CONTROL else ())
 
 
 def member_of(members: Sequence[Run], packet: int) -> Run:
@@ -48,11 +49,6 @@ def member_of(members: Sequence[Run], packet: int) -> Run:
     """
     ends = itertools.accumulate(one.units for one in members)
     return next((one for one, end in zip(members, ends) if packet < end), members[-1])
-
-
-def headers_of(run: Run) -> list[bytes]:
-    """The eight numbers of each header of the page."""
-    return [bytes(int(digit, 16) for digit in one) for one in run.control.split("+") if one]
 
 
 def code_of(fault: Told, rows: Rows) -> int | None:

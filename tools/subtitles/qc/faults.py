@@ -13,7 +13,8 @@ from ..reading.receiver import Rows
 from .cause_words import CauseWords, SubtitleWords, Wording
 from .cells import NOWHERE, Place, code_at, place_of
 from .checking import End
-from .hints import header_words, open_words
+from .headers import header_words
+from .hints import open_words
 from .midnight import midnight_words
 from .option_advice import OptionAdvice
 from .subtitle_file import NamedSubtitle, SubtitleFile
@@ -90,7 +91,7 @@ class PartFaults:
         if told.number == CONTENT:
             do = self.part.otherwise or do
         do = midnight_words(told, self.subtitles) or do
-        means = header_words(place.headers, self.asked.option, self.part.better) or means
+        means = header_words(place.headers, self.asked, self.part.better) or means
         return {
             "part": self.part.number, "line": told.line, "number": told.number,
             "name": told.name, "severity": self.verdict.severity.of(told.number),

@@ -1,10 +1,8 @@
 """What a person should know of the first fault of some numbers, beside its place."""
 from __future__ import annotations
 
-from typing import Collection, Iterator, Sequence
+from typing import Iterator, Sequence
 
-from ..core.national import BY_BITS, BY_WORD, RESERVED
-from ..core.teletext import ERASE, INHIBIT, NEWSFLASH, SUBTITLE, SUPPRESS, has_bit
 from ..core.times import frame_at
 from ..core.told import (
     BEGIN, CHARACTER, CONTENT, CONTROL, DISPLAY, EMPTY_TIME, END, GAP, OFF_FRAME, OUT_OF_ORDER,
@@ -12,10 +10,10 @@ from ..core.told import (
 from ..core.words import MOST_EVERY, counted, pid_name
 from ..reading.gaps import why_refused
 from ..reading.packets import HEADER
-from ..reading.receiver import national_option
 from ..reading.repeat import longest_gap
 from .asked import Asked
 from .cells import place_of
+from .headers import header_words
 from .midnight import midnight_words
 from .off_frame import off_of
 from .option_advice import OptionAdvice
@@ -28,28 +26,6 @@ OF_HEADERS = {32, 35}  # of PES packets: their length, and that of their headers
 OF_ENDS = {BEGIN, END}  # where the page moves to another PID, or that has no more Teletext
 HINTS = HINTED | NAMED | OF_HEADERS | OF_ENDS
 DSC = slice(11, 12)  # the field in the GSI block
-# The control bits that a header of subtitles has set, or clear, and what it is where they are not.
-ASKED = (
-    (ERASE, True, "C4 (erase page) is clear: a repeat that does not erase"),
-    (SUBTITLE, True, "C6 (subtitle) is clear"),
-    (SUPPRESS, True, "C7 (suppress header) is clear"),
-    (NEWSFLASH, False, "C5 (newsflash) is set"),
-    (INHIBIT, False, "C10 (inhibit display) is set"),
-)
-
-
-def control_words(header: bytes, option: str, better: Collection[str] = ()) -> list[str]:
-    """What is wrong with the control bits of a header of the page, with its national option; that
-    is advised where it is one by which less is refused."""
-    found = [words for bit, is_set, words in ASKED if has_bit(header, bit) != is_set]
-    bits = national_option(header)
-    if bits == RESERVED:
-        found.append("C12, C13 and C14 are set, which is reserved")
-    elif bits != BY_WORD[option].bits:
-        one = BY_BITS[bits]
-        advice = f": --option {one.word}" if one.word in better else ""
-        found.append(f"the header is {one.name}{advice}")
-    return found
 
 
 def hints_of(verdict: Verdict) -> Iterator[str]:
@@ -91,8 +67,9 @@ def words_of(told: Told, part: Part, verdict: Verdict) -> str:
         return off.words(part.accepted_within) if off else ""
     if told.number == GAP:
         return gap_words(part.pts(HEADER), part.origin, asked, part.answer.numbers)
-    headers = place_of(told, part.packets, part.held).headers
-    return header_words(headers, asked.option, part.better)
+    if part.kept:
+        return part.kept.words()
+    return header_words(place_of(told, part.packets, part.held).headers, asked, part.better)
 
 
 def end_words(number: int, part: Part, page: str) -> str:
@@ -112,12 +89,6 @@ def open_words(subtitles: SubtitleFile) -> str:
     """What takes a file whose display standard code is that of open subtitles, or none."""
     kind = {b"0": "0, open subtitles", b" ": "a space, none"}.get(subtitles.data[DSC])
     return f"its DSC is {kind}: --open takes it" if kind else ""
-
-
-def header_words(headers: Sequence[bytes], option: str, better: Collection[str]) -> str:
-    """What is wrong with the control bits of the first header of some of which something is."""
-    wrong = (control_words(one, option, better) for one in headers)
-    return "; ".join(next(filter(None, wrong), []))
 
 
 def gap_words(headers: Sequence[int], origin: int, asked: Asked, numbers: set[int]) -> str:

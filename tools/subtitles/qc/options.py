@@ -41,6 +41,7 @@ def time_text(text: str) -> str:
 
 LAYOUT, OPEN = "--layout", "--open"
 AUTO = "auto"  # what is found takes the place of this word
+KEEPING = "--keeping"
 
 
 def layout_word(text: str) -> str:
@@ -64,6 +65,7 @@ PASSED_ON: tuple[PassedOn, ...] = (
     PassedOn(LAYOUT, "TEXT|auto", "how the house draws its subtitles; auto: the layout that draws "
              "them as they were sent", layout_or_auto, is_of_file=True, is_of_pages=True),
     PassedOn(OPEN, None, "take a file of open subtitles too", is_of_file=True, is_of_pages=True),
+    PassedOn(KEEPING, None, "headers that repeat the page may keep it, with C4 (erase page) clear"),
 )
 
 

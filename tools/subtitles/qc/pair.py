@@ -371,6 +371,7 @@ class Pair:
         part.was_read = part.is_read()
         if CONTROL in answer.numbers and part.pes:
             part.better = self.steps.better_of(part.options_sent(), one, part.pes, answer.count)
+            part.look_at_headers(functools.partial(self.steps.by_keeping, one, part.pes))
         if OF_HEADERS & answer.numbers:
             part.of_header = recording.header_words(recording.packets)
         if answer.first:

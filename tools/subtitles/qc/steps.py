@@ -163,6 +163,18 @@ class Steps:
               self.speech.of_list)
         self.speech.end_list(answer.last)
 
+    def by_keeping(self, one: Stretch, pes: Range) -> Answer | None:
+        """What `check --all` tells where headers may keep the page; `None` where it is not
+        answered."""
+        words = [*one.recording.words(), *pes_words(pes), *one.asked.keeping().check_words(),
+                 *origin_words(one.found.origin), "--all"]
+        path = self.names.temporary("keeping.txt")
+        try:
+            return check([self.typed.program_path, "check", *words, "--", self.names.given,
+                          one.recording.judged()[0]], Answer(path), lambda line: None)
+        except Unclear:
+            return None
+
     def better_of(self, options: Iterable[str], one: Stretch, pes: Range, most: int) -> list[str]:
         """The other national options of some by which fewer faults than so many are told."""
         return [option for option in sorted(options) if option != self.asked.option

@@ -1,6 +1,7 @@
 """A verdict on a pair: its parts, what was lost, what it was made with."""
 from __future__ import annotations
 
+import collections
 import dataclasses
 import functools
 from typing import Callable, Collection, Sequence
@@ -15,11 +16,12 @@ from ..reading.timeline import Timeline
 from . import sentence
 from .asked import Asked
 from .beside import Beside, Counts
-from .cells import headers_of
 from .checking import Answer
 from .clock import FITTED, FITTED_LATER, Clock
 from .delays import Spread, spread_of
 from .due_pages import DuePages
+from .headers import headers_of
+from .keeping import Kept, judged_by, kept_in
 from .layouts import Choice
 from .moved import Piece
 from .naming import Causes
@@ -68,6 +70,7 @@ class Part:
     of_header: str = ""  # what is wrong with its PES headers, where that is refused
     otherwise: str = ""  # how the house draws, where its content is refused for that
     better: Collection[str] = ()  # national options that were tried, by which less is refused
+    kept: Kept | None = None  # where headers are refused for nothing but that they keep the page
     packets: Packets = dataclasses.field(default_factory=lambda: Packets(PES))
     asked: Asked | None = None
     due: Callable[[], DuePages] = no_pages
@@ -121,6 +124,23 @@ class Part:
         bits = {national_option(header) for run in self.packets.inside(*self.pes or (0, -1))
                 for header in headers_of(run)}
         return {BY_BITS[one].word for one in bits if one != RESERVED}
+
+    def headers_sent(self) -> collections.Counter[bytes]:
+        """How many there are of each of its headers that `check` hears."""
+        counts: collections.Counter[bytes] = collections.Counter()
+        for run in self.packets.inside(*self.pes or (0, -1)):
+            for header in headers_of(run) if run.pts is not None and not run.fault else ():
+                counts[header] += run.length
+        return counts
+
+    def look_at_headers(self, tried: Callable[[], Answer | None]) -> None:
+        """Takes what is known of headers that keep the page, where they alone are refused, and what
+        `check` tells where they may: that is tried then."""
+        asked = self.asked
+        kept = None if asked is None or asked.may_keep else \
+            kept_in(self.headers_sent(), asked.option)
+        if kept and self.held:
+            self.kept = judged_by(kept, tried(), self.held, self.due().page_at)
 
     @property
     def pes_name(self) -> str | None:

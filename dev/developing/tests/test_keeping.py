@@ -1,0 +1,304 @@
+"""Headers that keep the page: what is told of them, by which table; and pairs with such repeats."""
+from __future__ import annotations
+
+from typing import Sequence
+
+from subtitles.core.pes import pes_packet
+from subtitles.core.teletext import packet
+from subtitles.core.times import TICKS
+from subtitles.core.told import CONTENT, told_of
+from subtitles.qc.causes import REPEATED, Namer
+from subtitles.qc.checking import NO_END, End
+from subtitles.qc.due_pages import DuePages
+from subtitles.qc.headers import REPEATS, Headed, control_words, headed, unerased_words
+from subtitles.qc.keeping import Kept, Left, judged_by, kept_in, left_at, left_by, rows_words
+from subtitles.reading.packets import Run
+from subtitles.reading.receiver import BLANK_PAGE, TUNED, Rows
+from subtitles.reading.timeline import Timeline
+from .bench import Case
+from .judged import Judged, Sent, joined, judged, programme, sendings
+from .parts import CLOSING, HEADER, answer, asked_for, row, timeline_of
+from .test_pairs_in_parts import times
+
+NUMBERS = bytes([8, 8, 0, 8, 0, 8, 1, 0])  # of HEADER
+KEEPS = bytes([8, 8, 0, 0, 0, 8, 1, 0])
+KEEPING_HEADER = packet(0, 0, KEEPS, b" " * 32)
+FIRST, SECOND = row(20, b"One"), row(22, b"Two")
+CLEAR = "C4 (erase page) is clear"
+
+
+def of_subcode(header: bytes, digit: int) -> bytes:
+    """The header with another first digit of its subcode."""
+    return header[:2] + bytes([digit]) + header[3:]
+
+
+def numbers(**places: int) -> bytes:
+    """A header that keeps the page, with other numbers at some places, `p5` for the fifth."""
+    made = bytearray(KEEPS)
+    for name, value in places.items():
+        made[int(name[1:])] = value
+    return bytes(made)
+
+
+class Headers(Case):
+    """What is told of one header."""
+
+    def test_headed(self) -> None:
+        """The headers of a PES packet, each with the one before it, and whether the page is open:
+        behind nothing, behind a page, and one behind another."""
+        one, other = "88000810", "88100810"
+        heard = TUNED._replace(is_heard=True, is_open=True, header=NUMBERS)
+        first, second = KEEPS, of_subcode(KEEPS, 1)
+        for does, control, state, wanted in (
+                ("-", "", TUNED, []), ("h", one, TUNED, [(first, None, False)]),
+                ("hec", "88080810", heard, [(NUMBERS, NUMBERS, True)]),
+                ("cho", one, heard, [(first, NUMBERS, False)]),
+                ("hh", f"{one}+{other}", TUNED, [(first, None, False), (second, first, True)]),
+                ("hchc", f"{other}+{one}", heard,
+                 [(second, NUMBERS, True), (first, second, False)])):
+            control = "+".join(code[:2] + code[2:] for code in control.split("+")) if control else ""
+            run = Run(0, 1, 0, 0, does, control)
+            found = [tuple(header) for header in headed(run, state)]
+            self.must(f"{does} {control}", found == wanted, found)
+
+    def test_why_it_has_to_erase(self) -> None:
+        """By what is asked, the header before, and whether the page is open."""
+        other = of_subcode(KEEPS, 1)
+        subcode = f"{CLEAR}, and the subcode is another one than before: 0000 after 0001"
+        is_open = f"{CLEAR}, and the page was still open: no header had ended it"
+        for header, words, wanted in (
+                (Headed(NUMBERS, other, True), "", ""), (Headed(KEEPS), "", REPEATS),
+                (Headed(KEEPS, KEEPS), "", REPEATS), (Headed(KEEPS), "--keeping", ""),
+                (Headed(NUMBERS, other, True), "--keeping", ""),
+                (Headed(KEEPS, NUMBERS), "--keeping", ""),
+                (Headed(KEEPS, other), "--keeping", subcode),
+                (Headed(KEEPS, other, True), "--keeping", subcode),
+                (Headed(KEEPS, KEEPS, True), "--keeping", is_open),
+                (Headed(KEEPS, KEEPS, True), "--keeping --no-complete", ""),
+                (Headed(KEEPS, None, True), "--keeping", is_open)):
+            found = unerased_words(header, asked_for("one.stl", "one.pes", *words.split()))
+            self.must(f"{header} {words}", found == wanted, found)
+
+    def test_other_bits(self) -> None:
+        """C4 is told first, and nothing of it where it may be clear."""
+        self.must("may be", control_words(KEEPS, "english") == [])
+        found = control_words(numbers(p5=0), "english", (), REPEATS)
+        self.must("both", found == [REPEATS, "C6 (subtitle) is clear"], found)
+
+
+class Counted(Case):
+    """What is told of all headers of a part."""
+
+    def test_counts(self) -> None:
+        """None that keeps, one, all; one with another wrong bit, of any that is there."""
+        for headers, option, wanted in (
+                ({}, "english", None), ({NUMBERS: 7}, "english", None),
+                ({KEEPS: 1}, "english", (1, 1)), ({NUMBERS: 7, KEEPS: 3}, "english", (10, 3)),
+                ({NUMBERS: 7, KEEPS: 3, of_subcode(KEEPS, 1): 2}, "english", (12, 5)),
+                ({NUMBERS: 7, KEEPS: 3}, "german", None),
+                ({KEEPS: 3, numbers(p5=0): 1}, "english", None),
+                ({KEEPS: 3, numbers(p3=8, p6=0): 1}, "english", None)):
+            found = kept_in(headers, option)
+            self.must(f"{headers} {option}", (found and found[:2]) == wanted, found)
+
+    def test_words(self) -> None:
+        """Where it is not known what --keeping tells, where rows are left out, where none is."""
+        left = (Left(250, "row 22"), Left(300, "rows 20 and 22"))
+        head = f"{CLEAR} in 3 of 10 headers"
+        out = f"{head}, and behind 2 of these rows are left out (at 00:00:10:00 row 22): " \
+            "--keeping judges by it"
+        more = ", and refuses 2 of these: the subcode is another one than before, or the page was " \
+            "still open"
+        for kept, wanted in (
+                (Kept(10, 3), f"{head}: --keeping judges by it"),
+                (Kept(1, 1), f"{CLEAR} in 1 of 1 header: --keeping judges by it"),
+                (Kept(10, 3, (), 0, True, True),
+                 f"{head}, and what these repeat is whole: --keeping accepts that"),
+                (Kept(10, 3, (), 0, True, False),
+                 f"{head}, and what these repeat is whole: --keeping judges by it"),
+                (Kept(10, 3, (), 2, True, False),
+                 f"{head}, and what these repeat is whole: --keeping judges by it{more}"),
+                (Kept(10, 3, (), 0, False, False), f"{head}, and what these repeat is whole "
+                 "wherever the page is as it is due: --keeping judges by it"),
+                (Kept(10, 3, left), out), (Kept(10, 3, left, 2), out + more)):
+            self.must(f"{kept}", kept.words() == wanted, kept.words())
+
+    def test_rows(self) -> None:
+        """No row came, one is told, one is not; and how many more are left out."""
+        for rows, told, came, wanted in (
+                ([], 22, 0, ""), ([22], 22, 0, "row 22"), ([22], None, 0, "row 22"),
+                ([20, 22], 20, 0, "rows 20 and 22"), ([1, 2, 24], 1, 0, "rows 1, 2 and 24"),
+                ([20, 22], 22, 1, "row 22"), ([20, 22], None, 1, "a row"),
+                ([20, 22], 20, 5, "row 20"), ([18, 20, 22], 20, 1, "row 20 and 1 more"),
+                ([18, 20, 22], 20, -1, "rows 18, 20 and 22")):
+            found = rows_words(rows, told, came)
+            self.must(f"{rows} {told} {came}", found == wanted, found)
+
+
+def at(frames: Sequence[tuple[int, list[bytes]]]) -> bytes:
+    """The PES packets of some frames."""
+    return b"".join(pes_packet(TICKS * frame, some) for frame, some in frames)
+
+
+WHOLE, AGAIN = [HEADER, FIRST, SECOND, CLOSING], [KEEPING_HEADER, FIRST, SECOND, CLOSING]
+ONE_LESS, BARE = [KEEPING_HEADER, FIRST, CLOSING], [KEEPING_HEADER, CLOSING]
+
+
+class LeftOut(Case):
+    """Rows that are left out behind a header that keeps the page."""
+
+    def held(self, *frames: tuple[int, list[bytes]], within: int = 0) -> tuple[Timeline, Rows]:
+        """What is held, and the page that is sent first."""
+        found = timeline_of(self, at(frames), within=within)
+        return found, found.page_at(frames[0][0])
+
+    def test_at_a_frame(self) -> None:
+        """By the last header, and what came behind it; where another page is held, nothing."""
+        held, due = self.held((0, WHOLE), (25, AGAIN), (50, ONE_LESS), (75, BARE), (100, WHOLE))
+        for frame, told, wanted in (
+                (0, 22, ""), (24, 22, ""), (50, 22, "row 22"), (60, 22, "row 22"),
+                (75, 20, "rows 20 and 22"), (99, 20, "rows 20 and 22"), (100, 22, "")):
+            found = left_at(held, due, frame, told)
+            self.must(f"{frame}", found == wanted, found)
+        self.must("another page is due", left_at(held, BLANK_PAGE, 50, 22) == "")
+        nothing = timeline_of(self, at([(5, [CLOSING])]))
+        self.must("no header", left_at(nothing, BLANK_PAGE, 5, 1) == "")
+
+    def test_in_parts(self) -> None:
+        """Within frames all that comes up to then counts."""
+        frames = (0, WHOLE), (25, [KEEPING_HEADER]), (26, [FIRST]), (50, WHOLE)
+        held, due = self.held(*frames, within=2)
+        self.must("both frames", left_at(held, due, 27, 22) == "row 22")
+        held, due = self.held(*frames)
+        self.must("one frame", left_at(held, due, 25, 20) == "rows 20 and 22")
+
+    def test_by_a_fault(self) -> None:
+        """Each header of the frames at which it stands, from the last one before them on."""
+        held, due = self.held((0, WHOLE), (25, BARE), (50, BARE), (75, WHOLE), (100, BARE))
+        every = [(25, "rows 20 and 22"), (50, "rows 20 and 22")]
+        for line, end, wanted in (
+                ("refused 72 Content frame 00:00:01:00 row 20 column 0", NO_END, every[:1]),
+                ("refused 72 Content frame 00:00:01:00 row 20 column 0",
+                 End("00:00:01:24", None), every[:1]),
+                ("refused 72 Content frame 00:00:01:00 row 20 column 0",
+                 End("00:00:02:24", None), every),
+                ("refused 72 Content frame 00:00:01:02 row 20 column 0",
+                 End("00:00:01:24", None), every[:1]),
+                ("refused 72 Content frame 00:00:00:03 row 20 column 0", NO_END, []),
+                ("refused 73 Gap frame 00:00:01:00", NO_END, []),
+                ("refused 72 Content", NO_END, [])):
+            told = told_of(line)
+            assert told
+            found = [tuple(one) for one in left_by(told, end, held, lambda frame: due)]
+            self.must(f"{line} {end}", found == wanted, found)
+
+    def test_by_an_answer(self) -> None:
+        """None, one that accepts, and one that refuses the first, the second and the last."""
+        held, due = self.held((0, WHOLE), (25, BARE), (50, BARE), (75, WHOLE), (100, BARE))
+        known = Kept(5, 3)
+
+        def by(*lines: str) -> Kept:
+            said = answer(lines, path=self.path("list"))
+            return judged_by(known, said, held, lambda frame: due)
+        self.must("none", judged_by(known, None, held, lambda frame: due) == known)
+        found = by("accepted 101 frames 5 transmissions")
+        self.must("accepted", found == Kept(5, 3, (), 0, True, True), found)
+        found = by("refused 67 Control frame 00:00:01:00 packet 0", "1 faults")
+        self.must("67", found == Kept(5, 3, (), 1, True, False), found)
+        found = by("refused 72 Content frame 00:00:01:00 row 20 column 0",
+                   "ended 72 Content frame 00:00:02:24",
+                   "refused 72 Content frame 00:00:04:00 row 20 column 0",
+                   "ended 72 Content frame 00:00:04:00", "2 faults")
+        self.must("72", found == Kept(5, 3, tuple(
+            Left(frame, "rows 20 and 22") for frame in (25, 50, 100))), found)
+
+    def test_causes(self) -> None:
+        """Why a page is not as it is due at a frame at whose end it is held."""
+        held, due = self.held((0, WHOLE), (25, BARE), (50, ONE_LESS))
+        programme_of = DuePages([], [])
+        programme_of.page_at = lambda frame: due  # type: ignore[method-assign]
+        namer = Namer(programme_of, held, lambda frame: 22)
+        for frame, wanted in ((0, ""), (25, f"rows 20 and 22 {REPEATED}"),
+                              (50, f"row 22 {REPEATED}")):
+            self.must(f"{frame}", namer.hidden_words(frame) == wanted, namer.hidden_words(frame))
+
+
+def as_houses(sent: Sent, way: str = "", frames: int = 0) -> Sent:
+    """The page transmissions, with headers that keep the page where they are the one before once
+    more: whole; the third of these with no row, or with another subcode; or with the rows so many
+    frames later."""
+    made: Sent = []
+    before: list[bytes] = []
+    count = 0
+    for pts, some in sent:
+        is_repeat, before = some == before, some
+        if is_repeat:
+            count += 1
+            some = [KEEPING_HEADER, *some[1:]]
+        if is_repeat and way == "left out" and count == 1:
+            some = [KEEPING_HEADER, CLOSING]
+        if is_repeat and way == "subcode" and count == 1:
+            some = [packet(0, 0, of_subcode(KEEPS, 1), b" " * 32), *some[1:]]
+        if is_repeat and frames:
+            made += [(pts, some[:1]), (pts + TICKS * frames, some[1:])]
+        else:
+            made.append((pts, some))
+    return made
+
+
+class Pairs(Case):
+    """Three subtitles of two seconds and more, with a page transmission a second."""
+
+    def setUp(self) -> None:
+        super().setUp()
+        self.stl = programme(self, times(3))
+        self.sent = sendings(self, self.stl)
+
+    def judged(self, way: str, *words: str, frames: int = 0) -> Judged:
+        path = self.write("one.pes", joined(as_houses(self.sent, way, frames)))
+        return judged(self, self.stl, path, "--origin", "0", *words)
+
+    def test_whole(self) -> None:
+        """Accepted where repeats may keep the page, which is typed and stands in the result; else
+        that is said."""
+        found = self.judged("", "--keeping")
+        self.must("accepted", found.word == "accepted" and found.result["asked"]["keeping"] is True
+                  and any(" --keeping " in line for line in found.lines("+ ")), found.said)
+        found = self.judged("")
+        keeping = sum(one != other for (_, one), (_, other) in zip(
+            as_houses(self.sent), self.sent))
+        words = f"{CLEAR} in {keeping} of {len(self.sent)} headers, and what these repeat is " \
+            "whole: --keeping accepts that"
+        self.must("refused", found.word == "refused" and found.result["hints"] == [f"67: {words}"]
+                  and words in found.verdict.sentence and found.result["asked"]["keeping"] is False
+                  and all(one["means"] == REPEATS for one in found.result["faults"]), found.said)
+
+    def test_left_out(self) -> None:
+        """No row comes with one of them: which one is said, and by --keeping it is the cause."""
+        found = self.judged("left out")
+        hint = found.result["hints"][0]
+        self.must("said", ", and behind 1 of these rows are left out (at 00:00:" in hint and
+                  hint.endswith(" row 22): --keeping judges by it"), hint)
+        found = self.judged("left out", "--keeping")
+        self.must("a cause", found.word == "refused" and {one["number"] for one in found.result[
+            "faults"]} == {CONTENT} and [one["words"] for one in found.result["causes"]] ==
+            [f"unknown: row 22 {REPEATED}"], found.said)
+
+    def test_subcode(self) -> None:
+        """Another subcode is refused all the same."""
+        found = self.judged("subcode")
+        self.must("said", found.result["hints"][0].endswith(
+            ": --keeping judges by it, and refuses 2 of these: the subcode is another one than "
+            "before, or the page was still open"), found.result["hints"])
+        found = self.judged("subcode", "--keeping")
+        self.must("by it", found.word == "refused" and found.result["hints"] == [
+            f"67: {CLEAR}, and the subcode is another one than before: 0001 after 0000"],
+            found.said)
+
+    def test_later(self) -> None:
+        """Rows that come a frame later are of a page that is late, and within one it is right."""
+        found = self.judged("", "--keeping", "--no-complete", frames=1)
+        self.must("late", found.word == "refused" and found.result["accepted_within"] == 1,
+                  found.said)
+        found = self.judged("", "--keeping", "--within", "1", frames=1)
+        self.must("within", found.word == "accepted", found.said)
