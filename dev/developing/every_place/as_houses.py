@@ -15,7 +15,6 @@ from subtitles.core.times import FRAMES_OF_A_DAY, frame_of_code, time_code, time
 from .broken import LETTERS, MOST_LINES, teletext_in
 
 DISPLAY = 11  # where a GSI block has its DSC
-TAKES_KEEPING = False  # whether the program has --keeping: not yet
 CODES = [0x0A, 0x0B, 0x0B, 0x0D, 0x07, 0x03, 0x01, 0x0C]
 WRONG_LAYOUTS = ["", "fit,fit", "Fit", "before=0", "left=40", "after=0A*", "row=+1", "strip=20"]
 WRONG_PACES = ["0", "2160001", "", "x", "+1", "00000000001"]

@@ -7,7 +7,6 @@ transmission is written as in `within`.
 from __future__ import annotations
 
 from subtitles.core.stl import GSI, TTI, subtitle_blocks
-from .as_houses import TAKES_KEEPING
 from .calls import ALL, Answer, Call, KnownCall, check_of
 from .known import (
     HELLO, HI, SENT, accepted, ended, poked, refused, stands, told, trusted, wrong)
@@ -187,5 +186,4 @@ OF_PARTS = [
     schedule("--from 10:00:00:01", "refused 82 NoSubtitles", b""),
 ]
 
-# What the program answers by now.
-BESIDE = [*OF_PARTS, *OF_REFUSED, *OF_KEEPING * TAKES_KEEPING]
+BESIDE = [*OF_PARTS, *OF_REFUSED, *OF_KEEPING]

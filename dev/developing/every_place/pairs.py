@@ -13,7 +13,7 @@ from typing import Callable, NamedTuple
 from subtitles.core.stl import GSI, TTI, USER_DATA, gsi_block, subtitle_blocks
 from subtitles.core.times import FRAMES_OF_A_DAY
 from .as_houses import (
-    TAKES_KEEPING, as_open, layout_text, pace_words, part_words, refused_some, without_erasing)
+    as_open, layout_text, pace_words, part_words, refused_some, without_erasing)
 from .broken import LETTERS, break_pes
 from .definitions import subtitles_in
 from .late import sent_late
@@ -250,7 +250,7 @@ def random_pair(seed: int, schedule: Schedule, is_refused: bool = False,
     if not pes:  # there is nothing to send by these words
         drawn = part = []
         pes = schedule(stl, [*listed(words), *flags, *mode])
-    if keeps := is_keeping or TAKES_KEEPING and house.random() < 0.2:
+    if keeps := is_keeping or house.random() < 0.2:
         pes = without_erasing(house, pes)
         flags += ["--keeping"] if house.random() < 0.9 else []
     is_late = chance.random() < (0.9 if within else 0.1)

@@ -7,7 +7,7 @@ from concurrent.futures import ThreadPoolExecutor
 from functools import partial
 from random import Random
 
-from developing.every_place.beside import OF_KEEPING, OF_PARTS, OF_REFUSED
+from developing.every_place.beside import BESIDE
 from developing.every_place.calls import KnownCall, answer_to
 from developing.every_place.carried_laws import LAWS, random_packets
 from developing.every_place.keeping import KNOWN_KEEPING, OF_PACE
@@ -35,7 +35,7 @@ class Known(unittest.TestCase):
         self.have_answers(RECORDED)
 
     def test_beside_refused_subtitles(self) -> None:
-        self.have_answers([*OF_REFUSED, *OF_KEEPING, *OF_PARTS])
+        self.have_answers(BESIDE)
 
     def test_headers_that_keep(self) -> None:
         self.have_answers(KNOWN_KEEPING)

@@ -4,11 +4,12 @@ from __future__ import annotations
 from typing import Sequence
 
 from subtitles.core.pes import pes_packet
+from subtitles.core.programme import Subtitle
 from subtitles.core.teletext import packet
-from subtitles.core.times import TICKS
+from subtitles.core.times import TICKS, time_of
 from subtitles.core.told import CONTENT, told_of
 from subtitles.qc.causes import REPEATED, Namer
-from subtitles.qc.checking import NO_END, End
+from subtitles.qc.checking import NO_END, Answer, End
 from subtitles.qc.due_pages import DuePages
 from subtitles.qc.headers import REPEATS, Headed, control_words, headed, unerased_words
 from subtitles.qc.keeping import Kept, Left, judged_by, kept_in, left_at, left_by, rows_words
@@ -91,13 +92,14 @@ class Counted(Case):
 
     def test_counts(self) -> None:
         """None that keeps, one, all; one with another wrong bit, of any that is there."""
-        for headers, option, wanted in (
+        rows: list[tuple[dict[bytes, int], str, tuple[int, int] | None]] = [
                 ({}, "english", None), ({NUMBERS: 7}, "english", None),
                 ({KEEPS: 1}, "english", (1, 1)), ({NUMBERS: 7, KEEPS: 3}, "english", (10, 3)),
                 ({NUMBERS: 7, KEEPS: 3, of_subcode(KEEPS, 1): 2}, "english", (12, 5)),
                 ({NUMBERS: 7, KEEPS: 3}, "german", None),
                 ({KEEPS: 3, numbers(p5=0): 1}, "english", None),
-                ({KEEPS: 3, numbers(p3=8, p6=0): 1}, "english", None)):
+                ({KEEPS: 3, numbers(p3=8, p6=0): 1}, "english", None)]
+        for headers, option, wanted in rows:
             found = kept_in(headers, option)
             self.must(f"{headers} {option}", (found and found[:2]) == wanted, found)
 
@@ -125,12 +127,13 @@ class Counted(Case):
 
     def test_rows(self) -> None:
         """No row came, one is told, one is not; and how many more are left out."""
-        for rows, told, came, wanted in (
+        cases: list[tuple[list[int], int | None, int, str]] = [
                 ([], 22, 0, ""), ([22], 22, 0, "row 22"), ([22], None, 0, "row 22"),
                 ([20, 22], 20, 0, "rows 20 and 22"), ([1, 2, 24], 1, 0, "rows 1, 2 and 24"),
                 ([20, 22], 22, 1, "row 22"), ([20, 22], None, 1, "a row"),
                 ([20, 22], 20, 5, "row 20"), ([18, 20, 22], 20, 1, "row 20 and 1 more"),
-                ([18, 20, 22], 20, -1, "rows 18, 20 and 22")):
+                ([18, 20, 22], 20, -1, "rows 18, 20 and 22")]
+        for rows, told, came, wanted in cases:
             found = rows_words(rows, told, came)
             self.must(f"{rows} {told} {came}", found == wanted, found)
 
@@ -144,6 +147,11 @@ WHOLE, AGAIN = [HEADER, FIRST, SECOND, CLOSING], [KEEPING_HEADER, FIRST, SECOND,
 ONE_LESS, BARE = [KEEPING_HEADER, FIRST, CLOSING], [KEEPING_HEADER, CLOSING]
 
 
+def frame_words(frame: int) -> str:
+    """The place of a frame, as it is told."""
+    return f"frame {time_of(frame)}"
+
+
 class LeftOut(Case):
     """Rows that are left out behind a header that keeps the page."""
 
@@ -152,25 +160,43 @@ class LeftOut(Case):
         found = timeline_of(self, at(frames), within=within)
         return found, found.page_at(frames[0][0])
 
+    def told_at(self, frame: int, *before: str) -> Answer:
+        """What `check --all` tells where the content of row 22 is refused at a frame."""
+        lines = [*before, f"refused 72 Content {frame_words(frame)} row 22 column 0"]
+        return answer([*lines, f"{len(lines)} faults"], path=self.path("told"))
+
     def test_at_a_frame(self) -> None:
         """By the last header, and what came behind it; where another page is held, nothing."""
         held, due = self.held((0, WHOLE), (25, AGAIN), (50, ONE_LESS), (75, BARE), (100, WHOLE))
-        for frame, told, wanted in (
-                (0, 22, ""), (24, 22, ""), (50, 22, "row 22"), (60, 22, "row 22"),
-                (75, 20, "rows 20 and 22"), (99, 20, "rows 20 and 22"), (100, 22, "")):
-            found = left_at(held, due, frame, told)
+        for frame, wanted in (
+                (0, ""), (24, ""), (50, "row 22"), (60, "row 22"), (75, "rows 20 and 22"),
+                (99, "rows 20 and 22"), (100, "")):
+            found = left_at(held, due, frame, self.told_at(frame))
             self.must(f"{frame}", found == wanted, found)
-        self.must("another page is due", left_at(held, BLANK_PAGE, 50, 22) == "")
+        self.must("nothing told", left_at(held, due, 50, None) == "a row")
+        self.must("another page is due", left_at(held, BLANK_PAGE, 50, None) == "")
         nothing = timeline_of(self, at([(5, [CLOSING])]))
-        self.must("no header", left_at(nothing, BLANK_PAGE, 5, 1) == "")
+        self.must("no header", left_at(nothing, BLANK_PAGE, 5, None) == "")
+
+    def test_changed_rows(self) -> None:
+        """A row that came otherwise since the page was erased: the first one counts, which is not
+        held; of one before that, and of one after the frame, nothing is known."""
+        held, due = self.held((0, WHOLE), (20, WHOLE), (25, ONE_LESS), (50, ONE_LESS))
+        for frame, wanted in ((0, "row 22"), (19, "row 22"), (20, ""), (25, ""), (26, "row 22")):
+            told = self.told_at(25, f"refused 69 RowChanged {frame_words(frame)} packet 1")
+            found = left_at(held, due, 25, told)
+            self.must(f"{frame}", found == wanted, found)
+        held, due = self.held((0, AGAIN), (25, ONE_LESS))
+        told = self.told_at(25, f"refused 69 RowChanged {frame_words(0)} packet 1")
+        self.must("none erases", left_at(held, due, 25, told) == "")
 
     def test_in_parts(self) -> None:
         """Within frames all that comes up to then counts."""
         frames = (0, WHOLE), (25, [KEEPING_HEADER]), (26, [FIRST]), (50, WHOLE)
         held, due = self.held(*frames, within=2)
-        self.must("both frames", left_at(held, due, 27, 22) == "row 22")
+        self.must("both frames", left_at(held, due, 27, self.told_at(27)) == "row 22")
         held, due = self.held(*frames)
-        self.must("one frame", left_at(held, due, 25, 20) == "rows 20 and 22")
+        self.must("one frame", left_at(held, due, 25, self.told_at(25)) == "rows 20 and 22")
 
     def test_by_a_fault(self) -> None:
         """Each header of the frames at which it stands, from the last one before them on."""
@@ -189,7 +215,8 @@ class LeftOut(Case):
                 ("refused 72 Content", NO_END, [])):
             told = told_of(line)
             assert told
-            found = [tuple(one) for one in left_by(told, end, held, lambda frame: due)]
+            said = answer([line, "1 faults"], path=self.path("list"))
+            found = [tuple(one) for one in left_by(told, end, said, held, lambda frame: due)]
             self.must(f"{line} {end}", found == wanted, found)
 
     def test_by_an_answer(self) -> None:
@@ -215,9 +242,8 @@ class LeftOut(Case):
     def test_causes(self) -> None:
         """Why a page is not as it is due at a frame at whose end it is held."""
         held, due = self.held((0, WHOLE), (25, BARE), (50, ONE_LESS))
-        programme_of = DuePages([], [])
-        programme_of.page_at = lambda frame: due  # type: ignore[method-assign]
-        namer = Namer(programme_of, held, lambda frame: 22)
+        one = Subtitle(1, 1, 0, 100, 20, 2, b"1")
+        namer = Namer(DuePages([one], [due]), held, self.told_at(50))
         for frame, wanted in ((0, ""), (25, f"rows 20 and 22 {REPEATED}"),
                               (50, f"row 22 {REPEATED}")):
             self.must(f"{frame}", namer.hidden_words(frame) == wanted, namer.hidden_words(frame))

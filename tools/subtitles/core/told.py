@@ -35,7 +35,7 @@ PASSED_OVER = {*range(33, 41), 45, 61}  # of PES packets that can't be read, or 
 ENDS_READING = {30, 31, 32, 44}
 LOST_PACKETS = 45  # TS packets are lost within what is judged: nobody saw what was sent there
 REFUSED, ENDED, FAULT, USAGE = "refused", "ended", "fault", "usage"
-CONTENT, CHARACTER, LETTERS, CONTROL = 72, 50, (50, 51), 67
+CONTENT, CHARACTER, LETTERS, CONTROL, CHANGED = 72, 50, (50, 51), 67, 69
 BEGIN, END = 63, 74  # what is judged begins after the first TCI, or ends before the last TCO
 WITH_CAUSE = {BEGIN, CONTENT, END}
 

@@ -2,7 +2,7 @@
 from __future__ import annotations
 
 import functools
-from typing import Callable, NamedTuple
+from typing import NamedTuple
 
 from ..core.programme import Subtitle
 from ..core.teletext import page_name
@@ -11,6 +11,7 @@ from ..core.words import counted
 from ..reading.receiver import BLANK_PAGE, HIT, Rows
 from ..reading.subcodes import subcode_words, turns_of
 from ..reading.timeline import LEAST, Span, Timeline
+from .checking import Answer
 from .due_pages import DuePages
 from .keeping import left_at
 from .lettering import attribute_words, is_moved, is_part, place_words, words_on
@@ -59,12 +60,11 @@ class Faulty:
 
 
 class Namer(Sendings):
-    """Names the causes of subtitles by what is held, and by the row that is told at a frame."""
+    """Names the causes of subtitles by what is held, and by what is told."""
 
-    def __init__(self, programme: DuePages, held: Timeline,
-                 row_at: Callable[[int], int | None] = lambda frame: None) -> None:
+    def __init__(self, programme: DuePages, held: Timeline, answer: Answer | None = None) -> None:
         super().__init__(programme, held)
-        self.row_at = row_at
+        self.answer = answer
 
     def cause(self, place: int, faulty: Faulty) -> Cause:
         """The cause of a subtitle; where no PES packet came it is that."""
@@ -205,7 +205,7 @@ class Namer(Sendings):
 
     def hidden_words(self, frame: int) -> str:
         """Why `check` tells another page at a frame than the one that is held after it."""
-        rows = left_at(self.held, self.programme.page_at(frame), frame, self.row_at(frame))
+        rows = left_at(self.held, self.programme.page_at(frame), frame, self.answer)
         if len(self.held.members(frame)) > 1 and not (rows and self.held.within):
             return IN_PARTS
         if not self.held.is_seen(frame, frame):

@@ -1,7 +1,9 @@
 """`subttx check --all`, asked about a pair, and all that its list comes to: it is read here alone."""
 from __future__ import annotations
 
+import bisect
 import collections
+import functools
 import re
 import shutil
 import subprocess
@@ -9,6 +11,7 @@ from typing import BinaryIO, Callable, Iterator, NamedTuple
 
 from ..core.files import naming
 from ..core.spans import Spans
+from ..core.times import FRAMES_OF_A_DAY
 from ..core.told import (
     ENDED, PASSED_OVER, REFUSED, STL_FAULTS, UNDECIDED, Told, accepted_of, count_of,
     frame_of_place, is_line, number_of, told_of, trusted_of, words_of)
@@ -135,6 +138,17 @@ class Answer:
         """Takes that nothing more is told: what was told so far is no answer."""
         with naming(self.path):
             self.file.close()
+
+    @functools.cached_property
+    def rows(self) -> list[tuple[int, int]]:
+        """The frames at which the content of a row is told, each with the row."""
+        return sorted((told.frame, told.row) for told, _ in self.told()
+                      if told.frame is not None and told.row is not None)
+
+    def row_at(self, frame: int) -> int | None:
+        """The row that was told last up to a frame."""
+        at = bisect.bisect_right(self.rows, (frame, FRAMES_OF_A_DAY)) - 1
+        return self.rows[at][1] if at >= 0 else None
 
     def told_up_to(self) -> str | None:
         """The last time that a line has: what is before it was told."""

@@ -9,7 +9,7 @@ import bisect
 from typing import Callable, Iterator, Mapping, NamedTuple, Sequence
 
 from ..core.times import time_of
-from ..core.told import CONTENT, CONTROL, Told, frame_of_place
+from ..core.told import CHANGED, CONTENT, CONTROL, Told, frame_of_place
 from ..core.words import counted
 from ..reading.packets import CLOSED, HEADER
 from ..reading.receiver import Rows
@@ -70,13 +70,15 @@ def judged_by(kept: Kept, answer: Answer | None, held: Timeline, due: Callable[[
     that is due at a frame."""
     if answer is None:
         return kept
-    found = {one.frame: one for told, end in answer.told() for one in left_by(told, end, held, due)}
+    found = {one.frame: one for told, end in answer.told()
+             for one in left_by(told, end, answer, held, due)}
     return kept._replace(left=tuple(found[frame] for frame in sorted(found)),
                          refused=answer.counts[CONTROL], is_right=CONTENT not in answer.numbers,
                          is_accepted=answer.is_accepted)
 
 
-def left_by(told: Told, end: End, held: Timeline, due: Callable[[int], Rows]) -> Iterator[Left]:
+def left_by(told: Told, end: End, answer: Answer, held: Timeline, due: Callable[[int], Rows]
+            ) -> Iterator[Left]:
     """The headers behind which rows are left out, by a fault that stands up to an end."""
     if told.number != CONTENT or told.frame is None:
         return
@@ -84,23 +86,29 @@ def left_by(told: Told, end: End, held: Timeline, due: Callable[[int], Rows]) ->
     at = max(bisect.bisect_right(held.sendings, told.frame) - 1, 0)
     for sent in held.sendings[at:bisect.bisect_right(held.sendings, last)]:
         frame = max(sent, told.frame)
-        if rows := left_at(held, due(frame), frame, told.row):
+        if rows := left_at(held, due(frame), frame, answer):
             yield Left(sent, rows)
 
 
-def left_at(held: Timeline, due: Rows, frame: int, row: int | None) -> str:
-    """Which rows are left out behind the last header up to a frame, at which one row is told;
-    nothing where that header erases, or another page is held than is due."""
+def left_at(held: Timeline, due: Rows, frame: int, answer: Answer | None) -> str:
+    """Which rows are left out behind the last header up to a frame, at which the content of a row
+    is told; nothing where that header erases, another page is held than is due, or a row has come
+    otherwise since the page was erased."""
     header = held.state_at(frame).header
     at = bisect.bisect_right(held.sendings, frame) - 1
     if header is None or not keeps(header) or at < 0 or held.page_at(frame) != due:
+        return ""
+    erased = held.erasings[bisect.bisect_right(held.erasings, frame) - 1] \
+        if held.erasings and held.erasings[0] <= frame else 0
+    changed = answer.marks.get(CHANGED) if answer else None
+    if changed and any(changed.between(erased, frame + 1)):
         return ""
     sent = held.sendings[at]
     runs = [run for one in range(sent, min(frame, sent + held.within) + 1)
             for run in held.members(one)]
     came = sum(run.units - run.does.count(HEADER) - run.does.count(CLOSED) for run in runs)
-    return rows_words([number for number, cells in enumerate(due, 1) if cells.strip(b" ")], row,
-                      came)
+    return rows_words([number for number, cells in enumerate(due, 1) if cells.strip(b" ")],
+                      answer.row_at(frame) if answer else None, came)
 
 
 def rows_words(rows: Sequence[int], row: int | None, came: int) -> str:

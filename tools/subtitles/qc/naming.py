@@ -1,12 +1,9 @@
 """The causes of a list of `check --all`."""
 from __future__ import annotations
 
-import bisect
 import collections
-import functools
 from typing import Iterable
 
-from ..core.times import FRAMES_OF_A_DAY
 from ..core.told import BEGIN, CONTENT, END
 from ..reading.timeline import Span, Timeline
 from .causes import EARLY, NAMES, NEVER, Cause, Faulty, Namer
@@ -30,15 +27,14 @@ class Causes:
                  reach: Span | None = None) -> None:
         self.programme, self.held, self.reach = programme, held, reach
         held.lost = list(unseen)
-        self.namer = Namer(programme, held, self.row_at)
-        self.answer: Answer | None = None
+        self.namer = Namer(programme, held)
         self.named: dict[int, Cause] = {}
         self.of_edge: dict[int, int] = {}
         self.open: dict[int, Faulty] = {}
 
     def name(self, answer: Answer) -> None:
         """Names the causes of all that is told."""
-        self.answer = answer
+        self.namer.answer = answer
         begin, end = (answer.firsts.get(number) for number in (BEGIN, END))
         if begin and begin.frame is not None:
             self.look_before(begin.frame)
@@ -49,18 +45,6 @@ class Causes:
         for place in sorted(self.open):
             self.named[place] = self.named_by(place)
         self.open = {}
-
-    @functools.cached_property
-    def rows(self) -> list[tuple[int, int]]:
-        """The frames at which a row is told, each with the row."""
-        told = (told for told, _ in self.answer.told()) if self.answer else ()
-        return sorted((one.frame, one.row) for one in told
-                      if one.number == CONTENT and one.frame is not None and one.row is not None)
-
-    def row_at(self, frame: int) -> int | None:
-        """The row that was told last up to a frame."""
-        at = bisect.bisect_right(self.rows, (frame, FRAMES_OF_A_DAY)) - 1
-        return self.rows[at][1] if at >= 0 else None
 
     def add(self, first: int, last: int) -> None:
         """Takes frames at which another page is held than is due."""

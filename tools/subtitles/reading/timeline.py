@@ -48,7 +48,8 @@ class Timeline:
     """The pages, each with the frame from whose end on it is held; the frames rise.
 
     `states` are all that a receiver holds, each after a PES packet; `sendings` the frames
-    with a header of the page; `first` and `last` the frames of the first and the last PES packet.
+    with a header of the page, `erasings` those with one that erases it; `first` and `last` the
+    frames of the first and the last PES packet.
     `doubts` are frames of which not all is known that was sent: from the PES packet before one that
     is not heard, as a mark is, to the next one; `lost` others. `halt` is the number of the first
     PES packet whose frame is before that of the one before, `falls` the frames of all such; but
@@ -76,7 +77,8 @@ class Timeline:
         self.when: dict[Rows, array.array[int]] = {}  # the frames at which a page came
         self.states: list[Stored] = []
         self.strays: list[tuple[Span, Texts]] = []  # rows for which the page was not open
-        self.sendings, self.falls = array.array("i"), array.array("i")
+        self.sendings, self.erasings = array.array("i"), array.array("i")
+        self.falls = array.array("i")
         self.turns = array.array("i")  # the frames at whose ends the page turns open, or closed
         self.first = self.last = self.before = NO_FRAME
         self.halt: int | None = None
@@ -134,9 +136,10 @@ class Timeline:
         self.pauses += pauses_in(self.last, one.frames)
         self.heard.append(one)
         self.count += len(one.frames)
-        if HEADER in one.run.does:
-            self.sendings.extend(frame for frame in dict.fromkeys(one.frames)
-                                 if not self.sendings or frame > self.sendings[-1])
+        for letter, frames in ((HEADER, self.sendings), (ERASE, self.erasings)):
+            if letter in one.run.does:
+                frames.extend(frame for frame in dict.fromkeys(one.frames)
+                              if not frames or frame > frames[-1])
         if STRAY in one.run.does:
             self.strays.append((Span(first, last), stray))
         self.take(one.run, first, is_told)
