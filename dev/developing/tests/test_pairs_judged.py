@@ -165,11 +165,13 @@ class Said(Case):
              "within 2 frames."),
             (self.sent, ["--strict"], "Not accepted: there are warnings, which count (repeat); "
              "what was seen is as it is due."),
-            (gone, ["--every", "49"], "Refused: from 00:00:13:24 on the longest gap is 50 frames: "
-             "--every 50 accepts it."),
+            (gone, ["--every", "49"], "Refused: from 00:00:13:24 on the longest gap is 50 frames, "
+             "and 25 are usual."),
             (gone, ["--every", "49", "--severity", self.write("mild", b"73 warning\n")],
              "Waived, since these faults are named warnings: from 00:00:13:24 on the longest gap "
-             "is 50 frames: --every 50 accepts it.")]
+             "is 50 frames, and 25 are usual."),
+            (self.sent, ["--every", "20"], "Refused: from 00:00:04:20 on the longest gap is 25 "
+             "frames: --every 25 accepts it; in all 59 faults.")]
         for sent, words, wanted in rows:
             found = self.judge(sent, *words)
             self.must(wanted, wanted in found.said and found.result["sentence"] == wanted,

@@ -192,20 +192,35 @@ class Words(Case):
             self.must(f"{line} {within}", found.pes == pes, found)
 
     def test_gaps(self) -> None:
-        """The longest gap, the last among them; what accepts it, where nothing else is refused and
-        all that was sent can be read."""
-        for frames, every, numbers, wanted in (
-                ((0, 50, 150, 180), 50, {73},
+        """The longest gap, the last among them, and behind the last header; what accepts it, where
+        nothing else is refused, all that was sent is known, and no repeat is missing."""
+        each = tuple(range(0, 1001, 100))
+        for frames, last, every, numbers, is_lost, wanted in (
+                (each, 1000, 50, {73}, False,
                  "the longest gap is 100 frames: --every 100 accepts it"),
-                ((0, 50, 180, 280), 99, {73, 72}, "the longest gap is 130 frames"),
-                ((0, 100), 100, {73}, ""), ((0, 500), 100, {73, 38}, ""),
-                ((0, 101), 100, {73}, "the longest gap is 101 frames: --every 101 accepts it"),
-                ((0, 1501), 100, {73}, "the longest gap is 1501 frames: --every 1501 accepts it")):
+                (each, 1000, 99, {73}, False,
+                 "the longest gap is 100 frames: --every 100 accepts it"),
+                (each, 1000, 100, {73}, False, ""), (each, 1000, 50, {73, 38}, False, ""),
+                (each, 1000, 50, {73, 72}, False, "the longest gap is 100 frames"),
+                (each, 1000, 50, {73}, True, "the longest gap is 100 frames"),
+                ((*each[:5], *each[6:]), 1000, 100, {73}, False,
+                 "the longest gap is 200 frames, and 100 are usual"),
+                ((*each[:5], *each[6:]), 1000, 99, {73}, False, "the longest gap is 200 frames"),
+                (each[1:], 1000, 50, {73}, False,
+                 "the longest gap is 100 frames: --every 100 accepts it"),
+                (each, 1100, 100, {73}, False,
+                 "the longest gap is 101 frames, and 100 are usual"),
+                (each, 1098, 99, {73}, False,
+                 "the longest gap is 100 frames: --every 100 accepts it"),
+                ((0, 101), 101, 100, {73}, False, "the longest gap is 101 frames"),
+                ((), 5, 1, {73}, False, "")):
             for origin in (ORIGIN, CLOCK - 60 * TICKS):
-                headers = [(origin + TICKS * frame) % CLOCK for frame in frames]
+                headers, ends = ([(origin + TICKS * frame) % CLOCK for frame in some]
+                                 for some in (frames, (last,)))
                 asked = asked_for("one.stl", "one.pes", "--every", str(every))
-                found = gap_words(headers, origin, asked, numbers).replace(",", "")
-                self.must(f"{frames} {numbers} {origin}", found == wanted, found)
+                found = gap_words((headers, ends), origin, asked, numbers, [], is_lost)
+                self.must(f"{frames} {numbers} {origin}", found.replace(",", "") ==
+                          wanted.replace(",", ""), found)
 
     def test_hints(self) -> None:
         """Of each number the first fault; of each part its own, by its own clock."""
@@ -227,8 +242,7 @@ class Words(Case):
         verdict = verdict_of(parts)
         verdict.asked.every = 100
         self.must("of each", list(hints_of(verdict)) == [
-            *wanted, "73: the longest gap is 225 frames: --every 225 accepts it"],
-            list(hints_of(verdict)))
+            *wanted, wanted[1]], list(hints_of(verdict)))
         verdict.parts = parts[1:2]
         self.must("none", not list(hints_of(verdict)))
 

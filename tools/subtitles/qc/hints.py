@@ -10,7 +10,7 @@ from ..core.told import (
 from ..core.words import MOST_EVERY, counted, pid_name
 from ..reading.gaps import why_refused
 from ..reading.packets import HEADER
-from ..reading.repeat import longest_gap
+from ..reading.repeat import are_usual, edges_of, longest_gap, measured
 from .asked import Asked
 from .cells import place_of
 from .headers import header_words
@@ -66,7 +66,9 @@ def words_of(told: Told, part: Part, verdict: Verdict) -> str:
         off = off_of(part.pts(), part.origin)
         return off.words(part.accepted_within) if off else ""
     if told.number == GAP:
-        return gap_words(part.pts(HEADER), part.origin, asked, part.answer.numbers)
+        times = [(one.begin, one.end) for one in part.due().subtitles]
+        return gap_words((part.pts(HEADER), part.pts()[-1:]), part.origin, asked,
+                         part.answer.numbers, times, part.is_lost)
     if part.kept:
         return part.kept.words()
     return header_words(place_of(told, part.packets, part.held).headers, asked, part.better)
@@ -91,12 +93,21 @@ def open_words(subtitles: SubtitleFile) -> str:
     return f"its DSC is {kind}: --open takes it" if kind else ""
 
 
-def gap_words(headers: Sequence[int], origin: int, asked: Asked, numbers: set[int]) -> str:
-    """The longest gap between headers of the page, where all that was sent can be read, and the
-    repeat bound that accepts it, where nothing else is refused."""
-    frames = [frame_at(pts, origin, asked.within) for pts in headers]
-    gap = longest_gap(frame for frame in frames if frame is not None)
+def gap_words(sent: tuple[Sequence[int], Sequence[int]], origin: int, asked: Asked,
+              numbers: set[int], times: Sequence[tuple[int, int]], is_lost: bool) -> str:
+    """The longest gap between headers of the page, or behind the last one, where all that was sent
+    can be read; and the repeat bound that accepts it, where nothing else is refused, nothing is
+    lost and no repeat is missing. What was sent are the PTS of headers, and that of the last PES
+    packet."""
+    headers, last = ([frame for pts in some if (frame := frame_at(pts, origin, asked.within))
+                      is not None] for some in sent)
+    end = last[0] + 1 if last else 0
+    gap = longest_gap([*headers, end] if headers and end > headers[-1] else headers)
     if gap <= asked.every or numbers & PASSED_OVER:
         return ""
-    accepts = f": --every {gap} accepts it" if numbers == {GAP} and gap <= MOST_EVERY else ""
-    return f"the longest gap is {counted(gap, 'frame')}{accepts}"
+    words = f"the longest gap is {counted(gap, 'frame')}"
+    if numbers == {GAP} and not is_lost and gap <= MOST_EVERY and \
+            are_usual(headers, times, asked.every, end):
+        return f"{words}: --every {gap} accepts it"
+    usual = measured(headers, edges_of(times))
+    return f"{words}, and {usual} are usual" if usual and usual <= asked.every else words

@@ -90,13 +90,15 @@ def add_passed_on(parser: argparse.ArgumentParser) -> None:
                                 type=one.read, help=one.help, default={})
 
 
-def add_drawing(parser: argparse.ArgumentParser) -> None:
-    """Those by which the pages are drawn that are due, where nothing is looked for."""
+def add_for_reports(parser: argparse.ArgumentParser) -> None:
+    """Those of a report of a pair, where nothing is looked for."""
     parser.set_defaults(passed_on={})
     parser.add_argument(LAYOUT, action=Keep, dest="passed_on", metavar="TEXT", type=layout_word,
                         default={}, help="how the house draws its subtitles")
-    parser.add_argument(OPEN, action=Keep, dest="passed_on", nargs=0, default={},
-                        help="take a file of open subtitles too")
+    for name in (OPEN, KEEPING):
+        one = next(one for one in PASSED_ON if one.name == name)
+        parser.add_argument(name, action=Keep, dest="passed_on", nargs=0, default={},
+                            help=one.help)
 
 
 def passed_options(given: dict[str, str], is_file: bool = False) -> list[list[str]]:

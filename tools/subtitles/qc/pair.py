@@ -393,8 +393,8 @@ class Pair:
             part.delays = frames_in(not asked.within and not answer.numbers & MOVED,
                                     len(part.subtitle_file().begins), held, part.due,
                                     asked.is_complete)
-        is_lost = LOST_PACKETS in answer.numbers or \
+        part.is_lost = LOST_PACKETS in answer.numbers or \
             any(is_in(place, part) for place in recording.places())
-        if part.is_refused and not (recording.is_feed or is_lost or one.piece):
+        if part.is_refused and not (recording.is_feed or part.is_lost or one.piece):
             part.accepted_within = Trying(self.steps, recording, one, part.number, count).least(
                 answer.numbers, part.causes)

@@ -77,6 +77,7 @@ class Part:
     piece: Piece | None = None  # of one PID, where the page moves to another one
     left_out: Collection[int] = ()  # subtitles that are not judged, by their places in the file
     sent_hint: str = ""  # what to know of the first fault of its transmission
+    is_lost: bool = False  # something of what was sent
 
     @functools.cached_property
     def held(self) -> Timeline | None:

@@ -9,7 +9,7 @@ from ..core.words import counted, pid_name, shown
 from ..reading.gaps import SECOND, jumps_of
 from ..reading.languages import ANY, names_of
 from ..reading.packets import Packets
-from ..reading.repeat import measured
+from ..reading.repeat import edges_of, measured
 from ..reading.survey import KINDS, SUBTITLE_KINDS, Announced, Survey
 from ..reading.timeline import FEW, PAUSE
 from ..reading.timing import SAID, strange_of
@@ -172,8 +172,7 @@ def of_pauses(pts: Sequence[int], asked: Asked, origin: int) -> Iterator[Warned]
 def of_repeat(headers: Sequence[int], asked: Asked, origin: int, times: list[tuple[int, int]]) \
         -> Iterator[Warned]:
     """Where the page is repeated so often that `--every` would not see a repeat that is missing."""
-    edges = sorted({frame for pair in times for frame in pair})
-    every = measured((frame_in(pts, origin, asked.within) for pts in headers), edges)
+    every = measured((frame_in(pts, origin, asked.within) for pts in headers), edges_of(times))
     if every is not None and every * 2 < asked.every:
         yield Warned("repeat", f"the page is repeated each "
                      f"{'frame' if every == 1 else counted(every, 'frame')}; --every {every} would "
