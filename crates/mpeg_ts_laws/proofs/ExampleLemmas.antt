@@ -90,60 +90,62 @@ pub example_of_losses : ExampleOfLosses
 unfolding arriving
 example_of_losses = record {
   lossy = record {
-    is_multiplex = record {
-      lead = (refl, tt);
-      sent = (
-        sent_whole (sent_packet 188) (fated 0x10 0x20 Kept) 0x20 refl refl refl,
-        (
-          sent_whole (sent_packet 188) (fated 0x11 0x21 LeftOut) 0x21 refl refl refl,
+    losses = record {
+      is_multiplex = record {
+        lead = (refl, tt);
+        sent = (
+          sent_whole (sent_packet 188) (fated 0x10 0x20 Kept) 0x20 refl refl refl,
           (
-            sent_whole (sent_packet 188) (fated 0x12 0x22 (MadeWrong wrong)) 0x22 refl refl refl,
-            (sent_whole (sent_packet 188) (fated 0x13 0x23 Kept) 0x23 refl refl refl, tt),
+            sent_whole (sent_packet 188) (fated 0x11 0x21 LeftOut) 0x21 refl refl refl,
+            (
+              sent_whole (sent_packet 188) (fated 0x12 0x22 (MadeWrong wrong)) 0x22 refl refl refl,
+              (sent_whole (sent_packet 188) (fated 0x13 0x23 Kept) 0x23 refl refl refl, tt),
+            ),
           ),
-        ),
-      );
-      linked = (
-        record { counter = inl refl; within = λ other. absurd (true≢false other) },
-        (
+        );
+        linked = (
           record { counter = inl refl; within = λ other. absurd (true≢false other) },
-          (record { counter = inl refl; within = λ other. absurd (true≢false other) }, tt),
-        ),
-      );
-    };
-    sent = sent_before_losses;
-    is_recording = record {
-      each = (
-        null_unit,
-        inr refl,
-        (
-          unit_of 0x10 0x20,
+          (
+            record { counter = inl refl; within = λ other. absurd (true≢false other) },
+            (record { counter = inl refl; within = λ other. absurd (true≢false other) }, tt),
+          ),
+        );
+      };
+      sent = sent_before_losses;
+      is_recording = record {
+        each = (
+          null_unit,
           inr refl,
           (
-            unit_of 0x11 0x21,
+            unit_of 0x10 0x20,
             inr refl,
-            (unit_of 0x12 0x22, inr refl, (unit_of 0x13 0x23, inl refl, tt)),
+            (
+              unit_of 0x11 0x21,
+              inr refl,
+              (unit_of 0x12 0x22, inr refl, (unit_of 0x13 0x23, inl refl, tt)),
+            ),
           ),
-        ),
-      );
-      joined = refl;
-      few = few sent_before_losses 940 refl (omega arith);
-    };
-    no_jump = (refl, (refl, (refl, (refl, (refl, tt)))));
-    fates = (
-      tt,
-      (
+        );
+        joined = refl;
+        few = few sent_before_losses 940 refl (omega arith);
+      };
+      no_jump = (refl, (refl, (refl, (refl, (refl, tt)))));
+      fates = (
         tt,
         (
           tt,
           (
-            record { size = refl; sync = refl; pid_before = refl; pid_after = refl; wrong = refl },
-            (tt, tt),
+            tt,
+            (
+              record { size = refl; sync = refl; pid_before = refl; pid_after = refl; wrong = refl },
+              (tt, tt),
+            ),
           ),
         ),
-      ),
-    );
+      );
+      left = refl;
+    };
     few = refl;
-    left = refl;
   };
   arrives = refl;
 }
