@@ -2,7 +2,7 @@
 -- Where content is refused, a cell is not right that every receiver holds, `different_everywhere`;
 -- and where no repeat may keep, every receiver shows what it may not show: `undue_everywhere`.
 use Rattle.std.proofs.lemmas.Bool.Decides.{nat_tests}
-use Rattle.std.proofs.Common.{List, [], subst, ◌≡◌, ℕ, ◌-◌, ◌<◌, ◌≤◌, ◌⊎◌, inl, inr, Bool, true}
+use Rattle.std.proofs.Common.{List, [], subst, ◌≡◌, ℕ, ◌-◌, ◌<◌, ◌≤◌, inl, inr, Bool, true}
 use Rattle.std.proofs.Common.{false, Option, Some, None, length, take, drop, refl, sym, ap}
 use Rattle.std.proofs.Common.{◌∙◌, arith, le_refl}
 use Rattle.std.proofs.lemmas.Bool.{true≢false}

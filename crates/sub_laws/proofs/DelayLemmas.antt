@@ -4,7 +4,7 @@
 -- and where the page that is due is shown it is what may be trusted of one that is not:
 -- `served_at_once`, `law_of_finished_stretch`, `law_of_trust_without_delay`.
 use Rattle.std.proofs.lemmas.Bool.Decides.{nat_tests}
-use Rattle.std.proofs.Common.{◌≡◌, ℕ, ◌≤◌, ◌&&◌, inl, inr, Bool, true, false, List}
+use Rattle.std.proofs.Common.{◌≡◌, ℕ, ◌≤◌, inl, inr, Bool, true, false, List}
 use Rattle.std.proofs.Common.{Option, option_map, unwrap_or, ap, sym, ◌∙◌, subst, arith}
 use Rattle.std.proofs.Common.{le_trans}
 use Rattle.std.specs.List.{list_any}
@@ -246,7 +246,8 @@ pub shown_at_once :
     → ShownWithDelay class programme transmission options a b
     → CompleteWithin transmission options a b
     → ShownWithin class programme transmission options a b
-shown_at_once class programme transmission options a b h1 h2 h3 = grind (arith, nat_tests, le_trans, ended_of_complete)
+shown_at_once class programme transmission options a b h1 h2 h3 =
+    grind (arith, nat_tests, le_trans, ended_of_complete)
 
 -- Within no frame each frame of a stretch is finished.
 pub finished_at_once :

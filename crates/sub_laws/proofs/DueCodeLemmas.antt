@@ -4,7 +4,7 @@
 -- TCO a frame is, `ending_is`, `ending_at`.
 use Rattle.std.proofs.lemmas.Bool.Decides.{nat_tests}
 use Rattle.std.proofs.Common.{◌≡◌, ◌≢◌, ℕ, zero, suc, ◌+◌, ◌-◌, ◌<◌, ◌≤◌, ◌⊎◌, inl, inr, Bool, true}
-use Rattle.std.proofs.Common.{false, not, ◌&&◌, ◌||◌, ◌==◌, nat_le, List, Contains, get_or}
+use Rattle.std.proofs.Common.{false, not, ◌&&◌, ◌==◌, nat_le, List, Contains, get_or}
 use Rattle.std.proofs.Common.{Some, None, option_map, refl, ap, ◌∙◌, arith, find}
 use Rattle.std.proofs.lemmas.Bool.{cases_lt}
 use Rattle.std.proofs.lemmas.List.Elements.{All-contains}

@@ -23,7 +23,6 @@ use Rattle.sub_rules.specs.FrameRules.{packets_of_frame}
 use Rattle.sub_rules.specs.PacketRules.{AreClean, KeepsAllRules}
 use Rattle.sub_rules.specs.Transmission.{EachPacket, Transmission}
 use Rattle.sub_rules.specs.declared.end_rule.EndRule.{EndRule}
-use Rattle.sub_rules.specs.declared.end_rule.EndRule.TheVariants as end
 use Rattle.sub_rules.specs.declared.event.Event.{Event}
 use Rattle.sub_rules.specs.declared.event.Event.TheVariants.{Told}
 use Rattle.sub_rules.specs.declared.fault.CheckFault.{CheckFault}
@@ -226,7 +225,8 @@ module _ (g : Task) (frames : Transmission) (Named : CheckFault → Type 0)
 
     -- What stood broken at the end before the frame's own.
     pub nothing_stood : GapOk → standing_before g frames n (frame_at frames n) ≡ nothing_stands
-    nothing_stood quiet = grind (arith, nat_tests, last_is, gap_length-is, nothing_before, quiet_at, quiet_all)
+    nothing_stood quiet =
+        grind (arith, nat_tests, last_is, gap_length-is, nothing_before, quiet_at, quiet_all)
 
   gap_of : (n : ℕ) → AreOk g frames n → n < length frames → OrderOk g frames n
       → Tells ((f : ℕ) → IsInGap frames n f → IsQuiet g frames n f)

@@ -3,7 +3,7 @@
 -- since which frame the ends are unfinished there, `since_is`, `no_since`, `since_no`, `late_is`.
 use Rattle.std.proofs.lemmas.Bool.Decides.{nat_tests}
 use Rattle.std.proofs.Common.{◌≡◌, ℕ, ◌+◌, ◌-◌, ◌<◌, ◌≤◌, Bool}
-use Rattle.std.proofs.Common.{false, not, ◌||◌, ◌==◌, Option, None}
+use Rattle.std.proofs.Common.{false, not, ◌==◌, Option, None}
 use Rattle.std.proofs.Common.{is_some, length, refl, sym, ap, ◌∙◌, subst, arith}
 use Rattle.std.proofs.Common.{IsFalse}
 use Rattle.std.proofs.lemmas.Bool.{or_parts}

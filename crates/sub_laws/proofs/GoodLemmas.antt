@@ -58,7 +58,8 @@ pub any_passes : (test : List ℕ → Bool) (t : Transmission) (j n : ℕ)
     → list_any test (packets_of t n) ≡ true
 any_passes test [] j n l e h = grind (arith, nat_tests)
 any_passes test (s ∷ ss) zero n l e h = grind (arith, nat_tests, list_any-append)
-any_passes test (s ∷ ss) (suc j) n l e h = grind (arith, nat_tests, list_any-append, (any_passes test ss j n (omega arith) e h))
+any_passes test (s ∷ ss) (suc j) n l e h =
+    grind (arith, nat_tests, list_any-append, (any_passes test ss j n (omega arith) e h))
 
 -- So is a header of the page.
 pub any_sent : (w : Watched) (t : Transmission) (j n : ℕ) → j < length t → frame_at t j ≡ n

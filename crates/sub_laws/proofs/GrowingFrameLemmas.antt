@@ -2,9 +2,9 @@
 -- The frames that are sent so far, of all frames that are sent by PES packets: these are more
 -- packets of the last of them, and more frames, `grows`. So what comes of them so far goes by all
 -- frames.
-use Rattle.std.proofs.Common.{◌≡◌, ℕ, suc, ◌+◌, ◌-◌, ◌<◌, true, false, List, [], ◌∷◌, ◌++◌}
+use Rattle.std.proofs.Common.{◌≡◌, ℕ, suc, ◌+◌, ◌<◌, true, false, List, [], ◌∷◌, ◌++◌}
 use Rattle.std.proofs.Common.{length, refl, sym, ap, ◌∙◌, arith, append_assoc, append-nil}
-use Rattle.std.proofs.Common.{length-append, le_refl, ◌&&◌, ◌==◌, ◌≤◌}
+use Rattle.std.proofs.Common.{length-append, le_refl, ◌==◌, ◌≤◌}
 use Rattle.std.proofs.lemmas.Bool.Decides.{nat_tests}
 use Rattle.sub_rules.specs.FrameRules.{Task, end_frame, frame_at, packets_before, packets_of_frame}
 use Rattle.sub_rules.specs.PieceEvents.{marks_of_arrival, marks_of_ending}
@@ -38,7 +38,8 @@ with_two : (xs ys : List (List ℕ)) (sent : Transmission)
 unfolding with_packets
 with_two xs ys [] = refl
 with_two xs ys (s ∷ []) = grind (arith, nat_tests, append_assoc)
-with_two xs ys (s ∷ next ∷ frames) = grind (arith, nat_tests, with_packets-length, with_first, (with_two xs ys (next ∷ frames)))
+with_two xs ys (s ∷ next ∷ frames) =
+    grind (arith, nat_tests, with_packets-length, with_first, (with_two xs ys (next ∷ frames)))
 
 -- ---- frames so far
 

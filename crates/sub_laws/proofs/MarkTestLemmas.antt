@@ -4,7 +4,7 @@
 use Rattle.std.proofs.lemmas.Bool.Decides.{nat_tests}
 use Rattle.std.proofs.Common.{◌≡◌, ℕ, zero, suc, ◌+◌, ◌==◌, Bool, true, false, List, [], ◌∷◌, ◌++◌}
 use Rattle.std.proofs.Common.{length, map, Option, None, Some, refl, ◌∙◌, arith, if◌then◌else◌}
-use Rattle.std.proofs.Common.{slice_index_or, take, unwrap_or, ◌||◌}
+use Rattle.std.proofs.Common.{slice_index_or, take, unwrap_or}
 use Rattle.std.proofs.lemmas.Bool.{or_parts}
 use Rattle.std.proofs.lemmas.Option.{same_Some}
 use Rattle.std.proofs.lemmas.List.Folds.{list_any-append}
@@ -90,7 +90,8 @@ module _ (test : Mark → Bool) where
     back_passes since = grind (arith, nat_tests, one_passes, none_passes)
 
     at_end_passes : (frames : Transmission) (i n f : ℕ) → Passes (marks_at_end g frames i n f)
-    at_end_passes frames i n f = grind (arith, nat_tests, both_pass, back_passes, says_pass, none_passes, one_passes)
+    at_end_passes frames i n f =
+        grind (arith, nat_tests, both_pass, back_passes, says_pass, none_passes, one_passes)
 
     gap_passes : (frames : Transmission) (i n : ℕ) → Passes (marks_of_gap g frames i n)
     unfolding marks_of_gap
@@ -99,7 +100,8 @@ module _ (test : Mark → Bool) where
         both_pass (gap_passes frames i n) (at_end_passes frames i i (latest frames i + suc n))
 
     arrival_passes : (frames : Transmission) (i : ℕ) → Passes (marks_of_arrival g frames i)
-    arrival_passes frames i = grind (arith, nat_tests, both_pass, says_pass, gap_passes, one_passes, back_passes)
+    arrival_passes frames i =
+        grind (arith, nat_tests, both_pass, says_pass, gap_passes, one_passes, back_passes)
 
     told_pass : (w : Watched) (frame from : ℕ) (before packets : List (List ℕ)) (n : ℕ)
         → list_any on (packets_told w frame from before packets n) ≡ false
@@ -117,7 +119,8 @@ module _ (test : Mark → Bool) where
         rules frame k (r ∷ rs) = rw (fine.of_rule r frame k) (rules frame k rs)
 
     ending_passes : (frames : Transmission) (i : ℕ) → Passes (marks_of_ending g frames i)
-    ending_passes frames i = grind (arith, nat_tests, both_pass, says_pass, at_end_passes, one_passes)
+    ending_passes frames i =
+        grind (arith, nat_tests, both_pass, says_pass, at_end_passes, one_passes)
 
     waiting_passes : (sent : Transmission) → Passes (marks_of_waiting g sent)
     unfolding marks_of_waiting
@@ -137,19 +140,33 @@ module _ (test : Mark → Bool) where
         says_pass _ (told_pass g.watched (end_frame sent) _ _ packets (length packets))
 
     next_passes : (sent : Transmission) (s : SentFrame) → Passes (marks_of_next g sent s)
-    next_passes sent s = grind (arith, nat_tests, both_pass, arrival_passes, packets_pass, ending_passes, none_passes)
+    next_passes sent s =
+        both_pass
+        (both_pass (arrival_passes (sent ++ s ∷ []) (length sent))
+        (packets_pass (sent ++ s ∷ []) (length sent))) (go (g.within == 0))
+      where
+        go : (b : Bool)
+            → Passes (if b then marks_of_ending g (sent ++ s ∷ []) (length sent) else [])
+        go true = ending_passes (sent ++ s ∷ []) (length sent)
+        go false = none_passes
 
     sent_passes : (sent : Transmission) (pes : ℕ) (s : SentFrame)
         → Passes (marks_of_sent g sent pes s)
     unfolding marks_of_sent
-    sent_passes sent pes s = grind (arith, nat_tests, both_pass, one_passes, more_passes, waiting_passes, next_passes)
+    sent_passes sent pes s =
+        grind (arith, nat_tests, both_pass, one_passes, more_passes, waiting_passes, next_passes)
 
     pub each_passes : (sent : Transmission) (pes : ℕ) (pieces : List Piece) → PassedPass pes pieces
         → Passes (marks_of_each g sent pes pieces)
     unfolding marks_of_each
-    each_passes sent pes [] passed = grind (arith, nat_tests, none_passes)
-    each_passes sent pes (Sent s ∷ pieces) passed = grind (arith, nat_tests, both_pass, sent_passes, (each_passes (sent_after g.within sent s) (suc pes) pieces passed))
-    each_passes sent pes (Passed u ∷ pieces) passed = grind (arith, nat_tests, both_pass, one_passes, (each_passes sent (suc pes) pieces passed.1))
+    each_passes sent pes [] passed = none_passes
+    each_passes sent pes (Sent s ∷ pieces) passed =
+        both_pass (sent_passes sent pes s)
+        (each_passes (sent_after g.within sent s) (suc pes) pieces passed)
+    each_passes sent pes (Passed u ∷ pieces) passed =
+        both_pass (one_passes (AtPes pes) (fine.at_pes pes))
+        (both_pass (one_passes (Says (Told (unread_fault pes (Some u)))) passed.0)
+        (each_passes sent (suc pes) pieces passed.1))
 
     -- What comes of pieces before the file ends.
     pub before_passes : (pieces : List Piece) → ((pes : ℕ) → PassedPass pes pieces)

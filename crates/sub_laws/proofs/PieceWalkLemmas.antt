@@ -33,7 +33,8 @@ use Rattle.sub_rules.specs.Trusted.{Mark}
 packets_grow : (g : Task) (sent frames : Transmission) (is : Grows sent frames) (n : ℕ)
     → length sent ≡ suc n
     → packets_of_frame frames n ≡ packets_of_frame sent n ++ is.rest
-packets_grow g sent frames is n size = grind (arith, nat_tests, long, with_packets-length, packets_of_frame-prefix, with_packets-last)
+packets_grow g sent frames is n size =
+    grind (arith, nat_tests, long, with_packets-length, packets_of_frame-prefix, with_packets-last)
 
 -- Each of these pieces that is passed over comes where frames were sent as asked, these being sent
 -- before them.

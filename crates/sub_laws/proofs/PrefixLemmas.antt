@@ -52,7 +52,8 @@ module _ (t : Transmission) (m : ℕ) (fits : m ≤ length t) (Q : List (List �
   within : (i : ℕ) → i < m → Q (packets_before t i) → (k : ℕ) → k ≤ length (packets_of_frame t i)
       → Q (before t i k)
   within i l base zero h = grind (arith, nat_tests, before_none)
-  within i l base (suc k) h = grind (arith, nat_tests, before_more, (within i l base k (omega arith)))
+  within i l base (suc k) h =
+      grind (arith, nat_tests, before_more, (within i l base k (omega arith)))
 
   -- At the start of each frame.
   pub at_start : (n : ℕ) → n ≤ m → Q (packets_before t n)

@@ -2,9 +2,9 @@
 -- What is said by the marks of pieces: where each is sent it is what is told of the frames that
 -- they send. Main lemma: `pieces_said`.
 use Rattle.std.proofs.lemmas.Bool.Decides.{nat_tests}
-use Rattle.std.proofs.Common.{◌≡◌, ℕ, zero, suc, ◌+◌, ◌<◌, ◌≤◌, ◌==◌, List}
-use Rattle.std.proofs.Common.{[], ◌∷◌, ◌++◌, length, map, refl, sym, ap, ◌∙◌, subst, arith}
-use Rattle.std.proofs.Common.{append_assoc, if◌then◌else◌, inl, inr, length-append}
+use Rattle.std.proofs.Common.{◌≡◌, ℕ, zero, suc, ◌+◌, ◌<◌, ◌≤◌, List}
+use Rattle.std.proofs.Common.{[], ◌∷◌, ◌++◌, length, map, refl, sym, ap, ap₂, ◌∙◌, subst, arith}
+use Rattle.std.proofs.Common.{append_assoc, inl, inr, length-append}
 use Rattle.std.proofs.lemmas.List.{append-nil}
 use Rattle.sub_rules.specs.Events.{closing_events, events_at_end}
 use Rattle.sub_rules.specs.Events.{first_header_events, gap_length}
@@ -145,7 +145,26 @@ module _ (g : Task) (frames : Transmission) where
 
   steps : Steps (List Event) same g frames SaysOn Ended Begun NonePassed
   unfolding packets_told events_of_first frame_events
-  steps = grind (arith, nat_tests, said_arrival, append-nil, packets_told-append, said-says, append_assoc, said_ending)
+  steps = record {
+    at_ended = λ n pes so_far is. is;
+    at_open = λ n pes packets so_far is. is;
+    arrival = λ n so_far there is.
+        ap₂ ◌++◌ is (said_arrival g frames n)
+        ∙ sym (append-nil (arrived n));
+    more = λ n packets more rest so_far there whole is.
+        let from : 0 + length packets ≡ length packets = omega arith in
+        let all =
+        packets_told-append g.watched (frame_at frames n) 0 (packets_before frames n) packets more
+        in
+        ap₂ ◌++◌ is (said-says _)
+        ∙ append_assoc (arrived n) _ _
+        ∙ ap (λ (es : List Event). arrived n ++ es) (sym (rw from at all));
+    ending = λ n so_far there is.
+        ap₂ ◌++◌ is (said_ending g frames n)
+        ∙ grind (arith, append_assoc);
+    passed_ended = λ sent pes u so_far is none closed. absurd none;
+    passed_open = λ sent n pes u so_far is size none opens. absurd none;
+  }
 
   none_passed : (sent : Transmission) (pieces : List Piece)
       → length (frames_of pieces) ≡ length pieces
@@ -180,4 +199,5 @@ module _ (g : Task) where
   pub pieces_said : (pieces : List Piece) → length (frames_of pieces) ≡ length pieces
       → said (marks_of_pieces g pieces) ≡ events g (sent_by_pieces g pieces)
   unfolding events
-  pieces_said pieces all = grind (arith, nat_tests, said-append, before_said, said-says, closing_all)
+  pieces_said pieces all =
+      grind (arith, nat_tests, said-append, before_said, said-says, closing_all)

@@ -6,7 +6,7 @@
 use Rattle.std.proofs.Common.{◌≡◌, ◌↔◌, ℕ, zero, suc, ◌+◌, ◌-◌, ◌<◌, ◌≤◌, Bool, true, false, []}
 use Rattle.std.proofs.Common.{length, take, Option, Some, None, refl, sym, subst, arith, not, ◌||◌}
 use Rattle.std.proofs.Common.{◌&&◌, ◌==◌, ◌∙◌, ap, get_or, is_some, option_map, inl, inr, ◌⊎◌}
-use Rattle.std.proofs.Common.{le_refl, if◌then◌else◌, ◌≢◌}
+use Rattle.std.proofs.Common.{le_refl, ◌≢◌}
 use Rattle.std.specs.Prelude.{option_and_then}
 use Rattle.std.specs.List.{list_any}
 use Rattle.std.proofs.lemmas.Bool.{cases_lt, or_parts, true≢false}
@@ -18,7 +18,7 @@ use Rattle.std.specs.Bool.{Decides}
 use Rattle.std.proofs.lemmas.List.Folds.{list_any_more}
 use Rattle.ttx_packet.specs.OneBit.{first_below}
 use Rattle.ttx_packet.proofs.OneBitLemmas.{first_below_is}
-use Rattle.ttx_page.specs.Page.{IsCell, cell}
+use Rattle.ttx_page.specs.Page.{IsCell}
 use Rattle.ttx_page.specs.Shown.{kept}
 use Rattle.sub_rules.specs.Events.{broken_at, broken_cell, covers, first_cell, is_gap, is_silent}
 use Rattle.sub_rules.specs.Events.{is_incomplete, is_late, is_right, standing_at, wrong_after}
@@ -140,7 +140,8 @@ pub all_known : (undecided : ℕ → Bool) → ((frame : ℕ) → undecided fram
     → (first f m : ℕ) → was_undecided undecided first f m ≡ false
 unfolding was_undecided
 all_known undecided each first f zero = grind (arith, nat_tests)
-all_known undecided each first f (suc m) = grind (arith, nat_tests, (all_known undecided each first f m))
+all_known undecided each first f (suc m) =
+    grind (arith, nat_tests, (all_known undecided each first f m))
 
 -- So it is where nothing is refused of the subtitle file.
 pub always_known : (first f m : ℕ) → was_undecided (λ frame. false) first f m ≡ false
@@ -283,7 +284,8 @@ module _ (g : Task) (frames : Transmission) (n f : ℕ) where
       → g.undecided k ≡ false
   unfolding was_undecided
   known_back first zero e k high low from = grind (arith, nat_tests)
-  known_back first (suc m) e k high low from = grind (arith, nat_tests, or_parts, (known_back first m))
+  known_back first (suc m) e k high low from =
+      grind (arith, nat_tests, or_parts, (known_back first m))
 
   -- Frame f is the last of them.
   pub known_at : undecided_within g frames f ≡ false → g.undecided f ≡ false

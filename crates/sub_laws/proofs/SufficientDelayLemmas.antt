@@ -96,7 +96,8 @@ module _ (programme : ProgrammeValue) (options : OptionsValue) (unread : Option 
         → IsCell row column
         → IsDueWithin programme t options f row column
         (kept options.keeps options.page (packets_before t n) row column)
-    codes_early n f end low high early row column named = grind (arith, nat_tests, undue_none, undue_is, first-same)
+    codes_early n f end low high early row column named =
+        grind (arith, nat_tests, undue_none, undue_is, first-same)
 
     -- At a frame's end what is kept in each cell is what it may hold.
     pub codes : KeepsDueCodes options.keeps programme t options a b

@@ -312,4 +312,5 @@ pub none_told_repeats : (programme : ProgrammeValue) (options : OptionsValue)
     → EachPacket IsPacket frames
     → (events (task_of programme options unread) frames ≡ [])
     ↔ (GoodBy options.keeps programme frames options × (unread ≡ None))
-none_told_repeats programme options unread frames is every whole = grind (arith, nat_tests, nothing_told, Within-from_holds, holds-from_within)
+none_told_repeats programme options unread frames is every whole =
+    grind (arith, nat_tests, nothing_told, Within-from_holds, holds-from_within)

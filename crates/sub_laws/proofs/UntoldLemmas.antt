@@ -13,7 +13,7 @@ use Rattle.sub_rules.specs.Events.{end_events, first_header_events, first_told}
 use Rattle.sub_rules.specs.Events.{order_events}
 use Rattle.sub_rules.specs.FrameRules.{Task}
 use Rattle.sub_rules.specs.PieceEvents.{all_announced, all_of_pieces, closing_of_pieces, announced}
-use Rattle.sub_rules.specs.PieceEvents.{ended_run, joins, marks_of_each}
+use Rattle.sub_rules.specs.PieceEvents.{ended_run, joins, marks_of_closing, marks_of_each}
 use Rattle.sub_rules.specs.PieceEvents.{marks_of_pieces, marks_of_sent, marks_of_waiting, no_run}
 use Rattle.sub_rules.specs.PieceEvents.{passed_after_all, sent_by_pieces, told_of_pieces}
 use Rattle.sub_rules.specs.Pieces.{Piece, frames_of, sent_after}
@@ -153,7 +153,23 @@ module _ (g : Task) where
   told_none : (pieces : List Piece) → g.beside ≡ false
       → (told_of_pieces g pieces ≡ []) ↔ (said (marks_of_pieces g pieces) ≡ [])
   unfolding told_of_pieces
-  told_none pieces alone = grind (arith, nat_tests, said_none, said, append_empty, said_parts, quiet_so_far, before_open, told_after-append, closed_quiet, past_after)
+  told_none pieces alone = (said_none [] (marks_of_pieces g pieces), quiet)
+    where
+      quiet : said (marks_of_pieces g pieces) ≡ []
+          → told_after [] (marks_of_pieces g pieces) ≡ []
+      quiet none =
+          let frames = sent_by_pieces g pieces in
+          let before = marks_of_each g [] 0 pieces ++ marks_of_waiting g frames in
+          let closing = closing_of_pieces g frames (length pieces) (length frames) in
+          let parts = append_empty (said before) closing (sym (said_parts pieces) ∙ none) in
+          let so_far =
+          quiet_so_far [] before refl
+          (before_open pieces).none parts.0 in
+          told_after-append [] before
+          (marks_of_closing g frames (length pieces) (length frames))
+          ∙ rw so_far.0
+          (closed_quiet (past_after [] before) (length pieces) _ g.beside closing alone parts.1
+          so_far.1)
 
 -- Up to which piece a run goes is told only where something else is.
 announced_one : (e : Event) → announced no_run e ≡ e ∷ []
@@ -183,7 +199,8 @@ module _ (g : Task) where
 
   said_sent : (pieces : List Piece) → first_told (said (marks_of_pieces g pieces)) ≡ None
       → length (frames_of pieces) ≡ length pieces
-  said_sent pieces none = grind (arith, nat_tests, two_none, said, said_parts, said-append, each_sent)
+  said_sent pieces none =
+      grind (arith, nat_tests, two_none, said, said_parts, said-append, each_sent)
 
   -- Nothing is told of pieces exactly where each is sent and nothing is told of what they send,
   -- where nothing is refused of the subtitle file.
@@ -191,7 +208,8 @@ module _ (g : Task) where
       → (all_of_pieces g pieces ≡ [])
       ↔ ((length (frames_of pieces) ≡ length pieces) × (events g (sent_by_pieces g pieces) ≡ []))
   unfolding all_of_pieces
-  pieces_untold pieces alone = grind (arith, nat_tests, told_none, announced_empty, said_sent, pieces_said)
+  pieces_untold pieces alone =
+      grind (arith, nat_tests, told_none, announced_empty, said_sent, pieces_said)
 
   -- No refusal is told of them exactly where each is sent and none is told of what they send.
   pub pieces_unrefused : (pieces : List Piece)
