@@ -2,9 +2,9 @@
 -- A programme with others among its subtitles asks alike at the frames at which these are not due,
 -- `alike_with`; so what is told as trusted without them is so with them: `law_of_trusted_alike`.
 use Rattle.std.proofs.lemmas.Bool.Decides.{nat_tests}
-use Rattle.std.proofs.Common.{◌≡◌, ℕ, ◌+◌, ◌<◌, ◌≤◌, inl, inr, Bool, false}
+use Rattle.std.proofs.Common.{◌≡◌, ℕ, ◌+◌, inl, inr, Bool, false}
 use Rattle.std.proofs.Common.{List, [], ◌∷◌, find, Option, option_map}
-use Rattle.std.proofs.Common.{ap, ◌∙◌, arith, if◌then◌else◌}
+use Rattle.std.proofs.Common.{ap, arith}
 use Rattle.stl_file.specs.Subtitle.{SubtitleValue}
 use Rattle.stl_rows.specs.DuePage.{drawn_or_blank, due, ends_at, is_due, tci_of_ending}
 use Rattle.stl_rows.specs.Programme.{ProgrammeValue, first_in, last_out}
@@ -29,8 +29,10 @@ module _ (undecided : ℕ → Bool) (f : ℕ) (known : undecided f ≡ false) wh
       → (judged all : List SubtitleValue) → HasOthers undecided judged all
       → find test all ≡ find test judged
   same_found test none judged [] is = grind (arith, nat_tests)
-  same_found test none judged (t ∷ all) (inl (rest, same, more)) = grind (arith, nat_tests, (same_found test none rest all more))
-  same_found test none judged (t ∷ all) (inr (other, more)) = grind (arith, nat_tests, (same_found test none judged all more))
+  same_found test none judged (t ∷ all) (inl (rest, same, more)) =
+      grind (arith, nat_tests, (same_found test none rest all more))
+  same_found test none judged (t ∷ all) (inr (other, more)) =
+      grind (arith, nat_tests, (same_found test none judged all more))
 
 module _ (programme : ProgrammeValue) (options : OptionsValue) (unread : Option Unread)
     (beside : Bool) (undecided : ℕ → Bool) (records : List SubtitleValue)

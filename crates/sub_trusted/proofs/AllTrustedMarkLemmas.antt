@@ -3,7 +3,7 @@
 -- its frames with a header on a run, which is told once a frame is doubted, `follows_says`; and at
 -- an end, `end_leads`.
 use Rattle.std.proofs.lemmas.Bool.Decides.{nat_tests}
-use Rattle.std.proofs.Common.{◌≡◌, ℕ, ◌+◌, ◌-◌, ◌<◌, ◌≤◌, inl, inr, Bool, true, false, ◌==◌, ◌&&◌}
+use Rattle.std.proofs.Common.{◌≡◌, ℕ, ◌+◌, ◌-◌, ◌<◌, ◌≤◌, inl, inr, Bool, true, false, ◌==◌}
 use Rattle.std.proofs.Common.{List, map, Option, Some, None, is_some, refl, sym, ◌∙◌, arith}
 use Rattle.std.proofs.Common.{le_refl, unwrap_or, if◌then◌else◌, ap}
 use Rattle.std.proofs.lemmas.Bool.{cases_lt}
@@ -176,7 +176,16 @@ module _ (g : Task) (frames : Transmission) (a b i : ℕ)
       let finds =
       end_doubt u (end_before frames n f) f (standing_before g frames n f)
       (standing_at g frames m f) in
-      grind (arith, nat_tests, late_past, seen_since, back_past, back_after, none-some, (cases_lt b f))
+      grind (
+        arith,
+        nat_tests,
+        late_past,
+        seen_since,
+        back_past,
+        back_after,
+        none-some,
+        (cases_lt b f),
+      )
 
   pub end_leads : (n m f q : ℕ) (t : List Mark) → ((g.within == 0) ≡ true → SeesNone t)
       → (goes_back g ≡ false → back_of t ≡ None)

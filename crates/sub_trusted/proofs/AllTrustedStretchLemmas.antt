@@ -224,4 +224,20 @@ module _ (g : Task) (pieces : List Piece) (a b : ℕ) (can : CanStay g pieces a 
   pub fits : (i : ℕ) → i < m → a ≤ frame_at frames i → frame_at frames i ≤ b
       → holds_beginning g.watched.keeps (kind g.watched.page) (packets_of_frame frames i) ≡ true
       → Fits g frames a b i
-  fits i there low high header = grind (arith, nat_tests, part_last, some, part_length, packets, ends, finished, unseen, since, seen_is)
+  fits i there low high header =
+      let last = part_last frames some in
+      let all = part_length frames in
+      record {
+        there = there;
+        low = low;
+        high = high;
+        header = header;
+        packets = packets;
+        ends = ends;
+        finished = λ n f end here. unseen (g.within == 0) (finished n f end here);
+        since = λ n f r end past is. since n f r end past (seen_is g frames n f r is);
+        back = since;
+        last = let to = can.untold.stretch.to in omega arith;
+        fall = λ more. let past = can.before_fall (omega arith) in omega arith;
+        unread = λ u is. let past = can.before_unread u is in omega arith;
+      }

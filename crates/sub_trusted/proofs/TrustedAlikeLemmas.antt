@@ -93,7 +93,8 @@ module _ (g : Task) (due : ℕ → Rows) (ending : ℕ → Option ℕ) (first_in
       ]
 
   before_unread : (u : Unread) → g.unread ≡ Some u → to < frame_at frames (risen frames - 1)
-  before_unread u is = grind (arith, nat_tests, risen, before_fall, risen_low, part_rises, last_late, may)
+  before_unread u is =
+      grind (arith, nat_tests, risen, before_fall, risen_low, part_rises, last_late, may)
 
   module _ (b : ℕ) (low : from ≤ b) (high : b ≤ to)
       (whole : 0 < g.within → IsWholeAt g pieces b) where

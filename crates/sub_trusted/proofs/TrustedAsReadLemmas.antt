@@ -3,7 +3,7 @@
 -- which the text begins, what suffices of the one there suffices of the other: `sufficient_too`,
 -- and its frames are finished in time, `finishes_too`.
 use Rattle.std.proofs.lemmas.Bool.Decides.{nat_tests}
-use Rattle.std.proofs.Common.{◌≡◌, ℕ, zero, suc, ◌+◌, ◌-◌, ◌<◌, ◌≤◌, Bool, true, List, []}
+use Rattle.std.proofs.Common.{◌≡◌, ℕ, zero, suc, ◌+◌, ◌-◌, ◌≤◌, Bool, true, List, []}
 use Rattle.std.proofs.Common.{◌∷◌, ◌++◌, drop, find, option_map, unwrap_or, refl, sym, ap, ap₂, ◌∙◌}
 use Rattle.std.proofs.Common.{subst, arith, false, le_trans}
 use Rattle.std.specs.List.{list_any}
@@ -43,7 +43,8 @@ module _ (keeps : Bool) (kind_of : List ℕ → PacketKind) where
       → holds_beginning keeps kind_of later ≡ true
       → from_beginning keeps kind_of (before ++ later) ≡ from_beginning keeps kind_of later
   from-later [] later e = refl
-  from-later (x ∷ before) later e = grind (arith, nat_tests, list_any-append, (from-later before later e))
+  from-later (x ∷ before) later e =
+      grind (arith, nat_tests, list_any-append, (from-later before later e))
 
 -- What the first packet of a row among these has.
 abbrev text_of : PageIdValue → List (List ℕ) → ℕ → ℕ → ℕ

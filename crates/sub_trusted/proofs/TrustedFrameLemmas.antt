@@ -148,7 +148,19 @@ module _ (g : Task) (frames : Transmission) (from to : ℕ) (stays : StaysTo g f
   j_low = let b = stays.run.below in let l = n_low in omega arith
 
   stretch : IsStretch part from to
-  stretch = grind (arith, nat_tests, part_length, first-same, part_last, some, frame_at-take, order, j_low, last_low)
+  stretch =
+      grind (
+        arith,
+        nat_tests,
+        part_length,
+        first-same,
+        part_last,
+        some,
+        frame_at-take,
+        order,
+        j_low,
+        last_low,
+      )
 
   packets_quiet : (r : PacketRule) (i k : ℕ)
       → is_needed r ≡ true

@@ -427,7 +427,8 @@ module _ (g : Task) (frames : Transmission) (base : ℕ) where
   -- Nor do events before the first frame.
   pub closed_said : (n : ℕ) (t u : List Mark) (es : List Event) → Closed n t → IsSaid t u es
       → Closed n u
-  closed_said n t u es closed said = grind (arith, nat_tests, keeps_said, rose, kept_some, doubt_of, rose_before)
+  closed_said n t u es closed said =
+      grind (arith, nat_tests, keeps_said, rose, kept_some, doubt_of, rose_before)
 
   pub opens_at : (n pes : ℕ) (packets : List (List ℕ)) (t : List Mark) → Opens n packets t
       → Opens n packets (AtPes pes ∷ t)
@@ -452,4 +453,5 @@ module _ (g : Task) (frames : Transmission) (base : ℕ) where
       → KeepsAll g.watched (packets_before frames n) packets
       → KeepsAll g.watched (packets_before frames n) more)
       → Opens n more u
-  opens_said n packets more t u es opens said still = grind (arith, nat_tests, keeps_said, rose, doubt_of, before, orders_doubted, rose_before)
+  opens_said n packets more t u es opens said still =
+      grind (arith, nat_tests, keeps_said, rose, doubt_of, before, orders_doubted, rose_before)

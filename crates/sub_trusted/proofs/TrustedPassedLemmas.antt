@@ -14,7 +14,7 @@ use Rattle.sub_rules.specs.FrameRules.{Task, Unread, end_frame, frame_at}
 use Rattle.sub_rules.specs.PieceEvents.{all_announced, all_of_pieces, goes_back, marks_of_closing}
 use Rattle.sub_rules.specs.PieceEvents.{marks_of_each, marks_of_pieces, marks_of_waiting, no_run}
 use Rattle.sub_rules.specs.PieceEvents.{passed_after_all, sent_by_pieces, told_of_pieces}
-use Rattle.sub_rules.specs.Pieces.{Piece, frames_of, joined, joined_after}
+use Rattle.sub_rules.specs.Pieces.{Piece, frames_of, joined_after}
 use Rattle.sub_rules.specs.Pieces.Piece.{Passed}
 use Rattle.sub_rules.specs.Transmission.{Transmission}
 use Rattle.sub_rules.specs.Trusted.Mark.{AtPes, Says}
