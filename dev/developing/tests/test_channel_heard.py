@@ -284,7 +284,10 @@ class Kept(Case):
             spool.drop(50 * SECOND)
             left = spool.between(0, 10**12)
             self.must("dropped", 5 <= len(left) == len(spool.segments) <= 20, left)
-            self.must("lately", b"".join(spool.lately(size))[-size:] == bytes([99]) * size)
+            for count in (1, 9, 30):  # parts of a file, of which four are one
+                data = b"".join(spool.lately(size * count))
+                self.must(f"lately {count}", list(data[::size])[-count:] == list(range(
+                    100 - count, 100)) and len(data) < size * (count + 5), list(data[::size]))
             self.must("no names", os.listdir(self.folder) == [])
             spool.close()
             self.must("closed", spool.between(0, 10**12) == [])
