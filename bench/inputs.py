@@ -35,14 +35,17 @@ import sys
 from typing import BinaryIO, Iterator
 
 sys.dont_write_bytecode = True
-TOOLS = os.path.join(os.path.dirname(os.path.realpath(__file__)), "..", "tools")
-sys.path.insert(0, TOOLS)
+TOP = os.path.join(os.path.dirname(os.path.realpath(__file__)), "..")
+TOOLS = os.path.join(TOP, "tools")
+sys.path[:0] = [TOOLS, os.path.join(TOP, "dev")]
+from developing.pes import (  # noqa: E402
+    DATA, FIRST_LINE, MIRROR, STUFFING_UNIT, UNIT, mirrored, odd, packet, pts_bytes)
+from developing.stl import (  # noqa: E402
+    DOUBLE_HEIGHT, END_BOX, START_BOX, boxed, gsi_block, subtitle_blocks)
 from subtitles.core.built import built_program  # noqa: E402
-from subtitles.core.pes import (  # noqa: E402
-    DATA, FIRST_LINE, START, STUFFING_UNIT, UNIT, pts_bytes)
-from subtitles.core.stl import (  # noqa: E402
-    DOUBLE_HEIGHT, END_BOX, NEW_LINE, START_BOX, TTI, boxed, gsi_block, subtitle_blocks)
-from subtitles.core.teletext import CODE_WORDS, MIRROR, mirrored, odd, packet  # noqa: E402
+from subtitles.core.pes import START  # noqa: E402
+from subtitles.core.stl import NEW_LINE, TTI  # noqa: E402
+from subtitles.core.teletext import CODE_WORDS  # noqa: E402
 from subtitles.core.times import FRAMES_A_SECOND, FRAMES_OF_A_DAY, TICKS  # noqa: E402
 
 EVERY = {"day": "1", "pages": "1", "many": "25", "fresh": "1", "service": "25", "late": "25",

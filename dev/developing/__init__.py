@@ -17,6 +17,8 @@ bugs          what a tired programmer gets wrong, by ast
 planting      the tests that call a function, run with a bug in it
 looks         how a report looks in a browser
 compiled      the tools compiled once for many calls of tests
+pes           Teletext packets and PES packets of them, written and read
+stl           blocks of subtitle files, written
 mending       a pair mended by what is told
 multiplex     a transport stream that is written
 trial         a run in which something fails, and what has to happen

@@ -9,14 +9,15 @@ import contextlib
 import dataclasses
 from typing import BinaryIO, Iterable
 
+from developing.pes import (
+    DATA, FIRST_LINE, NATIONAL, UNIT, address_of, data_field, headers_in, pes_packet, pes_packets,
+    pts_bytes, pts_in, teletext_packets)
+from developing.stl import DOUBLE_HEIGHT
 from subtitles.core.files import Damaged
-from subtitles.core.pes import (
-    DATA, FIRST_LINE, UNIT, data_field, pes_packet, pes_packets, pts_bytes, pts_in,
-    teletext_packets)
-from subtitles.core.stl import DOUBLE_HEIGHT, GSI, TEXT, TTI, UNUSED
+from subtitles.core.stl import GSI, TEXT, TTI, UNUSED
 from subtitles.core.teletext import (
-    CODE_WORDS, CONTROL_BITS, ERASE, INHIBIT, NATIONAL, NEWSFLASH, NUMBER, SERIAL, SUBTITLE,
-    SUPPRESS, address_of, has_bit, headers_in, is_odd)
+    CODE_WORDS, CONTROL_BITS, ERASE, INHIBIT, NEWSFLASH, NUMBER, SERIAL, SUBTITLE, SUPPRESS,
+    has_bit, is_odd)
 from subtitles.core.times import TICKS, frame_of
 
 CODED = 2, 10  # where a header has its eight coded bytes

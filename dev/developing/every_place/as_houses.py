@@ -7,11 +7,12 @@ import io
 from random import Random
 from typing import NamedTuple
 
+from developing.pes import odd, packet as teletext_packet, pes_packet, pes_packets, pts_in
+from developing.stl import time_code
 from subtitles.core.layout import FLAGS, NUMBERS
-from subtitles.core.pes import pes_packet, pes_packets, pts_in
 from subtitles.core.stl import GSI, TTI
-from subtitles.core.teletext import CODE_WORDS, NUMBER, odd, packet as teletext_packet
-from subtitles.core.times import FRAMES_OF_A_DAY, frame_of_code, time_code, time_of
+from subtitles.core.teletext import CODE_WORDS, NUMBER
+from subtitles.core.times import FRAMES_OF_A_DAY, frame_of_code, time_of
 from .broken import LETTERS, MOST_LINES, teletext_in
 
 DISPLAY = 11  # where a GSI block has its DSC

@@ -6,7 +6,8 @@ transmission is written as in `within`.
 """
 from __future__ import annotations
 
-from subtitles.core.stl import GSI, TTI, subtitle_blocks
+from developing.stl import subtitle_blocks
+from subtitles.core.stl import GSI, TTI
 from .calls import ALL, Answer, Call, KnownCall, check_of
 from .known import (
     HELLO, HI, SENT, accepted, ended, poked, refused, stands, told, trusted, wrong)

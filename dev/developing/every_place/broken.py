@@ -4,8 +4,10 @@ from __future__ import annotations
 import io
 from random import Random
 
-from subtitles.core.pes import DATA, STUFFING_UNIT, UNIT, pes_packet, pes_packets, pts_bytes, pts_in
-from subtitles.core.teletext import CODE_WORDS, MIRROR, mirrored, odd, packet as teletext_packet
+from developing.pes import (
+    DATA, MIRROR, STUFFING_UNIT, UNIT, mirrored, odd, packet as teletext_packet, pes_packet,
+    pes_packets, pts_bytes, pts_in)
+from subtitles.core.teletext import CODE_WORDS
 from subtitles.core.times import CLOCK, FRAMES_OF_A_DAY, TICKS
 
 PACKET = 4  # where a data unit has its Teletext packet

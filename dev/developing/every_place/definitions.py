@@ -7,7 +7,8 @@ from __future__ import annotations
 
 from typing import Iterable, Iterator, NamedTuple, Sequence
 
-from subtitles.core.teletext import CODE_WORDS, Page, address_of, is_odd
+from developing.pes import address_of
+from subtitles.core.teletext import CODE_WORDS, Page, is_odd
 from subtitles.core.times import time_of
 from .national import ALL_BITS, BITS
 from .reading import (

@@ -3,10 +3,10 @@ from __future__ import annotations
 
 import os
 
+from developing.pes import mirrored, pes_packet
+from developing.stl import subtitle_blocks
 from subtitles.core.built import TOP
-from subtitles.core.pes import pes_packet
-from subtitles.core.stl import GSI, subtitle_blocks
-from subtitles.core.teletext import mirrored
+from subtitles.core.stl import GSI
 from subtitles.core.times import TICKS
 from .calls import KnownCall, known_pair
 from .one_rule import CLOSING, FIRST, HEADER, PACKET_26, PAGE, coded

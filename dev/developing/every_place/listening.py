@@ -3,8 +3,8 @@ from __future__ import annotations
 
 from typing import Iterator, NamedTuple
 
-from subtitles.core.pes import pts_in
-from subtitles.core.teletext import address_of, is_odd
+from developing.pes import address_of, pts_in
+from subtitles.core.teletext import is_odd
 from subtitles.core.times import frame_of, time_of
 from .definitions import ERASE, SERIAL, failure_at, read_by, refused
 from .reading import head_fault, header_of, line_of, pieces_of, sending_in, units_of

@@ -8,10 +8,9 @@ from __future__ import annotations
 
 from typing import Iterable, NamedTuple
 
-from subtitles.core.pes import pes_packet
-from subtitles.core.stl import (
-    GSI, LAST, TEXT, TTI, USER_DATA, gsi_block, subtitle_blocks, tti_block)
-from subtitles.core.teletext import packet
+from developing.pes import packet, pes_packet
+from developing.stl import gsi_block, subtitle_blocks, tti_block
+from subtitles.core.stl import GSI, LAST, TEXT, TTI, USER_DATA
 from subtitles.core.times import TICKS
 from .calls import KnownCall, known_pair
 from .known import HI, poked, told

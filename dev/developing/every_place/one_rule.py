@@ -9,8 +9,8 @@ from __future__ import annotations
 
 from typing import NamedTuple
 
-from subtitles.core.pes import pes_packet
-from subtitles.core.stl import gsi_block, subtitle_blocks
+from developing.pes import pes_packet
+from developing.stl import gsi_block, subtitle_blocks
 from subtitles.core.times import CLOCK, FRAMES_OF_A_DAY, TICKS
 
 FIRST = 900_000  # the frame 10:00:00:00

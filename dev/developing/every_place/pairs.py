@@ -10,7 +10,8 @@ import shlex
 from random import Random
 from typing import Callable, NamedTuple
 
-from subtitles.core.stl import GSI, TTI, USER_DATA, gsi_block, subtitle_blocks
+from developing.stl import gsi_block, subtitle_blocks
+from subtitles.core.stl import GSI, TTI, USER_DATA
 from subtitles.core.times import FRAMES_OF_A_DAY
 from .as_houses import (
     as_open, layout_text, pace_words, part_words, refused_some, without_erasing)

@@ -8,9 +8,9 @@ from __future__ import annotations
 
 from typing import Iterator, NamedTuple
 
-from subtitles.core.pes import pts_in
+from developing.pes import address_of, mirrored, pts_in
 from subtitles.core.stl import GSI, LAST, TTI, USER_DATA
-from subtitles.core.teletext import NUMBER, Page, address_of, mirrored
+from subtitles.core.teletext import NUMBER, Page
 from subtitles.core.times import CLOCK, FRAMES_OF_A_DAY, TICKS, frame_at, frame_of_code
 
 HEAD = 6  # bytes of a PES packet up to its length and with it

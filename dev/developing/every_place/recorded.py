@@ -2,7 +2,7 @@
 hand."""
 from __future__ import annotations
 
-from subtitles.core.stl import gsi_block, subtitle_blocks
+from developing.stl import gsi_block, subtitle_blocks
 from .calls import Answer, Call, KnownCall, known_pair
 from .known import HELLO, ROW, SENT, poked
 from .one_rule import CLOSING, HEADER

@@ -1,8 +1,9 @@
 """What `schedule` writes, from the definitions: plain and slow."""
 from __future__ import annotations
 
-from subtitles.core.pes import START, STUFFING_UNIT, pts_bytes
-from subtitles.core.teletext import Page, mirrored, packet
+from developing.pes import STUFFING_UNIT, mirrored, packet, pts_bytes
+from subtitles.core.pes import START
+from subtitles.core.teletext import Page
 from subtitles.core.times import pts_of
 from .definitions import Due, subtitles_in
 from .national import BITS

@@ -5,7 +5,7 @@ an even byte in place of its H. What `keeping` has besides is named there.
 """
 from __future__ import annotations
 
-from subtitles.core.pes import pes_packet
+from developing.pes import pes_packet
 from subtitles.core.stl import GSI
 from subtitles.core.times import CLOCK, FRAMES_OF_A_DAY, TICKS
 from .calls import KnownCall, known_pair

@@ -20,9 +20,9 @@ import threading
 import unittest
 from typing import Any, Callable, NamedTuple, Sequence, TypeVar
 
+from developing.pes import pes_packets, pts_bytes, pts_in
+from developing.stl import gsi_block, subtitle_blocks
 from subtitles.core.built import TOP, built_program
-from subtitles.core.pes import pes_packets, pts_bytes, pts_in
-from subtitles.core.stl import gsi_block, subtitle_blocks
 from subtitles.core.times import CLOCK
 
 EXAMPLES = os.path.join(TOP, "examples")

@@ -11,13 +11,14 @@ import tempfile
 import threading
 from typing import Any, Callable, NamedTuple, Sequence
 
+from developing.pes import data_field, pes_packet, pts_in, teletext_packets
+from developing.stl import gsi_block, subtitle_blocks
 from subtitles.calls.claim import claimed
 from subtitles.calls.machine import object_of
 from subtitles.calls.main import parser_of
 from subtitles.calls.objects import found
 from subtitles.calls.single import Files, draw, end_pair, judge_pair, now
-from subtitles.core.pes import data_field, pes_packet, pts_in, teletext_packets
-from subtitles.core.stl import NEW_LINE, gsi_block, subtitle_blocks
+from subtitles.core.stl import NEW_LINE
 from subtitles.core.times import CLOCK, TICKS
 from subtitles.qc.asked import asked_of
 from subtitles.qc.made_with import Program

@@ -3,7 +3,7 @@ from __future__ import annotations
 
 from typing import Iterator, NamedTuple
 
-from subtitles.core.pes import pts_bytes, pts_in
+from developing.pes import pts_bytes, pts_in
 from subtitles.core.times import CLOCK, TICKS, ticks_between, wrapped
 from developing.multiplex import BEGINS, PACKET, PAYLOAD, head, section
 from .bench import packets

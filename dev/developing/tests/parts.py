@@ -5,7 +5,7 @@ import argparse
 import os
 from typing import Sequence
 
-from subtitles.core.teletext import packet
+from developing.pes import packet
 from subtitles.core.words import Words
 from subtitles.qc.asked import Asked, add_pair_options, asked_with
 from subtitles.qc.checking import Answer

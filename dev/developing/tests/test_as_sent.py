@@ -6,13 +6,13 @@ import argparse
 import os
 import random
 
+from developing.pes import pes_packet
+from developing.stl import gsi_block, subtitle_blocks
 from subtitles.calls.channel.planned import Planned
 from subtitles.calls.single import refuse_auto
 from subtitles.core.layout import PLAIN, Layout, fault_in, layout_of
 from subtitles.core.national import ENGLISH
-from subtitles.core.pes import pes_packet
 from subtitles.core.programme import Subtitle
-from subtitles.core.stl import gsi_block, subtitle_blocks
 from subtitles.core.times import TICKS
 from subtitles.core.words import Stop, quoted
 from subtitles.qc.as_sent import otherwise, sent_in, words_of_layout

@@ -11,12 +11,12 @@ import unittest
 import xml.etree.ElementTree as tree
 from typing import Sequence
 
+from developing.stl import gsi_block, tti_block
 from developing.every_place import definitions
 from developing.every_place.words import options_of
 from subtitles.calls.collecting import table_of
 from subtitles.calls.index_page import line_of
 from subtitles.calls.objects import row_of
-from subtitles.core.stl import gsi_block, tti_block
 from subtitles.core.times import ALL_DAY, Between
 from subtitles.core.told import told_of
 from subtitles.qc.beside import Counts, beside_of, due_beside, is_judged_beside

@@ -6,12 +6,11 @@ import collections
 import os
 from typing import Iterable
 
+from developing.pes import MARK, packet, pes_packet
+from developing.stl import gsi_block
 from subtitles.calls.channel.feed_clock import ANEW, BACK, GAP, MINUTE, jump_of, times_of
 from subtitles.calls.channel.hearing import Heard, Hearing
 from subtitles.calls.channel.spool import LEAST, PARTS, Spool
-from subtitles.core.pes import MARK, pes_packet
-from subtitles.core.stl import gsi_block
-from subtitles.core.teletext import packet
 from subtitles.core.times import CLOCK, TICKS
 from subtitles.core.words import Stop
 from subtitles.qc.unclear import Unclear

@@ -6,10 +6,10 @@ import errno
 import os
 from unittest import mock
 
+from developing.stl import boxed, gsi_block, subtitle_blocks
 from subtitles.calls.channel.awaited import BEFORE, NEAR, Awaited, Changes, Timed
 from subtitles.calls.channel.feed_clock import SECOND, FeedClock
 from subtitles.calls.claim import claimed, claimed_for_batch
-from subtitles.core.stl import boxed, gsi_block, subtitle_blocks
 from subtitles.core.times import CLOCK, EARLY, TICKS
 from subtitles.core.words import Stop, Words
 from subtitles.qc.asked import add_pair_options

@@ -7,10 +7,10 @@ import dataclasses
 import os
 import unittest
 
+from developing.pes import data_field, packet, pes_packet, pts_in, teletext_packets
 from subtitles.core.built import TOP
 from subtitles.core.national import FRENCH, OPTIONS
-from subtitles.core.pes import data_field, pes_packet, pts_in, teletext_packets
-from subtitles.core.teletext import CODE_WORDS, packet
+from subtitles.core.teletext import CODE_WORDS
 from subtitles.qc.asked import Asked
 from subtitles.qc.warned import of_character_sets, of_option
 from .bench import Case, example_bytes, packets

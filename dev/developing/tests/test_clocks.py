@@ -6,7 +6,7 @@ from __future__ import annotations
 import shutil
 import subprocess
 
-from subtitles.core.stl import boxed, gsi_block, subtitle_blocks
+from developing.stl import boxed, gsi_block, subtitle_blocks
 from subtitles.core.times import CLOCK, TICKS, time_of
 from .bench import Case, example, example_bytes, moved
 from .judged import Judged, Sent, in_pipe, joined, judged, late, programme, sendings

@@ -9,14 +9,14 @@ from dataclasses import replace
 from types import SimpleNamespace
 from typing import Any
 
+from developing.pes import pes_packet
+from developing.stl import gsi_block, tti_block
 from subtitles.calls.batch import words_of
 from subtitles.calls.machine import asked_words, total
 from subtitles.calls.objects import hint_in
 from subtitles.calls.pairs import of_folder
 from subtitles.calls.watching import Seen, Watch
-from subtitles.core.pes import pes_packet
 from subtitles.core.programme import Subtitle
-from subtitles.core.stl import gsi_block, tti_block
 from subtitles.core.times import TICKS, time_of
 from subtitles.core.words import Words
 from subtitles.qc.asked import add_pair_options, asked_of_line

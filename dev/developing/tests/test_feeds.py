@@ -5,7 +5,7 @@ from types import SimpleNamespace
 from typing import Any
 from unittest import mock
 
-from subtitles.core.pes import pes_packet
+from developing.pes import pes_packet
 from subtitles.core.times import CLOCK, TICKS
 from subtitles.qc import feed
 from subtitles.qc.ending import LAST, Ending

@@ -3,8 +3,8 @@ from __future__ import annotations
 
 from typing import NamedTuple
 
-from subtitles.core.pes import pts_in
-from subtitles.core.stl import boxed, gsi_block, subtitle_blocks
+from developing.pes import pts_in
+from developing.stl import boxed, gsi_block, subtitle_blocks
 from subtitles.core.times import CLOCK, TICKS
 from subtitles.reading.gaps import Jump, Place, jumps_of, places_of
 from subtitles.reading.survey import survey

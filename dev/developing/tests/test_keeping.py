@@ -3,9 +3,8 @@ from __future__ import annotations
 
 from typing import Sequence
 
-from subtitles.core.pes import pes_packet
+from developing.pes import packet, pes_packet
 from subtitles.core.programme import Subtitle
-from subtitles.core.teletext import packet
 from subtitles.core.times import TICKS, time_of
 from subtitles.core.told import CONTENT, told_of
 from subtitles.qc.causes import REPEATED, Namer

@@ -12,7 +12,7 @@ from .test_hints import DEV, PACKAGES, TOOLS, modules
 ORDER = ["core", "reading", "qc", "preview", "calls"]  # the packages of users, lowest first
 # The second implementation shares with the tools codes, times, layouts and the blocks of files.
 SHARED = {"subtitles.core." + name for name in (
-    "built", "layout", "pes", "stl", "teletext", "times", "units", "words")}
+    "built", "layout", "pes", "stl", "teletext", "times", "words")}
 
 
 def name_of(path: str) -> str:

@@ -5,11 +5,12 @@ from __future__ import annotations
 import os
 import random
 
+from developing.pes import address_of
+from developing.stl import gsi_block, subtitle_blocks
 from subtitles.core.layout import (
     NAME_OF, PLAIN, Layout, Refused, drawn, layout_of, page_of, text_of)
 from subtitles.core.national import BY_WORD
-from subtitles.core.stl import gsi_block, subtitle_blocks
-from subtitles.core.teletext import Page, address_of
+from subtitles.core.teletext import Page
 from subtitles.qc.layouts import Choice, Sent, count_drawn, is_found, layout_of_sent, simplicity
 from .. import DEV
 from ..every_place.definitions import Packet, rows_in, span_of

@@ -3,7 +3,7 @@ from __future__ import annotations
 
 from typing import Callable, Sequence
 
-from subtitles.core.pes import pts_in
+from developing.pes import pts_in
 from subtitles.core.programme import Subtitle
 from subtitles.core.times import TICKS, Between
 from subtitles.qc.clock import RECORDING, Clock

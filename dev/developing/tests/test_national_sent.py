@@ -6,10 +6,11 @@ from __future__ import annotations
 import ctypes
 from typing import NamedTuple
 
+from developing.pes import NATIONAL, address_of, data_field, header_of, pts_in, teletext_packets
+from developing.stl import END_BOX, START_BOX, gsi_block, tti_block
 from subtitles.core.national import OPTIONS, NationalOption
-from subtitles.core.pes import data_field, pts_in, teletext_packets
-from subtitles.core.stl import END_BOX, START_BOX, UNUSED, gsi_block, tti_block
-from subtitles.core.teletext import NATIONAL, address_of, has_bit, header_of
+from subtitles.core.stl import UNUSED
+from subtitles.core.teletext import has_bit
 from subtitles.core.times import TICKS
 from .bench import Case, packets
 from .test_national import rows_of

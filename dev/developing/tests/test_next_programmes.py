@@ -2,7 +2,7 @@
 last TCO, rows that come when the page is not open, two subtitles that are sent as one."""
 from __future__ import annotations
 
-from subtitles.core.teletext import packet
+from developing.pes import packet
 from subtitles.core.times import TICKS
 from subtitles.reading.receiver import control_words, lines_of, national_option
 from .bench import Case

@@ -4,9 +4,8 @@ from __future__ import annotations
 import random
 from typing import Sequence
 
-from subtitles.core.pes import MARK, data_field, pes_packet, pts_in, teletext_packets
-from subtitles.core.stl import boxed, gsi_block, subtitle_blocks
-from subtitles.core.teletext import packet
+from developing.pes import MARK, data_field, packet, pes_packet, pts_in, teletext_packets
+from developing.stl import boxed, gsi_block, subtitle_blocks
 from subtitles.core.times import CLOCK, TICKS, time_of
 from subtitles.reading.finding import Agreement, Origin, Sought, find
 from subtitles.reading.streams import survey_of

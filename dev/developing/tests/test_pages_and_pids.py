@@ -1,7 +1,7 @@
 """The page that is asked for, and a PID that carries something else from a PES packet on."""
 from __future__ import annotations
 
-from subtitles.core.pes import data_field, pes_packet, pts_in, teletext_packets
+from developing.pes import data_field, pes_packet, pts_in, teletext_packets
 from .bench import Case, packets
 from .judged import in_pipe, judged, programme
 from .muxed import AHEAD, TELETEXT_PID, Maker, components

@@ -4,7 +4,7 @@ from __future__ import annotations
 import random
 from typing import Sequence
 
-from subtitles.core.pes import MARK, pes_packet
+from developing.pes import MARK, pes_packet
 from subtitles.core.times import CLOCK, EARLY, TICKS, time_of
 from subtitles.core.words import counted
 from subtitles.qc.clock import FITTED, FITTED_LATER, GIVEN, RECORDING

@@ -5,9 +5,8 @@ from __future__ import annotations
 
 from typing import Sequence
 
-from subtitles.core.pes import DATA, MARK, UNIT, pes_packet, pts_bytes, pts_in
-from subtitles.core.stl import gsi_block, subtitle_blocks
-from subtitles.core.teletext import mirrored
+from developing.pes import DATA, MARK, UNIT, mirrored, pes_packet, pts_bytes, pts_in
+from developing.stl import gsi_block, subtitle_blocks
 from subtitles.core.times import CLOCK, TICKS, time_of
 from .bench import Case, example, example_bytes, moved, packets, random_subtitles
 from .judged import Judged, Sent, in_pipe, joined, judged, programme, sendings

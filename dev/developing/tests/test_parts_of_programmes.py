@@ -3,7 +3,7 @@ from __future__ import annotations
 
 import unittest
 
-from subtitles.core.stl import gsi_block, subtitle_blocks, tti_block
+from developing.stl import gsi_block, subtitle_blocks, tti_block
 from subtitles.reading.parting import Taken
 
 

@@ -6,7 +6,7 @@ from types import SimpleNamespace
 from typing import Any, Sequence
 from unittest import mock
 
-from subtitles.core.pes import pes_packet
+from developing.pes import pes_packet
 from subtitles.core.times import CLOCK, TICKS
 from subtitles.core.told import ENDS_READING, STL_FAULTS
 from subtitles.qc.checking import NO_END, Answer

@@ -6,7 +6,7 @@ import unittest
 from types import SimpleNamespace
 from typing import Any
 
-from subtitles.core.teletext import packet
+from developing.pes import packet
 from subtitles.core.times import FRAMES_OF_A_DAY
 from subtitles.preview.fits import Fits
 from subtitles.preview.places import around, marked_bytes

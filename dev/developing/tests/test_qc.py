@@ -5,8 +5,8 @@ import json
 import os
 import subprocess
 
+from developing.stl import gsi_block, subtitle_blocks
 from subtitles.core.built import TOP
-from subtitles.core.stl import gsi_block, subtitle_blocks
 from subtitles.core.times import TICKS
 from .bench import Case, Done, example, example_bytes
 

@@ -9,8 +9,8 @@ import subprocess
 import time
 from typing import Sequence
 
-from subtitles.core.pes import pts_bytes
-from subtitles.core.stl import boxed, gsi_block, subtitle_blocks
+from developing.pes import pts_bytes
+from developing.stl import boxed, gsi_block, subtitle_blocks
 from subtitles.core.times import CLOCK, FRAMES_A_SECOND, TICKS
 from .bench import Case, example, packets, tool_path
 

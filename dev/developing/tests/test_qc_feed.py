@@ -10,8 +10,8 @@ import subprocess
 import threading
 import time
 
-from subtitles.core.pes import pts_in
-from subtitles.core.stl import boxed, gsi_block, subtitle_blocks
+from developing.pes import pts_in
+from developing.stl import boxed, gsi_block, subtitle_blocks
 from subtitles.core.times import TICKS
 from subtitles.core.words import counted
 from .bench import Case, alone, example, example_bytes, moved, packets, tool_path

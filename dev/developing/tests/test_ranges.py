@@ -3,10 +3,10 @@ from __future__ import annotations
 
 import os
 
+from developing.stl import gsi_block, subtitle_blocks, tti_block
 from subtitles.calls.channel.awaited import Awaited, Timed
 from subtitles.calls.channel.planned import Planned
 from subtitles.core.programme import subtitles_read
-from subtitles.core.stl import gsi_block, subtitle_blocks, tti_block
 from subtitles.core.times import FRAMES_OF_A_DAY, Between
 from subtitles.qc.due_pages import subtitles_in
 from subtitles.qc.midnight import HOUR, title_words

@@ -1,8 +1,8 @@
 """Why a recording is refused, or not judged: the reason that is told is the sender's fault."""
 from __future__ import annotations
 
-from subtitles.core.pes import pts_in
-from subtitles.core.teletext import CODE_WORDS, address_of, header_of, packet
+from developing.pes import address_of, header_of, packet, pts_in
+from subtitles.core.teletext import CODE_WORDS
 from subtitles.core.times import TICKS
 from subtitles.qc.causes import EVEN, IN_PARTS, UNSEEN, Namer
 from subtitles.qc.due_pages import DuePages

@@ -3,7 +3,7 @@ from __future__ import annotations
 
 import random
 
-from subtitles.core.pes import pes_packet
+from developing.pes import pes_packet
 from subtitles.core.times import CLOCK, TICKS
 from subtitles.reading.languages import names_of
 from developing.multiplex import Multiplex

@@ -7,7 +7,7 @@ import hashlib
 import os
 import re
 
-from subtitles.core.pes import pes_packet, pts_in
+from developing.pes import pes_packet, pts_in
 from subtitles.core.times import TICKS
 from .bench import Case, example_bytes, moved, packets, random_subtitles
 from .judged import in_pipe, joined, judged, programme, sendings

@@ -5,9 +5,9 @@ import unittest
 from types import SimpleNamespace
 from typing import Any, Sequence
 
+from developing.stl import gsi_block, tti_block
 from subtitles.core.programme import Programme, Subtitle
 from subtitles.core.spans import Spans
-from subtitles.core.stl import gsi_block, tti_block
 from subtitles.preview import blocks
 from subtitles.preview.figures import DIFFERENT, NOT_KNOWN, NOTHING, SAME, Figures
 from subtitles.preview.program import verdict_of

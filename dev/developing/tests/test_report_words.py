@@ -8,8 +8,8 @@ import unittest
 from types import SimpleNamespace
 from typing import Any
 
+from developing.stl import gsi_block, tti_block
 from subtitles.core.manual import Meaning
-from subtitles.core.stl import gsi_block, tti_block
 from subtitles.core.times import ALL_DAY, FRAMES_OF_A_DAY
 from subtitles.preview import page, program as asking
 from subtitles.preview.counts import (

@@ -19,11 +19,11 @@ import unittest
 import xml.etree.ElementTree as tree
 from typing import Callable, Iterator
 
+from developing.pes import DATA, UNIT, mirrored, packet, pts_bytes, pts_in, whole_in
+from developing.stl import boxed, gsi_block, subtitle_blocks, tti_block
 from subtitles.core.manual import Meaning
-from subtitles.core.pes import DATA, UNIT, pts_bytes, pts_in, whole_in
-from subtitles.core.stl import (
-    NEW_LINE, USER_DATA, boxed, gsi_block, subtitle_blocks, tti_block)
-from subtitles.core.teletext import mirrored, packet, page_name
+from subtitles.core.stl import NEW_LINE, USER_DATA
+from subtitles.core.teletext import page_name
 from subtitles.core.times import CLOCK, FRAMES_OF_A_DAY, TICKS
 from subtitles.preview.alone import report_of
 from subtitles.preview.page import report_page

@@ -11,7 +11,7 @@ import xml.etree.ElementTree as tree
 from collections import Counter
 from typing import Callable
 
-from subtitles.core.pes import whole_in
+from developing.pes import whole_in
 from subtitles.core.teletext import page_name
 from subtitles.core.times import frame_of
 from subtitles.core.told import PASSED_OVER

@@ -3,7 +3,7 @@ line of a list asks.
 """
 from __future__ import annotations
 
-from subtitles.core.stl import gsi_block, subtitle_blocks
+from developing.stl import gsi_block, subtitle_blocks
 from subtitles.core.times import FRAMES_OF_A_DAY
 from subtitles.core.told import told_of
 from subtitles.core.words import Stop, Words

@@ -8,8 +8,10 @@ import itertools
 import random
 import unittest
 
-from subtitles.core import pes, teletext, times
+from developing import pes, stl
+from subtitles.core import teletext, times
 from subtitles.core.files import Damaged
+from subtitles.core.pes import begins_in
 from .parts import CLOSING, HEADER, row
 
 CLOCK, DAY = 8_589_934_592, 2_160_000
@@ -36,7 +38,7 @@ class Times(unittest.TestCase):
                             (90_000, "01:00:00:00"), (2_159_999, "23:59:59:24"),
                             (979_331, "10:52:53:06")):
             code = bytes(map(int, text.split(":")))
-            self.assertEqual((times.time_of(frame), times.frame_of(text), times.time_code(frame),
+            self.assertEqual((times.time_of(frame), times.frame_of(text), stl.time_code(frame),
                               times.time_of_code(code), times.frame_of_code(code)),
                              (text, frame, code, text, frame))
         self.assertEqual(times.time_of(DAY), "24:00:00:00")
@@ -95,32 +97,32 @@ class Codes(unittest.TestCase):
         for byte in range(256):
             bits = bits_of(byte, 8)
             self.assertEqual(teletext.is_odd(byte), bits.count("1") % 2 == 1)
-            self.assertEqual(teletext.mirrored(bytes([byte])), bytes([int(bits[::-1], 2)]))
+            self.assertEqual(pes.mirrored(bytes([byte])), bytes([int(bits[::-1], 2)]))
             near = [number for number, code in enumerate(CODES)
                     if sum(one != two for one, two in zip(bits, code)) < 2]
             self.assertEqual(teletext.NUMBER[byte], near[0] if near else None)
         for code in range(128):
-            self.assertIn(teletext.odd(code), (code, code + 128))
-            self.assertTrue(teletext.is_odd(teletext.odd(code)))
+            self.assertIn(pes.odd(code), (code, code + 128))
+            self.assertTrue(teletext.is_odd(pes.odd(code)))
 
     def test_addresses(self) -> None:
         """Each magazine and packet number; with what means nothing in the first byte or the second;
         a header's eight numbers, the second of them wrong, and the last."""
         for magazine, number in itertools.product(range(8), range(32)):
-            made = teletext.packet(magazine, number, (), b"a")
-            self.assertEqual(teletext.address_of(made), (magazine, number))
+            made = pes.packet(magazine, number, (), b"a")
+            self.assertEqual(pes.address_of(made), (magazine, number))
             self.assertEqual(made[2], 0x61)
             for at in (0, 1):
-                self.assertIsNone(teletext.address_of(made[:at] + NOTHING + made[at + 1:]))
+                self.assertIsNone(pes.address_of(made[:at] + NOTHING + made[at + 1:]))
         numbers = bytes([8, 7, 0, 9, 1, 14, 2, 15])
-        made = teletext.packet(1, 0, numbers, b" " * 32)
-        self.assertEqual((len(made), teletext.header_of(made)), (42, numbers))
+        made = pes.packet(1, 0, numbers, b" " * 32)
+        self.assertEqual((len(made), pes.header_of(made)), (42, numbers))
         for at in range(2, 10):
-            self.assertIsNone(teletext.header_of(made[:at] + NOTHING + made[at + 1:]), at)
-        self.assertEqual(teletext.page_in(numbers), 0x78)
+            self.assertIsNone(pes.header_of(made[:at] + NOTHING + made[at + 1:]), at)
+        self.assertEqual(pes.page_in(numbers), 0x78)
         rows = [row(1, b"a"), made, made[:9] + NOTHING + made[10:], NOTHING + made[1:], HEADER,
                 CLOSING]
-        self.assertEqual([one[:2] for one in teletext.headers_in(rows)],
+        self.assertEqual([one[:2] for one in pes.headers_in(rows)],
                          [(1, 0x78), (0, 0x88), (0, 0xFF)])
 
     def test_control_bits(self) -> None:
@@ -146,8 +148,8 @@ class Codes(unittest.TestCase):
 
 def unit(number: int, kind: int = 3) -> bytes:
     """A data unit with a Teletext packet, 46 bytes."""
-    made = teletext.packet(0, number, (), b"x" * 40)
-    return bytes([kind, 0x2C, 0xE7, 0xE4]) + teletext.mirrored(made)
+    made = pes.packet(0, number, (), b"x" * 40)
+    return bytes([kind, 0x2C, 0xE7, 0xE4]) + pes.mirrored(made)
 
 
 class Packets(unittest.TestCase):
@@ -175,7 +177,7 @@ class Packets(unittest.TestCase):
             self.assertEqual(many[count:], [b"\xff\x2c" + b"\xff" * 44] * (len(many) - count))
             self.assertEqual([one[:4] for one in many[:count]],
                              [bytes([3, 44, 0xE0 + 7 + at, 0xE4]) for at in range(count)])
-            self.assertEqual([one[4:] for one in many[:count]], list(map(teletext.mirrored, rows)))
+            self.assertEqual([one[4:] for one in many[:count]], list(map(pes.mirrored, rows)))
 
     def test_heads(self) -> None:
         """What has a PTS, what is a mark, and where the data begin: at each length."""
@@ -189,12 +191,12 @@ class Packets(unittest.TestCase):
             data = good[:7] + bytes([flags]) + good[8:]
             self.assertEqual(pes.has_pts(data), has_pts)
         self.assertFalse(pes.has_pts(pes.MARK))
-        self.assertEqual((len(pes.MARK), pes.begins_in(pes.MARK)), (184, range(0, 185, 184)))
+        self.assertEqual((len(pes.MARK), begins_in(pes.MARK)), (184, range(0, 185, 184)))
 
     def test_data_units(self) -> None:
         """Teletext packets of a data field: of both kinds, between others, and cut."""
         one, two = unit(1), unit(2, 2)
-        packets = [teletext.mirrored(some[4:]) for some in (one, two)]
+        packets = [pes.mirrored(some[4:]) for some in (one, two)]
         of_fields: list[tuple[bytes, list[bytes]]] = [
             (b"\x10" + one + two, packets), (b"\x10" + one + two[:-1], packets[:1]),
             (b"\x10" + unit(3, 1) + unit(3, 4) + two, packets[1:]),
@@ -218,7 +220,7 @@ class Packets(unittest.TestCase):
             wanted = [0, *itertools.accumulate(lengths)]
             for rest in (b"", b"\0", START, START + b"\0", START + b"\0\1", START[:3] + b"\xbe" * 9,
                          START + b"\0\7" + b"y" * 6):
-                found = pes.begins_in(data + rest)
+                found = begins_in(data + rest)
                 self.assertEqual(list(found), wanted, (lengths[:9], rest))
                 self.assertEqual(isinstance(found, range), len(set(lengths)) == 1, lengths[:9])
                 self.assertEqual([len(one) for one in pes.whole_in(data + rest)], lengths)

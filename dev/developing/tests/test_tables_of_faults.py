@@ -10,9 +10,8 @@ from types import SimpleNamespace
 from typing import Any
 from unittest import mock
 
-from subtitles.core.pes import pes_packet
+from developing.pes import packet, pes_packet
 from subtitles.core.programme import Subtitle
-from subtitles.core.teletext import packet
 from subtitles.core.times import CLOCK, TICKS
 from subtitles.core.told import told_of
 from subtitles.qc.causes import (

@@ -8,6 +8,7 @@ import unittest
 from typing import Callable, Sequence
 from unittest import mock
 
+from developing.stl import boxed, gsi_block, subtitle_blocks, tti_block
 from subtitles.core import stl, told
 from subtitles.core.characters import option_name
 from subtitles.core.files import Damaged
@@ -34,38 +35,38 @@ class Blocks(unittest.TestCase):
     """Blocks as EBU Tech 3264 has them, by the places of their bytes."""
 
     def test_gsi(self) -> None:
-        block = stl.gsi_block(b"T" * 33, 12, 34, 2_159_999, b"08")
+        block = gsi_block(b"T" * 33, 12, 34, 2_159_999, b"08")
         for at, text in ((0, b"850STL25.0110008" + b"T" * 32), (48, b" " * 176),
                          (224, b"26112226112200"), (238, b"0001200034001"), (251, b"4023"),
                          (255, b"1"), (256, b"0000000023595924"), (272, b"11GBR"),
                          (277, b" " * 747)):
             self.assertEqual(block[at:at + len(text)], text)
         self.assertEqual(len(block), GSI)
-        self.assertEqual(stl.gsi_block(b"", 0, 0)[12:17] + stl.gsi_block(b"", 0, 0)[256:272],
+        self.assertEqual(gsi_block(b"", 0, 0)[12:17] + gsi_block(b"", 0, 0)[256:272],
                          b"0009 0000000000000000")
 
     def test_tti(self) -> None:
         for number, low, high in ((0, 0, 0), (255, 255, 0), (256, 0, 1), (0x1234, 0x34, 0x12)):
-            block = stl.tti_block(number, 25, 90_001, 20, 2, b"text", 3, 1, 9)
+            block = tti_block(number, 25, 90_001, 20, 2, b"text", 3, 1, 9)
             self.assertEqual(block, bytes([9, low, high, 3, 0, 0, 0, 1, 0, 1, 0, 0, 1, 20, 2, 1])
                              + b"text" + UNUSED * 108)
-        self.assertEqual(stl.tti_block(7, 0, 1, 1, 0, b"x" * 112)[:4], b"\0\7\0\xff")
-        self.assertTrue(refused(lambda: stl.tti_block(7, 0, 1, 1, 0, b"x" * 113), AssertionError))
+        self.assertEqual(tti_block(7, 0, 1, 1, 0, b"x" * 112)[:4], b"\0\7\0\xff")
+        self.assertTrue(refused(lambda: tti_block(7, 0, 1, 1, 0, b"x" * 113), AssertionError))
 
     def test_texts(self) -> None:
         """Of each length, in as few blocks as hold it, and read again."""
         for size, numbers in ((0, [255]), (1, [255]), (112, [255]), (113, [0, 255]),
                               (224, [0, 255]), (225, [0, 1, 255]), (337, [0, 1, 2, 255])):
             text = bytes(0x41 + at % 26 for at in range(size))
-            made = stl.subtitle_blocks(7, 1, 2, 20, 2, text)
+            made = subtitle_blocks(7, 1, 2, 20, 2, text)
             self.assertEqual([made[at + 3] for at in range(0, len(made), 128)], numbers, size)
-            found = list(stl.subtitles_in(bytes(stl.gsi_block(b"", 0, 0)) + made))
+            found = list(stl.subtitles_in(bytes(gsi_block(b"", 0, 0)) + made))
             self.assertEqual(found, [stl.StoredSubtitle(7, b"\0\0\0\1", b"\0\0\0\2", 20, 2, text)])
-        self.assertEqual(stl.boxed(b"a"), b"\x0d\x0b\x0ba\x0a\x0a")
-        self.assertEqual(stl.boxed(b"a", b"\x03"), b"\x0d\x03\x0b\x0ba\x0a\x0a")
+        self.assertEqual(boxed(b"a"), b"\x0d\x0b\x0ba\x0a\x0a")
+        self.assertEqual(boxed(b"a", b"\x03"), b"\x0d\x03\x0b\x0ba\x0a\x0a")
 
     def block(self, number: int, ebn: int, comment: int = 0, group: int = 0) -> bytes:
-        return stl.tti_block(number, number, number + 1, 20, 2, b"%d" % number, ebn, comment, group)
+        return tti_block(number, number, number + 1, 20, 2, b"%d" % number, ebn, comment, group)
 
     def test_groups(self) -> None:
         """Rows of blocks by SN and EBN, `c` a comment: those of a subtitle together, or why it
@@ -90,7 +91,7 @@ class Blocks(unittest.TestCase):
             ([(1, last, 0), (2, 0, 0)], [(1, 1)], "the subtitle of block 2 has no last block"),
             ([(1, 0, 0), (9, user, 0)], [], "the subtitle of block 2 has no last block")]
         for row, wanted, words in of_rows:
-            data = stl.gsi_block(b"", 0, 0) + b"".join(self.block(*one) for one in row)
+            data = gsi_block(b"", 0, 0) + b"".join(self.block(*one) for one in row)
             for rest in (b"", b"x" * 127):
                 found: list[stl.Group] = []
 
@@ -105,11 +106,11 @@ class Blocks(unittest.TestCase):
                                  f"block {len(row) + 1} is cut")
                 blocks = [block for one in found for block in one.blocks]
                 self.assertEqual(b"".join(blocks), data[GSI:GSI + 128 * len(blocks)])
-        group = stl.gsi_block(b"", 0, 0) + self.block(1, 0) + self.block(1, last, group=1)
+        group = gsi_block(b"", 0, 0) + self.block(1, 0) + self.block(1, last, group=1)
         self.assertTrue(refused(lambda: list(stl.groups_in(group)), Damaged))
 
     def test_gsi_that_is_none(self) -> None:
-        good = stl.gsi_block(b"", 0, 0)
+        good = gsi_block(b"", 0, 0)
         for data, words in ((good, ""), (good[:-1], "no subtitle file"), (b"", "no subtitle file"),
                             (good[:3] + b"STL24" + good[8:], "no subtitle file"),
                             (good[:3] + b"STL30" + good[8:], "30 frames a second"),
@@ -134,7 +135,7 @@ class Blocks(unittest.TestCase):
     @alone
     def test_readable(self) -> None:
         """Damage behind a subtitle is told, and before the first ends it."""
-        good = stl.gsi_block(b"", 0, 0)
+        good = gsi_block(b"", 0, 0)
         for data, count, is_told in ((good, 0, False), (good + self.block(1, 255), 1, False),
                                      (good + self.block(1, 255) + b"x", 1, True),
                                      (good + b"x", -1, False), (b"", -1, False)):

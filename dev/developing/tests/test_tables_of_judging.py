@@ -9,8 +9,8 @@ from types import SimpleNamespace
 from typing import Any, Iterable, Sequence
 from unittest import mock
 
-from subtitles.core.pes import pes_packet
-from subtitles.core.stl import gsi_block, subtitle_blocks, tti_block
+from developing.pes import pes_packet
+from developing.stl import gsi_block, subtitle_blocks, tti_block
 from subtitles.core.times import CLOCK, TICKS
 from subtitles.qc.causes import (
     ATTRIBUTE, EARLY, LATE, NEVER, NOT_ERASED, OTHER, PLACE, TEXT, UNKNOWN)

@@ -4,8 +4,8 @@ from __future__ import annotations
 import os
 import unittest
 
-from subtitles.core.pes import pes_packet
-from subtitles.core.stl import gsi_block, tti_block
+from developing.pes import pes_packet
+from developing.stl import gsi_block, tti_block
 from subtitles.qc.headers import control_words
 from subtitles.qc.lettering import (
     ATTRIBUTES, attribute_words, code_words, is_moved, is_part, place_words, text_of, words_on)

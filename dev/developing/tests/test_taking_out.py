@@ -10,7 +10,7 @@ import sys
 import time
 from typing import Any, Sequence
 
-from subtitles.core.pes import MARK, pes_packet
+from developing.pes import MARK, pes_packet
 from subtitles.core.stl import GSI, TTI
 from subtitles.core.times import CLOCK, TICKS
 from ..every_place.recordings import carried

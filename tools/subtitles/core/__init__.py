@@ -7,7 +7,7 @@ times      times of the day, frames, PTS
 teletext   Teletext packets and their codes; the table of control bits
 characters the characters of the national options
 national   the national options, a row for each
-pes        PES packets
+pes        where PES packets begin
 spans      spans of frames, or of PES packets
 stl        blocks of subtitle files
 gsi        the texts of the first of them

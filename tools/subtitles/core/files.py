@@ -9,7 +9,7 @@ import shutil
 import stat
 import sys
 import tempfile
-from typing import IO, Any, BinaryIO, Iterable, Iterator, Protocol, TypeVar
+from typing import IO, Any, BinaryIO, Iterable, Iterator, TypeVar
 
 from .words import Stop
 
@@ -25,13 +25,6 @@ class Damaged(Exception):
 
 class IsInput(Stop):
     """A file that is to be written is read too; it stays as it is."""
-
-
-class Source(Protocol):
-    """What can be read: nothing comes at its end alone."""
-
-    def read(self, size: int, /) -> bytes:
-        """At most `size` bytes."""
 
 
 Own = TypeVar("Own", bound="Input")

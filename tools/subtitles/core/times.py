@@ -56,12 +56,6 @@ def time_of_code(code: bytes) -> str:
     return ":".join(f"{part:02}" for part in code)
 
 
-def time_code(frame: int) -> bytes:
-    """Hours, minutes, seconds and frames of a frame, as the four bytes of a TTI block."""
-    seconds, frames = divmod(frame, FRAMES_A_SECOND)
-    return bytes([seconds // 3600, seconds // 60 % 60, seconds % 60, frames])
-
-
 def time_of(frame: int) -> str:
     """HH:MM:SS:FF of a frame; 24:00:00:00 is the frame after the day's last."""
     seconds, frames = divmod(frame, FRAMES_A_SECOND)

@@ -1,0 +1,141 @@
+"""Teletext packets, and PES packets of them, written and read (EN 300 706, EN 300 472)."""
+from __future__ import annotations
+
+from typing import Iterable, Iterator, Protocol, Sequence
+
+from subtitles.core.files import Damaged
+from subtitles.core.pes import HEAD, START, begins_in
+from subtitles.core.teletext import CODE_WORDS, NUMBER, is_odd
+
+FIRST_LINE = 7
+UNIT = 46  # bytes of a data unit
+DATA = 46  # where those that `subttx` writes begin: after 45 bytes and the data_identifier
+STUFFING_UNIT = b"\xff\x2c" + b"\xff" * 44
+# Stands where PES packets of a recording are missing, or parts of them: `check` refuses it as 45.
+MARK = START + b"\0\xb2" + b"\xff" * 178
+AT_A_TIME = 1 << 18  # bytes that are read
+NATIONAL = 12, 13, 14  # control bits
+
+# Each byte with its bits in reverse: a data unit sends bit 1 first.
+MIRROR = bytes(int(f"{byte:08b}"[::-1], 2) for byte in range(256))
+
+Header = tuple[int, int, bytes]  # a page's magazine and number, and a header's eight numbers
+
+
+class Source(Protocol):
+    """What can be read: nothing comes at its end alone."""
+
+    def read(self, size: int, /) -> bytes:
+        """At most `size` bytes."""
+
+
+def odd(code: int) -> int:
+    """A 7-bit code with odd parity."""
+    return code if is_odd(code) else code | 0x80
+
+
+def mirrored(data: bytes) -> bytes:
+    """Bytes with their bits in reverse."""
+    return data.translate(MIRROR)
+
+
+def packet(magazine: int, number: int, numbers: Iterable[int], codes: Iterable[int]) -> bytes:
+    """A packet: its address, the eight numbers of a header, and text bytes with odd parity."""
+    address = magazine + 8 * number
+    coded = bytes(CODE_WORDS[one] for one in (address & 15, address >> 4, *numbers))
+    return coded + bytes(map(odd, codes))
+
+
+def address_of(data: bytes) -> tuple[int, int] | None:
+    """The magazine, 0 for 8, and the packet number; `None` where an address byte means nothing."""
+    low, high = NUMBER[data[0]], NUMBER[data[1]]
+    return None if low is None or high is None else (low & 7, low + 16 * high >> 3)
+
+
+def header_of(data: bytes) -> bytes | None:
+    """The eight numbers of a page header, `None` where one of its bytes means nothing."""
+    numbers = [one for one in map(NUMBER.__getitem__, data[2:10]) if one is not None]
+    return bytes(numbers) if len(numbers) == 8 else None
+
+
+def page_in(header: bytes) -> int:
+    """The page number of a header's eight numbers, two hexadecimal digits."""
+    return header[0] + 16 * header[1]
+
+
+def headers_in(packets: Iterable[bytes]) -> list[Header]:
+    """Of some packets the page headers: the magazine, the page number and the eight numbers."""
+    found = []
+    for one in packets:
+        address = address_of(one)
+        header = header_of(one) if address and address[1] == 0 else None
+        if address and header:
+            found.append((address[0], page_in(header), header))
+    return found
+
+
+def pts_bytes(pts: int) -> bytes:
+    """A PTS as the five bytes of a PES header."""
+    return bytes([0x21 | pts >> 30 << 1, pts >> 22 & 255, pts >> 15 << 1 & 255 | 1,
+                  pts >> 7 & 255, pts << 1 & 255 | 1])
+
+
+def pts_in(packet: bytes) -> int:
+    """The PTS of a PES packet that has one."""
+    return ((packet[9] >> 1 & 7) << 30 | packet[10] << 22 | packet[11] >> 1 << 15
+            | packet[12] << 7 | packet[13] >> 1)
+
+
+def pes_packet(pts: int, packets: Sequence[bytes]) -> bytes:
+    """A PES packet with up to 16 Teletext packets, on lines from 7 of the first field on."""
+    blocks = len(packets) // 4 + 1
+    made = START + (184 * blocks - 6).to_bytes(2, "big") + b"\x84\x80\x24" + pts_bytes(pts)
+    made += b"\xff" * 31 + b"\x10"
+    for line, one in enumerate(packets, FIRST_LINE):
+        made += bytes([3, 0x2C, 0xE0 | line, 0xE4]) + mirrored(one)
+    return made + STUFFING_UNIT * (4 * blocks - 1 - len(packets))
+
+
+def whole_in(data: bytes) -> list[bytes]:
+    """The PES packets with which some bytes begin."""
+    return sliced(data, begins_in(data))
+
+
+def sliced(data: bytes, begins: Sequence[int]) -> list[bytes]:
+    """What begins at each of some places, but the last, and ends where the next one begins."""
+    return [data[begin:end] for begin, end in zip(begins, begins[1:])]
+
+
+def pes_packets(file: Source) -> Iterator[bytes]:
+    """The PES packets of a file one after another; `Damaged` where it holds something else, after
+    those before it."""
+    rest, count = b"", 0
+    while piece := file.read(AT_A_TIME):
+        data = rest + piece
+        begins = begins_in(data)
+        yield from sliced(data, begins)
+        rest, count = data[begins[-1]:], count + len(begins) - 1
+        if len(rest) >= HEAD and not rest.startswith(START):
+            raise Damaged(f"PES packet {count} does not begin with 00 00 01 BD")
+    if rest:
+        raise Damaged(f"PES packet {count} is cut")
+
+
+def has_pts(data: bytes) -> bool:
+    """Whether a PES packet has a PTS, and a header that is long enough for it; a mark has none."""
+    return len(data) >= 14 and data[7] & 0x80 != 0 and data[HEAD] != 0xFF
+
+
+def data_field(data: bytes) -> bytes:
+    """What stands after the header of a PES packet: a data_identifier, then data units."""
+    return data[9 + data[8]:] if len(data) > 9 else b""
+
+
+def teletext_packets(field: bytes) -> list[bytes]:
+    """The Teletext packets of a data field, their bits in the order of EN 300 706."""
+    at, found = 1, []
+    while at + UNIT <= len(field):
+        if field[at] in (2, 3) and field[at + 1] == 0x2C:
+            found.append(mirrored(field[at + 4:at + UNIT]))
+        at += 2 + field[at + 1]
+    return found

@@ -1,0 +1,64 @@
+"""Blocks of subtitle files, written (EBU Tech 3264)."""
+from __future__ import annotations
+
+from subtitles.core.stl import GSI, LAST, TEXT, UNUSED
+from subtitles.core.times import FRAMES_A_SECOND
+
+DOUBLE_HEIGHT, START_BOX, END_BOX = b"\x0d", b"\x0b", b"\x0a"
+
+
+def time_code(frame: int) -> bytes:
+    """Hours, minutes, seconds and frames of a frame, as the four bytes of a TTI block."""
+    seconds, frames = divmod(frame, FRAMES_A_SECOND)
+    return bytes([seconds // 3600, seconds // 60 % 60, seconds % 60, frames])
+
+
+def gsi_block(title: bytes, blocks: int, subtitles: int, first: int = 0,
+              language: bytes = b"09") -> bytes:
+    """A GSI block: STL25.01, Teletext of level 1, code table 00.
+
+    `language` is 09 for English and 08 for German. The counts of blocks and subtitles and the time
+    of the first one, a frame, are for people: `subttx` does not look at them.
+    """
+    block = bytearray(b" " * GSI)
+
+    def put(at: int, text: bytes) -> None:
+        block[at:at + len(text)] = text
+
+    put(0, b"850")  # CPN, code page
+    put(3, b"STL25.01")  # DFC: 25 frames a second
+    put(11, b"1")  # DSC: Teletext, level 1
+    put(12, b"00")  # CCT: code table 00, Latin
+    put(14, language)  # LC
+    put(16, title[:32])  # OPT, programme title
+    put(224, b"261122261122")  # CD and RD, dates
+    put(236, b"00")  # RN, revision
+    put(238, b"%05d%05d001" % (blocks, subtitles))  # TNB, TNS, TNG
+    put(251, b"4023")  # MNC, MNR: columns and rows
+    put(255, b"1")  # TCS: time codes are intended for use
+    put(256, b"00000000%02d%02d%02d%02d" % tuple(time_code(first)))  # TCP, TCF: starts
+    put(272, b"11GBR")  # TND, DSN: disk 1 of 1; CO
+    return bytes(block)
+
+
+def tti_block(number: int, begin: int, end: int, row: int, justify: int, text: bytes,
+              ebn: int = LAST, comment: int = 0, group: int = 0) -> bytes:
+    """One TTI block. Times are frames of the day; the text has at most 112 bytes."""
+    assert len(text) <= TEXT
+    head = bytes([group, number & 255, number >> 8 & 255, ebn, 0])
+    head += time_code(begin) + time_code(end) + bytes([row, justify, comment])
+    return head + text.ljust(TEXT, UNUSED)
+
+
+def subtitle_blocks(number: int, begin: int, end: int, row: int, justify: int,
+                    text: bytes) -> bytes:
+    """The TTI blocks of a subtitle, as few as hold its text."""
+    fields = [text[at:at + TEXT] for at in range(0, len(text), TEXT)] or [b""]
+    numbers = [*range(len(fields) - 1), LAST]
+    return b"".join(tti_block(number, begin, end, row, justify, field, ebn)
+                    for field, ebn in zip(fields, numbers))
+
+
+def boxed(text: bytes, colour: bytes = b"") -> bytes:
+    """A line of double height as most files have it, with its box codes twice around it."""
+    return DOUBLE_HEIGHT + colour + START_BOX * 2 + text + END_BOX * 2
