@@ -1,0 +1,4 @@
+pub mod JoinedPaceLemmas
+pub mod PacedCheckLaw
+pub mod PacedFrameLemmas
+pub mod ReadPaceLemmas
