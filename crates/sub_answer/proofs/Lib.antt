@@ -7,3 +7,4 @@ pub mod FailedReadLemmas
 pub mod AllAnswerLemmas
 pub mod EndingLemmas
 pub mod PartLemmas
+pub mod MemoryLemmas

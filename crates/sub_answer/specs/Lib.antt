@@ -5,6 +5,7 @@ pub mod FaultListing
 pub mod EveryFault
 pub mod Part
 pub mod Ending
+pub mod FilesInMemory
 pub use Rattle.sub_listing.specs.Lines
 pub use Rattle.sub_listing.specs.StaysPrinted
 pub use Rattle.sub_listing.specs.Told

@@ -1,0 +1,42 @@
+-- What the status of `check` tells of files in memory: a law of what is said of runs over files.
+use Rattle.std.specs.Prelude.{◌≡◌, ◌≢◌, ◌↔◌, ⊤, ℕ, List, Some}
+use Rattle.sub_io.specs.Memory.{Written}
+use Rattle.stl_rows.specs.Layout.{drawing_within}
+use Rattle.sub_request.specs.declared.request.Request.{Request}
+use Rattle.sub_request.specs.declared.request.Request.TheVariants as ask
+use Rattle.sub_files.specs.FileCalls.{CallsInTurn}
+use Rattle.sub_files.specs.MemoryFiles.{IsMemoryCall, MemFilesValue, bytes_at}
+use Rattle.sub_check.specs.CheckedFiles.{IsAcceptedBy}
+use Rattle.sub_listing.specs.declared.status.Status.{Status}
+use Rattle.sub_listing.specs.declared.status.Status.TheVariants.{Done, Fault}
+use Rattle.sub_answer.specs.Ending.{Ends, Lines, ToldOfFiles, told_of_files}
+use Rattle.sub_answer.specs.Part.{through_range, through_stream}
+
+-- What such files tell: each all its bytes.
+abbrev pub told_of_memory : ToldOfFiles (List ℕ) Written
+told_of_memory =
+    told_of_files (λ left. Some left) (λ left. 0) (λ file. Some file.bytes)
+    (λ file. file.failure_count)
+
+-- The status of a check is `Done` exactly where the bytes of the subtitle file that it names, and
+-- those that it reads of the PES file, are accepted.
+abbrev pub TellsAccepted : Request → MemFilesValue → Status → Type 0
+TellsAccepted (ask.Check stl pes options national layout scope all) files status =
+    (subtitles bytes read : List ℕ)
+    → bytes_at stl.now files ≡ Some subtitles
+    → bytes_at pes.name.now files ≡ Some bytes
+    → through_range pes.range (through_stream pes.stream (Some bytes)) ≡ Some read
+    → (status ≡ Done)
+    ↔ IsAcceptedBy (drawing_within national layout scope) options subtitles read
+TellsAccepted _ files status = ⊤
+
+-- Where a request was answered over files in memory, as `open_and_answer` says, its status tells
+-- that, failing output and want of memory aside.
+-- So what is said of the bytes of files is said of some that are there.
+abbrev pub LawOfFilesInMemory : Type 0
+LawOfFilesInMemory =
+    (request : Request) (before after : MemFilesValue) (old new : Lines) (status : Status)
+    → Ends (CallsInTurn IsMemoryCall before after) told_of_memory (λ was is. is ≡ was) request
+    old new status
+    → status ≢ Fault
+    → TellsAccepted request before status
