@@ -20,7 +20,8 @@ from subtitles.qc.due_pages import DuePages
 from subtitles.qc.naming import Causes
 from subtitles.reading.packets import Packets
 from subtitles.reading.receiver import BLANK_PAGE, Rows
-from subtitles.reading.timeline import Span, Timeline
+from subtitles.reading.order import Span
+from subtitles.reading.timeline import Timeline
 from .. import DEV
 from .parts import PAGE
 

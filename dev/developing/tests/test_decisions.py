@@ -24,7 +24,8 @@ from subtitles.qc.clock import START, Clock
 from subtitles.qc.delays import frames_until
 from subtitles.qc.fitting import Found, refuse, with_delay
 from subtitles.reading.packets import Packets
-from subtitles.reading.timeline import FEW, Span, Timeline
+from subtitles.reading.order import FEW, Span
+from subtitles.reading.timeline import Timeline
 from subtitles.qc.names import Names
 from subtitles.qc.options import passed_words
 from subtitles.qc.pair import Pair

@@ -18,7 +18,7 @@ from subtitles.qc.causes import (
     ATTRIBUTE, EARLY, LATE, NEVER, NOT_ERASED, OTHER, TEXT, UNKNOWN, Cause, Faulty, Namer)
 from subtitles.qc.cells import place_of
 from subtitles.qc.due_pages import DuePages, asked_of
-from subtitles.reading.timeline import Span
+from subtitles.reading.order import Span
 from subtitles.qc.hints import gap_words, hints_of
 from subtitles.qc.made_with import proved_line
 from subtitles.qc.pair import Pair

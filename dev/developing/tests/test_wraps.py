@@ -16,7 +16,7 @@ from subtitles.preview.places import place_of_pts
 from subtitles.qc.clock import RECORDING, Clock
 from subtitles.qc.fitting import Found
 from subtitles.reading.packets import Packets
-from subtitles.reading.timeline import Span
+from subtitles.reading.order import Span
 from subtitles.qc.missing import is_in, time_at
 from subtitles.qc.why import reach, unseen
 from subtitles.reading.gaps import Place

@@ -10,7 +10,8 @@ from ..core.times import time_of
 from ..core.words import counted
 from ..reading.receiver import BLANK_PAGE, HIT, Rows
 from ..reading.subcodes import subcode_words, turns_of
-from ..reading.timeline import LEAST, Span, Timeline
+from ..reading.order import Span
+from ..reading.timeline import LEAST, Timeline
 from .checking import Answer
 from .due_pages import DuePages
 from .keeping import left_at

@@ -5,7 +5,8 @@ import collections
 from typing import Iterable
 
 from ..core.told import BEGIN, CONTENT, END
-from ..reading.timeline import Span, Timeline
+from ..reading.order import Span
+from ..reading.timeline import Timeline
 from .causes import EARLY, NAMES, NEVER, Cause, Faulty, Namer
 from .checking import Answer
 from .due_pages import DuePages

@@ -12,7 +12,8 @@ from ..core.told import CONTENT, CONTROL, EMPTY, LOST_PACKETS, WITH_CAUSE
 from ..core.words import Stop, counted, pid_name
 from ..reading.finding import runs_line
 from ..reading.packets import HEADER
-from ..reading.timeline import Span, timeline_near
+from ..reading.order import Span
+from ..reading.timeline import timeline_near
 from . import warned
 from .asked import Asked
 from .as_sent import BY_LAYOUT, otherwise, sent_in, told_of, why_none

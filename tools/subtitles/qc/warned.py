@@ -11,7 +11,7 @@ from ..reading.languages import ANY, names_of
 from ..reading.packets import Packets
 from ..reading.repeat import edges_of, measured
 from ..reading.survey import KINDS, SUBTITLE_KINDS, Announced, Survey
-from ..reading.timeline import FEW, PAUSE
+from ..reading.order import FEW, PAUSE
 from ..reading.timing import SAID, strange_of
 from .asked import LC, Asked
 from .subtitle_file import SubtitleFile

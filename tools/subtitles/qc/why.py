@@ -5,7 +5,8 @@ from typing import Iterator, Sequence
 
 from ..core.times import FRAMES_OF_A_DAY, TICKS, frame_in, pts_of, ticks_between
 from ..reading.gaps import Place
-from ..reading.timeline import Span, timeline_near
+from ..reading.order import Span
+from ..reading.timeline import timeline_near
 from .asked import Asked
 from .cause_words import Wording
 from .checking import Answer

@@ -5,6 +5,8 @@ Nothing here judges, and no byte of a recording is read: `subttx survey` reads i
 packets      PES packets of a PID as values
 survey       what `survey` tells of a recording, as values
 timeline     what a receiver holds of a page when
+held         the pages, by frames
+order        the PES packets that are heard, by frames
 streams      the PES packets of a PID, for the tools that are told it
 moving       a page that moves to another PID, as the PMT says
 gaps         where something is missing, and where the clock jumps

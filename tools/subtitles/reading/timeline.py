@@ -7,54 +7,24 @@ no more from the first on whose frame is before that of the one before.
 from __future__ import annotations
 
 import array
-import bisect
-from typing import Iterator, NamedTuple, Sequence
+from typing import Iterator, Sequence
 
 from ..core.teletext import Page
 from ..core.times import FRAMES_OF_A_DAY, NO_FRAME, frames_at, wrapped
 from .cutting import cut_of
+from .held import Held, Stored, cleared
+from .order import Heard, Order, Span
 from .packets import CLOSED, ERASE, HEADER, OPEN, STRAY, Packets, Range, Run, Texts
-from .receiver import BLANK_PAGE, HIT, OLD, OLD_PAGE, TUNED, Rows, State
+from .receiver import BLANK_PAGE, OLD_PAGE, TUNED, Rows, State
 
-CLEARED = bytes(0x20 if code in (OLD, HIT) else code for code in range(256))
-PAUSE = 2  # frames in a row without a PES packet: more are a pause of what sends one in each frame
-FEW = 20  # PES packets at least for each pause, of one that does
 LEAST = 250  # frames around those that are due in which more is looked for
 
 
-class Span(NamedTuple):
-    """Frames, by the first and the last of them."""
-
-    first: int
-    last: int
-
-
-class Heard(NamedTuple):
-    """PES packets that were heard one after another and do the same, with the frame of each."""
-
-    run: Run
-    frames: Sequence[int]
-
-
-class Stored(NamedTuple):
-    """What a receiver holds from the end of a frame on, after a PES packet with a number."""
-
-    frame: int
-    number: int
-    state: State
-
-
-class Timeline:
-    """The pages, each with the frame from whose end on it is held; the frames rise.
-
-    `states` are all that a receiver holds, each after a PES packet; `sendings` the frames
-    with a header of the page, `erasings` those with one that erases it; `first` and `last` the
-    frames of the first and the last PES packet.
-    `doubts` are frames of which not all is known that was sent: from the PES packet before one that
-    is not heard, as a mark is, to the next one; `lost` others. `halt` is the number of the first
-    PES packet whose frame is before that of the one before, `falls` the frames of all such; but
-    what comes before the frame `begin`, near which a programme is due, is forgotten then. Where
-    each PES packet `is_single` in its frame, one of the same frame is one too.
+class Timeline(Order, Held):
+    """The pages that are held, by the PES packets that are heard; `sendings` are the frames with a
+    header of the page, `erasings` those with one that erases it. Where PES packets go back, what
+    came before the frame `begin`, near which a programme is due, is forgotten. Where each PES
+    packet `is_single` in its frame, one of the same frame goes back too.
     """
 
     def __init__(self, packets: Packets, page: Page, origin: int, within: int = 0,
@@ -62,29 +32,18 @@ class Timeline:
                  is_single: bool = False) -> None:
         self.packets, self.page, self.origin, self.within = packets, page, origin, within
         self.inside = (0, packets.count - 1) if inside is None else inside
-        self.begin, self.came, self.least = begin, came, int(is_single and not within)
-        self.lost: list[Span] = []  # frames of which something is lost, whoever knows it
+        self.begin, self.came = begin, came
         self.told: Rows = OLD_PAGE  # what is held by all that was told, of the whole recording
-        self.forget()
+        Order.__init__(self, int(is_single and not within))
         self.hear_all(dict(packets.held), dict(packets.strays))
 
     def forget(self) -> None:
         """Holds nothing, and has heard nothing."""
-        self.state = TUNED
-        self.heard: list[Heard] = []
-        self.count = 0  # PES packets that are heard
-        self.frames, self.pages = array.array("i"), list[Rows]()
-        self.when: dict[Rows, array.array[int]] = {}  # the frames at which a page came
-        self.states: list[Stored] = []
+        Order.forget(self)
+        Held.forget(self)
+        self.state, self.is_behind = TUNED, False
         self.strays: list[tuple[Span, Texts]] = []  # rows for which the page was not open
         self.sendings, self.erasings = array.array("i"), array.array("i")
-        self.falls = array.array("i")
-        self.turns = array.array("i")  # the frames at whose ends the page turns open, or closed
-        self.first = self.last = self.before = NO_FRAME
-        self.halt: int | None = None
-        self.is_doubted = self.is_behind = False
-        self.doubts: list[Span] = []
-        self.pauses: list[Span] = []  # frames without a PES packet
 
     # How it is heard.
 
@@ -121,21 +80,11 @@ class Timeline:
         first, last = one.frames[0], one.frames[-1]
         if self.halt is None and first < self.last < self.begin:
             self.forget()
-        if self.halt is None and first < self.last + self.least:
-            self.halt, self.before = one.run.first, self.last
-        if self.halt is not None:
-            if first < self.before + self.least:
-                self.falls.append(first)
-            self.before = last
+        is_first = self.first == NO_FRAME
+        if not self.goes_on(one):
             return
-        if self.is_doubted:
-            self.doubts.append(Span(max(self.last, 0), first))
-            self.is_doubted = False
-        if self.first == NO_FRAME:
-            self.first = first if self.came == NO_FRAME else self.came
-        self.pauses += pauses_in(self.last, one.frames)
-        self.heard.append(one)
-        self.count += len(one.frames)
+        if is_first and self.came != NO_FRAME:
+            self.first = self.came
         for letter, frames in ((HEADER, self.sendings), (ERASE, self.erasings)):
             if letter in one.run.does:
                 frames.extend(frame for frame in dict.fromkeys(one.frames)
@@ -143,7 +92,6 @@ class Timeline:
         if STRAY in one.run.does:
             self.strays.append((Span(first, last), stray))
         self.take(one.run, first, is_told)
-        self.last = last
 
     def take(self, run: Run, frame: int, is_told: bool) -> None:
         """Takes what a PES packet does, as the first of some that do the same."""
@@ -171,106 +119,10 @@ class Timeline:
         if rows != before.rows:
             self.change(frame, cleared(rows))
 
-    def turn(self, frame: int) -> None:
-        """The page is open from the end of a frame on, or no more."""
-        if self.turns and self.turns[-1] == frame:
-            self.turns.pop()
-        else:
-            self.turns.append(frame)
-
-    def change(self, frame: int, page: Rows) -> None:
-        """Another page is held from a frame on, unless it is the same once more."""
-        if self.frames and self.frames[-1] == frame:
-            self.frames.pop()
-            self.when[self.pages.pop()].pop()
-        if not self.pages or self.pages[-1] != page:
-            self.frames.append(frame)
-            self.pages.append(page)
-            self.when.setdefault(page, array.array("i")).append(frame)
-
-    # What is held when.
-
-    def number_at(self, frame: int) -> int:
-        """The number of the page that is held at the end of a frame; -1 before the first."""
-        return bisect.bisect_right(self.frames, frame) - 1
-
-    def page_at(self, frame: int) -> Rows:
-        """That page; a blank one before the first."""
-        number = self.number_at(frame)
-        blank: Rows = BLANK_PAGE
-        return self.pages[number] if number >= 0 else blank
-
-    def state_at(self, frame: int) -> State:
-        """All that is held at the end of a frame."""
-        at = bisect.bisect_right(self.states, frame, key=lambda one: one.frame) - 1
-        return self.states[at].state if at >= 0 else TUNED
-
-    def state_after(self, number: int) -> State:
-        """All that is held after the PES packet with a number."""
-        at = bisect.bisect_right(self.states, number, key=lambda one: one.number) - 1
-        return self.states[at].state if at >= 0 else TUNED
-
-    def numbers(self, begin: int, end: int) -> Iterator[int]:
-        """The numbers of the pages that are held at frames from `begin` to the one before `end`."""
-        number = max(self.number_at(begin), 0)
-        while number < len(self.frames) and self.frames[number] < end:
-            yield number
-            number += 1
-
-    def closed_from(self, frame: int) -> int | None:
-        """The first frame from one on at whose end the page is not open."""
-        at = bisect.bisect_right(self.turns, frame)
-        if at % 2 == 0:
-            return frame
-        return self.turns[at] if at < len(self.turns) else None
-
     def stretch(self, number: int) -> Span:
         """From when to when a page is held."""
         is_last = number + 1 == len(self.frames)
         return Span(self.frames[number], self.last if is_last else self.frames[number + 1] - 1)
-
-    def pause_at(self, frame: int) -> Span | None:
-        """The frames around one in which no PES packet came, of what else sends one in each frame
-        but few."""
-        at = bisect.bisect_right(self.pauses, frame, key=lambda one: one.first) - 1
-        is_steady = len(self.pauses) * FEW <= self.count
-        return self.pauses[at] if is_steady and at >= 0 and self.pauses[at].last >= frame else None
-
-    def is_seen(self, first: int, last: int) -> bool:
-        """Whether all is known that was sent in some frames."""
-        is_known = self.halt is None or last <= self.last
-        return is_known and not any(one.first <= last and first <= one.last
-                                    for one in [*self.doubts, *self.lost])
-
-    # Which PES packets were heard when.
-
-    def members(self, frame: int) -> list[Run]:
-        """The PES packets of a frame, each as a run of its own."""
-        at = bisect.bisect_right(self.heard, frame, key=lambda one: one.frames[0])
-        found: list[Run] = []
-        while at and self.heard[at - 1].frames[-1] >= frame:
-            at -= 1
-            run, frames = self.heard[at]
-            places = range(bisect.bisect_left(frames, frame), bisect.bisect_right(frames, frame))
-            found[:0] = [run._replace(first=run.first + place, length=1,
-                                      pts=run.pts_of(run.first + place)) for place in places]
-        return found
-
-    def frame_before(self, number: int) -> int | None:
-        """The frame that was heard last before a PES packet with a number."""
-        at = bisect.bisect_left(self.heard, number, key=lambda one: one.run.first) - 1
-        if at < 0:
-            return None
-        run, frames = self.heard[at]
-        return frames[min(number - run.first, run.length) - 1]
-
-    def frame_after(self, number: int) -> int | None:
-        """The frame that was heard next after a PES packet with a number."""
-        at = bisect.bisect_right(self.heard, number, key=lambda one: one.run.end - 1)
-        if at == len(self.heard):
-            return None
-        run, frames = self.heard[at]
-        return frames[max(number + 1 - run.first, 0)]
 
 
 def timeline_near(packets: Packets, page: Page, origin: int, within: int, span: Span, every: int,
@@ -309,27 +161,9 @@ def part_of(run: Run, frames: Sequence[int], begin: int, end: int) -> Heard:
                  frames[begin:end])
 
 
-def pauses_in(before: int, frames: Sequence[int]) -> Iterator[Span]:
-    """The frames without a PES packet up to each of some, where these are a pause."""
-    if before != NO_FRAME and frames[0] - before - 1 > PAUSE:
-        yield Span(before + 1, frames[0] - 1)
-    if not isinstance(frames, range):
-        for first, second in zip(frames, frames[1:]):
-            if second - first - 1 > PAUSE:
-                yield Span(first + 1, second - 1)
-
-
 def rows_of(texts: Texts, is_erased: bool) -> Rows:
     """A page by the rows that are told; of others nobody sent a cell before the page was erased."""
     rows = list(BLANK_PAGE if is_erased else OLD_PAGE)
     for row, cells in texts:
         rows[row - 1] = cells
     return tuple(rows)
-
-
-def cleared(rows: Rows) -> Rows:
-    """A page without marks: a space where nobody sent a cell, or it came with even parity."""
-    cells = b"".join(rows)
-    if OLD not in cells and HIT not in cells:
-        return rows
-    return tuple(row.translate(CLEARED) for row in rows)
