@@ -2,10 +2,12 @@
 what is strange of PTS, where something is missing."""
 from __future__ import annotations
 
+import random
 import unittest
 from types import SimpleNamespace
 from typing import Any, Sequence
 
+from subtitles.core.spans import Spans, joined
 from subtitles.core.times import CLOCK, TICKS
 from subtitles.qc.clock import RECORDING, Clock
 from subtitles.qc.fitting import Found
@@ -33,8 +35,35 @@ def clocked(before: int, ticks: int, counters: str, packets: int = 100) -> Clock
     return Clocked(before, before + 1, ticks, packets, SECOND // 10, 100, counters)
 
 
+def runs_of(numbers: set[int]) -> list[tuple[int, int]]:
+    """The numbers in a row, by the first and the last of each."""
+    firsts = sorted(one for one in numbers if one - 1 not in numbers)
+    return list(zip(firsts, sorted(one for one in numbers if one + 1 not in numbers)))
+
+
 class Times(unittest.TestCase):
     """Tables."""
+
+    def test_spans(self) -> None:
+        """What is said of spans, held against the numbers that they have, one by one."""
+        chance = random.Random(7)
+        for _ in range(300):
+            several = [Spans(sorted((first, first + chance.randrange(6)) for first in chance.sample(
+                range(40), chance.randrange(5)))) for _ in range(3)]
+            one, other, third = ({number for first, last in spans for number in range(
+                first, last + 1)} for spans in several)
+            begin, end = sorted((chance.randrange(45), chance.randrange(45)))
+            spans = several[0]
+            self.assertEqual((list(spans), spans.total(), len(spans)), (
+                runs_of(one), len(one), len(runs_of(one))))
+            self.assertEqual(list(spans.between(begin, end)), [
+                span for span in spans if span[1] >= begin and span[0] < end])
+            self.assertEqual(list(spans.without([*several[1], *several[2]])),
+                             runs_of(one - other - third))
+            self.assertEqual(list(joined(several)), runs_of(one | other | third))
+        falling = Spans([(7, 9), (1, 3), (4, 8)])
+        self.assertEqual((list(falling), falling.is_rising()), ([(7, 9), (1, 8)], False))
+        self.assertEqual(list(joined([falling])), [(1, 9)])
 
     def test_bases(self) -> None:
         """PTS may go on over 2^33; two in a row before the two that came before begin a base, also
