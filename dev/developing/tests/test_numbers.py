@@ -70,7 +70,8 @@ OWN: dict[str, dict[str, object]] = {
     "reading.repeat": {"FEWEST": 3, "NEAR": 5},
     "reading.stretches": {"IN_A_ROW": 5, "NEW_TRACK": 4, "LACKED": 1500, "OF_TEXT": 3},
     "reading.subcodes": {"FEWEST": 4}, "reading.survey": {"SHOWN": 12, "SUBTITLE_KINDS": (2, 5)},
-    "reading.order": {"PAUSE": 2, "FEW": 20}, "reading.timeline": {"LEAST": 250}, "reading.timing": {"MOST_LATE": 60}}
+    "reading.order": {"PAUSE": 2, "FEW": 20}, "reading.timeline": {"LEAST": 250},
+    "reading.timing": {"MOST_LATE": 60}}
 NONE = ("batch", "channel", "collect", "csv", "found_layout", "json", "junit", "jobs", "name",
         "origin", "out", "patience", "pes", "pid", "program", "recording", "settled", "severity",
         "start", "stl", "watch")
