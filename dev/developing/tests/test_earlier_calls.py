@@ -268,10 +268,11 @@ class Watched(Case):
         object as it is now is not judged again."""
         for name in ("in", "out"):
             os.mkdir(self.path(name))
-        self.write("out/old.json", json.dumps(known("accepted")).encode())
+        for name in ("old", "older"):
+            self.write(f"out/{name}.json", json.dumps(known("accepted")).encode())
         self.write("out/x.json", b"[]")
         watch = Watch(self.words(), Typed("tools/qc", self.bench.program))
-        self.must("rows", list(watch.rows) == ["old"])
+        self.must("rows", list(watch.rows) == ["old", "older"])
         out = io.StringIO()
         with contextlib.redirect_stdout(out):
             watch.end(Item("b", None, ""), row("b", "accepted", "accepted 5"))
@@ -279,7 +280,7 @@ class Watched(Case):
         self.must("lines", [line[21:] for line in out.getvalue().splitlines()] ==
                   ["b  accepted", "a  refused: 72 X: a hint"], out.getvalue())
         page = self.read("out/index.html").decode()
-        self.must("page", "3 pairs" in page and page.index("<td>a<") < page.index("<td>b<"))
+        self.must("page", "4 pairs" in page and page.index("<td>a<") < page.index("<td>b<"))
         stl, ts = self.write("in/a.stl", b"1"), self.write("in/a.ts", b"1")
         item = Item("a", asked_for(stl, ts), None)
         program = program_at(watch.calls.typed.program_path)
