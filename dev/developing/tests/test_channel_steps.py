@@ -9,6 +9,7 @@ from unittest import mock
 
 from subtitles.calls.channel import channel as channels
 from subtitles.calls.channel.channel import BEFORE_IT, LATER
+from subtitles.calls.channel.feed_clock import MINUTE
 from subtitles.calls.channel.partial import ENDED, STOPPED
 from subtitles.calls.channel.queue import AT_ONCE
 from subtitles.calls.objects import found, unjudged
@@ -379,6 +380,18 @@ class Steps(Case):
         heard = channel.hearing.by_page[0, 0x88]
         self.must("forgotten", not heard.changes[False].times and heard.changes[False].count == 4)
         self.must("runs", len(heard.packets.runs) < 1300, len(heard.packets.runs))
+
+    def test_what_is_kept(self) -> None:
+        """What came less than patience and a margin ago, and all of a programme that is sent."""
+        channel = Told(self, self.listed("one", "two"))
+        channel.give([*Lines().sent(texts_of("one"), BEGIN)][:14])
+        assert channel.running
+        for later, floor in ((0, channel.now - 4 * MINUTE), (9 * MINUTE, None)):
+            channel.hearing.by_page[0, 0x88].clock.now += later
+            self.must(f"{later}", channel.floor() == (
+                channel.running.begin - 2 * MINUTE if floor is None else floor), channel.floor())
+        channel.running = None
+        self.must("none is sent", channel.floor() == channel.now - 4 * MINUTE, channel.floor())
 
     def test_progress(self) -> None:
         """What is judged or waited for, the time of the feed, and how long nothing came."""

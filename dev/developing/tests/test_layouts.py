@@ -20,14 +20,15 @@ from .bench import Case
 ENGLISH, GERMAN = BY_WORD["english"], BY_WORD["german"]
 # TEXTs that mean no layout.
 NONE = ("", "fit,fit", "before=0", "before=0E", "before=00", "before=0B0B0B0B0B0B0B",
-        "after=0A0A0A0A0A", "strip=20", "strip=0A0A", "left=40", "left=007", "row=-23", "row=+1",
-        "row=--1", "left=-1", "free=0", "free=4", "fit=1", "left", "left=", "fit,", ",fit", "Fit",
-        "fit fit", "pitch=1", "colour", "open", "double=2", "before=0B*0B*", "before=0*B",
+        "after=0A0A0A0A0A", "strip=20", "strip=0A0A", "left=40", "left=007", "row=-23", "row=23",
+        "row=+1", "row=--1", "left=-1", "free=0", "free=4", "fit=1", "left", "left=", "fit,",
+        ",fit", "Fit", "fit fit", "pitch=1", "colour", "open", "double=2", "before=0B*0B*", "before=0*B",
         "before=0B0B0B*0B0B0B0B", "before=*0E", "after=0A*", "strip=*0A", "before", "row=1\n",
         "left=\u0661", "left=-0", "free=-1")
 # The same layout in other words, and its simplest TEXT.
 MEANS = [("row=-0,left=00,free=01", ""), ("before=*", "before="), ("before=0b*0d", "before=0B*0D"),
          ("white,up", "up,white"), ("before=0B0B,after=0A0A,strip=", ""), ("row=-22", "row=-22"),
+         ("row=22", "row=22"),
          ("strip=1f00", "strip=1F00"), ("right=09", "right=9"), ("before=0B*", "before=0B")]
 # Text, VP, JC, TEXT, and the lines that are drawn: row, column, cells; or the fault.
 DRAWN = [
