@@ -146,12 +146,6 @@ class Codes(unittest.TestCase):
             self.assertIsNone(teletext.page_of(text), text)
 
 
-def unit(number: int, kind: int = 3) -> bytes:
-    """A data unit with a Teletext packet, 46 bytes."""
-    made = pes.packet(0, number, (), b"x" * 40)
-    return bytes([kind, 0x2C, 0xE7, 0xE4]) + pes.mirrored(made)
-
-
 class Packets(unittest.TestCase):
     """PES packets."""
 
@@ -163,48 +157,6 @@ class Packets(unittest.TestCase):
             self.assertEqual(pes.pts_bytes(pts), wanted)
             data = pes.pes_packet(pts, [])
             self.assertEqual(pes.pts_in(data), pts)
-
-    def test_made(self) -> None:
-        """Of no Teletext packet to 16: on lines from 7 on, in as few blocks of 184 bytes as hold
-        them."""
-        for count in range(17):
-            rows = [row(1 + number, b"%d" % number) for number in range(count)]
-            data = pes.pes_packet(0, rows)
-            self.assertEqual(len(data), 184 * (1 + count // 4))
-            self.assertEqual(data[:9] + data[14:46], START + (len(data) - 6).to_bytes(2, "big")
-                             + b"\x84\x80\x24" + b"\xff" * 31 + b"\x10")
-            many = [data[at:at + 46] for at in range(46, len(data), 46)]
-            self.assertEqual(many[count:], [b"\xff\x2c" + b"\xff" * 44] * (len(many) - count))
-            self.assertEqual([one[:4] for one in many[:count]],
-                             [bytes([3, 44, 0xE0 + 7 + at, 0xE4]) for at in range(count)])
-            self.assertEqual([one[4:] for one in many[:count]], list(map(pes.mirrored, rows)))
-
-    def test_heads(self) -> None:
-        """What has a PTS, what is a mark, and where the data begin: at each length."""
-        good = pes.pes_packet(5, [HEADER])
-        for size, has_pts, field in ((0, False, b""), (9, False, b""), (10, False, b""),
-                                     (13, False, b""), (14, True, b""), (45, True, b""),
-                                     (46, True, b"\x10"), (47, True, good[45:47])):
-            self.assertEqual((pes.has_pts(good[:size]), pes.data_field(good[:size])),
-                             (has_pts, field), size)
-        for flags, has_pts in ((0x00, False), (0x40, False), (0x80, True), (0xC0, True)):
-            data = good[:7] + bytes([flags]) + good[8:]
-            self.assertEqual(pes.has_pts(data), has_pts)
-        self.assertFalse(pes.has_pts(pes.MARK))
-        self.assertEqual((len(pes.MARK), begins_in(pes.MARK)), (184, range(0, 185, 184)))
-
-    def test_data_units(self) -> None:
-        """Teletext packets of a data field: of both kinds, between others, and cut."""
-        one, two = unit(1), unit(2, 2)
-        packets = [pes.mirrored(some[4:]) for some in (one, two)]
-        of_fields: list[tuple[bytes, list[bytes]]] = [
-            (b"\x10" + one + two, packets), (b"\x10" + one + two[:-1], packets[:1]),
-            (b"\x10" + unit(3, 1) + unit(3, 4) + two, packets[1:]),
-            (b"\x10\x03\x01\x00" + one + b"\xff\x00" + two, packets),
-            (b"\x10\x03\x2d" + b"\x00" * 45 + two, packets[1:]), (b"", []), (b"\x10", []),
-            (one, [])]
-        for field, wanted in of_fields:
-            self.assertEqual(pes.teletext_packets(field), wanted)
 
     def test_begins(self) -> None:
         """Runs of one length, of several, and more than are looked for in a step; then what is cut,

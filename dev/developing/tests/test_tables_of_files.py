@@ -8,7 +8,7 @@ import unittest
 from typing import Callable, Sequence
 from unittest import mock
 
-from developing.stl import boxed, gsi_block, subtitle_blocks, tti_block
+from developing.stl import gsi_block, tti_block
 from subtitles.core import stl, told
 from subtitles.core.characters import option_name
 from subtitles.core.files import Damaged
@@ -19,7 +19,6 @@ from subtitles.core.words import Stop
 from .bench import Case, alone
 
 GSI = 1024
-UNUSED = b"\x8f"
 
 
 def refused(call: Callable[[], object], error: type[Exception] = Stop) -> str:
@@ -33,37 +32,6 @@ def refused(call: Callable[[], object], error: type[Exception] = Stop) -> str:
 
 class Blocks(unittest.TestCase):
     """Blocks as EBU Tech 3264 has them, by the places of their bytes."""
-
-    def test_gsi(self) -> None:
-        block = gsi_block(b"T" * 33, 12, 34, 2_159_999, b"08")
-        for at, text in ((0, b"850STL25.0110008" + b"T" * 32), (48, b" " * 176),
-                         (224, b"26112226112200"), (238, b"0001200034001"), (251, b"4023"),
-                         (255, b"1"), (256, b"0000000023595924"), (272, b"11GBR"),
-                         (277, b" " * 747)):
-            self.assertEqual(block[at:at + len(text)], text)
-        self.assertEqual(len(block), GSI)
-        self.assertEqual(gsi_block(b"", 0, 0)[12:17] + gsi_block(b"", 0, 0)[256:272],
-                         b"0009 0000000000000000")
-
-    def test_tti(self) -> None:
-        for number, low, high in ((0, 0, 0), (255, 255, 0), (256, 0, 1), (0x1234, 0x34, 0x12)):
-            block = tti_block(number, 25, 90_001, 20, 2, b"text", 3, 1, 9)
-            self.assertEqual(block, bytes([9, low, high, 3, 0, 0, 0, 1, 0, 1, 0, 0, 1, 20, 2, 1])
-                             + b"text" + UNUSED * 108)
-        self.assertEqual(tti_block(7, 0, 1, 1, 0, b"x" * 112)[:4], b"\0\7\0\xff")
-        self.assertTrue(refused(lambda: tti_block(7, 0, 1, 1, 0, b"x" * 113), AssertionError))
-
-    def test_texts(self) -> None:
-        """Of each length, in as few blocks as hold it, and read again."""
-        for size, numbers in ((0, [255]), (1, [255]), (112, [255]), (113, [0, 255]),
-                              (224, [0, 255]), (225, [0, 1, 255]), (337, [0, 1, 2, 255])):
-            text = bytes(0x41 + at % 26 for at in range(size))
-            made = subtitle_blocks(7, 1, 2, 20, 2, text)
-            self.assertEqual([made[at + 3] for at in range(0, len(made), 128)], numbers, size)
-            found = list(stl.subtitles_in(bytes(gsi_block(b"", 0, 0)) + made))
-            self.assertEqual(found, [stl.StoredSubtitle(7, b"\0\0\0\1", b"\0\0\0\2", 20, 2, text)])
-        self.assertEqual(boxed(b"a"), b"\x0d\x0b\x0ba\x0a\x0a")
-        self.assertEqual(boxed(b"a", b"\x03"), b"\x0d\x03\x0b\x0ba\x0a\x0a")
 
     def block(self, number: int, ebn: int, comment: int = 0, group: int = 0) -> bytes:
         return tti_block(number, number, number + 1, 20, 2, b"%d" % number, ebn, comment, group)
