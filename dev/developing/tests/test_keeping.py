@@ -14,7 +14,7 @@ from subtitles.qc.headers import REPEATS, Headed, control_words, headed, unerase
 from subtitles.qc.keeping import Kept, Left, judged_by, kept_in, left_at, left_by, rows_words
 from subtitles.reading.packets import Run
 from subtitles.reading.receiver import BLANK_PAGE, TUNED, Rows
-from subtitles.reading.timeline import Timeline
+from subtitles.reading.timeline import Span, Timeline
 from .bench import Case
 from .judged import Judged, Sent, joined, judged, programme, sendings
 from .parts import CLOSING, HEADER, answer, asked_for, row, timeline_of
@@ -56,7 +56,6 @@ class Headers(Case):
                 ("hh", f"{one}+{other}", TUNED, [(first, None, False), (second, first, True)]),
                 ("hchc", f"{other}+{one}", heard,
                  [(second, NUMBERS, True), (first, second, False)])):
-            control = "+".join(code[:2] + code[2:] for code in control.split("+")) if control else ""
             run = Run(0, 1, 0, 0, does, control)
             found = [tuple(header) for header in headed(run, state)]
             self.must(f"{does} {control}", found == wanted, found)
@@ -108,8 +107,8 @@ class Counted(Case):
         head = f"{CLEAR} in 3 of 10 headers"
         out = f"{head}, and behind 2 of these rows are left out (at 00:00:10:00 row 22): " \
             "--keeping judges by it"
-        more = ", and refuses 2 of these: the subcode is another one than before, or the page was " \
-            "still open"
+        more = ", and refuses 2 of these: the subcode is another one than before, or the page " \
+            "was still open"
         for kept, wanted in (
                 (Kept(10, 3), f"{head}: --keeping judges by it"),
                 (Kept(1, 1), f"{CLEAR} in 1 of 1 header: --keeping judges by it"),
@@ -243,9 +242,15 @@ class LeftOut(Case):
         held, due = self.held((0, WHOLE), (25, BARE), (50, ONE_LESS))
         one = Subtitle(1, 1, 0, 100, 20, 2, b"1")
         namer = Namer(DuePages([one], [due]), held, self.told_at(50))
-        for frame, wanted in ((0, ""), (25, f"rows 20 and 22 {REPEATED}"),
-                              (50, f"row 22 {REPEATED}")):
-            self.must(f"{frame}", namer.hidden_words(frame) == wanted, namer.hidden_words(frame))
+        for frame, wanted in ((0, ""), (25, "rows 20 and 22"), (50, "row 22")):
+            self.must(f"{frame}", namer.rows_left(frame) == wanted, namer.rows_left(frame))
+        namer.held.lost = [Span(50, 50)]
+        self.must("not received", namer.rows_left(50) == "" and namer.rows_left(25) != "")
+        several = (25, [KEEPING_HEADER]), (25, [FIRST, CLOSING])
+        for within, wanted in ((0, ""), (1, "row 22")):
+            held, due = self.held((0, WHOLE), *several, within=within)
+            namer = Namer(DuePages([one], [due]), held, self.told_at(25))
+            self.must(f"in two, {within}", namer.rows_left(25) == wanted, namer.rows_left(25))
 
 
 def as_houses(sent: Sent, way: str = "", frames: int = 0) -> Sent:
@@ -307,7 +312,8 @@ class Pairs(Case):
         found = self.judged("left out", "--keeping")
         self.must("a cause", found.word == "refused" and {one["number"] for one in found.result[
             "faults"]} == {CONTENT} and [one["words"] for one in found.result["causes"]] ==
-            [f"unknown: row 22 {REPEATED}"], found.said)
+            [f"not repeated whole: row 22 {REPEATED}"] and
+            "(row 22 left out behind a header" in found.verdict.sentence, found.said)
 
     def test_subcode(self) -> None:
         """Another subcode is refused all the same."""

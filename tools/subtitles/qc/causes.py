@@ -20,13 +20,13 @@ from .sendings import Sendings
 
 LATE, EARLY, NEVER, OTHER = "late", "early", "never sent", "another subtitle's text"
 TEXT, PLACE, ATTRIBUTE = "wrong text", "wrong place", "wrong colour or attribute"
-NOT_ERASED, UNKNOWN = "not erased", "unknown"
-NAMES = (LATE, EARLY, NEVER, OTHER, TEXT, PLACE, ATTRIBUTE, NOT_ERASED, UNKNOWN)
+NOT_ERASED, IN_PART, UNKNOWN = "not erased", "not repeated whole", "unknown"
+NAMES = (LATE, EARLY, NEVER, OTHER, TEXT, PLACE, ATTRIBUTE, NOT_ERASED, IN_PART, UNKNOWN)
 UNSEEN = "not all that was sent then can be read"
 NOT_RECEIVED = "not received"  # in place of that, where packets are lost
 NEXT = "the page that comes at the last TCO is the next programme's"
 IN_PARTS = "as it is due only after another PES packet of the same frame"
-REPEATED = "left out where a header with C4 (erase page) clear repeats the page"
+REPEATED = "left out behind a header with C4 (erase page) clear"
 EVEN = "a byte of its rows has even parity"
 
 
@@ -189,6 +189,9 @@ class Namer(Sendings):
         one = self.subtitles[place]
         span = faulty.within or faulty.after
         if span and self.is_due(span.first):
+            if rows := self.rows_left(span.first):
+                return Cause(place, IN_PART, None, self.pages[place], None, f"{rows} {REPEATED}",
+                             one.end)
             return self.unknown(place, span.first, one.end, self.hidden_words(span.first))
         if faulty.within:
             return self.broken(place, faulty.within)
@@ -206,14 +209,18 @@ class Namer(Sendings):
 
     def hidden_words(self, frame: int) -> str:
         """Why `check` tells another page at a frame than the one that is held after it."""
-        rows = left_at(self.held, self.programme.page_at(frame), frame, self.answer)
-        if len(self.held.members(frame)) > 1 and not (rows and self.held.within):
+        if len(self.held.members(frame)) > 1:
             return IN_PARTS
         if not self.held.is_seen(frame, frame):
             return UNSEEN
-        if rows:
-            return f"{rows} {REPEATED}"
         return EVEN if HIT in b"".join(self.held.state_at(frame).rows) else ""
+
+    def rows_left(self, frame: int) -> str:
+        """Which rows of the page that is due at a frame a repeat left out, where that is why it is
+        told: all that was sent then is known, and within no frames it is one PES packet."""
+        is_one = self.held.within or len(self.held.members(frame)) == 1
+        return left_at(self.held, self.programme.page_at(frame), frame, self.answer) \
+            if is_one and self.held.is_seen(frame, frame) else ""
 
     @functools.cached_property
     def subcode_words(self) -> str:

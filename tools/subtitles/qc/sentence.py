@@ -10,7 +10,7 @@ from ..core.times import time_of
 from ..core.told import CONTROL, GAP, LOST_PACKETS, OFF_FRAME, WITH_CAUSE, Told
 from ..core.words import counted, range_words
 from .causes import (
-    ATTRIBUTE, EARLY, LATE, NEVER, NOT_ERASED, OTHER, PLACE, TEXT, UNKNOWN, Cause)
+    ATTRIBUTE, EARLY, IN_PART, LATE, NEVER, NOT_ERASED, OTHER, PLACE, TEXT, UNKNOWN, Cause)
 from .fault_words import WORDS
 from .lettering import text_of
 from .naming import Causes
@@ -24,6 +24,7 @@ SAID = {
     PLACE: ("stands in a wrong place", "stand in wrong places"),
     ATTRIBUTE: ("has a wrong colour or attribute", "have wrong colours or attributes"),
     NOT_ERASED: ("is not erased", "are not erased"),
+    IN_PART: ("is not repeated whole", "are not repeated whole"),
     UNKNOWN: ("is not held as it is due", "are not held as they are due")}
 OF_ALL = {GAP, OFF_FRAME}  # of which what is known is said of all that is judged
 

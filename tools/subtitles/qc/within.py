@@ -5,7 +5,7 @@ from __future__ import annotations
 from ..core.told import LOST_PACKETS, accepted_of, told_of
 from ..reading.cutting import Cut
 from .asked import MOST_TRIED
-from .causes import EARLY, LATE, NOT_ERASED, UNKNOWN, Cause
+from .causes import EARLY, IN_PART, LATE, NOT_ERASED, UNKNOWN, Cause
 from .fitting import Found, found_in
 from .naming import Causes
 from .recording import Recording
@@ -61,7 +61,7 @@ class Trying:
         if cause.name in (LATE, EARLY):
             most = 2 * MOST_TRIED if self.one.found.clock.is_fitted else MOST_TRIED
             return (cause.frames or 0) <= most
-        return cause.name in (NOT_ERASED, UNKNOWN)
+        return cause.name in (NOT_ERASED, IN_PART, UNKNOWN)
 
     def clocked(self, within: int) -> Found | None:
         """The part by its clock; one that was fitted is fitted within so many frames."""
