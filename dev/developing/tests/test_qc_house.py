@@ -47,9 +47,10 @@ def fill(case: Case, folder: str, count: int) -> None:
 
 
 def slow_program(case: Case) -> str:
-    """The program, which takes its time where a transmission is checked, and counts that."""
+    """The program, which takes its time where a transmission is checked, and counts that: a second
+    look, whether `--keeping` accepts it, is none."""
     script = ("#!/bin/sh\n"
-              "case $* in check*--pes*--all*) echo one >>'{0}'; sleep 0.2 ;; esac\n"
+              "case $* in *--keeping*) ;; check*--pes*--all*) echo one >>'{0}'; sleep 0.2 ;; esac\n"
               "exec '{1}' \"$@\"\n").format(case.path("checked"), case.bench.program)
     return case.write_program("program", script)
 
