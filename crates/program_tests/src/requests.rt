@@ -236,23 +236,30 @@ fn reads_a_pace(rt: HostRuntime) {
     assert_bounds(&rt, &day, (2_160_000, Some(2_160_000)));
 }
 
-// Whether repeats may keep, by the words of a check.
-fn keeps<'a>(alloc: Global, words: &'a [&'a str]) -> Option<bool> {
-    match Request::parse(alloc, words) {
-        Ok(Request::Check { options, .. }) => Some(options.may_keep()),
+// Whether repeats may keep the page of a check.
+fn keeps(request: &Request<'_>) -> Option<bool> {
+    match request {
+        Request::Check { options, .. } => Some(options.may_keep()),
         _ => None,
+    }
+}
+
+// Asserts that, by words.
+fn assert_keeps<'a>(rt: &(impl Abort + Alloc<A = Global>), words: &'a [&'a str], want: bool) {
+    match Request::parse(rt.alloc(), words) {
+        Ok(request) => assert_same(rt, &keeps(&request), &Some(want)),
+        Err(_) => panic!(rt; "no request"),
     }
 }
 
 #[rattlefmt::skip]
 #[test]
 fn reads_whether_repeats_may_keep(rt: HostRuntime) {
-    assert_same(&rt, &keeps(rt.alloc(), &["subttx", "check", "a", "b"]), &Some(false));
-    let complete = ["subttx", "check", "a", "b", "--complete", "--within", "2"];
-    assert_same(&rt, &keeps(rt.alloc(), &complete), &Some(false));
-    assert_same(&rt, &keeps(rt.alloc(), &["subttx", "check", "--keeping", "a", "b"]), &Some(true));
+    assert_keeps(&rt, &["subttx", "check", "a", "b"], false);
+    assert_keeps(&rt, &["subttx", "check", "a", "b", "--complete", "--within", "2"], false);
+    assert_keeps(&rt, &["subttx", "check", "--keeping", "a", "b"], true);
     let all = ["subttx", "check", "a", "b", "--complete", "--keeping", "--pace", "5", "--all"];
-    assert_same(&rt, &keeps(rt.alloc(), &all), &Some(true));
+    assert_keeps(&rt, &all, true);
 }
 
 // Asserts that words ask to listen to file a with this page and PTS of frame 0, up to a frame,
