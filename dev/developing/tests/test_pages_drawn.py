@@ -36,7 +36,7 @@ class Attributes(unittest.TestCase):
                 (b"\x08A", {"flash": True}), (b"\x08\x09A", {}), (b"\x0dA", {"double": True}),
                 (b"\x0d\x0cA", {}), (b"\1\x1dA", {"ink": 1, "paper": 1}),
                 (b"\1\x1d\x1cA", {"ink": 1}), (b"\1\x1d\2A", {"ink": 2, "paper": 1}),
-                (b"\x8b\x8bA", {"boxed": True}), (b"\x18A", {})]
+                (b"\x8b\x8bA", {"boxed": True}), (b"\x18A", {}), (b"\x10A", {"ink": 0})]
         for row, change in rows:
             with self.subTest(row=row):
                 self.assertEqual(self.look(row)._replace(letters="A"), plain._replace(**change))
@@ -78,7 +78,8 @@ class Attributes(unittest.TestCase):
     def test_mosaics(self) -> None:
         """From a colour of mosaics on, up to one of letters; capital letters stay."""
         for row, letters in ((b"\x11a", "\u2592"), (b"\x11A", "A"), (b"\x11 ", " "),
-                             (b"\x11\1a", "a"), (b"\x11!", "\u2592"), (b"a", "a")):
+                             (b"\x11\1a", "a"), (b"\x11!", "\u2592"), (b"a", "a"),
+                             (b"\x10a", "\u2592"), (b"\x17a", "\u2592"), (b"\x0fa", "a")):
             self.assertEqual(self.look(row).letters, letters, row)
 
 
