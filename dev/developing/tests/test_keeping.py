@@ -8,7 +8,8 @@ from subtitles.core.programme import Subtitle
 from subtitles.core.times import TICKS, time_of
 from subtitles.core.told import CONTENT, told_of
 from subtitles.qc.causes import REPEATED, Namer
-from subtitles.qc.checking import NO_END, Answer, End
+from subtitles.qc.checking import Answer
+from subtitles.qc.counted import NO_END, End
 from subtitles.qc.due_pages import DuePages
 from subtitles.qc.headers import REPEATS, Headed, control_words, headed, unerased_words
 from subtitles.qc.keeping import Kept, Left, judged_by, kept_in, left_at, left_by, rows_words

@@ -9,7 +9,8 @@ from unittest import mock
 from developing.pes import pes_packet
 from subtitles.core.times import CLOCK, TICKS
 from subtitles.core.told import ENDS_READING, STL_FAULTS
-from subtitles.qc.checking import NO_END, Answer
+from subtitles.qc.checking import Answer
+from subtitles.qc.counted import NO_END
 from subtitles.qc.clock import FITTED, FITTED_LATER, GIVEN, RECORDING, Clock
 from subtitles.qc.delays import MOVED, Spread, spread_of
 from subtitles.qc.ending import is_enough

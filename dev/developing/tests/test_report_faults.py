@@ -12,7 +12,8 @@ from subtitles.preview.fault_list import FaultList
 from subtitles.preview.faults import Entry, Faults
 from subtitles.preview.reasons import Reasons
 from subtitles.qc.causes import Cause
-from subtitles.qc.checking import Answer, End
+from subtitles.qc.checking import Answer
+from subtitles.qc.counted import End
 
 # Three subtitles, of which the second has another number than its place.
 SUBTITLES = [Subtitle(1, 1, 25, 50, 20, 2, b"one"), Subtitle(2, 7, 75, 100, 20, 2, b"two"),

@@ -7,7 +7,8 @@ from typing import Iterable
 from ..core.programme import Programme
 from ..core.spans import Span, Spans, joined
 from ..core.told import ENDS_READING, UNDECIDED
-from ..qc.checking import Answer, End
+from ..qc.checking import Answer
+from ..qc.counted import End
 from .program import Verdict, verdict_of
 
 MOST_ENTRIES = 1000  # that are listed; the others are counted

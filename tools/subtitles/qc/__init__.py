@@ -19,6 +19,7 @@ clock         the clock of a part, and what is said of it
 warned        what is strange of a recording
 
 checking      `check --all`, and all that its list comes to: it is read here alone
+counted       what the list comes to, by numbers
 faults        faults with all that is known of them
 cells         the PES packets and the cells at their places
 subtitle_file the subtitles of a file by blocks and by frames

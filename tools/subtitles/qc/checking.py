@@ -2,46 +2,26 @@
 from __future__ import annotations
 
 import bisect
-import collections
 import functools
 import re
 import shutil
 import subprocess
-from typing import BinaryIO, Callable, Iterator, NamedTuple
+from typing import BinaryIO, Callable, Iterator
 
 from ..core.files import naming
-from ..core.spans import Spans
 from ..core.times import FRAMES_OF_A_DAY
 from ..core.told import (
-    ENDED, PASSED_OVER, REFUSED, STL_FAULTS, UNDECIDED, Told, accepted_of, count_of,
-    frame_of_place, is_line, number_of, told_of, trusted_of, words_of)
+    ENDED, REFUSED, Told, accepted_of, count_of, frame_of_place, is_line, number_of, told_of,
+    trusted_of, words_of)
+from .counted import NO_END, Counted, End
 from .status import NOT_JUDGED, UNSAID, Said, word_of
 from .unclear import Unclear
 
 TIME = re.compile(r"\d\d:\d\d:\d\d:\d\d")
 
 
-class End(NamedTuple):
-    """Where a fault ended that stood for some time: the time of the last frame, or the last PES
-    packet."""
-
-    time: str | None
-    pes: int | None
-
-
-NO_END = End(None, None)
-
-
-class Answer:
-    """What `check --all` printed, line by line; all its lines stand in the file at `path`.
-
-    `first` is the first fault, which is the line of `check` without `--all`, and `last_told` the
-    last one. By number, `counts` are how many there are, `firsts` the first of each, and `marks`
-    the frames at which it is told, or stands; `ends` are by the number of a fault in the list, and
-    `anew` the numbers of those that are told right after one has ended.
-    `passed` are the numbers of the PES packets that were passed over, `trusted` the frames that may
-    be trusted.
-    """
+class Answer(Counted):
+    """What `check --all` printed, line by line; all its lines stand in the file at `path`."""
 
     def __init__(self, path: str) -> None:
         self.path, self.last = path, ""
@@ -50,27 +30,8 @@ class Answer:
         self.strange: str | None = None  # the first line that is none of `check`
         self.frames: int | None = None
         self.transmissions: int | None = None
-        self.forget()
+        super().__init__()
         self.file: BinaryIO = open(path, "wb")
-
-    def forget(self) -> None:
-        """No fault was told."""
-        self.count = 0
-        self.counts: collections.Counter[int] = collections.Counter()
-        self.firsts: dict[int, Told] = {}
-        self.first: Told | None = None
-        self.last_told = ""
-        self.marks: dict[int, Spans] = {}
-        self.ends: dict[int, End] = {}
-        self.anew: set[int] = set()
-        self.latest: dict[str, int] = {}  # the number in the list of the last fault of a number
-        self.passing = ""  # the number of the PES packets that were passed over last
-        self.passed, self.trusted = Spans(), Spans()
-
-    @property
-    def numbers(self) -> set[int]:
-        """The numbers of the faults."""
-        return set(self.counts)
 
     def take(self, line: str) -> None:
         """Takes a line as it comes."""
@@ -89,41 +50,6 @@ class Answer:
             self.trusted.add(*map(frame_of_place, trusted))
         elif self.strange is None and not is_line(line):
             self.strange = line
-
-    def take_fault(self, line: str, words: list[str]) -> None:
-        """A line `refused`."""
-        number, place = int(words[1]), words[3:5]
-        if number not in self.counts:
-            told = told_of(line)
-            if told:
-                self.firsts[number] = told
-            self.first = self.first or told
-        self.latest[words[1]] = self.count
-        self.count += 1
-        self.counts[number] += 1
-        self.last_told = line
-        if place[:1] == ["frame"]:
-            frame = frame_of_place(place[1])
-            self.marks.setdefault(number, Spans()).add(frame, frame)
-        elif number in PASSED_OVER and place[:1] == ["pes"]:
-            self.passing = words[1]
-            self.passed.add(int(place[1]), int(place[1]))
-
-    def take_end(self, words: list[str]) -> None:
-        """A line `ended`: what stood up to a frame, or for PES packets in a row."""
-        number, (kind, value) = int(words[1]), words[3:5]
-        self.anew.add(self.count)
-        index = self.latest.pop(words[1], None)
-        if index is None:
-            return
-        if kind == "frame":
-            self.ends[index] = End(value, None)
-            marks = self.marks[number]
-            marks.add(marks.begins[-1], frame_of_place(value))
-        else:
-            self.ends[index] = End(None, int(value))
-            if words[1] == self.passing:
-                self.passed.add(self.passed.ends[-1], int(value))
 
     def end(self, status: int) -> None:
         """Takes the status; what is no answer is `Unclear`."""
@@ -181,18 +107,6 @@ class Answer:
     def verdict(self) -> str:
         """Its verdict in one word."""
         return word_of(self.said())
-
-    @property
-    def first_sent(self) -> Told | None:
-        """The first fault of the transmission, beside subtitles that are refused."""
-        return next((told for number, told in self.firsts.items()
-                     if number not in STL_FAULTS | {UNDECIDED}), None)
-
-    @property
-    def count_sent(self) -> int:
-        """How many faults of the transmission there are."""
-        return sum(count for number, count in self.counts.items()
-                   if number not in STL_FAULTS | {UNDECIDED})
 
     def without(self, number: int, path: str) -> Answer:
         """The same without the faults of a number."""

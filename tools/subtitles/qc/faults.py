@@ -12,7 +12,7 @@ from ..core.told import CHARACTER, CONTENT, DISPLAY, LETTERS, STL_FAULTS, WITH_C
 from ..reading.receiver import Rows
 from .cause_words import CauseWords, SubtitleWords, Wording
 from .cells import NOWHERE, Place, code_at, place_of
-from .checking import End
+from .counted import End
 from .headers import header_words
 from .hints import open_words
 from .midnight import midnight_words

@@ -14,7 +14,8 @@ from ..core.words import counted
 from ..reading.packets import CLOSED, HEADER
 from ..reading.receiver import Rows
 from ..reading.timeline import Timeline
-from .checking import Answer, End
+from .checking import Answer
+from .counted import End
 from .headers import CLEAR, control_words, keeps
 from .options import KEEPING
 
