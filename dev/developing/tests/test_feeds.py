@@ -1,6 +1,7 @@
 """A feed without processes: how its bytes are handed on, and when it is over."""
 from __future__ import annotations
 
+import time
 from types import SimpleNamespace
 from typing import Any
 from unittest import mock
@@ -41,6 +42,7 @@ class Handed(Case):
         """Each that listens gets all, at whatever pace; one that is gone is left out."""
         slow, gone, fast = Sink(2), Sink(0), Sink(99)
         handing = self.handing(slow, gone, fast)
+        self.assertLess(time.monotonic() - handing.came, 60)  # also before something came
         for data in (b"abcde", b"", b"f"):
             handing.hand(data)
         self.assertEqual((slow.data, fast.data, handing.listening, handing.count),

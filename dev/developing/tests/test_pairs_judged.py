@@ -196,6 +196,8 @@ class Said(Case):
         at = found.said.index(said[0])
         self.must("lines", found.said[at:at + 42] == [*said, ".. 5 more lines", "45 faults"],
                   found.said)
+        found = judged(self, programme(self, times(1), text=b"Gr\xc8u", name="german.stl"))
+        self.must("what to know of it", "german" in found.result["sentence"], found.said)
 
     def test_texts_of_others(self) -> None:
         """A subtitle in whose place another one is sent, the first too: which, and what."""
