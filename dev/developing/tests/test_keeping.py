@@ -15,7 +15,8 @@ from subtitles.qc.headers import REPEATS, Headed, control_words, headed, unerase
 from subtitles.qc.keeping import Kept, Left, judged_by, kept_in, left_at, left_by, rows_words
 from subtitles.reading.packets import Run
 from subtitles.reading.receiver import BLANK_PAGE, TUNED, Rows
-from subtitles.reading.timeline import Span, Timeline
+from subtitles.reading.order import Span
+from subtitles.reading.timeline import Timeline
 from .bench import Case
 from .judged import Judged, Sent, joined, judged, programme, sendings
 from .parts import CLOSING, HEADER, answer, asked_for, row, timeline_of
