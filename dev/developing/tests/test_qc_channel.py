@@ -77,7 +77,10 @@ def memory_of(process: subprocess.Popen[bytes], folder: str) -> tuple[int, int]:
             except FileNotFoundError:
                 pass
     for number in os.listdir(f"/proc/{process.pid}/fd"):
-        about = os.stat(f"/proc/{process.pid}/fd/{number}")
+        try:
+            about = os.stat(f"/proc/{process.pid}/fd/{number}")
+        except FileNotFoundError:
+            continue
         size += about.st_size if stat.S_ISREG(about.st_mode) else 0
     return memory, size
 
