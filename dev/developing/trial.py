@@ -5,7 +5,7 @@ import os
 import re
 import subprocess
 import tempfile
-from typing import IO, Any, Callable, NamedTuple, Sequence
+from typing import IO, Any, Callable, NamedTuple, Sequence, Union
 
 from subtitles.core.stl import GSI, TTI
 
@@ -95,6 +95,12 @@ class Ran(NamedTuple):
     calls: list[Call]
 
 
+# Of a case its name, the run, and what was wrong; and what runs one case or several.
+Found = tuple[str, Union[Ran, Command], list[str]]
+Case = Callable[[], list[Found]]
+End = tuple[int, bytes]  # a status, and what is printed
+
+
 def read(path: str) -> bytes | None:
     if not os.path.isfile(path):
         return None
@@ -150,7 +156,7 @@ class Trial:
 
     def command(self, name: str, words: list[str]) -> Command:
         """A command, and what it does where nothing fails."""
-        out = words[2] if words[0] in ("normal", "schedule") else None
+        out = words[2] if words[0] in ("normal", "schedule", "extract") else None
         ran = self.run(Command(name, words, out, 0, b"", None))
         return Command(name, words, out, ran.status, ran.printed or b"", ran.written)
 

@@ -1,0 +1,107 @@
+"""The program where memory is short, for dev/faults: each request refused, little to ask for, and a
+small stack."""
+from __future__ import annotations
+
+import itertools
+import os
+import shutil
+import subprocess
+from functools import partial
+from typing import Iterator
+
+from subtitles.core.built import TOP
+
+from .trial import (
+    REFUSER, Case, Command, Found, Trial, as_before, whole_or_no_memory)
+from .trial_inputs import HEADER
+
+KIBIBYTES = [96 * 1024, 64 * 1024, 32 * 1024, 16 * 1024, *range(8192, 1024, -48)]
+MUCH = 8192  # KiB: with as much the program has to start
+STACK = 64  # KiB: each command takes less than 48
+STACK_OF_SURVEY = 128  # KiB: that one takes between 80 and 96
+# Those of which each request for memory is refused, with files of examples/.
+REFUSED = [line.split() for line in f"""
+packet {HEADER}
+packets hello.pes
+show story.stl
+normal comments.stl out.stl
+schedule hello.stl out.pes
+schedule story.stl out.pes --every 25 --serial
+check hello.stl hello.pes
+check story.stl story.pes
+check story.stl five-faults.pes --every 25 --all
+check low.stl story.pes --all
+listen hello-25.pes --at 10:00:00:10 --flip 1:21:1,1:22:1 --lose 7,9
+check hello.stl""".strip().split("\n")]
+# Those that run in a small stack too, with such files.
+STACKED = [line.split() for line in """
+help
+survey hello.pes
+survey recording.ts
+survey lost.ts --page 888
+packets recording.ts --pid 257
+extract recording.ts out.pes --pid 257
+check story.stl recording.ts --pid 257 --all
+check hello.stl hello.pes --keeping --pace 25
+check german.stl german.pes --option german --pes 0-
+listen recording.ts --pid 257 --at 10:00:00:10""".strip().split("\n")]
+
+
+def less_memory(trial: Trial) -> Iterator[Case]:
+    def shrink(command: Command) -> list[Found]:
+        found: list[Found] = []
+        for size in KIBIBYTES:
+            name = f"{command.name} in {size} KiB"
+            ran = trial.run(command, setup=f"ulimit -v {size};")
+            # Under that the loader ends it, with 127 or a signal, before its first own call.
+            if ran.status in (127, -9, -11) and not ran.printed:
+                found.append((name, ran, [] if size < MUCH else ["not started"]))
+                break
+            found.append((name, ran, whole_or_no_memory(command, ran)))
+        return found
+
+    return (partial(shrink, command) for command in trial.commands.values())
+
+
+def with_examples(words: list[str]) -> list[str]:
+    """Words, those that name a file of examples/ with its place."""
+    places = [os.path.join(TOP, "examples", word) for word in words]
+    return [place if os.path.exists(place) else word for word, place in zip(words, places)]
+
+
+def small_stack(trial: Trial) -> Iterator[Case]:
+    others = (trial.command(" ".join(words), with_examples(words)) for words in STACKED)
+    for command in [*trial.commands.values(), *others]:
+        def run(command: Command = command) -> list[Found]:
+            size = STACK_OF_SURVEY if command.words[0] == "survey" else STACK
+            # What stands in the environment lies on the stack too.
+            ran = trial.run(command, before=["env", "-i"], setup=f"ulimit -s {size};")
+            return [(f"{command.name} in a stack of {size} KiB", ran, as_before(command, ran))]
+        yield run
+
+
+def refused_memory(trial: Trial) -> Iterator[Case]:
+    library = os.path.join(trial.folder, "refuser.so")
+    if not shutil.which("cc"):
+        trial.over.append("refused memory, no C compiler (cc)")
+        return
+    trial.give("refuser.c", REFUSER)
+    subprocess.run(["cc", "-O2", "-shared", "-fPIC", "-o", library, library[:-2] + "c", "-ldl"],
+                   check=True)
+
+    def in_turn(number: int, words: list[str]) -> list[Found]:
+        name, mark = " ".join(words)[:60], os.path.join(trial.folder, f"refused-{number}")
+        command = trial.command(name, with_examples(words))
+        found: list[Found] = []
+        for call in itertools.count(1):
+            ran = trial.run(command, setup=f"export LD_PRELOAD={library} REFUSE_AT={call} "
+                            f"REFUSED={mark};")
+            if not os.path.exists(mark):
+                break
+            os.remove(mark)
+            found.append((f"{name}: call {call}", ran, whole_or_no_memory(command, ran)))
+        faults = as_before(command, ran) if found else ["no call is seen: is it linked to libc?"]
+        return [*found, (f"{name}: no more calls", ran, faults)]
+
+    for number, words in enumerate(REFUSED):
+        yield partial(in_turn, number, words)
