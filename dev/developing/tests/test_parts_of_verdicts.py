@@ -14,13 +14,9 @@ from subtitles.qc.counted import NO_END
 from subtitles.qc.clock import FITTED, FITTED_LATER, GIVEN, RECORDING, Clock
 from subtitles.qc.delays import MOVED, Spread, spread_of
 from subtitles.qc.ending import is_enough
-from subtitles.qc.names import Names
+from subtitles.qc.judging import Judging
 from subtitles.qc.missing import gap_of, gaps_of
-from subtitles.qc.pair import Pair
-from subtitles.qc.progress import Progress
 from subtitles.qc.severity import ERROR, OTHERS, REFUSALS, WARNING, Severity
-from subtitles.qc.speech import Speech
-from subtitles.qc.typed import Typed
 from subtitles.qc.verdict import Gap, Part, Verdict
 from subtitles.qc.within import FIXED, OF_ENDS, OF_FRAMES, OF_PACKETS, Trying
 from subtitles.reading.finding import Agreement
@@ -115,11 +111,6 @@ class Verdicts(Case):
                           found)
                 self.must("what decides", verdict.seen().losses == judged, verdict.seen().losses)
 
-    def pair(self) -> Pair:
-        """A pair of which nothing is judged yet."""
-        return Pair(verdict_of([]), Typed("tools/qc", self.bench.program),
-                    Names("one", self.folder, self.folder), Speech(Progress()), False)
-
     def test_clocks_of_losses(self) -> None:
         """A loss has the times of its part; one that is in none those of the first."""
         for frame, times in ((50, ("00:00:02:00", "00:00:02:01")),
@@ -149,17 +140,19 @@ class Verdicts(Case):
     @alone
     def test_promises_nothing_of_what_is_lost(self) -> None:
         """Where a part lacks something, at a first place or a second, nothing is tried."""
-        pair = self.pair()
-        one: Any = SimpleNamespace(found=SimpleNamespace(origin=0), stl_path="one.stl", piece=None)
+        steps: Any = None
+        judging = Judging(verdict_of([]), steps, 1, [], False)
         inside, outside = (Place(TICKS * at, TICKS * (at + 1), missing=9) for at in (150, 250))
         tried: Any = SimpleNamespace(least=lambda numbers, causes: 2)
         for places, wanted in (([], 2), ([inside], None), ([outside], 2),
                                ([outside, inside], None)):
             part = part_with(100, 199, 0, answer(REFUSED))
             part.pes = 0, 9
-            recording: Any = SimpleNamespace(places=lambda: places, is_feed=False)
-            with mock.patch("subtitles.qc.pair.Trying", lambda *_: tried):
-                pair.measure(part, one, recording, 1)
+            recording = SimpleNamespace(places=lambda: places, is_feed=False)
+            one: Any = SimpleNamespace(found=SimpleNamespace(origin=0), stl_path="one.stl",
+                                       piece=None, recording=recording)
+            with mock.patch("subtitles.qc.judging.Trying", lambda *_: tried):
+                judging.measure(part, one)
             self.must(f"{places}", part.accepted_within == wanted, part.accepted_within)
 
     def test_accepted_within(self) -> None:

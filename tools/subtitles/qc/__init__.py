@@ -3,6 +3,7 @@
 asked         what is asked of a pair
 options       options that `check` gets as they are: one table
 pair          a pair judged, from a recording to a verdict
+judging       a part judged, and what follows of it
 steps         the steps: what is asked of the program, and said
 verdict       a verdict, its parts, and what is missing
 unclear       why a pair can't be judged

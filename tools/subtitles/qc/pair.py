@@ -1,30 +1,27 @@
 """A pair judged: from a recording to a verdict, step by step."""
 from __future__ import annotations
 
-import functools
-from typing import Callable, Iterable, NamedTuple, Sequence
+from typing import Callable, NamedTuple, Sequence
 
-from ..core.layout import PLAIN, layout_of, text_of
+from ..core.layout import text_of
 from ..core.national import BY_WORD
 from ..core.programme import Subtitle
 from ..core.times import ALL_DAY, time_of
-from ..core.told import CONTENT, CONTROL, EMPTY, LOST_PACKETS, WITH_CAUSE
+from ..core.told import EMPTY
 from ..core.words import Stop, counted, pid_name
 from ..reading.finding import runs_line
-from ..reading.packets import HEADER
 from ..reading.order import Span
 from ..reading.timeline import timeline_near
 from . import warned
-from .asked import Asked
-from .as_sent import BY_LAYOUT, otherwise, sent_in, told_of, why_none
-from .beside import beside_of, due_beside, is_judged_beside
+from .as_sent import BY_LAYOUT, sent_in, told_of, why_none
+from .beside import beside_of, is_judged_beside
 from .checking import Answer
 from .clock import GIVEN, RECORDING, TCP, Clock
-from .delays import MOVED, frames_in
-from .due_pages import DuePages, due_pages_of, subtitles_in
+from .due_pages import subtitles_in
 from .ending import Ending
 from .fitting import Found, found_in, with_delay
-from .hints import OF_HEADERS, words_of
+from .hints import words_of
+from .judging import Judging
 from .layouts import layout_of_sent
 from .midnight import title_words
 from .missing import gap_of, gaps_in, is_in, unsent_in
@@ -42,8 +39,6 @@ from .typed import Typed
 from .unclear import Unclear
 from .verdict import Gap, Part, Verdict
 from .warned import Warned
-from .why import causes_of, tell, unseen
-from .within import Trying
 
 NO_CLOCK = Clock(0, RECORDING)  # stands for one that is not found yet
 
@@ -227,14 +222,18 @@ class Pair:
         for one in stretches if recording.stages else ():
             self.warn(one.recording, one.found.origin, one.found)
         pieces = [one.piece for one in stretches if one.piece]
-        self.add_warnings(moves_told(pieces, asked.page_name))
+        self.verdict.warn(moves_told(pieces, asked.page_name))
+        judging = Judging(self.verdict, self.steps, len(stretches), subtitles, self.is_summed)
         for number, one in enumerate(stretches, 1):
             self.recording = one.recording
-            part = self.begun = self.part_of(number, one)
+            part = self.begun = judging.begin(number, one)
             assert part.pes
             self.steps.check(one.recording, one, part.pes, part.answer)
             self.verdict.parts.append(part)
-            self.end_part(part, one, len(stretches), subtitles)
+            judging.end(part, one)
+            missing = (place for place in one.recording.places() if is_in(place, part))
+            self.draw(part, one.names, [gap_of(place, one.found.origin, True)
+                                        for place in missing], len(stretches))
         self.recording = recording
         if not any(one.kind == "grew" for one in self.verdict.warnings):
             self.verdict.warnings += [one for one in recording.strange() if one.kind == "grew"]
@@ -288,11 +287,6 @@ class Pair:
             refuse_outside(self.asked, one, self.whole.begin, self.whole.end, recording.last())
         return one.clock
 
-    def add_warnings(self, found: Iterable[Warned]) -> None:
-        """Takes warnings that are not known yet."""
-        known = self.verdict.warnings
-        known += [one for one in dict.fromkeys(found) if one not in known]
-
     def warn(self, recording: Recording, origin: int, part: Found) -> None:
         """Takes what is strange of a recording, or of what is on a PID."""
         found, packets, survey = list[Warned](), recording.packets, recording.survey
@@ -305,7 +299,7 @@ class Pair:
             found += [*warned.of_timing(packets, origin),
                       *warned.of_jumps(packets, origin, part.begin, part.end),
                       *warned.of_tables(survey, packets.pid, self.asked)]
-        self.add_warnings([*found, *warned.of_character_sets(packets, self.asked)])
+        self.verdict.warn([*found, *warned.of_character_sets(packets, self.asked)])
 
     def stretches(self, found: list[Found], subtitles: list[Subtitle], recording: Recording) \
             -> list[Stretch]:
@@ -331,71 +325,3 @@ class Pair:
         if parted != subtitles:
             raise Unclear(f"the parts of {self.asked.stl} would hold other subtitles than it has")
         return stretches
-
-    def part_of(self, number: int, one: Stretch) -> Part:
-        """A part that begins to be judged: the PES packets of its time."""
-        recording, found = one.recording, one.found
-        pes = self.steps.cut(recording, one)
-        judged = file_of(*recording.judged()) if self.is_summed and not recording.is_file else None
-        return Part(number, one.asked.stl, self.names.given, pes, found.origin, found.begin,
-                    found.end, judged, Answer(one.names.list_path), found.clock,
-                    recording.stream(), packets=recording.packets, asked=one.asked,
-                    due=functools.cache(lambda: self.due_of(one.asked)), piece=one.piece,
-                    left_out=self.steps.left_out)
-
-    def due_of(self, asked: Asked) -> DuePages:
-        """The pages that are due of a part; beside subtitles that are refused those of the others.
-        """
-        if self.verdict.beside:
-            found = [one for one in self.verdict.beside.judged if asked.between.has(one.begin)]
-            layout = layout_of(asked.handed_on.get(LAYOUT, "")) or PLAIN
-            return due_beside(found, asked.page, asked.option, layout)
-        return due_pages_of(self.typed.program_path, self.names.given, asked.page, asked.option,
-                            asked.between, asked.words_of_pages(), asked.is_open)
-
-    def end_part(self, part: Part, one: Stretch, count: int, subtitles: Sequence[Subtitle]) -> None:
-        """Takes what `check` said of a part, and draws its report, with what is missing there."""
-        asked, answer, origin, recording = self.asked, part.answer, one.found.origin, one.recording
-        # A hole without a mark is seen by who reads the PCR: of its frames nothing is known.
-        answer.trusted = answer.trusted.without(unseen([
-            place for place in recording.places() if place.mark is None and is_in(place, part)],
-            origin, asked.within, False))
-        if answer.numbers & WITH_CAUSE:
-            part.causes = causes_of(asked, part.due(), recording, one.found, answer)
-        if part.causes:
-            tell(self.speech, part.causes, asked.option)
-            if CONTENT in answer.numbers and LAYOUT not in asked.passed_on:
-                option = BY_WORD[asked.option]
-                part.otherwise = otherwise(sent_in(part.due().subtitles, part.causes.held, option),
-                                           option)
-        self.measure(part, one, recording, count)
-        part.was_read = part.is_read()
-        if CONTROL in answer.numbers and part.pes:
-            part.better = self.steps.better_of(part.options_sent(), one, part.pes, answer.count)
-            part.look_at_headers(functools.partial(self.steps.by_keeping, one, part.pes))
-        if OF_HEADERS & answer.numbers:
-            part.of_header = recording.header_words(recording.packets)
-        if answer.first:
-            part.hint = words_of(answer.first, part, self.verdict)
-        if answer.first_sent:
-            part.sent_hint = words_of(answer.first_sent, part, self.verdict)
-        times = [(subtitle.begin, subtitle.end) for subtitle in subtitles]
-        self.add_warnings([*warned.of_pauses(part.pts(), asked, origin),
-                     *warned.of_repeat(part.pts(HEADER), asked, origin, times)])
-        self.draw(part, one.names, [gap_of(place, origin, True) for place in recording.places()
-                                    if is_in(place, part)], count)
-
-    def measure(self, part: Part, one: Stretch, recording: Recording, count: int) -> None:
-        """Takes after how many frames the subtitles of a part were whole, and of one that is
-        refused within how many it would be accepted."""
-        answer, asked = part.answer, self.asked
-        held = part.causes.held if part.causes else part.held
-        if (self.is_summed or asked.within) and held:
-            part.delays = frames_in(not asked.within and not answer.numbers & MOVED,
-                                    len(part.subtitle_file().begins), held, part.due,
-                                    asked.is_complete)
-        part.is_lost = LOST_PACKETS in answer.numbers or \
-            any(is_in(place, part) for place in recording.places())
-        if part.is_refused and not (recording.is_feed or part.is_lost or one.piece):
-            part.accepted_within = Trying(self.steps, recording, one, part.number, count).least(
-                answer.numbers, part.causes)

@@ -4,7 +4,7 @@ from __future__ import annotations
 import collections
 import dataclasses
 import functools
-from typing import Callable, Collection, Sequence
+from typing import Callable, Collection, Iterable, Sequence
 
 from ..core.national import BY_BITS, RESERVED
 from ..core.times import ALL_DAY, Between, time_of
@@ -212,6 +212,10 @@ class Verdict:
         """Whether nothing but that is refused."""
         numbers = {number for part in self.parts for number in part.answer.numbers}
         return self.word == LOST or self.word == REFUSED and numbers == {LOST_PACKETS}
+
+    def warn(self, found: Iterable[Warned]) -> None:
+        """Takes warnings that are not known yet."""
+        self.warnings += [one for one in dict.fromkeys(found) if one not in self.warnings]
 
     def said(self) -> list[str]:
         """What the report and the object say beside the verdict."""
