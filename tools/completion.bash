@@ -78,5 +78,5 @@ _subttx_tool() {
 }
 
 complete -F _subttx subttx
-complete -F _subttx_tool subttx-cut subttx-origin subttx-part subttx-preview subttx-qc \
+complete -F _subttx_tool subttx-cut subttx-origin subttx-preview subttx-qc \
     subttx-text subttx-ts2pes

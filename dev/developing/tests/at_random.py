@@ -100,19 +100,14 @@ def said_of(number: int, program: str) -> Said:
         said = called(words, program)
         if scenario.is_feed:
             return of_feed(said)
-        told = "".join(plain(line, program) for tool, *more in scenario.tools(words[1])
-                       for line in tool_lines(tool, more))
+        told = "".join(plain(said_by(*words), program) for words in scenario.tools(words[1]))
         return said._replace(files={**said.files, "tools": told})
 
 
-def tool_lines(name: str, words: Sequence[str]) -> Iterator[str]:
-    """What another tool prints, and what it writes."""
+def said_by(name: str, *words: str) -> str:
+    """What another tool says."""
     done = tool_here([sys.executable, os.path.join(TOP, "tools", name), *words])
-    yield f"{name} {done.returncode}\n{done.stdout}{done.stderr}"
-    if os.path.exists("other"):
-        with open("other", "rb") as file:
-            yield hashlib.sha256(file.read()).hexdigest() + "\n"
-        os.unlink("other")
+    return f"{name} {done.returncode}\n{done.stdout}{done.stderr}"
 
 
 def of_feed(said: Said) -> Said:
@@ -149,7 +144,8 @@ def in_folder() -> Iterator[None]:
 def called(words: list[str], program: str, more: Sequence[str] = ("-p", "PROGRAM")) -> Said:
     """All that a call of qc says."""
     setattr(steps, "subprocess", Here)
-    setattr(Ending, "is_due", lambda self, packets: packets.count > 2 * self.count + 4)  # not by time
+    # Not by the time.
+    setattr(Ending, "is_due", lambda self, packets: packets.count > 2 * self.count + 4)
     status, out, told = in_process(lambda line: main("", "tools/qc", line),
                                    ["tools/qc", *words, *(program if one == "PROGRAM" else one
                                                           for one in more)])

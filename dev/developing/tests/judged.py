@@ -109,17 +109,11 @@ def judged(case: Case, *words: str, by: str | None = None, heard: Heard | None =
 
 
 def shown_files(line: str) -> list[str]:
-    """The files that a printed command names: its words behind the command of the program, and what
-    stands behind `-o`, but for other options with their values."""
-    words = shlex.split(line)[1:]
-    if words[:1] in (["check"], ["extract"]):
-        words = words[1:]
-    found = []
-    for before, word in zip(["", *words], words):
-        is_value = before.startswith("-") and before not in ("-o", "--all", "--complete")
-        if not word.startswith("-") and not is_value:
-            found.append(word)
-    return found
+    """The files that a printed command names: its words behind `check`, but for options with their
+    values."""
+    words = shlex.split(line)[2:]
+    return [word for before, word in zip(["", *words], words) if not word.startswith("-")
+            and (not before.startswith("-") or before in ("--all", "--complete"))]
 
 
 # What is sent.

@@ -275,15 +275,11 @@ class Scenario:
 
     def tools(self, recording: str) -> list[list[str]]:
         """The words of other tools on the same files."""
-        chance, first, last = self.chance, self.times[0][0], self.times[-1][1]
-        begin, end = (time_of(max(0, min(one + chance.randrange(-60, 60), FRAMES_OF_A_DAY - 1)))
-                      for one in (first, last))
         stream = ["--pid", "0x101"] if recording == "one.ts" else []
-        within = chance.choice(("0", "0", "2"))
+        within = self.chance.choice(("0", "0", "2"))
         more = ["-p", self.program, *stream, "--within", within, "--every", str(self.every)]
         return [["origin", "one.stl", recording, *more[:-2], *self.words],
                 ["cut", recording, "--stl", "one.stl", "--origin", str(self.origin), *more],
-                ["part", "one.stl", "--from", begin, "--to", max(begin, end), "-o", "other"],
                 ["text", "sent.stl"], *[["ts2pes", recording, "-p", self.program]] * bool(stream)]
 
 

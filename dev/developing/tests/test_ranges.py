@@ -130,10 +130,7 @@ class Ranges(Case):
                 ("subttx check one.stl one.pes --pes 0-9 --all", ["one.stl", "one.pes"]),
                 ("./subttx check 'one of.stl' /dev/null --option german",
                  ["one of.stl", "/dev/null"]),
-                ("tools/part film.stl --from 00:00:01:00 --to 00:00:02:00 -o out/film.1.stl",
-                 ["film.stl", "out/film.1.stl"]),
-                ("subttx check out/film.1.stl film.ts --pid 0x101", ["out/film.1.stl", "film.ts"]),
-                ("subttx extract film.ts film.pes --pid 0x101", ["film.ts", "film.pes"])):
+                ("subttx check out/film.1.stl film.ts --pid 0x101", ["out/film.1.stl", "film.ts"])):
             self.must(line, shown_files(line) == files, shown_files(line))
 
 

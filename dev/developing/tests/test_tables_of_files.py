@@ -36,46 +36,39 @@ class Blocks(unittest.TestCase):
     def block(self, number: int, ebn: int, comment: int = 0, group: int = 0) -> bytes:
         return tti_block(number, number, number + 1, 20, 2, b"%d" % number, ebn, comment, group)
 
-    def test_groups(self) -> None:
-        """Rows of blocks by SN and EBN, `c` a comment: those of a subtitle together, or why it
-        can't be read on; the first, the second and the last wrong."""
+    def test_subtitles(self) -> None:
+        """Rows of blocks by SN, EBN and CF: the subtitles by SN and text, which is that of all
+        their blocks, or why one can't be read on; the first, the second and the last wrong."""
         last, user = 255, 254
-        of_rows: list[tuple[Sequence[tuple[int, int, int]], list[tuple[int, int]], str]] = [
-            ([], [], ""), ([(1, last, 0)], [(1, 1)], ""),
-            ([(1, last, 0), (2, last, 0), (300, last, 0)], [(1, 1), (1, 2), (1, 300)], ""),
-            ([(1, 0, 0), (1, last, 0), (2, last, 0)], [(2, 1), (1, 2)], ""),
-            ([(1, 0, 0), (1, 1, 0), (1, 0xEF, 0), (1, last, 0)], [(4, 1)], ""),
+        of_rows: list[tuple[Sequence[tuple[int, int, int]], list[tuple[int, bytes]], str]] = [
+            ([], [], ""), ([(1, last, 0)], [(1, b"1")], ""),
+            ([(1, last, 0), (2, last, 0), (300, last, 0)],
+             [(1, b"1"), (2, b"2"), (300, b"300")], ""),
+            ([(1, 0, 0), (1, last, 0), (2, last, 0)], [(1, b"11"), (2, b"2")], ""),
+            ([(1, 0, 0), (1, 1, 0), (1, 0xEF, 0), (1, last, 0)], [(1, b"1111")], ""),
             ([(9, user, 0), (1, 0, 0), (9, user, 0), (1, last, 0), (9, last, 1)],
-             [(1, -1), (3, 1), (1, -1)], ""),
-            ([(9, 0, 1), (9, user, 1), (1, last, 0)], [(1, -1), (1, -1), (1, 1)], ""),
-            ([(1, last, 2)], [(1, 1)], ""),
+             [(1, b"11")], ""),
+            ([(9, 0, 1), (9, user, 1), (1, last, 0)], [(1, b"1")], ""),
+            ([(1, last, 2)], [(1, b"1")], ""),
             ([(1, 0xF0, 0)], [], "block 1 has the reserved extension block number F0"),
-            ([(1, last, 0), (2, 0xFD, 0)], [(1, 1)],
+            ([(1, last, 0), (2, 0xFD, 0)], [(1, b"1")],
              "block 2 has the reserved extension block number FD"),
             ([(1, 0, 0), (2, last, 0)], [],
              "block 2 is of another subtitle than the one that it follows"),
             ([(1, 0, 0), (257, last, 0)], [],
              "block 2 is of another subtitle than the one that it follows"),
-            ([(1, last, 0), (2, 0, 0)], [(1, 1)], "the subtitle of block 2 has no last block"),
+            ([(1, last, 0), (2, 0, 0)], [(1, b"1")], "the subtitle of block 2 has no last block"),
             ([(1, 0, 0), (9, user, 0)], [], "the subtitle of block 2 has no last block")]
         for row, wanted, words in of_rows:
             data = gsi_block(b"", 0, 0) + b"".join(self.block(*one) for one in row)
             for rest in (b"", b"x" * 127):
-                found: list[stl.Group] = []
-
-                def read() -> None:
-                    for one in stl.groups_in(data + rest):
-                        found.append(one)
-
-                told = refused(read, Damaged)
-                self.assertEqual([(len(one.blocks), one.subtitle.number if one.subtitle else -1)
-                                  for one in found], wanted, row)
+                found: list[stl.StoredSubtitle] = []
+                told = refused(lambda: found.extend(stl.subtitles_in(data + rest)), Damaged)
+                self.assertEqual([(one.number, one.text) for one in found], wanted, row)
                 self.assertEqual(told, words if words and "no last" not in words or not rest else
                                  f"block {len(row) + 1} is cut")
-                blocks = [block for one in found for block in one.blocks]
-                self.assertEqual(b"".join(blocks), data[GSI:GSI + 128 * len(blocks)])
         group = gsi_block(b"", 0, 0) + self.block(1, 0) + self.block(1, last, group=1)
-        self.assertTrue(refused(lambda: list(stl.groups_in(group)), Damaged))
+        self.assertTrue(refused(lambda: list(stl.subtitles_in(group)), Damaged))
 
     def test_gsi_that_is_none(self) -> None:
         good = gsi_block(b"", 0, 0)
@@ -83,7 +76,7 @@ class Blocks(unittest.TestCase):
                             (good[:3] + b"STL24" + good[8:], "no subtitle file"),
                             (good[:3] + b"STL30" + good[8:], "30 frames a second"),
                             (good[:3] + b"STL25.02" + good[11:], "")):
-            told = refused(lambda: list(stl.groups_in(data)), Damaged)
+            told = refused(lambda: list(stl.subtitles_in(data)), Damaged)
             self.assertTrue(told.startswith(words) and bool(told) == bool(words), told)
 
     def test_frames_of_all(self) -> None:

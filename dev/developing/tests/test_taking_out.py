@@ -1,4 +1,4 @@
-"""tools/cut, part, ts2pes and pes2ts, called: what they write, print and tell."""
+"""tools/cut, ts2pes and pes2ts, called: what they write, print and tell."""
 from __future__ import annotations
 
 import os
@@ -11,7 +11,6 @@ import time
 from typing import Any, Sequence
 
 from developing.pes import MARK, pes_packet
-from subtitles.core.stl import GSI, TTI
 from subtitles.core.times import CLOCK, TICKS
 from ..every_place.recordings import carried
 from .at_random import tool_here
@@ -179,52 +178,6 @@ class Cuts(Case):
             program = self.write_program("program", f"#!/bin/sh\n{script}\n")
             done = here("cut", TS, *TIMES, "--pid", PID, "-p", program)
             self.must(script, done == (2, b"", [f"cut: survey was not answered: {line}"]), done)
-
-
-class Parts(Case):
-    """tools/part."""
-
-    def test_calls(self) -> None:
-        """Of three subtitles some, in a file and in a pipe; those over an edge are named."""
-        story = example_bytes("story.stl")
-        two = story[:238] + b"0000200002001" + story[251:GSI] + story[GSI + TTI:]
-        over = "left out, since due before or after these frames too: "
-        none = "comes and goes in these frames; nothing is written"
-        rows: list[tuple[tuple[str, str], bytes, int, bytes | None, str, list[str]]] = [
-            (("20:15:03:00", "20:15:09:00"), story, 0, two, "2 of 3 subtitles", []),
-            (("20:15:01:00", "20:15:09:00"), story, 0, two, "2 of 3 subtitles", [over + "00001"]),
-            (("20:15:01:00", "20:15:08:00"), story[:-TTI], 0, story[:238] + b"0000100001001"
-             + story[251:GSI] + story[GSI + TTI:-TTI], "1 of 2 subtitles", [over + "00001"]),
-            (("20:15:00:00", "20:15:09:00"), story[:-1], 1, story[:238] + b"0000200002001"
-             + story[251:-TTI], "2 of 2 subtitles",
-             ["IN: block 3 is cut; it was read up to there"]),
-            (("20:15:01:00", "20:15:08:00"), story[:GSI + TTI], 1, None, f"none of 1 subtitle "
-             f"{none}", [over + "00001"]),
-            (("20:15:03:00", "20:15:03:00"), story, 1, None, f"none of 3 subtitles {none}", []),
-            (("20:15:01:00", "20:15:08:00"), story[:GSI], 1, None, f"none of 0 subtitles {none}",
-             [])]
-        for times, data, status, wanted, line, told in rows:
-            words = ["--from", times[0], "--to", times[1], "-o"]
-            own = self.write("in.stl", data)
-            said = [f"part: {one}" for one in told]
-            of_file, of_pipe = ([one.replace("IN", name) for one in said] for name in (own, "-"))
-            done = self.tool("part", own, *words, "out.stl")
-            if wanted is None:
-                self.must(line, done == (status, b"", [f"part: {line}", *of_file]), done)
-                self.must("nothing", not os.path.exists(self.path("out.stl")))
-                continue
-            self.must(line, done == (status, f"{line}\n".encode(), of_file), done)
-            self.must("bytes", self.read("out.stl") == wanted)
-            done = self.tool("part", "-", *words, "-", data=data)
-            self.must("a pipe", done == (status, wanted, [f"part: {line}", *of_pipe]), done)
-            os.remove(self.path("out.stl"))
-        count = 22
-        blocks = b"".join(story[GSI:GSI + 1] + bytes([at, 0]) + story[GSI + 3:GSI + TTI]
-                          for at in range(count)) + story[GSI + TTI:]
-        done = self.tool("part", self.write("in.stl", story[:GSI] + blocks), "--from",
-                         "20:15:01:00", "--to", "20:15:09:00", "-o", "out.stl")
-        self.must("many", done.told[0].endswith(": " + ", ".join(
-            f"{at:05}" for at in range(20)) + ", 2 more"), done)
 
 
 class Streams(Case):

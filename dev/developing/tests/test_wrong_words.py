@@ -25,11 +25,6 @@ WRONG: dict[str, list[list[str]]] = {
             [PES, *TIMES, "-o", "out.pes"], ["none.pes", *TIMES], [PES, *TIMES, "--page", "9"],
             [PES, *TIMES, "--stl", STL], [PES, "--stl", PES], [PES, "--stl", "none.stl"],
             [PES, *TIMES[:2]]],
-    "part": [[], [STL], [STL, *TIMES], [STL, *TIMES[:2], "-o", "out.stl"],
-             [PES, *TIMES, "-o", "out.stl"], ["none.stl", *TIMES, "-o", "out.stl"],
-             [STL, "--from", "10:00:03:00", *TIMES[2:], "-o", "out.stl"],
-             [STL, *TIMES, "-o", STL], [STL, *TIMES, "-o", "no/folder.stl"],
-             [STL, *TIMES, "-o", TOP]],
     "poke": [[], ["none.stl"], [STL, "x"], [STL, "1=0"], [STL, "1=@3"], [STL, "1152=00"],
              [STL, "0=@1150+3"], [STL, "-c", "-1"], [STL, "-c", "x"], [STL, "1=00", "--colour"],
              [STL, "9" * 5000 + "=00"], [TOP]],
@@ -121,8 +116,8 @@ class WrongWords(Case):
     def test_tells_a_full_device(self) -> None:
         if not os.path.exists("/dev/full"):
             self.skipTest("a full device, since there is no /dev/full")
-        for name, *words in (["text", STL], ["origin", STL, PES, "-p", self.bench.program], ["pes2ts", PES, "0x101"],
-                             ["poke", STL], ["part", STL, *TIMES, "-o", "-"], ["cut", "--version"],
+        for name, *words in (["text", STL], ["origin", STL, PES, "-p", self.bench.program],
+                             ["pes2ts", PES, "0x101"], ["poke", STL], ["cut", "--version"],
                              ["cut", PES, *TIMES, "-p", self.bench.program], ["ts2pes", "--help"]):
             done = self.call(["sh", "-c", 'exec "$@" >/dev/full', "sh",
                               tool_path(name), *words])
@@ -136,15 +131,14 @@ class WrongWords(Case):
                 self.bench.over.append(f"a device that does not end, since there is no {device}")
                 continue
             for words in (["poke", device], ["poke", device, "-c", "4"], ["text", device],
-                          ["part", device, *TIMES, "-o", "a.stl"], ["origin", device, PES, "-p", self.bench.program],
+                          ["origin", device, PES, "-p", self.bench.program],
                           ["cut", PES, "--stl", device],
                           ["qc", STL, "--severity", device], ["qc", "--batch", device]):
                 done = self.tool(*words)
                 self.must(" ".join(words), done ==
                           (2, b"", [f"{words[0]}: {device} is a device: give "
                                                              "a file or a pipe"]), done)
-            for words in (["poke", "-"], ["poke", "/dev/stdin"],
-                          ["part", "-", *TIMES, "-o", "a.stl"]):
+            for words in ["poke", "-"], ["poke", "/dev/stdin"]:
                 done = self.call(["sh", "-c", 'exec "$0" "$@" <' + device,
                                   tool_path(words[0]), *words[1:]])
                 self.must(f"{' '.join(words)} <{device}", done.status == 2 and not done.out
@@ -173,7 +167,6 @@ class WrongWords(Case):
         """No part of a name, no number and no name that was made on the way."""
         for words, named in ((["origin", STL, "/dev/null", "-p", self.bench.program], "/dev/null"),
                              (["cut", "no/folder.pes", *TIMES], "no/folder.pes"),
-                                                          (["part", STL, *TIMES, "-o", "/proc/a.stl"], "/proc/a.stl"),
                              (["qc", "-"], "qc: - is"), (["qc", ""], "an empty name"),
                              (["qc", "--", "-x.stl"], "qc: -x.stl"),
                              (["text", ""], "an empty name"), (["text", "none.stl"], "none.stl"),

@@ -25,21 +25,9 @@ class StoredSubtitle(NamedTuple):
     text: bytes
 
 
-class Group(NamedTuple):
-    """The blocks of a subtitle, with comments and user data between them; or one of these alone."""
-
-    blocks: list[bytes]
-    subtitle: StoredSubtitle | None
-
-
 def subtitles_in(data: bytes) -> Iterator[StoredSubtitle]:
     """The subtitles of a file, without comments and user data, as they stand; `Damaged` where a
-    block can't be read on."""
-    return (one.subtitle for one in groups_in(data) if one.subtitle)
-
-
-def groups_in(data: bytes) -> Iterator[Group]:
-    """The blocks of a file, those of a subtitle together; `Damaged` where one can't be read on.
+    block can't be read on.
 
     Nothing is judged but what is needed for reading: `subttx check` does.
     """
@@ -47,7 +35,6 @@ def groups_in(data: bytes) -> Iterator[Group]:
         raise Damaged("no subtitle file: its GSI block is cut, or has another format than STL")
     if data[3:8] == b"STL30":
         raise Damaged("30 frames a second: only files of 25 (STL25.01) can be read")
-    blocks: list[bytes] = []
     first: bytes | None = None
     text, block = b"", 0
     for block, at in enumerate(range(GSI, len(data), TTI), 1):
@@ -55,11 +42,7 @@ def groups_in(data: bytes) -> Iterator[Group]:
         if len(one) < TTI:
             raise Damaged(f"block {block} is cut")
         ebn = one[3]
-        blocks.append(one)
         if ebn == USER_DATA or one[15] == 1:
-            if first is None:
-                yield Group(blocks, None)
-                blocks = []
             continue
         if LAST_OF_MORE < ebn < LAST:
             raise Damaged(f"block {block} has the reserved extension block number {ebn:02X}")
@@ -67,9 +50,9 @@ def groups_in(data: bytes) -> Iterator[Group]:
             raise Damaged(f"block {block} is of another subtitle than the one that it follows")
         first, text = first or one, text + one[16:].split(UNUSED)[0]
         if ebn == LAST:
-            yield Group(blocks, StoredSubtitle(first[1] + 256 * first[2], first[5:9], first[9:13],
-                                               first[13], first[14], text))
-            blocks, first, text = [], None, b""
+            yield StoredSubtitle(first[1] + 256 * first[2], first[5:9], first[9:13], first[13],
+                                 first[14], text)
+            first, text = None, b""
     if first is not None:
         raise Damaged(f"the subtitle of block {block} has no last block")
 

@@ -19,5 +19,4 @@ alignment    for which origins edges agree
 stretches    origins one after another: parts, and the programme more than once
 finding      the origin that is found, and what is said of it
 cutting      which PES packets are of some frames
-parting      a subtitle file cut
 """
