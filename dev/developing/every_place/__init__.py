@@ -6,8 +6,12 @@ reading            subtitle files, PES packets and Teletext packets, and what is
 words              the options of `check`, and what is wrong with one
 national           national options: the bits of a header, and the bytes that give a cell
 rows               the page that a subtitle draws
+due                what is told of a subtitle file, and the pages that are due
+on_air             what a receiver holds, and the rules that a packet breaks
+ends               what stands at the ends of frames
 definitions        everything that is broken in a pair of files, as lines
 trust              which frames may be trusted beside it
+told               lines of faults, and their names
 recordings         the PES packets that a transport stream carries, and ranges of them
 
 Of other commands:

@@ -4,10 +4,11 @@ from __future__ import annotations
 import shlex
 from typing import Iterator, NamedTuple
 
-from .definitions import check_all, refused
+from .definitions import check_all
 from .listening import listen_lines, packets_lines
 from .recordings import carried
 from .scheduling import SERIAL, schedule
+from .told import refused
 from .words import Options, UsageFault, given_by, options_of
 
 ALL = "--all"

@@ -6,10 +6,12 @@ from typing import Iterator, NamedTuple
 from developing.pes import address_of, pts_in
 from subtitles.core.teletext import is_odd
 from subtitles.core.times import frame_of, time_of
-from .definitions import ERASE, SERIAL, failure_at, read_by, refused
+from .definitions import failure_at, read_by
+from .on_air import ERASE, SERIAL
 from .reading import head_fault, header_of, line_of, pieces_of, sending_in, units_of
 from .recordings import Range
 from .rows import COLUMNS, ROWS, SPACE
+from .told import refused
 from .words import Options, given_by
 
 UNHEARD = 0x3F  # in each cell of the old page

@@ -16,7 +16,7 @@ from subtitles.core.times import FRAMES_OF_A_DAY
 from .as_houses import (
     as_open, layout_text, pace_words, part_words, refused_some, without_erasing)
 from .broken import LETTERS, break_pes
-from .definitions import subtitles_in
+from .due import subtitles_in
 from .late import sent_late
 from .national import BITS, CELLS, SAME
 from .words import UsageFault, options_of

@@ -5,7 +5,7 @@ from developing.pes import STUFFING_UNIT, mirrored, packet, pts_bytes
 from subtitles.core.pes import START
 from subtitles.core.teletext import Page
 from subtitles.core.times import pts_of
-from .definitions import Due, subtitles_in
+from .due import Due, subtitles_in
 from .national import BITS
 from .rows import BLANK, COLUMNS, ROWS, SPACE
 from .words import Options

@@ -7,8 +7,8 @@ from .mistakes import Mistake
 RULES = "rows = rows_in(long_span_of(before, page, options.may_keep), page)"
 ROWS = "rows = rows_in(long_span_of(packets, options.page, options.may_keep), options.page)"
 
-# In the module `definitions`: in words, what it changes, and what stands there instead.
-IN_DEFINITIONS = [
+# In the module `on_air`: in words, what it changes, and what stands there instead.
+ON_AIR = [
     ("rows of one span alone compared", RULES, "rows = rows_in(span_of(before, page)[0], page)"),
     ("the page forgotten at a header that keeps it", ROWS, "rows = rows_in(span, options.page)"),
     ("a row that is left out of a repeat", "due[at] != SPACE and at // COLUMNS + 1", "at"),
@@ -32,13 +32,14 @@ IN_DEFINITIONS = [
      "            (options.may_keep or is_plain_subtitle_header(header[1], options.option))\n"
      "            and ("),
     ("repeats that may keep though nobody says so", "(options.may_keep and", "(True and"),
-    ("trusted from a header that keeps", "has_erased |= erases(packet)", "has_erased = True"),
-    ("a repeat bound of headers that erase", "                self.headers.append(frame)\n"
-     "                has_erased", "                self.headers += [frame] * erases(packet)\n"
-     "                has_erased"),
 ]
 WRONG_KEEPING = [
-    *(Mistake(name, "definitions", old, new) for name, old, new in IN_DEFINITIONS),
+    *(Mistake(name, "on_air", old, new) for name, old, new in ON_AIR),
+    Mistake("trusted from a header that keeps", "definitions", "has_erased |= erases(packet)",
+            "has_erased = True"),
+    Mistake("a repeat bound of headers that erase", "definitions",
+            "                self.headers.append(frame)\n                has_erased",
+            "                self.headers += [frame] * erases(packet)\n                has_erased"),
     Mistake("a receiver that keeps the page at a header", "listening", 'or self.kind == "anew"',
             "or False"),
     Mistake("a receiver that takes each header for a new page, and keeps hit bytes", "listening",
@@ -47,13 +48,13 @@ WRONG_KEEPING = [
 
 # The same of how far apart PES packets are.
 OF_SILENCE = [
-    Mistake("79 of headers of the page", "definitions", "for one in sent)}",
+    Mistake("79 of headers of the page", "ends", "for one in sent)}",
             "for one in headers)}"),
-    Mistake("a pace of one frame less", "definitions", "frame < one + options.pace for",
+    Mistake("a pace of one frame less", "ends", "frame < one + options.pace for",
             "frame < one + options.pace - 1 for"),
-    Mistake("a pace of one frame more", "definitions", "frame < one + options.pace for",
+    Mistake("a pace of one frame more", "ends", "frame < one + options.pace for",
             "frame <= one + options.pace for"),
-    Mistake("79 before 77 and 73", "definitions", "(72, 73, 77, 78, 79)", "(79, 72, 73, 77, 78)"),
+    Mistake("79 before 77 and 73", "ends", "(72, 73, 77, 78, 79)", "(79, 72, 73, 77, 78)"),
     Mistake("a pause that may be trusted", "definitions", "End(frame, bool(ends.standing),",
             "End(frame, bool({*ends.standing} - {79}),"),
 ]

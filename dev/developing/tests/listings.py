@@ -19,6 +19,7 @@ SECOND = TICKS * FRAMES_A_SECOND
 TEXTS = ["Alpha", "Beta", "Gamma", "Delta"]
 LAST = EACH * (len(TEXTS) - 1) + LASTS  # frames from a programme's first TCI to its last TCO
 CONTROL = "08080810"
+BEGIN = 900_000  # the PTS of a first TCI
 
 
 class Lines:
@@ -145,3 +146,22 @@ def files_of(case: Case, *names: str) -> dict[str, str]:
 
 def texts_of(name: str) -> list[str]:
     return [f"{name} {text}" for text in TEXTS]
+
+
+class Programmes(Case):
+    """Files of programmes, by their names."""
+
+    is_alone = True  # what a channel calls is replaced, which threads share
+
+    def setUp(self) -> None:
+        super().setUp()
+        os.mkdir(self.path("out"))
+        self.files = files_of(self, "one", "two", "three", "four", "five", "six")
+
+    def names(self) -> list[str]:
+        """The programmes that were judged."""
+        return [one.name for one in Judging.made]
+
+    def listed(self, *names: str, options: str = "") -> str:
+        """Lines of a list."""
+        return "".join(f"{self.files[name]}{options}\n" for name in names)

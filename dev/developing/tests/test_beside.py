@@ -11,8 +11,8 @@ import unittest
 import xml.etree.ElementTree as tree
 from typing import Sequence
 
+from developing.every_place import due as defined
 from developing.stl import gsi_block, tti_block
-from developing.every_place import definitions
 from developing.every_place.words import options_of
 from subtitles.calls.collecting import table_of
 from subtitles.calls.index_page import line_of
@@ -286,7 +286,7 @@ class AtRandom(Case):
             if chance.random() < 0.3:
                 between = Between(chance.randrange(200), chance.randrange(200, 900))
             options = options_of(between.words())
-            wanted = definitions.subtitles_in(data, options)
+            wanted = defined.subtitles_in(data, options)
             if wanted.records is None or not wanted.lines:
                 continue
             beside += 1
@@ -295,7 +295,7 @@ class AtRandom(Case):
             self.must(f"{wanted.lines}", [(one.begin, one.end) for one in found.judged] == [
                 (one.tci, one.tco) for one in wanted.records], found)
             due = due_beside(found.judged, PAGE, "english")
-            pages = definitions.Due(wanted.records, wanted.others, options)
+            pages = defined.Due(wanted.records, wanted.others, options)
             held = due.timeline
             for one, rows in zip(found.judged, due.pages):
                 self.must("page", b"".join(rows) == pages.at(one.begin) and held and

@@ -13,7 +13,7 @@ from subtitles.core.national import BY_WORD
 from subtitles.core.teletext import Page
 from subtitles.qc.layouts import Choice, Sent, count_drawn, is_found, layout_of_sent, simplicity
 from .. import DEV
-from ..every_place.definitions import Packet, rows_in, span_of
+from ..every_place.on_air import Packet, rows_in, span_of
 from ..every_place.reading import header_of, pieces_of, sending_in
 from .bench import Case
 

@@ -1,0 +1,93 @@
+"""What is told of a subtitle file, and the pages that are due by what can be judged of it."""
+from __future__ import annotations
+
+from typing import Iterator, NamedTuple
+
+from .reading import OF_FIRST_BLOCK, Outside, Record, StlFault, found_in
+from .rows import BLANK, TextFault, drawn
+from .told import refused
+from .words import Options
+
+
+class Subtitles(NamedTuple):
+    """What is told of a subtitle file, and the records that can be judged, with whether another
+    subtitle that is asked for stands before each of them, and last behind them; `None` where the
+    PES file is not read."""
+
+    lines: list[str]
+    records: list[Record] | None
+    others: list[bool]
+
+
+def record_faults(record: Record, before: Record | None, options: Options) -> Iterator[str]:
+    """The lines for everything that is broken in a record."""
+    if before and record.tci < before.tci:
+        yield refused(56, f"block {record.block}")
+    elif before and record.tci < before.tco:
+        yield refused(57, f"block {record.block}")
+    try:
+        drawn(record, options.option, options.layout)
+    except TextFault as fault:
+        yield refused(fault.number, f"block {record.block} at {fault.at}")
+
+
+def is_of_order(line: str) -> bool:
+    return line.startswith(("refused 56 ", "refused 57 "))
+
+
+def subtitles_in(data: bytes, options: Options) -> Subtitles:
+    """What is told of a file, and what can be judged beside it."""
+    told: list[str] = []
+    groups: list[Record | None] = []  # those that are asked for, `None` where one is no record
+    faults: dict[int, list[str]] = {}  # of the records, by their places among the groups
+    before: Record | None = None
+    found: list[Record | StlFault | Outside] = list(
+        found_in(data, options.is_open, options.from_frame, options.to_frame))
+    for one in found:
+        if isinstance(one, StlFault):
+            told.append(refused(one.number, f"block {one.block}"))
+            groups.append(None)
+        elif isinstance(one, Record):
+            faults[len(groups)] = list(record_faults(one, before, options))
+            told += faults[len(groups)]
+            groups.append(one)
+            before = one
+    places = list(faults)
+    judged = [place for place, after in zip(places, [*places[1:], None])
+              if not faults[place] and not (after and any(map(is_of_order, faults[after])))]
+    records = [record for place in judged if (record := groups[place])]
+    others = [second - first > 1 for first, second in zip([-1, *judged], [*judged, len(groups)])]
+    is_known = not any(isinstance(one, StlFault) and one.number not in OF_FIRST_BLOCK
+                       for one in found)
+    in_order = all(one.tci >= earlier.tco for at, one in enumerate(records)
+                   for earlier in records[:at])
+    is_read = not told or is_known and bool(records) and in_order
+    return Subtitles(told, records if is_read else None, others)
+
+
+class Due:
+    """The page that is due at each frame, and where it is undecided."""
+
+    def __init__(self, records: list[Record], others: list[bool], options: Options) -> None:
+        self.others = others
+        self.pages = [(one.tci, one.tco, drawn(one, options.option, options.layout))
+                      for one in records]
+
+    def at(self, frame: int) -> bytes:
+        return next((page for tci, tco, page in self.pages if tci <= frame < tco), BLANK)
+
+    def is_undecided(self, frame: int) -> bool:
+        """Whether none is due, and a subtitle that is no record of these stands there in the file.
+        """
+        count = sum(tci <= frame for tci, _, _ in self.pages)
+        return self.others[count] and not any(tci <= frame < tco for tci, tco, _ in self.pages)
+
+    def first(self) -> int | None:
+        return self.pages[0][0] if self.pages else None
+
+    def last(self) -> int | None:
+        return self.pages[-1][1] if self.pages else None
+
+    def begins_of(self, end: int) -> list[int]:
+        """Where the subtitles begin that end at a frame."""
+        return [tci for tci, tco, _ in self.pages if tco == end]

@@ -1,0 +1,150 @@
+"""What a receiver holds of packets, looked up in their list; and the rules that a packet breaks."""
+from __future__ import annotations
+
+from typing import NamedTuple, Sequence
+
+from subtitles.core.teletext import CODE_WORDS, Page, is_odd
+from .national import ALL_BITS, BITS
+from .reading import Header, subcode_of
+from .rows import BLANK, COLUMNS, SPACE
+from .words import Options
+
+ERASE, SERIAL = 4, 11
+
+
+class Packet(NamedTuple):
+    """A Teletext packet as it is read: `header` is `None` in any other packet, and where it is
+    none."""
+
+    data: bytes
+    address: tuple[int, int] | None
+    header: Header | None
+
+
+def span_of(packets: Sequence[Packet], page: Page) -> tuple[Sequence[Packet], bool]:
+    """What follows the last header of the page, up to the header that ends it.
+
+    Answers these packets, and whether the page is still open after them.
+    """
+    begin = next((at for at in reversed(range(len(packets)))
+                  if page_of(packets[at]) == page), None)
+    if begin is None:
+        return [], False
+    for end, packet in enumerate(packets[begin + 1:], begin + 1):
+        if ends_page(packet, page):
+            return packets[begin + 1:end], False
+    return packets[begin + 1:], True
+
+
+def ends_page(packet: Packet, page: Page) -> bool:
+    """Whether a packet is a header that ends the page where it is open."""
+    header = packet.header
+    return header is not None and (header[0][0] == page[0] or SERIAL in header[1])
+
+
+def long_span_of(packets: Sequence[Packet], page: Page, may_keep: bool) -> list[Packet]:
+    """What follows the headers of the page, each up to the one that ends it: from the last one that
+    erases on, where headers may keep the page, from the first one where none erases; else from the
+    last one on."""
+    headers = [at for at, packet in enumerate(packets) if page_of(packet) == page]
+    erasing = [at for at in headers if erases(packets[at])]
+    first = (erasing[-1:] or headers[:1]) if may_keep else headers[-1:]
+    span: list[Packet] = []
+    is_open = False
+    for packet in packets[first[0]:] if first else []:
+        if page_of(packet) == page:
+            is_open = True
+        elif ends_page(packet, page):
+            is_open = False
+        elif is_open:
+            span.append(packet)
+    return span
+
+
+def erases(packet: Packet) -> bool:
+    return packet.header is not None and ERASE in packet.header[1]
+
+
+def page_of(packet: Packet) -> Page | None:
+    return packet.header[0] if packet.header else None
+
+
+def is_row(packet: Packet, page: Page) -> bool:
+    address = packet.address
+    return address is not None and address[0] == page[0] and 1 <= address[1] <= 24
+
+
+def rows_in(span: Sequence[Packet], page: Page) -> dict[int, bytes]:
+    """The codes of the first packet of each row."""
+    rows: dict[int, bytes] = {}
+    for packet in span:
+        if packet.address and is_row(packet, page):
+            rows.setdefault(packet.address[1], codes_of(packet))
+    return rows
+
+
+def codes_of(packet: Packet) -> bytes:
+    return bytes(byte & 0x7F for byte in packet.data[2:])
+
+
+class Held(NamedTuple):
+    """What a receiver holds: 960 codes, whether the page is open, and the rows that came since the
+    last header of the page."""
+
+    page: bytes
+    is_open: bool
+    came: set[int]
+
+    def first_difference(self, due: bytes) -> int | None:
+        """The first cell with another code, or with text that was not sent again."""
+        return next((at for at, code in enumerate(self.page) if code != due[at]
+                     or due[at] != SPACE and at // COLUMNS + 1 not in self.came), None)
+
+
+def held_after(packets: Sequence[Packet], options: Options) -> Held:
+    """What a receiver holds after the packets that was blank before them."""
+    span, is_open = span_of(packets, options.page)
+    rows = rows_in(long_span_of(packets, options.page, options.may_keep), options.page)
+    return Held(b"".join(rows.get(row, BLANK[:COLUMNS]) for row in range(1, 25)), is_open,
+                {*rows_in(span, options.page)})
+
+
+# The rules of a packet
+
+def is_exact(codes: bytes) -> bool:
+    return all(byte in CODE_WORDS for byte in codes)
+
+
+def is_plain_subtitle_header(control: set[int], option: str) -> bool:
+    """C6 and C7 set; C5 and C10 clear; C12, C13 and C14 those of the national option."""
+    return control >= {6, 7} and not control & {5, 10} and control & ALL_BITS == BITS[option]
+
+
+def is_repeat(packet: Packet, before: Sequence[Packet], is_open: bool, options: Options) -> bool:
+    """Whether a header of the page may keep it: it has the subcode of the one before it, and, where
+    complete pages are asked for, that page has ended."""
+    last = next((one for one in reversed(before) if page_of(one) == options.page), None)
+    return (options.may_keep and not (options.is_complete and is_open)
+            and (last is None or subcode_of(last.data) == subcode_of(packet.data)))
+
+
+def packet_faults(packet: Packet, before: Sequence[Packet], options: Options) -> list[int]:
+    """The numbers of the rules that a packet breaks after those before it."""
+    address, header, page = packet.address, packet.header, options.page
+    _, is_open = span_of(before, page)
+    is_stored = is_open and is_row(packet, page)
+    headers = (one.header for one in before if one.header)
+    rows = rows_in(long_span_of(before, page, options.may_keep), page)
+    known = rows.get(address[1]) if address and is_stored else None
+    broken: dict[int, object] = {
+        64: not is_exact(packet.data[:2]),
+        65: address and address[1] == 0 and not is_exact(packet.data[2:10]),
+        66: header and (SERIAL in header[1]) != (SERIAL in next(headers, header)[1]),
+        67: header and header[0] == page and not (
+            is_plain_subtitle_header(header[1], options.option)
+            and (erases(packet) or is_repeat(packet, before, is_open, options))),
+        68: is_stored and not all(map(is_odd, packet.data[2:])),
+        69: known is not None and known != codes_of(packet),
+        70: is_open and address and address[0] == page[0] and 25 <= address[1] <= 28,
+    }
+    return [number for number, is_so in broken.items() if is_so]
