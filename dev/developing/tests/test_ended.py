@@ -280,7 +280,7 @@ class Mistakes(Story):
                       AssertionError("never"), IndexError("far"), OSError("read"), Stop("stopped")):
             with self.subTest(error=error):
                 self.failing("qc.pair.Pair.judge", error)
-        for place in ("qc.steps.Steps.check_alone", "qc.steps.find", "qc.pair.Pair.end_part",
+        for place in ("qc.steps.Steps.check_alone", "qc.steps.find", "qc.judging.Judging.end",
                       "qc.verdict.Part.is_read", "qc.checking.Answer.take"):
             with self.subTest(place):
                 self.failing(place, ValueError("odd"))

@@ -200,14 +200,17 @@ class Said(Case):
         self.must("what to know of it", "german" in found.result["sentence"], found.said)
 
     def test_texts_of_others(self) -> None:
-        """A subtitle in whose place another one is sent, the first too: which, and what."""
-        for number in (5, 1):
+        """A subtitle in whose place another one is sent, the first too: which, and what; also where
+        not all of the file is judged."""
+        rows: list[tuple[int, list[str]]] = [(5, []), (1, []), (5, ["--from", "00:00:08:00"])]
+        for number, words in rows:
             other = next(some for pts, some in self.sent if pts == 100 * number * TICKS)
             found = self.judge([(pts, other if 300 * TICKS <= pts < 360 * TICKS else some)
-                                for pts, some in self.sent])
+                                for pts, some in self.sent], *words)
             causes, text = found.result["causes"], f"Number {number + 49}"
-            self.must(f"{number}", [(one["cause"], one["text"], one["sent"], one["other"],
-                                     one["other_position"], one["words"]) for one in causes] == [
+            self.must(f"{number} {words}", [
+                (one["cause"], one["text"], one["sent"], one["other"], one["other_position"],
+                 one["words"]) for one in causes] == [
                 ("another subtitle's text", "Number 52", text, number + 49, number,
                  f"another subtitle's text at its time, sent: \"{text}\" of subtitle {number} (SN "
                  f"{number + 49})")] and

@@ -46,13 +46,13 @@ class Wording:
     def values(self, cause: Cause) -> CauseWords:
         """A cause for machines."""
         one = self.subtitles[cause.place]
+        other = None if cause.other is None else self.subtitles[cause.other]
         return {
             "subtitle": {"position": one.index, "number": one.number,
                          "begin": time_of(one.begin), "end": time_of(one.end)},
             "cause": cause.name, "frames": cause.frames, "text": self.due_text(cause),
             "sent": None if cause.sent is None else text_of(cause.sent, self.option),
-            "other": None if cause.other is None else self.subtitles[cause.other].number,
-            "other_position": None if cause.other is None else cause.other + 1,
+            "other": other and other.number, "other_position": other and other.index,
             "words": self.said(cause),
         }
 
