@@ -52,7 +52,8 @@ class Wording:
                          "begin": time_of(one.begin), "end": time_of(one.end)},
             "cause": cause.name, "frames": cause.frames, "text": self.due_text(cause),
             "sent": None if cause.sent is None else text_of(cause.sent, self.option),
-            "other": other and other.number, "other_position": other and other.index,
+            "other": None if other is None else other.number,
+            "other_position": None if other is None else other.index,
             "words": self.said(cause),
         }
 
