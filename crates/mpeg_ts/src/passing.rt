@@ -1,7 +1,7 @@
 //! Bytes that are passed over where they stand: packets of other PIDs, and bytes that belong to no
 //! packet.
-ghost use Rattle.std.specs.Prelude.{◌≡◌, ◌+◌, ◌<◌, ◌≤◌, List, ℕ, [], ◌++◌, drop, take, length, false};
-ghost use Rattle.std.specs.Prelude.{slice_index, true};
+ghost use Rattle.std.specs.Prelude.{◌≡◌, ◌+◌, ◌<◌, ◌≤◌, List, ℕ, [], ◌++◌, drop, take, length};
+ghost use Rattle.std.specs.Prelude.{false, slice_index, true};
 ghost use Rattle.mpeg_ts.specs.GoodPackets.{hole_size};
 ghost use Rattle.mpeg_ts.specs.Joining.{JoiningValue, has_ended};
 ghost use Rattle.mpeg_ts.specs.Stream.{stream_gives};

@@ -137,7 +137,13 @@ example_of_losses = record {
           (
             tt,
             (
-              record { size = refl; sync = refl; pid_before = refl; pid_after = refl; wrong = refl },
+              record {
+                size = refl;
+                sync = refl;
+                pid_before = refl;
+                pid_after = refl;
+                wrong = refl;
+              },
               (tt, tt),
             ),
           ),

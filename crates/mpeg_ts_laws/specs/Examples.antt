@@ -34,6 +34,7 @@ abbrev pub recording_of_two : List ℕ
 recording_of_two =
     null_packet ++ (packet_with 0x10 (pes_of 0x20) ++ packet_with 0x11 (pes_of 0x21))
 
+-- They are a multiplex of packets of 188 bytes.
 abbrev pub ExampleOfMultiplex : Type 0
 ExampleOfMultiplex = IsMultiplexed 257 188 (pes_of 0x20 ∷ pes_of 0x21 ∷ []) recording_of_two
 

@@ -1,8 +1,8 @@
 -- PES packets that are sent as frames near one another are near one another: `near-sendings`.
 use Rattle.std.proofs.lemmas.Bool.Decides.{nat_tests}
-use Rattle.std.proofs.Common.{◌≡◌, ℕ, suc, ◌+◌, ◌-◌, ◌≤◌, ◌==◌, ◌&&◌, not, Bool, true, false, List, []}
-use Rattle.std.proofs.Common.{◌∷◌, ◌++◌, length, refl, sym, ap, ◌∙◌, subst, arith, cond, length-append}
-use Rattle.std.proofs.Common.{slice_index}
+use Rattle.std.proofs.Common.{◌≡◌, ℕ, suc, ◌+◌, ◌-◌, ◌≤◌, ◌==◌, ◌&&◌, not, Bool, true, false, List}
+use Rattle.std.proofs.Common.{[], ◌∷◌, ◌++◌, length, refl, sym, ap, ◌∙◌, subst, arith, cond}
+use Rattle.std.proofs.Common.{length-append, slice_index}
 use Rattle.sub_rules.specs.FrameRules.{end_frame}
 use Rattle.sub_rules.specs.Pieces.{goes_on_with, joined, joined_after, sent_after, with_packets}
 use Rattle.sub_rules.specs.Transmission.{SentFrame, Transmission}

@@ -12,8 +12,8 @@ pub struct Flip {
     pub bit: u8,
 }
 
-/// What a receiver does where a byte of a row has even parity, and at a header of its page that does
-/// not erase it.
+/// What a receiver does where a byte of a row has even parity, and at a header of its page that
+/// does not erase it.
 #[derive(Clone, Copy, Debug, PartialEq, Eq)]
 pub enum ReceiverKind {
     /// It leaves the byte's cell as it was.

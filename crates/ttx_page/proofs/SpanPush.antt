@@ -46,12 +46,6 @@ module _ {A : Type 0} (kind_of : A → PacketKind) where
       (span kind_of xs ++ x ∷ []) (span kind_of xs))
   span-push xs x = grind (arith, nat_tests, after-push, before-push, after-none)
 
-  -- The span after a header of the page is empty.
-  pub span-this : (xs : List A) (x : A)
-      → is_this_page (kind_of x) ≡ true
-      → span kind_of (xs ++ x ∷ []) ≡ []
-  span-this xs x e = let pushed = span-push xs x in grind (arith, nat_tests)
-
   -- The page is open after a header of it.
   pub open-this : (xs : List A) (x : A)
       → is_this_page (kind_of x) ≡ true
