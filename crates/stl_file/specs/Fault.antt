@@ -40,9 +40,9 @@ is_format fault.Ended = false
 is_format _ = true
 
 -- The source failed.
-abbrev pub is_read : StlFault → Bool
-is_read fault.Read = true
-is_read _ = false
+abbrev pub is_file_read : StlFault → Bool
+is_file_read fault.Read = true
+is_file_read _ = false
 
 -- The sink failed.
 abbrev pub is_normal_write : NormalFault → Bool

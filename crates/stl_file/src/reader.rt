@@ -8,7 +8,7 @@ ghost use Rattle.std.specs.Io.KnownBytes.{Consumes};
 ghost use Rattle.sub_io.specs.Device.{CanFail, CountsIf, failed};
 ghost use Rattle.sub_io.specs.Reading.{IfTold};
 ghost use Rattle.stl_file.specs.declared.fault.StlFault.TheVariants.{Ended};
-ghost use Rattle.stl_file.specs.Fault.{is_format, is_read};
+ghost use Rattle.stl_file.specs.Fault.{is_format, is_file_read};
 ghost use Rattle.stl_file.specs.Gsi.{IsGsi, IsGsiFor};
 ghost use Rattle.stl_file.specs.Reader.{block_after, block_by, gsi_of, opened_at, FailsReading};
 ghost use Rattle.stl_file.specs.Reader.{HasPlace, GivesNext, Refuses, RefusesOpening};
@@ -64,7 +64,7 @@ impl StlReader {
         requires { CanFail (S.failure_count source.old) }
         // Where the source tells its bytes and does not fail, they decide the answer.
         ensures exact { IfTold (S.remaining source.old) (λ bytes.
-            failed is_read result ≡ false → opened_at bytes ≡ result) }
+            failed is_file_read result ≡ false → opened_at bytes ≡ result) }
         // The GSI block alone is taken.
         ensures taken { IfOk result (λ reader. IsGsi reader.gsi
             × Consumes (S.remaining source.old) (S.remaining source.new) reader.gsi) }
@@ -76,10 +76,12 @@ impl StlReader {
         ensures refused { IfErr result (λ fault. is_format fault ≡ true →
             RefusesOpening (S.remaining source.old) (S.remaining source.new) fault) }
         // A source that failed failed within the GSI block.
-        ensures failed { failed is_read result ≡ true → (bytes : List ℕ) × (length bytes < 1024)
+        ensures failed { failed is_file_read result ≡ true →
+            (bytes : List ℕ) × (length bytes < 1024)
             × Consumes (S.remaining source.old) (S.remaining source.new) bytes }
         ensures never { IfErr result (λ fault. fault ≢ Ended) }
-        ensures count { CountsIf S.failure_count source.old (failed is_read result) source.new }
+        ensures count { CountsIf S.failure_count source.old
+            (failed is_file_read result) source.new }
     {
         match read_gsi(source, Scope::whole()) {
             Ok(gsi) => Ok(StlReader::behind(gsi)),
@@ -132,7 +134,8 @@ impl StlReader {
         requires { CanFail (S.failure_count source.old) }
         // Where the source tells its bytes and does not fail, they decide the answer, its block and
         // what is left.
-        ensures exact { IfTold (S.remaining source.old) (λ bytes. failed is_read result ≡ false →
+        ensures exact { IfTold (S.remaining source.old) (λ bytes.
+            failed is_file_read result ≡ false →
             GivesNext self.old bytes self.new (S.remaining source.new) result) }
 
         // A subtitle is that of the blocks that were taken, with the passed blocks before and
@@ -149,7 +152,7 @@ impl StlReader {
             is_format fault ≡ true → Refuses self.old.block self.new.block
             (S.remaining source.old) (S.remaining source.new) fault) }
         // A source that failed failed at this block.
-        ensures failed { self.old.progress ≡ Reading → failed is_read result ≡ true →
+        ensures failed { self.old.progress ≡ Reading → failed is_file_read result ≡ true →
             FailsReading whole self.old.block self.new.block None
             (S.remaining source.old) (S.remaining source.new) }
 
@@ -162,7 +165,8 @@ impl StlReader {
         ensures ended { (self.old.progress ≡ Broken) ↔ (result ≡ Err Ended) }
         ensures stays { self.old.progress ≡ Broken →
             (self.new ≡ self.old) × (source.new ≡ source.old) }
-        ensures count { CountsIf S.failure_count source.old (failed is_read result) source.new }
+        ensures count { CountsIf S.failure_count source.old
+            (failed is_file_read result) source.new }
     {
         let mut subtitle = Subtitle::empty();
         match self.next_into(source, &mut subtitle) {
@@ -190,7 +194,8 @@ impl StlReader {
         requires { CanFail (S.failure_count source.old) }
         // Where the source tells its bytes and does not fail, they decide the answer, its block and
         // what is left.
-        ensures exact { IfTold (S.remaining source.old) (λ bytes. failed is_read result ≡ false →
+        ensures exact { IfTold (S.remaining source.old) (λ bytes.
+            failed is_file_read result ≡ false →
             GivesNext self.old bytes self.new (S.remaining source.new)
             (given_subtitle result subtitle.new)) }
 
@@ -208,7 +213,7 @@ impl StlReader {
             is_format fault ≡ true → Refuses self.old.block self.new.block
             (S.remaining source.old) (S.remaining source.new) fault) }
         // A source that failed failed at this block.
-        ensures failed { self.old.progress ≡ Reading → failed is_read result ≡ true →
+        ensures failed { self.old.progress ≡ Reading → failed is_file_read result ≡ true →
             FailsReading whole self.old.block self.new.block None
             (S.remaining source.old) (S.remaining source.new) }
 
@@ -222,7 +227,8 @@ impl StlReader {
         ensures ended { (self.old.progress ≡ Broken) ↔ (result ≡ Err Ended) }
         ensures stays { self.old.progress ≡ Broken →
             (self.new ≡ self.old) × (source.new ≡ source.old) }
-        ensures count { CountsIf S.failure_count source.old (failed is_read result) source.new }
+        ensures count { CountsIf S.failure_count source.old
+            (failed is_file_read result) source.new }
     {
         let mut block = match self.progress {
             Progress::Reading => self.block,
@@ -254,17 +260,17 @@ impl StlReader {
 pub(crate) fn read_gsi<S: Source>(source: &mut S, scope: Scope) -> Result<Gsi, StlFault>
     requires { CanFail (S.failure_count source.old) }
     ensures exact { IfTold (S.remaining source.old) (λ bytes.
-        failed is_read result ≡ false → gsi_of scope.takes_open bytes ≡ result) }
+        failed is_file_read result ≡ false → gsi_of scope.takes_open bytes ≡ result) }
     ensures taken { IfOk result (λ gsi. IsGsiFor scope.takes_open gsi
         × Consumes (S.remaining source.old) (S.remaining source.new) gsi) }
     ensures left { IfTold (S.remaining source.old) (λ bytes.
         IfOk result (λ gsi. S.remaining source.new ≡ Some (drop 1024 bytes))) }
     ensures refused { IfErr result (λ fault. is_format fault ≡ true →
         RefusesOpeningFor scope (S.remaining source.old) (S.remaining source.new) fault) }
-    ensures failed { failed is_read result ≡ true → (bytes : List ℕ) × (length bytes < 1024)
+    ensures failed { failed is_file_read result ≡ true → (bytes : List ℕ) × (length bytes < 1024)
         × Consumes (S.remaining source.old) (S.remaining source.new) bytes }
     ensures never { IfErr result (λ fault. fault ≢ Ended) }
-    ensures count { CountsIf S.failure_count source.old (failed is_read result) source.new }
+    ensures count { CountsIf S.failure_count source.old (failed is_file_read result) source.new }
 {
     let mut bytes = [0; 1024];
     let got = fill(source, &mut bytes)?;
@@ -287,17 +293,17 @@ pub(crate) fn read_blocks<S: Source>(
 ) -> Result<bool, StlFault>
     requires few { block.old ≤ most_blocks }
     requires count { CanFail (S.failure_count source.old) }
-    ensures leads { failed is_read result ≡ false →
+    ensures leads { failed is_file_read result ≡ false →
         LeadsOn scope block.old (block_by block.new (given_subtitle result subtitle.new))
         (option_map passed_by refused.old) (option_map passed_by refused.new)
         (S.remaining source.old) (S.remaining source.new) subtitle.new (found_of result) }
-    ensures failed { failed is_read result ≡ true →
+    ensures failed { failed is_file_read result ≡ true →
         FailsReading scope block.old (block.new + 1) (option_map passed_by refused.old)
         (S.remaining source.old) (S.remaining source.new) }
     ensures never { IfErr result (λ fault. fault ≢ Ended) }
     ensures over { result ≡ Ok true → refused.new ≡ None }
     ensures few { block.new ≤ most_blocks }
-    ensures count { CountsIf S.failure_count source.old (failed is_read result) source.new }
+    ensures count { CountsIf S.failure_count source.old (failed is_file_read result) source.new }
 {
     let mut read = resume(subtitle, refused);
     loop {

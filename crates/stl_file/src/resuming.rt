@@ -7,7 +7,7 @@ ghost use Rattle.sub_io.specs.Device.{CanFail, CountsIf, failed};
 ghost use Rattle.sub_io.specs.Reading.{IfTold};
 ghost use Rattle.stl_file.specs.declared.fault.StlFault.TheVariants.{Ended};
 ghost use Rattle.stl_file.specs.declared.progress.Progress.TheVariants.{Reading};
-ghost use Rattle.stl_file.specs.Fault.{is_format, is_read};
+ghost use Rattle.stl_file.specs.Fault.{is_format, is_file_read};
 ghost use Rattle.stl_file.specs.Gsi.{IsGsiFor};
 ghost use Rattle.stl_file.specs.Reader.{FailsReading, HasPlace, RefusesOpeningFor};
 ghost use Rattle.stl_file.specs.Reading.{passed_by};
@@ -76,7 +76,7 @@ impl ResumingReader {
         requires { CanFail (S.failure_count source.old) }
         // Where the source tells its bytes and does not fail, they decide the answer.
         ensures exact { IfTold (S.remaining source.old) (λ bytes.
-            failed is_read result ≡ false → begun_at scope bytes ≡ result) }
+            failed is_file_read result ≡ false → begun_at scope bytes ≡ result) }
         // The GSI block alone is taken.
         ensures taken { IfOk result (λ reader. (gsi : List ℕ) × IsGsiFor scope.takes_open gsi
             × Consumes (S.remaining source.old) (S.remaining source.new) gsi) }
@@ -88,10 +88,12 @@ impl ResumingReader {
         ensures refused { IfErr result (λ fault. is_format fault ≡ true →
             RefusesOpeningFor scope (S.remaining source.old) (S.remaining source.new) fault) }
         // A source that failed failed within the GSI block.
-        ensures failed { failed is_read result ≡ true → (bytes : List ℕ) × (length bytes < 1024)
+        ensures failed { failed is_file_read result ≡ true →
+            (bytes : List ℕ) × (length bytes < 1024)
             × Consumes (S.remaining source.old) (S.remaining source.new) bytes }
         ensures never { IfErr result (λ fault. fault ≢ Ended) }
-        ensures count { CountsIf S.failure_count source.old (failed is_read result) source.new }
+        ensures count { CountsIf S.failure_count source.old
+            (failed is_file_read result) source.new }
     {
         match read_gsi(source, scope) {
             Ok(_) => Ok(ResumingReader {
@@ -134,11 +136,11 @@ impl ResumingReader {
         requires count { CanFail (S.failure_count source.old) }
         requires reading { self.old.progress ≡ Reading }
         // The bytes that are taken decide the answer, its block and what is left.
-        ensures leads { failed is_read result ≡ false →
+        ensures leads { failed is_file_read result ≡ false →
             LeadsOn self.old.scope self.old.block self.new.block self.old.refused self.new.refused
             (S.remaining source.old) (S.remaining source.new) subtitle.new result }
         // A source that failed failed at this block.
-        ensures failed { failed is_read result ≡ true →
+        ensures failed { failed is_file_read result ≡ true →
             FailsReading self.old.scope self.old.block self.new.block self.old.refused
             (S.remaining source.old) (S.remaining source.new) }
         ensures first { IfOk result IsOfFirst }
@@ -146,7 +148,8 @@ impl ResumingReader {
         ensures scope { self.new.scope ≡ self.old.scope }
         ensures progress { self.new.progress ≡ progress_found result }
         ensures place { HasPlace self.new.progress self.new.block }
-        ensures count { CountsIf S.failure_count source.old (failed is_read result) source.new }
+        ensures count { CountsIf S.failure_count source.old
+            (failed is_file_read result) source.new }
     {
         let mut block = self.block;
         match read_blocks(self.scope, &mut block, source, subtitle, &mut self.refused) {

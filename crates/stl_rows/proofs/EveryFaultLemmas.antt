@@ -17,7 +17,7 @@ use Rattle.stl_rows.specs.EveryFault.{EndsSubtitleAfter, WantsMemory, is_told_be
 use Rattle.stl_rows.specs.Judged.{JudgedValue, JudgesBy}
 use Rattle.stl_rows.specs.Loading.{EndsBehind, EndsRecord, FailsLoading, TellsFault, loaded}
 use Rattle.stl_rows.specs.Loading.{unless_told}
-use Rattle.stl_rows.specs.Fault.{is_read, is_read_kind}
+use Rattle.stl_rows.specs.Fault.{is_load_read, is_read_kind}
 use Rattle.stl_rows.specs.Programme.{ProgrammeValue, follow_faults, times_of}
 use Rattle.stl_rows.specs.declared.times.Times.{Times}
 use Rattle.stl_file.specs.Reader.{findings_for}
@@ -69,7 +69,7 @@ pub first-not_read : (new first : Option LoadFault) (fault : LoadFault)
     → new ≡ None
     → first ≡ Some fault
     → TellsOfFile KeepsFirst new first
-    → (fault.kind ≢ File Ended) × (is_read fault ≡ false)
+    → (fault.kind ≢ File Ended) × (is_load_read fault ≡ false)
 first-not_read new first fault is_new is_first of_file =
     grind (arith, nat_tests, first-of_file first (rw is_new at of_file), not_read fault.kind)
 

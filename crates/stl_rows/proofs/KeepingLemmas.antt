@@ -22,10 +22,10 @@ use Rattle.stl_rows.specs.declared.times.Times.{Times}
 use Rattle.stl_rows.specs.Judged.{AllJudged, JudgedSubtitle, are_in_order, are_some}
 use Rattle.stl_rows.specs.Judged.{is_followed_in_order}
 use Rattle.stl_rows.specs.Judged.{judged_before, judged_behind, start_from, with_bits}
-use Rattle.stl_rows.specs.Keeping.{KeptRecords, all_kept, kept_after, nothing_kept, passed}
+use Rattle.stl_rows.specs.Keeping.{KeptRecords, all_kept, kept_after, nothing_kept, refused_one}
 use Rattle.stl_rows.specs.EveryFault.{load_fault}
 use Rattle.stl_rows.specs.Keeping.{are_none, bits_after, is_enough, is_whole}
-use Rattle.stl_rows.specs.Keeping.{passed_latest, with_one, without_last}
+use Rattle.stl_rows.specs.Keeping.{broken_one, with_one, without_last}
 use Rattle.stl_rows.specs.Programme.{AreInOrder, IsProgramme, follow_faults, order_faults}
 use Rattle.stl_rows.specs.Programme.{row_faults, times_before, times_of}
 use Rattle.stl_rows.proofs.FaultlessLemmas.{empty_parts}
@@ -245,7 +245,7 @@ judged-end drawing (Some times) k = end_none k.is_latest k.is_before_other (all_
 pub judged-refused : (drawing : Drawing) (before : Option Times) (k : KeptRecords)
     (fault : StlFault) (block : ℕ) (left : Findings)
     → judged_on drawing before k (refuses fault block left)
-    ≡ judged_on drawing before (passed k) left
+    ≡ judged_on drawing before (refused_one k) left
 unfolding judged_behind
 judged-refused drawing None k fault block left = refl
 judged-refused drawing (Some times) k fault block left = refl
@@ -346,7 +346,7 @@ judged_told : (drawing : Drawing) (before : Option Times) (k : KeptRecords) (t :
     → in_order ≡ is_none (first_of (order_faults before (times_of t)))
     → judged_on drawing before k (finds t block left)
     ≡ judged_on drawing (Some (times_of t))
-    (if k.is_latest && not in_order then passed_latest (without_last k) else passed_latest k) left
+    (if k.is_latest && not in_order then broken_one (without_last k) else broken_one k) left
 judged_told drawing before k t block left in_order some is =
     rw (
       followed_is before t block left ∙ sym is,
@@ -410,7 +410,7 @@ not_empty (x ∷ xs) ys y e = absurd cc
 pub kept-refused : {drawing : Drawing} {before : Option Times} {early : List LoadFault}
     {k : KeptRecords} (fault : LoadFault)
     → AreKept drawing before early k
-    → AreKept drawing before (early ++ fault ∷ []) (passed k)
+    → AreKept drawing before (early ++ fault ∷ []) (refused_one k)
 kept-refused {early = early} {k} fault kept = record {
   each = kept.each;
   drawable = kept.drawable;
@@ -498,7 +498,7 @@ module _ {drawing : Drawing} {before : Option Times} {early : List LoadFault} {k
   kept_told : (early_then : List LoadFault) (drops : Bool)
       → is_none (first_of early_then) ≡ false
       → AreKept drawing (Some (times_of t)) early_then
-      (if drops then passed_latest (without_last k) else passed_latest k)
+      (if drops then broken_one (without_last k) else broken_one k)
   kept_told early_then false some = record {
     each = kept.each;
     drawable = kept.drawable;

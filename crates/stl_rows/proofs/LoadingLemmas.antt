@@ -19,7 +19,7 @@ use Rattle.sub_io.specs.Telling.{Tells, first_alone}
 use Rattle.sub_io.proofs.TellingLemmas.{Tells-trans}
 use Rattle.stl_file.specs.declared.fault.StlFault.{StlFault}
 use Rattle.stl_file.specs.declared.fault.StlFault.TheVariants.{Ended}
-use Rattle.stl_file.specs.Fault.{is_of_first, is_read}
+use Rattle.stl_file.specs.Fault.{is_of_first, is_file_read}
 use Rattle.stl_file.specs.Reading.{Findings, breaks, finds, no_more, refuses}
 use Rattle.stl_file.specs.Subtitle.{SubtitleValue}
 use Rattle.stl_file.specs.Reader.{FindsFrom, findings_for}
@@ -36,7 +36,7 @@ use Rattle.stl_rows.specs.Judged.{AllJudged, JudgedSubtitle, JudgesBy, are_in_or
 use Rattle.stl_rows.specs.Judged.{judged_of, judges}
 use Rattle.stl_rows.specs.Keeping.{KeptRecords, all_kept, are_none, is_enough, is_whole}
 use Rattle.stl_rows.specs.Keeping.{judged_with}
-use Rattle.stl_rows.specs.Keeping.{kept_after, nothing_kept, passed}
+use Rattle.stl_rows.specs.Keeping.{kept_after, nothing_kept, refused_one}
 use Rattle.stl_rows.specs.Loading.{loaded, records_of}
 use Rattle.stl_rows.proofs.JudgedLemmas.{all_decided}
 use Rattle.stl_rows.proofs.KeepingLemmas.{AreKept, judged-end, judged-next, judged-refused}
@@ -97,7 +97,7 @@ told-refused fault from to early le first h =
 -- Neither the source's failure nor the end of the file.
 pub first_kind : (fault : StlFault)
     → is_of_first fault ≡ true
-    → (is_read fault ≡ false) × (fault ≢ Ended)
+    → (is_file_read fault ≡ false) × (fault ≢ Ended)
 first_kind fault first = grind (arith, nat_tests)
 
 -- These are faults of the file.
@@ -185,7 +185,8 @@ module _ {drawing : Drawing} {file : List ℕ} {rest : Findings} {before : Optio
   -- One more that is refused.
   pub goes_on-refused : (fault : StlFault) (block : ℕ)
       → GoesOn drawing file (refuses fault block rest) before kept early
-      → GoesOn drawing file rest before (passed kept) (early ++ load_fault block (File fault) ∷ [])
+      → GoesOn drawing file rest before (refused_one kept)
+      (early ++ load_fault block (File fault) ∷ [])
   unfolding faults_behind
   goes_on-refused fault block on =
       let own : List LoadFault = load_fault block (File fault) ∷ [] in
@@ -246,7 +247,7 @@ module _ {D : Type 0} {IsTold : D → LoadFault → D → Type 0} {old mid new :
   -- The fault that ends reading is one of the file too.
   pub of_file-end : (early : List LoadFault) (fault : StlFault) {from block : ℕ}
       → All (IsToldBy from) early
-      → is_read fault ≡ false
+      → is_file_read fault ≡ false
       → fault ≢ Ended
       → Tells IsTold old mid early
       → Tells IsTold mid new (load_fault block (File fault) ∷ [])
@@ -262,7 +263,7 @@ module _ {D : Type 0} {IsTold : D → LoadFault → D → Type 0} {old mid new :
         told = Tells-trans old mid new early last p q;
       }
     where
-      file-of_file : (fault : StlFault) → is_read fault ≡ false → fault ≢ Ended
+      file-of_file : (fault : StlFault) → is_file_read fault ≡ false → fault ≢ Ended
           → is_of_file (File fault) ≡ true
       file-of_file fault read ended = grind (arith, nat_tests)
 

@@ -29,9 +29,9 @@ load_code load.Memory = fault_code 58 (codes "Memory")
 
 -- The source failed.
 abbrev pub is_read_kind : LoadFaultKind → Bool
-is_read_kind (load.File fault) = stl.is_read fault
+is_read_kind (load.File fault) = stl.is_file_read fault
 is_read_kind _ = false
 
 -- The source failed, of a fault with its block.
-abbrev pub is_read : LoadFault → Bool
-is_read fault = is_read_kind fault.kind
+abbrev pub is_load_read : LoadFault → Bool
+is_load_read fault = is_read_kind fault.kind

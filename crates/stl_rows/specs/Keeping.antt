@@ -49,12 +49,12 @@ with_one t k = record {
 }
 
 -- With one more that is refused: times are not compared with it.
-abbrev pub passed : KeptRecords → KeptRecords
-passed k = record k { is_before_other = true }
+abbrev pub refused_one : KeptRecords → KeptRecords
+refused_one k = record k { is_before_other = true }
 
 -- With one more of which something is told.
-abbrev pub passed_latest : KeptRecords → KeptRecords
-passed_latest k = record k { is_before_other = true; is_latest = false }
+abbrev pub broken_one : KeptRecords → KeptRecords
+broken_one k = record k { is_before_other = true; is_latest = false }
 
 -- The last one is not relied on.
 abbrev pub without_last : KeptRecords → KeptRecords
@@ -68,8 +68,8 @@ without_last k = record k {
 abbrev pub kept_after : Bool → Bool → SubtitleValue → KeptRecords → KeptRecords
 kept_after in_order clean t k =
     if clean then with_one t k
-    else if k.is_latest && not in_order then passed_latest (without_last k)
-    else passed_latest k
+    else if k.is_latest && not in_order then broken_one (without_last k)
+    else broken_one k
 
 -- ---- at the end
 

@@ -10,7 +10,7 @@ ghost use Rattle.stl_file.specs.Fault as stl;
 ghost use Rattle.stl_file.specs.Subtitle.{IsSubtitle};
 ghost use Rattle.stl_rows.specs.EveryFault.{FailsTelling, StopsWithin, TellsAnyOfFile, TellsFaults};
 ghost use Rattle.stl_rows.specs.EveryFault.{TellsOfFile, WantsMemory, faults, load_fault};
-ghost use Rattle.stl_rows.specs.Fault.{is_read};
+ghost use Rattle.stl_rows.specs.Fault.{is_load_read};
 ghost use Rattle.stl_rows.specs.Judged.{JudgesBy, judges};
 ghost use Rattle.stl_rows.specs.Keeping.{judged_with};
 ghost use Rattle.stl_rows.specs.Programme.{IsProgramme, follow_faults, row_faults};
@@ -89,12 +89,12 @@ pub fn load_all<S: Source, D: Audience<LoadFault>>(
     // Whatever the source tells, the device was told some faults where it failed.
     ensures some_before { IfErr result (λ _. TellsSome D.is_told audience.old audience.new) }
     // A failed read names the block of the byte that was asked for.
-    ensures read { IfErr result (λ f. is_read f ≡ true →
+    ensures read { IfErr result (λ f. is_load_read f ≡ true →
         FailsTelling (drawing_within national layout scope)
         (S.remaining source.old) (S.remaining source.new)
         D.is_told audience.old audience.new f.block) }
     ensures kinds { IfErr result (λ f. (f.kind ≡ Memory) ⊎ (f.kind ≡ File Read)) }
-    ensures count { CountsIf S.failure_count source.old (failed is_read result) source.new }
+    ensures count { CountsIf S.failure_count source.old (failed is_load_read result) source.new }
 {
     let drawing = Drawing::new(national, layout, scope);
     match load_all_in(alloc, source, drawing, audience) {
@@ -138,11 +138,11 @@ pub fn load_all_in<A: Allocator + Copy, S: Source, D: Audience<LoadFault>>(
         TellsAnyOfFile D.is_told audience.old audience.new)) }
     ensures stopped { D.has_stopped audience.new ≡ true → result ≡ Ok None }
     ensures some_before { IfErr result (λ _. TellsSome D.is_told audience.old audience.new) }
-    ensures read { IfErr result (λ f. is_read f ≡ true → FailsTelling drawing
+    ensures read { IfErr result (λ f. is_load_read f ≡ true → FailsTelling drawing
         (S.remaining source.old) (S.remaining source.new)
         D.is_told audience.old audience.new f.block) }
     ensures kinds { IfErr result (λ f. (f.kind ≡ Memory) ⊎ (f.kind ≡ File Read)) }
-    ensures count { CountsIf S.failure_count source.old (failed is_read result) source.new }
+    ensures count { CountsIf S.failure_count source.old (failed is_load_read result) source.new }
 {
     let mut reader = match ResumingReader::open(source, drawing.scope) {
         Ok(reader) => reader,
@@ -171,7 +171,7 @@ pub fn load_all_in<A: Allocator + Copy, S: Source, D: Audience<LoadFault>>(
                 let Ok(_) = tell_fault(kind, reader.block(), audience) else {
                     return Ok(None);
                 };
-                kept.pass();
+                kept.refuse();
             }
             Ok(Found::Subtitle) => {
                 let block = reader.block();
@@ -200,7 +200,7 @@ fn tell_end<D: Audience<LoadFault>>(
         (load_fault block (File fault) ∷ [])) }
     ensures read { IfErr result (λ f.
         (fault ≡ Read) × (f ≡ load_fault block (File Read)) × (audience.new ≡ audience.old)) }
-    ensures file { OnOk result (stl.is_read fault ≡ false) }
+    ensures file { OnOk result (stl.is_file_read fault ≡ false) }
 {
     let kind = LoadFaultKind::File(fault);
     let fault = LoadFault { block, kind };

@@ -3,7 +3,7 @@
 ghost use Rattle.std.specs.Prelude.{◌≡◌, [], true, IfErr, IfSome, None, OnOk};
 ghost use Rattle.stl_rows.specs.Judged.{are_in_order, with_bits};
 ghost use Rattle.stl_rows.specs.Keeping.{bits_after, is_enough, is_whole, kept_after, nothing_kept};
-ghost use Rattle.stl_rows.specs.Keeping.{passed, passed_latest, without_last, with_one};
+ghost use Rattle.stl_rows.specs.Keeping.{refused_one, broken_one, without_last, with_one};
 ghost use Rattle.stl_rows.specs.declared.fault.LoadFaultKind.TheVariants.{Memory};
 
 use crate::fault::LoadFaultKind;
@@ -84,8 +84,8 @@ impl<A: Allocator + Copy> Kept<A> {
     }
 
     // One more is refused.
-    pub(crate) fn pass(&mut self)
-        ensures { self.new ≡ passed self.old }
+    pub(crate) fn refuse(&mut self)
+        ensures { self.new ≡ refused_one self.old }
     {
         self.is_before_other = true;
     }

@@ -4,7 +4,7 @@ ghost use Rattle.std.specs.Prelude.{◌≡◌, ◌≢◌, Err, IfErr, IfOk, Ok, 
 ghost use Rattle.sub_io.specs.Device.{CanFail, CountsIf, failed};
 ghost use Rattle.sub_io.specs.Reading.{IfTold};
 ghost use Rattle.stl_file.specs.declared.fault.StlFault.TheVariants.{Ended};
-ghost use Rattle.stl_rows.specs.Fault.{is_read};
+ghost use Rattle.stl_rows.specs.Fault.{is_load_read};
 ghost use Rattle.stl_rows.specs.Layout.{drawing_within};
 ghost use Rattle.stl_rows.specs.declared.fault.LoadFaultKind.TheVariants.{File};
 ghost use Rattle.stl_rows.specs.Loading.{FailsLoading, LawOfLoading, LawOfParts};
@@ -56,10 +56,10 @@ pub fn load<S: Source>(
     ensures drawing { IfOk result (λ programme.
         programme.drawing ≡ drawing_within national layout scope) }
     // A failed read names the block of the byte that was asked for, and no fault comes before it.
-    ensures read { IfErr result (λ f. is_read f ≡ true →
+    ensures read { IfErr result (λ f. is_load_read f ≡ true →
         FailsLoading (drawing_within national layout scope)
         (S.remaining source.old) (S.remaining source.new) f.block) }
-    ensures count { CountsIf S.failure_count source.old (failed is_read result) source.new }
+    ensures count { CountsIf S.failure_count source.old (failed is_load_read result) source.new }
 {
     let drawing = Drawing::new(national, layout, scope);
     match load_in(alloc, source, drawing) {
@@ -85,9 +85,9 @@ pub fn load_in<A: Allocator + Copy, S: Source>(
         TellsFault drawing bytes f.block f.kind)) }
     ensures never { IfErr result (λ f. f.kind ≢ File Ended) }
     ensures programme { IfOk result (λ v. IsProgramme drawing v.items) }
-    ensures read { IfErr result (λ f. is_read f ≡ true → FailsLoading drawing
+    ensures read { IfErr result (λ f. is_load_read f ≡ true → FailsLoading drawing
         (S.remaining source.old) (S.remaining source.new) f.block) }
-    ensures count { CountsIf S.failure_count source.old (failed is_read result) source.new }
+    ensures count { CountsIf S.failure_count source.old (failed is_load_read result) source.new }
 {
     let mut first = FirstTold::new();
     match load_all_in(alloc, source, drawing, &mut first) {

@@ -35,10 +35,10 @@ use Rattle.sub_listing.specs.DeviceCall.{Counts, SinkCall, SourceCall}
 use Rattle.sub_answer.specs.EveryFault.{AnswersAll, AreListed, PrintsMemoryLast, TellsBoth}
 use Rattle.sub_answer.specs.FaultListing.{all_listing, last_listing}
 use Rattle.sub_listing.specs.EventLines.{event_lines, most_counted, refusals, subtitle_events}
-use Rattle.sub_listing.specs.Faults.{kind_by, load_told}
+use Rattle.sub_listing.specs.Faults.{kind_by, load_line}
 use Rattle.sub_listing.specs.Listing.{Listing, PrintsOrFails, followed}
 use Rattle.sub_listing.specs.Printer.{PrinterValue, counted}
-use Rattle.sub_listing.specs.Told.{line_of, status_of}
+use Rattle.sub_listing.specs.FaultLine.{line_of, status_of}
 use Rattle.sub_listing.specs.declared.status.Status.{Status}
 use Rattle.sub_listing.specs.declared.status.Status.TheVariants.{Done, Fault, Refused}
 use Rattle.sub_listing.proofs.PrintingLemmas.{printed-status}

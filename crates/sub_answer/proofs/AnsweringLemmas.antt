@@ -29,7 +29,7 @@ use Rattle.sub_answer.specs.Answering.{AnswersCheck, verdict}
 use Rattle.sub_answer.specs.BothFiles.{TellsSources}
 use Rattle.sub_listing.specs.DeviceCall.{Counts, SinkCall, SourceCall}
 use Rattle.sub_listing.specs.Faults.{kind_by}
-use Rattle.sub_listing.specs.Told.{status_of}
+use Rattle.sub_listing.specs.FaultLine.{status_of}
 use Rattle.sub_listing.proofs.PrintingLemmas.{printed-status}
 use Rattle.sub_answer.proofs.AllAnswerLemmas.{counted_by}
 use Rattle.sub_listing.specs.FirstPacket.{StartsAt}

@@ -31,7 +31,7 @@ use Rattle.sub_check.proofs.FilesLemmas.{of_accepted, of_accepted_by, of_accepte
 use Rattle.sub_listing.specs.DeviceCall.{SinkCall, SourceCall}
 use Rattle.sub_listing.specs.Faults.{kind_by}
 use Rattle.sub_listing.specs.Listing.{Listing, PrintsOrFails}
-use Rattle.sub_listing.specs.Told.{status_of}
+use Rattle.sub_listing.specs.FaultLine.{status_of}
 use Rattle.sub_listing.specs.declared.status.Status.{Status}
 use Rattle.sub_listing.specs.declared.status.Status.TheVariants.{Done, Fault}
 use Rattle.sub_listing.proofs.PrintingLemmas.{did_not_rise, printed-status, printed-whole}

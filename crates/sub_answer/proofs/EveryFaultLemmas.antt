@@ -15,7 +15,7 @@ use Rattle.stl_rows.specs.EveryFault.{FailsTelling, TellsFaults, TellsOfFile, Wa
 use Rattle.stl_rows.specs.EveryFault.{is_told_before, load_fault}
 use Rattle.stl_rows.specs.Judged.{JudgedValue, JudgesBy, judges, known}
 use Rattle.stl_rows.proofs.LoadingLaw.{none_of_loaded}
-use Rattle.stl_rows.specs.Fault.{is_read, is_read_kind}
+use Rattle.stl_rows.specs.Fault.{is_load_read, is_read_kind}
 use Rattle.stl_rows.specs.Loading.{loaded}
 use Rattle.stl_rows.specs.Programme.{ProgrammeValue}
 use Rattle.stl_rows.specs.declared.fault.LoadFault.{LoadFault}
@@ -86,7 +86,7 @@ module _ {D : Type 0} (IsTold : D → LoadFault → D → Type 0) (value : D →
       stl_count = count;
       pes_count = pes_count;
       stl_read = λ f is.
-          subst (λ (g : LoadFault). is_read g ≡ true → FailsAtBlock stl.told stl.left g.block)
+          subst (λ (g : LoadFault). is_load_read g ≡ true → FailsAtBlock stl.told stl.left g.block)
           (named _ f is) fails;
       pes_read = λ index is. cc;
       before = λ is. untouched;
@@ -102,7 +102,7 @@ module _ {D : Type 0} (IsTold : D → LoadFault → D → Type 0) (value : D →
   at_memory : (block : ℕ)
       → (value new).failed ≡ false
       → TellsSome IsTold old new
-      → RisesIf stl.old_count (is_read (load_fault block load.Memory)) stl.new_count
+      → RisesIf stl.old_count (is_load_read (load_fault block load.Memory)) stl.new_count
       → IfTold stl.told (λ file. WantsMemory drawing file IsTold old new block)
       → TellsBoth drawing options stl pes first Untouched (value old) (value new)
       (Err (fault.Subtitles (load_fault block load.Memory)))
@@ -119,7 +119,8 @@ module _ {D : Type 0} (IsTold : D → LoadFault → D → Type 0) (value : D →
   at_read : (block : ℕ)
       → (value new).failed ≡ false
       → TellsSome IsTold old new
-      → RisesIf stl.old_count (is_read (load_fault block (load.File stl_fault.Read))) stl.new_count
+      → RisesIf stl.old_count (is_load_read (load_fault block (load.File stl_fault.Read)))
+      stl.new_count
       → FailsTelling drawing stl.told stl.left IsTold old new block
       → TellsBoth drawing options stl pes first Untouched (value old) (value new)
       (Err (fault.Subtitles (load_fault block (load.File stl_fault.Read))))
@@ -136,10 +137,10 @@ module _ {D : Type 0} (IsTold : D → LoadFault → D → Type 0) (value : D →
       → (value new).failed ≡ false
       → (kind ≡ load.Memory) ⊎ (kind ≡ load.File stl_fault.Read)
       → TellsSome IsTold old new
-      → RisesIf stl.old_count (is_read (load_fault block kind)) stl.new_count
+      → RisesIf stl.old_count (is_load_read (load_fault block kind)) stl.new_count
       → IfTold stl.told (λ file.
       kind ≡ load.Memory → WantsMemory drawing file IsTold old new block)
-      → (is_read (load_fault block kind) ≡ true
+      → (is_load_read (load_fault block kind) ≡ true
       → FailsTelling drawing stl.told stl.left IsTold old new block)
       → TellsBoth drawing options stl pes first Untouched (value old) (value new)
       (Err (fault.Subtitles (load_fault block kind)))
@@ -148,7 +149,7 @@ module _ {D : Type 0} (IsTold : D → LoadFault → D → Type 0) (value : D →
       λ k. TellsBoth drawing options stl pes first Untouched (value old) (value new)
       (Err (fault.Subtitles (load_fault block k))) in
       let Counts : LoadFaultKind → Type 0 =
-      λ k. RisesIf stl.old_count (is_read (load_fault block k)) stl.new_count in
+      λ k. RisesIf stl.old_count (is_load_read (load_fault block k)) stl.new_count in
       elim kinds [
         | inl e ↦
             subst Answers (sym e)
@@ -157,7 +158,7 @@ module _ {D : Type 0} (IsTold : D → LoadFault → D → Type 0) (value : D →
         | inr e ↦
             subst Answers (sym e)
             (at_read block quiet some (subst Counts e count)
-            (read (ap (λ k. is_read (load_fault block k)) e)))
+            (read (ap (λ k. is_load_read (load_fault block k)) e)))
       ]
 
   -- What was told of a list, where the sink failed or not.

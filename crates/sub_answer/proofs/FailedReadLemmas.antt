@@ -22,9 +22,9 @@ use Rattle.sub_rules.specs.declared.event.Event.{Event}
 use Rattle.sub_rules.specs.declared.fault.CheckFault.{CheckFault}
 use Rattle.sub_rules.specs.declared.fault.CheckFault.TheVariants as fault
 use Rattle.sub_listing.specs.DeviceCall.{SourceCall}
-use Rattle.sub_listing.specs.Faults.{check_told}
+use Rattle.sub_listing.specs.Faults.{check_line}
 use Rattle.sub_listing.specs.LastLine.{HoldsLastLine, PutsLine}
-use Rattle.sub_listing.specs.Told.{line_of, told_from}
+use Rattle.sub_listing.specs.FaultLine.{line_of, counted_from}
 use Rattle.sub_answer.specs.EveryFault.{TellsBoth}
 use Rattle.sub_listing.specs.Printer.{PrinterValue}
 
@@ -91,7 +91,7 @@ pub last_line : {K : Type 0} (contents : K → Option (List ℕ)) (held : K → 
     → failed is_pes_read answer ≡ true
     → held before ≡ 0
     → IfErr answer (λ f.
-    PutsLine contents IsPush before (line_of (told_from number (check_told f))) new)
+    PutsLine contents IsPush before (line_of (counted_from number (check_line f))) new)
     → end ≡ new
     → HoldsLastLine contents held IsPush end
 last_line contents held IsPush before new end number (Ok a) is none line same =
@@ -99,7 +99,8 @@ last_line contents held IsPush before new end number (Ok a) is none line same =
 last_line contents held IsPush before new end number (Err f) is none line same = record {
   before = before;
   settled = none;
-  told = told_from number (check_told f);
+  told = counted_from number (check_line f);
   line = subst
-      (PutsLine contents IsPush before (line_of (told_from number (check_told f)))) (sym same) line;
+      (PutsLine contents IsPush before (line_of (counted_from number (check_line f)))) (sym same)
+      line;
 }

@@ -11,9 +11,9 @@ use Rattle.std.specs.Io.KnownBytes.{Keeps}
 use Rattle.ttx_pes.specs.declared.fault.PesFault.TheVariants.{Read}
 use Rattle.sub_rules.specs.declared.fault.CheckFault.TheVariants as check
 use Rattle.sub_listen.specs.declared.listening.ListenFault.TheVariants as fault
-use Rattle.sub_listing.specs.Faults.{check_told}
-use Rattle.sub_listing.specs.Listing.{PrintsOrFails, told_listing}
-use Rattle.sub_listing.specs.Told.{told_from}
+use Rattle.sub_listing.specs.Faults.{check_line}
+use Rattle.sub_listing.specs.Listing.{PrintsOrFails, fault_listing}
+use Rattle.sub_listing.specs.FaultLine.{counted_from}
 use Rattle.sub_listing.proofs.FirstPacketLemmas.{fails_first_packet, fails_packet_kept, told_kept}
 use Rattle.sub_answer.specs.Answering.{AnswersListen, PrintsHeard}
 use Rattle.sub_listing.specs.DeviceCall.{SinkCall, SourceCall}
@@ -100,7 +100,7 @@ pub none_heard : (leaves : ℕ → ℕ) (l : Listening) (number : ℕ) (pes : So
     (status : Status)
     → Keeps pes.told pes.left
     → pes.new_count ≡ pes.old_count + 1
-    → PrintsOrFails out (told_listing (told_from number (check_told (check.Pes 0 Read)))) status
+    → PrintsOrFails out (fault_listing (counted_from number (check_line (check.Pes 0 Read)))) status
     → PrintsHeard leaves l number pes out status
 none_heard leaves l number pes out status kept risen printed = record {
   exact = λ frames unread bytes told reads none. absurd (omega (arith, risen, none));

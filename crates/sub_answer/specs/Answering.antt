@@ -26,14 +26,14 @@ use Rattle.sub_listing.specs.FirstPacket.{PrintsFrom, StartsAt}
 use Rattle.sub_answer.specs.BothFiles.{TellsSources, TellsStatus}
 use Rattle.sub_answer.specs.EveryFault.{AnswersAll}
 use Rattle.sub_answer.specs.FaultListing.{accepted_line}
-use Rattle.sub_listing.specs.Faults.{check_told}
+use Rattle.sub_listing.specs.Faults.{check_line}
 use Rattle.sub_listing.specs.Help.{help_text}
-use Rattle.sub_answer.specs.ListenListing.{listen_told, Listens}
+use Rattle.sub_answer.specs.ListenListing.{listen_line, Listens}
 use Rattle.sub_listing.specs.Listing.{Listing, PrintsListing, PrintsOrFails, done, packet_listing}
-use Rattle.sub_listing.specs.Listing.{told_listing}
+use Rattle.sub_listing.specs.Listing.{fault_listing}
 use Rattle.sub_listing.specs.PacketsListing.{ListsPackets}
 use Rattle.sub_listing.specs.SurveyListing.{PrintsSurvey}
-use Rattle.sub_listing.specs.Told.{told_from}
+use Rattle.sub_listing.specs.FaultLine.{counted_from}
 use Rattle.sub_listing.specs.ShowListing.{ListsSubtitles}
 use Rattle.sub_listing.specs.Writing.{EndsWork, Normalizes, PrintsMemory, Schedules}
 use Rattle.sub_request.specs.declared.request.Request.{Request}
@@ -55,7 +55,7 @@ takes_memory _ = false
 -- `first` in its file.
 abbrev pub verdict : ℕ → Result Accepted CheckFault → Listing
 verdict first (Ok a) = done (accepted_line a)
-verdict first (Err f) = told_listing (told_from first (check_told f))
+verdict first (Err f) = fault_listing (counted_from first (check_line f))
 
 -- `check` has one answer, which the bytes of both files decide, and prints it. `first` is the
 -- number that the first PES packet has in its file, where that is told; `Untouched` says that no
@@ -107,7 +107,7 @@ pub record PrintsHeard
       pes.new_count ≢ pes.old_count
       → (f : ListenFault)
       × FailsListening listening pes.told pes.left f
-      × PrintsOrFails out (told_listing (told_from first (listen_told f))) status
+      × PrintsOrFails out (fault_listing (counted_from first (listen_line f))) status
 
 -- `listen` prints that. `first` is the number that the first PES packet has in its file, where that
 -- is told.

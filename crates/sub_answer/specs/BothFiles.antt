@@ -3,7 +3,7 @@ use Rattle.std.specs.Prelude.{◌≡◌, ◌≢◌, ◌↔◌, ℕ, Bool, true, 
 use Rattle.sub_io.specs.Device.{RisesIf, failed}
 use Rattle.sub_io.specs.Reading.{IfTold}
 use Rattle.ttx_pes.specs.declared.fault.PesFault.TheVariants.{Read}
-use Rattle.stl_rows.specs.Fault.{is_read}
+use Rattle.stl_rows.specs.Fault.{is_load_read}
 use Rattle.stl_rows.specs.declared.fault.LoadFault.{LoadFault}
 use Rattle.stl_rows.specs.declared.layout.Drawing.{Drawing}
 use Rattle.sub_plan.specs.Options.{OptionsValue}
@@ -26,7 +26,7 @@ pub record TellsSources
   pub pes_count : RisesIf pes.old_count (failed is_pes_read answer) pes.new_count
   -- That a source failed is told where it did.
   pub stl_read :
-      (f : LoadFault) → answer ≡ Err (Subtitles f) → is_read f ≡ true → FailsAtBlock f.block
+      (f : LoadFault) → answer ≡ Err (Subtitles f) → is_load_read f ≡ true → FailsAtBlock f.block
   pub pes_read : (index : ℕ) → answer ≡ Err (Pes index Read) → FailsAtPes index
   -- Where it refuses the subtitle file or could not read that, no PES byte is read.
   pub before : is_of_subtitles ≡ true → Untouched

@@ -12,8 +12,8 @@ use Rattle.sub_files.specs.declared.opening.Opened.{Opened}
 use Rattle.sub_files.specs.declared.opening.Opened.TheVariants.{Extract, Nothing, ReadBoth}
 use Rattle.sub_files.specs.declared.opening.Opened.TheVariants.{ReadPes, ReadStl, Write}
 use Rattle.sub_listing.specs.DeviceCall.{SinkCall, sink_call}
-use Rattle.sub_listing.specs.Faults.{usage_told}
-use Rattle.sub_listing.specs.Listing.{PrintsOrFails, told_listing}
+use Rattle.sub_listing.specs.Faults.{usage_line}
+use Rattle.sub_listing.specs.Listing.{PrintsOrFails, fault_listing}
 use Rattle.sub_listing.specs.declared.status.Status.{Status}
 use Rattle.sub_listing.specs.declared.status.Status.TheVariants.{Fault}
 use Rattle.sub_answer.specs.Answering.{Answers, InputCall}
@@ -226,5 +226,5 @@ pub record Says (fault : UsageFault) (old new : Lines) (result : Status) : Type 
         old_count = old.count;
         new_count = printed.count;
       })
-      (told_listing (usage_told fault)) Fault
+      (fault_listing (usage_line fault)) Fault
   pub handed_on : HandsOnHeldLines printed Fault new result

@@ -30,11 +30,11 @@ use Rattle.sub_listing.specs.DeviceCall.{SinkCall, SourceCall}
 use Rattle.sub_answer.specs.BothFiles.{TellsSources, TellsStatus}
 use Rattle.sub_answer.specs.FaultListing.{all_listing}
 use Rattle.sub_listing.specs.EventLines.{event_lines, refusals, subtitle_events}
-use Rattle.sub_listing.specs.Faults.{load_told}
+use Rattle.sub_listing.specs.Faults.{load_line}
 use Rattle.sub_listing.specs.FirstPacket.{StartsAt}
 use Rattle.sub_listing.specs.Listing.{PrintsOrFails}
 use Rattle.sub_listing.specs.Printer.{PrinterValue, PrintsEvents}
-use Rattle.sub_listing.specs.Told.{line_of}
+use Rattle.sub_listing.specs.FaultLine.{line_of}
 use Rattle.sub_listing.specs.declared.status.Status.{Status}
 use Rattle.sub_listing.specs.declared.status.Status.TheVariants.{Fault}
 
@@ -129,7 +129,7 @@ PrintsMemoryLast drawing told old new =
     (first : ℕ)
     × (events : List Event)
     × (block : ℕ)
-    × Appends old new (event_lines first events ++ line_of (load_told Memory block))
+    × Appends old new (event_lines first events ++ line_of (load_line Memory block))
     × IfTold told (λ file. AreListedBefore drawing file events block Memory)
 
 -- An answer by what was read of the PES file: all of it, or its source failed at this piece.

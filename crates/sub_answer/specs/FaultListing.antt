@@ -6,9 +6,9 @@ use Rattle.sub_checker.specs.declared.telling.Accepted.{Accepted}
 use Rattle.sub_rules.specs.declared.event.Event.{Event}
 use Rattle.sub_rules.specs.declared.fault.CheckFault.{CheckFault}
 use Rattle.sub_listing.specs.EventLines.{event_lines, most_counted, refusals}
-use Rattle.sub_listing.specs.Faults.{check_told}
-use Rattle.sub_listing.specs.Listing.{Listing, done, followed, told_listing}
-use Rattle.sub_listing.specs.Told.{told_from}
+use Rattle.sub_listing.specs.Faults.{check_line}
+use Rattle.sub_listing.specs.Listing.{Listing, done, followed, fault_listing}
+use Rattle.sub_listing.specs.FaultLine.{counted_from}
 use Rattle.sub_listing.specs.declared.status.Status.TheVariants.{Refused}
 
 -- What is accepted: the frames of the day from the first PES packet's to the last one's, and the
@@ -25,7 +25,7 @@ faults_listing n = record { text = decimal n ++ codes " faults\n"; status = Refu
 -- else how many there were, or where there was none what is accepted. `None` is a refused subtitle
 -- file.
 abbrev pub last_listing : ℕ → ℕ → Result (Option Accepted) CheckFault → Listing
-last_listing first refused (Err f) = told_listing (told_from first (check_told f))
+last_listing first refused (Err f) = fault_listing (counted_from first (check_line f))
 last_listing first refused (Ok None) = faults_listing refused
 last_listing first refused (Ok (Some a)) =
     if refused == 0 then done (accepted_line a) else faults_listing refused

@@ -8,7 +8,7 @@ pub mod Ending
 pub mod FilesInMemory
 pub use Rattle.sub_listing.specs.Lines
 pub use Rattle.sub_listing.specs.StaysPrinted
-pub use Rattle.sub_listing.specs.Told
+pub use Rattle.sub_listing.specs.FaultLine
 pub use Rattle.sub_listing.specs.Faults
 pub use Rattle.sub_listing.specs.Listing
 pub use Rattle.sub_listing.specs.Writing

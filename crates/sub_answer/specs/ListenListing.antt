@@ -8,11 +8,11 @@ use Rattle.sub_rules.specs.Transmission.{Transmission}
 use Rattle.sub_request.specs.declared.listening.Listening.{Listening}
 use Rattle.sub_listen.specs.declared.listening.ListenFault.{ListenFault}
 use Rattle.sub_listing.specs.DisplayLines.{IsSeenWhole, display_text}
-use Rattle.sub_listing.specs.Faults.{check_told}
-use Rattle.sub_listing.specs.Listing.{Listing, done, told_listing}
-use Rattle.sub_listing.specs.Told.{told_as, told_from}
-use Rattle.sub_listing.specs.declared.told.Kind.TheVariants as kind
-use Rattle.sub_listing.specs.declared.told.Told.{Told}
+use Rattle.sub_listing.specs.Faults.{check_line}
+use Rattle.sub_listing.specs.Listing.{Listing, done, fault_listing}
+use Rattle.sub_listing.specs.FaultLine.{line_as, counted_from}
+use Rattle.sub_listing.specs.declared.fault_line.Kind.TheVariants as kind
+use Rattle.sub_listing.specs.declared.fault_line.FaultLine.{FaultLine}
 use Rattle.sub_listen.specs.Fault.{listen_code}
 use Rattle.sub_rules.specs.declared.fault_place.FaultPlace.TheVariants as place
 use Rattle.sub_listen.specs.declared.listening.ListenFault.TheVariants as listen
@@ -29,16 +29,16 @@ tuned_with page = record {
 }
 
 -- A fault of a PES file that is not heard: a lost header is told at its packet.
-abbrev pub listen_told : ListenFault → Told
-listen_told (listen.File f) = check_told f
-listen_told (listen.LostHeader frame packet) =
-    told_as kind.Refused (listen_code (listen.LostHeader frame packet)) (place.Packet frame packet)
+abbrev pub listen_line : ListenFault → FaultLine
+listen_line (listen.File f) = check_line f
+listen_line (listen.LostHeader frame packet) =
+    line_as kind.Refused (listen_code (listen.LostHeader frame packet)) (place.Packet frame packet)
 
 -- What is printed at the end of a run, where the first PES packet that is read has the number
 -- `first` in its file.
 abbrev pub listing_of : ℕ → Bool → Display → Result (Unit {0}) ListenFault → Listing
 listing_of first asks_complete end (Ok _) = done (display_text asks_complete end)
-listing_of first asks_complete end (Err f) = told_listing (told_from first (listen_told f))
+listing_of first asks_complete end (Err f) = fault_listing (counted_from first (listen_line f))
 
 -- What `listen` prints of a file that is read as these frames, of which these bytes were to be read
 -- before and are left after: what a receiver that was tuned with an old page, and leaves this code

@@ -11,10 +11,10 @@ ghost use Rattle.std.specs.Prelude.{◌≡◌, ◌+◌, ◌<◌, false, true};
 ghost use Rattle.sub_answer.specs.Answering.{Answers, HandsOnBefore, WritesBefore, input_call};
 ghost use Rattle.sub_answer.specs.Answering.{takes_memory};
 ghost use Rattle.sub_listing.specs.DeviceCall.{CanFail, CountsFault, sink_call};
-ghost use Rattle.sub_listing.specs.Faults.{usage_told};
+ghost use Rattle.sub_listing.specs.Faults.{usage_line};
 ghost use Rattle.sub_request.specs.Files.{files_of, reads_one, reads_two, writes_one};
 ghost use Rattle.sub_listing.specs.LastLine.{HoldsLastLine};
-ghost use Rattle.sub_listing.specs.Listing.{PrintsOrFails, told_listing};
+ghost use Rattle.sub_listing.specs.Listing.{PrintsOrFails, fault_listing};
 
 use check::print_verdict;
 use check_all::print_every_fault;
@@ -23,8 +23,8 @@ use std::alloc::Global;
 use stl_rows::Drawing;
 use sub_io::{Flush, Sink, Source};
 use sub_listing::{
-    FirstPacket, Status, extract_packets, list_packets, list_subtitles, print_help, print_survey,
-    print_told, show_packet, told_of_usage, write_normal, write_schedule,
+    FirstPacket, Status, extract_packets, line_of_usage, list_packets, list_subtitles,
+    print_fault_line, print_help, print_survey, show_packet, write_normal, write_schedule,
 };
 use sub_request::{Request, UsageFault};
 
@@ -138,9 +138,9 @@ pub fn answer<N: FirstPacket<S>, M: FirstPacket<T>, S: Source, T: Source, F: Flu
 pub fn say<K: Sink>(fault: &UsageFault, out: &mut K) -> Status
     requires { CanFail (K.failure_count out.old) }
     ensures printed { PrintsOrFails (sink_call K.contents K.failure_count out.old out.new)
-        (told_listing (usage_told fault.now)) result }
+        (fault_listing (usage_line fault.now)) result }
     ensures status { result ≡ Status.Fault }
     ensures count { CountsFault K.failure_count out.old result out.new }
 {
-    print_told(&told_of_usage(fault), out)
+    print_fault_line(&line_of_usage(fault), out)
 }

@@ -4,7 +4,7 @@ ghost use Rattle.sub_io.specs.Device.{CanFail, CountsIf, failed};
 ghost use Rattle.sub_io.specs.Reading.{IfTold};
 ghost use Rattle.ttx_pes.specs.Reader.{FailsAtPacket};
 ghost use Rattle.stl_rows.specs.Layout.{drawing_within};
-ghost use Rattle.stl_rows.specs.Fault.{is_read};
+ghost use Rattle.stl_rows.specs.Fault.{is_load_read};
 ghost use Rattle.stl_rows.specs.Loading.{FailsLoading};
 ghost use Rattle.stl_rows.specs.declared.fault.LoadFault.{LoadFault};
 ghost use Rattle.sub_check.specs.CheckedFiles.{AreAccepted, AreAcceptedBy, AreAcceptedWithin};
@@ -64,7 +64,7 @@ pub fn check_files<S: Source, P: Source>(
     // fault comes before it.
     ensures stl_read { (fault : LoadFault)
         → result ≡ Err (CheckFault.Subtitles fault)
-        → is_read fault ≡ true
+        → is_load_read fault ≡ true
         → FailsLoading (drawing_within national layout scope) (S.remaining stl.old)
         (S.remaining stl.new) fault.block }
     // A failed read of the PES file names the PES packet within which it came.

@@ -4,7 +4,7 @@ pub mod EndingLemmas
 pub mod FollowingLemmas
 pub mod HearingLemmas
 pub mod MoreLemmas
-pub mod PassingLemmas
+pub mod RelayLemmas
 pub mod PieceWaysLemmas
 pub mod ReadsOnLemmas
 pub mod StageLemmas

@@ -33,13 +33,13 @@ use Rattle.sub_rules.proofs.PieceFileLemmas.{pieces_at-next, pieces_stop, reads_
 use Rattle.sub_checker.specs.Checker.{CheckerValue}
 use Rattle.sub_checker.specs.Following.{Keeps, last_marks}
 use Rattle.sub_checker.specs.PassedPieces.{as_run}
-use Rattle.sub_checker.specs.Passing.{nothing_passed, passed_on, passing_after}
+use Rattle.sub_checker.specs.Relay.{nothing_relayed, relayed, relay_after}
 use Rattle.sub_checker.specs.PieceTelling.{IsReadOn, TellsPieces, finished}
 use Rattle.sub_checker.specs.Steps.{FinishesTelling}
 use Rattle.sub_checker.specs.Telling.{AreTaken, AreWhole, CountsRead}
-use Rattle.sub_checker.specs.declared.passing.Passing.{Passing}
+use Rattle.sub_checker.specs.declared.relaying.Relay.{Relay}
 use Rattle.sub_checker.specs.declared.telling.Accepted.{Accepted}
-use Rattle.sub_checker.proofs.PassingLemmas.{after-append, after-none, passed-append}
+use Rattle.sub_checker.proofs.RelayLemmas.{after-append, after-none, passed-append}
 use Rattle.sub_checker.proofs.ReadsOnLemmas.{ReadsOn, reads_on_passed, reads_on_sent}
 use Rattle.sub_checker.proofs.TrustLemmas.{told_is}
 use Rattle.ttx_pes.proofs.ReaderLemmas.{answers_say}
@@ -59,26 +59,26 @@ frames_sent g done = joined_after g.within [] (frames_of done)
 
 -- What is kept after the first pieces of a list, and of the last of them that is sent.
 pub record Tracks
-    (g : Task) (done : List Piece) (last : List (List ℕ)) (c : CheckerValue) (p : Passing) : Type 0
+    (g : Task) (done : List Piece) (last : List (List ℕ)) (c : CheckerValue) (p : Relay) : Type 0
   where
     pub keeps : Keeps g (frames_sent g done) last c
-    pub passing_is : p ≡ passing_after nothing_passed (each_marks g done)
+    pub relay_is : p ≡ relay_after nothing_relayed (each_marks g done)
 
 -- Before the first piece nothing is kept.
-pub tracks_none : (g : Task) (last : List (List ℕ)) (c : CheckerValue) (p : Passing)
+pub tracks_none : (g : Task) (last : List (List ℕ)) (c : CheckerValue) (p : Relay)
     → Keeps g [] last c
-    → p ≡ nothing_passed
+    → p ≡ nothing_relayed
     → Tracks g [] last c p
 unfolding marks_of_each frames_of joined_after
 tracks_none g last c p keeps none = record {
   keeps = keeps;
-  passing_is = none ∙ sym (after-none nothing_passed);
+  relay_is = none ∙ sym (after-none nothing_relayed);
 }
 
--- What is told of some pieces is what is passed on of their marks.
+-- What is told of some pieces is what is relayed of their marks.
 some_told : (g : Task) (done : List Piece)
-    → events_of_pieces g done ≡ passed_on nothing_passed (each_marks g done)
-unfolding events_of_pieces passed_on
+    → events_of_pieces g done ≡ relayed nothing_relayed (each_marks g done)
+unfolding events_of_pieces relayed
 some_told g done = ap (all_announced no_run) (told_is (each_marks g done))
 
 -- ---- one piece more
@@ -108,27 +108,27 @@ module _ (g : Task) (done : List Piece) (pes : ℕ) (count : length done ≡ pes
   more_marks p = marks_of_each-append g [] 0 pes done (p ∷ []) (omega (arith, count))
 
   -- All that is told then, and what is kept.
-  pub more_events : (p : Piece) (q : Passing)
-      → q ≡ passing_after nothing_passed (each_marks g done)
+  pub more_events : (p : Piece) (q : Relay)
+      → q ≡ relay_after nothing_relayed (each_marks g done)
       → events_of_pieces g (done ++ p ∷ [])
-      ≡ events_of_pieces g done ++ passed_on q (marks_more p)
+      ≡ events_of_pieces g done ++ relayed q (marks_more p)
   more_events p q is =
       some_told g (done ++ p ∷ [])
-      ∙ ap (passed_on nothing_passed) (more_marks p)
-      ∙ passed-append nothing_passed (each_marks g done) (marks_more p)
-      ∙ ap (λ (r : Passing). passed_on nothing_passed (each_marks g done)
-      ++ passed_on r (marks_more p)) (sym is)
-      ∙ ap (λ (l : List Event). l ++ passed_on q (marks_more p)) (sym (some_told g done))
+      ∙ ap (relayed nothing_relayed) (more_marks p)
+      ∙ passed-append nothing_relayed (each_marks g done) (marks_more p)
+      ∙ ap (λ (r : Relay). relayed nothing_relayed (each_marks g done)
+      ++ relayed r (marks_more p)) (sym is)
+      ∙ ap (λ (l : List Event). l ++ relayed q (marks_more p)) (sym (some_told g done))
 
-  pub more_passing : (p : Piece) (q new : Passing)
-      → q ≡ passing_after nothing_passed (each_marks g done)
-      → new ≡ passing_after q (marks_more p)
-      → new ≡ passing_after nothing_passed (each_marks g (done ++ p ∷ []))
-  more_passing p q new was is =
+  pub more_relay : (p : Piece) (q new : Relay)
+      → q ≡ relay_after nothing_relayed (each_marks g done)
+      → new ≡ relay_after q (marks_more p)
+      → new ≡ relay_after nothing_relayed (each_marks g (done ++ p ∷ []))
+  more_relay p q new was is =
       is
-      ∙ ap (λ (r : Passing). passing_after r (marks_more p)) was
-      ∙ sym (after-append nothing_passed (each_marks g done) (marks_more p))
-      ∙ ap (passing_after nothing_passed) (sym (more_marks p))
+      ∙ ap (λ (r : Relay). relay_after r (marks_more p)) was
+      ∙ sym (after-append nothing_relayed (each_marks g done) (marks_more p))
+      ∙ ap (relay_after nothing_relayed) (sym (more_marks p))
 
   -- What comes of one that is sent, and of one that is passed over.
   pub sent_marks : (s : SentFrame)
@@ -142,27 +142,27 @@ module _ (g : Task) (done : List Piece) (pes : ℕ) (count : length done ≡ pes
   passed_marks u = refl
 
   -- What is kept after one that is sent.
-  tracks_sent : (s : SentFrame) (last : List (List ℕ)) (c : CheckerValue) (q new : Passing)
-      → q ≡ passing_after nothing_passed (each_marks g done)
+  tracks_sent : (s : SentFrame) (last : List (List ℕ)) (c : CheckerValue) (q new : Relay)
+      → q ≡ relay_after nothing_relayed (each_marks g done)
       → Keeps g (sent_after g.within (frames_sent g done) s) last c
-      → new ≡ passing_after q (marks_of_sent g (frames_sent g done) pes s)
+      → new ≡ relay_after q (marks_of_sent g (frames_sent g done) pes s)
       → Tracks g (done ++ Sent s ∷ []) last c new
   tracks_sent s last c q new was keeps is = record {
     keeps = subst (λ (l : Transmission). Keeps g l last c) (sym (sent_more g done s)) keeps;
-    passing_is =
-        more_passing (Sent s) q new was (is ∙ ap (passing_after q) (sym (sent_marks s)));
+    relay_is =
+        more_relay (Sent s) q new was (is ∙ ap (relay_after q) (sym (sent_marks s)));
   }
 
   -- What is kept after one that is passed over.
-  tracks_passed : (u : Unread) (last : List (List ℕ)) (c : CheckerValue) (q new : Passing)
-      → q ≡ passing_after nothing_passed (each_marks g done)
+  tracks_passed : (u : Unread) (last : List (List ℕ)) (c : CheckerValue) (q new : Relay)
+      → q ≡ relay_after nothing_relayed (each_marks g done)
       → Keeps g (frames_sent g done) last c
-      → new ≡ passing_after q (AtPes pes ∷ Says (Told (unread_fault pes (Some u))) ∷ [])
+      → new ≡ relay_after q (AtPes pes ∷ Says (Told (unread_fault pes (Some u))) ∷ [])
       → Tracks g (done ++ Passed u ∷ []) last c new
   tracks_passed u last c q new was keeps is = record {
     keeps = subst (λ (l : Transmission). Keeps g l last c) (sym (passed_more g done u)) keeps;
-    passing_is =
-        more_passing (Passed u) q new was (is ∙ ap (passing_after q) (sym (passed_marks u)));
+    relay_is =
+        more_relay (Passed u) q new was (is ∙ ap (relay_after q) (sym (passed_marks u)));
   }
 
 -- ---- what is told last
@@ -171,37 +171,37 @@ module _ (g : Task) (all : List Piece) where
   abbrev closing : List Mark
   closing = last_marks g (frames_sent g all) (length all)
 
-  -- All that is told is what is passed on of all marks, and up to which piece a run goes.
-  all_told : all_of_pieces g all ≡ finished nothing_passed (each_marks g all ++ closing)
-  unfolding all_of_pieces told_of_pieces passed_on passing_after
+  -- All that is told is what is relayed of all marks, and up to which piece a run goes.
+  all_told : all_of_pieces g all ≡ finished nothing_relayed (each_marks g all ++ closing)
+  unfolding all_of_pieces told_of_pieces relayed relay_after
   all_told =
       ap (λ (es : List Event). all_announced no_run es ++ ended_run (passed_after_all no_run es))
       (told_is (marks_of_pieces g all))
-      ∙ ap (finished nothing_passed)
+      ∙ ap (finished nothing_relayed)
       (append_assoc (each_marks g all) (marks_of_waiting g (frames_sent g all))
       (marks_of_closing g (frames_sent g all) (length all) (length (frames_sent g all))))
 
   -- So it is what is told of the pieces, and what is told last.
   whole : all_of_pieces g all
       ≡ events_of_pieces g all
-      ++ finished (passing_after nothing_passed (each_marks g all)) closing
+      ++ finished (relay_after nothing_relayed (each_marks g all)) closing
   whole =
       let each = each_marks g all in
-      let kept = passing_after nothing_passed each in
+      let kept = relay_after nothing_relayed each in
       all_told
       ∙ ap (λ (l : List Event). l
-      ++ ended_run (as_run (passing_after nothing_passed (each ++ closing)).run))
-      (passed-append nothing_passed each closing)
-      ∙ ap (λ (p : Passing). (passed_on nothing_passed each ++ passed_on kept closing)
-      ++ ended_run (as_run p.run)) (after-append nothing_passed each closing)
-      ∙ append_assoc (passed_on nothing_passed each) _ _
+      ++ ended_run (as_run (relay_after nothing_relayed (each ++ closing)).run))
+      (passed-append nothing_relayed each closing)
+      ∙ ap (λ (p : Relay). (relayed nothing_relayed each ++ relayed kept closing)
+      ++ ended_run (as_run p.run)) (after-append nothing_relayed each closing)
+      ∙ append_assoc (relayed nothing_relayed each) _ _
       ∙ ap (λ (l : List Event). l ++ finished kept closing) (sym (some_told g all))
 
   -- A device that was told what follows the last piece was told the whole, and what was read is
   -- counted; or a part, where it said stop.
   told_end : {D : Type 0} {IsTold : D → Event → D → Type 0} (clock : Clock) (bytes : List ℕ)
-      (a b c : D) (r : Option Accepted) (p : Passing)
-      → p ≡ passing_after nothing_passed (each_marks g all)
+      (a b c : D) (r : Option Accepted) (p : Relay)
+      → p ≡ relay_after nothing_relayed (each_marks g all)
       → Tells IsTold a b (events_of_pieces g all)
       → FinishesTelling IsTold b c (finished p closing) r
       → IfSome r (IsReadOn g clock bytes all)
@@ -221,16 +221,16 @@ pub front_of : (g : Task) (all done more : List Piece)
 front_of g all done more parts =
     let each = each_marks g done in
     let next = marks_of_each g (frames_sent g done) (length done) more in
-    let end = finished (passing_after nothing_passed (each_marks g all)) (closing g all) in (
-      passed_on (passing_after nothing_passed each) next ++ end,
+    let end = finished (relay_after nothing_relayed (each_marks g all)) (closing g all) in (
+      relayed (relay_after nothing_relayed each) next ++ end,
       whole g all
           ∙ ap (λ (l : List Event). l ++ end)
           (some_told g all
-          ∙ ap (passed_on nothing_passed)
+          ∙ ap (relayed nothing_relayed)
           (ap (each_marks g) parts
           ∙ marks_of_each-append g [] 0 (length done) done more (omega arith))
-          ∙ passed-append nothing_passed each next
-          ∙ ap (λ (l : List Event). l ++ passed_on (passing_after nothing_passed each) next)
+          ∙ passed-append nothing_relayed each next
+          ∙ ap (λ (l : List Event). l ++ relayed (relay_after nothing_relayed each) next)
           (sym (some_told g done)))
           ∙ append_assoc (events_of_pieces g done) _ _,
     )
@@ -269,7 +269,7 @@ none_of_pieces g = refl
 
 module _ (judging : JudgedValue) {options : OptionsValue} {bytes : List ℕ}
     {all : List Piece} {unread : Option Unread} {remaining : Option (List ℕ)} {pes : ℕ}
-    {last : List (List ℕ)} {c : CheckerValue} {q : Passing} {done : List Piece}
+    {last : List (List ℕ)} {c : CheckerValue} {q : Relay} {done : List Piece}
     (at : ReadsOn options bytes all unread remaining pes done)
     (tracks : Tracks (task_beside judging options unread) done last c q)
   where
@@ -301,7 +301,7 @@ module _ (judging : JudgedValue) {options : OptionsValue} {bytes : List ℕ}
         → at.ahead ≡ p ∷ more
         → marks_of_each g (frames_sent g done) pes (p ∷ []) ≡ ms
         → Tells IsTold a b (events_of_pieces g done)
-        → TellsPrefix IsTold b d (passed_on q ms)
+        → TellsPrefix IsTold b d (relayed q ms)
         → TellsPrefix IsTold a d (all_of_pieces g all)
     told_stop {D} {IsTold} p more ms a b d first of told part =
         let front = front_of g all (done ++ p ∷ []) more
@@ -309,9 +309,9 @@ module _ (judging : JudgedValue) {options : OptionsValue} {bytes : List ℕ}
         ∙ sym (append_assoc done (p ∷ []) more)) in
         subst (TellsPrefix IsTold a d)
         (sym (front.1 ∙ ap (λ (l : List Event). l ++ front.0)
-        (more_events g done pes at.count p q tracks.passing_is)))
+        (more_events g done pes at.count p q tracks.relay_is)))
         (TellsPrefix-first a d _ _ (TellsPrefix-second a b d _ _ told
-        (subst (λ (l : List Mark). TellsPrefix IsTold b d (passed_on q l)) (sym of) part)))
+        (subst (λ (l : List Mark). TellsPrefix IsTold b d (relayed q l)) (sym of) part)))
 
     module _ (few : pes ≤ most_packets) (last_piece : at.ahead ≡ []) where
       is_all : done ≡ all
@@ -361,8 +361,8 @@ module _ (judging : JudgedValue) {options : OptionsValue} {bytes : List ℕ}
           → TellsPieces g clock bytes all IsTold a d (Ok r)
       told_whole {D} {IsTold} a b d r first second counts =
           told_end g all clock bytes a b d r q
-          (tracks.passing_is
-          ∙ ap (λ (l : List Piece). passing_after nothing_passed (each_marks g l)) is_all)
+          (tracks.relay_is
+          ∙ ap (λ (l : List Piece). relay_after nothing_relayed (each_marks g l)) is_all)
           (subst (λ (l : List Piece). Tells IsTold a b (events_of_pieces g l)) is_all first)
           (subst (λ (l : List Mark). FinishesTelling IsTold b d (finished q l) r) closing_is second)
           (read_some r counts)
@@ -370,7 +370,7 @@ module _ (judging : JudgedValue) {options : OptionsValue} {bytes : List ℕ}
     -- What is read and told with one piece more.
     pub record Steps
         {D : Type 0} (IsTold : D → Event → D → Type 0) (p : Piece) (after : Option (List ℕ))
-        (heard : List (List ℕ)) (d : CheckerValue) (then : Passing) (a b : D)
+        (heard : List (List ℕ)) (d : CheckerValue) (then : Relay) (a b : D)
         : Type 0 where
       pub reads : ReadsOn options bytes all unread after (pes + 1) (done ++ p ∷ [])
       pub kept : Tracks g (done ++ p ∷ []) heard d then
@@ -380,23 +380,23 @@ module _ (judging : JudgedValue) {options : OptionsValue} {bytes : List ℕ}
         (a b d : D)
         → marks_of_each g (frames_sent g done) pes (p ∷ []) ≡ ms
         → Tells IsTold a b (events_of_pieces g done)
-        → Tells IsTold b d (passed_on q ms)
+        → Tells IsTold b d (relayed q ms)
         → Tells IsTold a d (events_of_pieces g (done ++ p ∷ []))
     told_more {D} {IsTold} p ms a b d of first second =
         subst (Tells IsTold a d)
-        (sym (more_events g done pes at.count p q tracks.passing_is))
+        (sym (more_events g done pes at.count p q tracks.relay_is))
         (Tells-trans a b d _ _ first
-        (subst (λ (l : List Mark). Tells IsTold b d (passed_on q l)) (sym of) second))
+        (subst (λ (l : List Mark). Tells IsTold b d (relayed q l)) (sym of) second))
 
     -- One that is passed over. For `tell_pieces`.
     pub step_passed : {D : Type 0} (IsTold : D → Event → D → Type 0) (after : Option (List ℕ))
-        (u : Unread) (f : CheckFault) (then : Passing) (a b d : D)
+        (u : Unread) (f : CheckFault) (then : Relay) (a b d : D)
         → after ≡ Some (behind_piece at.rest)
         → ReadsPiece clock pes at.rest at.ahead unread (Passed u)
         → f ≡ unread_fault pes (Some u)
-        → then ≡ passing_after q (AtPes pes ∷ Says (Told f) ∷ [])
+        → then ≡ relay_after q (AtPes pes ∷ Says (Told f) ∷ [])
         → Tells IsTold a b (events_of_pieces g done)
-        → Tells IsTold b d (passed_on q (AtPes pes ∷ Says (Told f) ∷ []))
+        → Tells IsTold b d (relayed q (AtPes pes ∷ Says (Told f) ∷ []))
         → Steps IsTold (Passed u) after last c then a d
     step_passed {D} IsTold after u f then a b d left next is kept first second =
         let same : AtPes pes ∷ Says (Told f) ∷ []
@@ -405,16 +405,16 @@ module _ (judging : JudgedValue) {options : OptionsValue} {bytes : List ℕ}
         record {
           reads = reads_on_passed options bytes all unread remaining after pes done at left u next;
           kept =
-              tracks_passed g done pes at.count u last c q then tracks.passing_is tracks.keeps
-              (kept ∙ ap (passing_after q) same);
+              tracks_passed g done pes at.count u last c q then tracks.relay_is tracks.keeps
+              (kept ∙ ap (relay_after q) same);
           told =
               told_more (Passed u) _ a b d (passed_marks g done pes at.count u) first
-              (subst (λ (l : List Mark). Tells IsTold b d (passed_on q l)) same second);
+              (subst (λ (l : List Mark). Tells IsTold b d (relayed q l)) same second);
         }
 
     -- One that is sent.
     pub step_sent : {D : Type 0} (IsTold : D → Event → D → Type 0) (after : Option (List ℕ))
-        (v : PesValue) (frame : ℕ) (heard : List (List ℕ)) (e : CheckerValue) (then : Passing)
+        (v : PesValue) (frame : ℕ) (heard : List (List ℕ)) (e : CheckerValue) (then : Relay)
         (a b d : D) (left : after ≡ Some (behind_piece at.rest))
         → ReadsPiece clock pes at.rest at.ahead unread
         (Sent (record { frame = frame; packets = packets_of_units v.units }))
@@ -423,10 +423,10 @@ module _ (judging : JudgedValue) {options : OptionsValue} {bytes : List ℕ}
         → IsPesValue v
         → Keeps g (sent_after g.within (frames_sent g done)
         (record { frame = frame; packets = packets_of_units v.units })) heard e
-        → then ≡ passing_after q (marks_of_sent g (frames_sent g done) pes
+        → then ≡ relay_after q (marks_of_sent g (frames_sent g done) pes
         (record { frame = frame; packets = packets_of_units v.units }))
         → Tells IsTold a b (events_of_pieces g done)
-        → Tells IsTold b d (passed_on q (marks_of_sent g (frames_sent g done) pes
+        → Tells IsTold b d (relayed q (marks_of_sent g (frames_sent g done) pes
         (record { frame = frame; packets = packets_of_units v.units })))
         → Steps IsTold (Sent (record { frame = frame; packets = packets_of_units v.units })) after
         heard e then a d
@@ -436,6 +436,6 @@ module _ (judging : JudgedValue) {options : OptionsValue} {bytes : List ℕ}
         record {
           reads = reads_on_sent options bytes all unread remaining after pes done at left v frame
               next of takes value;
-          kept = tracks_sent g done pes at.count s heard e q then tracks.passing_is keeps kept;
+          kept = tracks_sent g done pes at.count s heard e q then tracks.relay_is keeps kept;
           told = told_more (Sent s) _ a b d (sent_marks g done pes at.count s) first second;
         }

@@ -1,6 +1,6 @@
--- What a stage passes on, in parts: all of one and then of another, `whole_two`, `passes_two`;
+-- What a stage relays, in parts: all of one and then of another, `whole_two`, `relays_two`;
 -- where its device said stop, `stops_one`, `stops_two`; events that it was told, `told_ok`,
--- `told_err`, `told_part`; and that some was passed on, `Moves-trans` and its kin.
+-- `told_err`, `told_part`; and that some was relayed, `Moves-trans` and its kin.
 use Rattle.std.proofs.Common.{◌≡◌, ℕ, ◌<◌, ◌==◌, List, [], ◌∷◌, ◌++◌, Bool, true, false, cond, map}
 use Rattle.std.proofs.lemmas.Bool.Decides.{nat_tests}
 use Rattle.std.proofs.Common.{◌&&◌, arith, not, None, Option, Result, Ok, Err, refl, sym, ap, ◌∙◌}
@@ -14,56 +14,56 @@ use Rattle.sub_rules.specs.Trusted.Mark.{AtEnd, AtPes, Begins, Closes, Ends, Goe
 use Rattle.sub_rules.specs.declared.event.Event.{Event}
 use Rattle.sub_checker.specs.Checker.{CheckerValue, back_marks, goes_back_now}
 use Rattle.sub_checker.specs.Following.{back_stage, quiet_stage}
-use Rattle.sub_checker.specs.Passing.{Moves, PassesMarks, at_mark}
-use Rattle.sub_checker.specs.declared.passing.Passing.{Passing}
-use Rattle.sub_checker.specs.declared.passing.Stage.{Stage}
-use Rattle.sub_checker.proofs.PassingLemmas.{IsPassedOn, IsWhole, after-none, at_end_last}
-use Rattle.sub_checker.proofs.PassingLemmas.{back_last, begins_last, closes_last, ends_last}
-use Rattle.sub_checker.proofs.PassingLemmas.{pass_then, passed-none, passes_last, passes_prefix}
-use Rattle.sub_checker.proofs.PassingLemmas.{passes_some, passes_whole, pes_last, silent}
-use Rattle.sub_checker.proofs.PassingLemmas.{silent_at_end, silent_back, silent_begins, stop_first}
-use Rattle.sub_checker.proofs.PassingLemmas.{stop_then, whole_then}
+use Rattle.sub_checker.specs.Relay.{Moves, RelaysMarks, at_mark}
+use Rattle.sub_checker.specs.declared.relaying.Relay.{Relay}
+use Rattle.sub_checker.specs.declared.relaying.Stage.{Stage}
+use Rattle.sub_checker.proofs.RelayLemmas.{IsRelayed, IsWhole, after-none, at_end_last}
+use Rattle.sub_checker.proofs.RelayLemmas.{back_last, begins_last, closes_last, ends_last}
+use Rattle.sub_checker.proofs.RelayLemmas.{relay_then, passed-none, relays_last, relays_prefix}
+use Rattle.sub_checker.proofs.RelayLemmas.{relays_some, relays_whole, pes_last, silent}
+use Rattle.sub_checker.proofs.RelayLemmas.{silent_at_end, silent_back, silent_begins, stop_first}
+use Rattle.sub_checker.proofs.RelayLemmas.{stop_then, whole_then}
 use Rattle.sub_checker.specs.Trust.{after_mark, told_with}
 
--- ---- parts of what is passed on
+-- ---- parts of what is relayed
 
 module _ {D : Type 0} {IsTold : D → Event → D → Type 0} where
   -- The same by another name.
-  pub passes_same : {X E : Type 0} {a b : D} {p q : Passing} {xs zs : List Mark} {r : Result X E}
+  pub relays_same : {X E : Type 0} {a b : D} {p q : Relay} {xs zs : List Mark} {r : Result X E}
       → zs ≡ xs
-      → PassesMarks IsTold a p xs b q r
-      → PassesMarks IsTold a p zs b q r
-  passes_same is on = rw is on
+      → RelaysMarks IsTold a p xs b q r
+      → RelaysMarks IsTold a p zs b q r
+  relays_same is on = rw is on
 
   -- Where the device did not say stop, all of these.
-  pub whole_ok : {X E : Type 0} {a b : D} {p q : Passing} {xs zs : List Mark} {x : X}
+  pub whole_ok : {X E : Type 0} {a b : D} {p q : Relay} {xs zs : List Mark} {x : X}
       → zs ≡ xs
-      → PassesMarks IsTold a p xs b q (let o : Result X E = Ok x in o)
+      → RelaysMarks IsTold a p xs b q (let o : Result X E = Ok x in o)
       → IsWhole IsTold a p zs b q
   whole_ok is on = rw is (record { told = on.told; kept = on.kept })
 
-  pub ok_whole : {X E : Type 0} {a b : D} {p q : Passing} {xs zs : List Mark} {x : X}
+  pub ok_whole : {X E : Type 0} {a b : D} {p q : Relay} {xs zs : List Mark} {x : X}
       → zs ≡ xs
       → IsWhole IsTold a p xs b q
-      → PassesMarks IsTold a p zs b q (let o : Result X E = Ok x in o)
+      → RelaysMarks IsTold a p zs b q (let o : Result X E = Ok x in o)
   ok_whole is on = rw is (record { told = on.told; kept = on.kept })
 
   -- A result of another type.
-  pub passes_ok : {X E Y F : Type 0} {a b : D} {p q : Passing} {xs zs : List Mark} {x : X} {y : Y}
+  pub relays_ok : {X E Y F : Type 0} {a b : D} {p q : Relay} {xs zs : List Mark} {x : X} {y : Y}
       → zs ≡ xs
-      → PassesMarks IsTold a p xs b q (let o : Result X E = Ok x in o)
-      → PassesMarks IsTold a p zs b q (let o : Result Y F = Ok y in o)
-  passes_ok is on = rw is (record { told = on.told; kept = on.kept })
+      → RelaysMarks IsTold a p xs b q (let o : Result X E = Ok x in o)
+      → RelaysMarks IsTold a p zs b q (let o : Result Y F = Ok y in o)
+  relays_ok is on = rw is (record { told = on.told; kept = on.kept })
 
-  pub passes_err : {X E Y F : Type 0} {a b : D} {p q : Passing} {xs zs : List Mark} {e : E}
+  pub relays_err : {X E Y F : Type 0} {a b : D} {p q : Relay} {xs zs : List Mark} {e : E}
       {f : F}
       → zs ≡ xs
-      → PassesMarks IsTold a p xs b q (let o : Result X E = Err e in o)
-      → PassesMarks IsTold a p zs b q (let o : Result Y F = Err f in o)
-  passes_err is on = rw is (record { told = on.told; kept = tt })
+      → RelaysMarks IsTold a p xs b q (let o : Result X E = Err e in o)
+      → RelaysMarks IsTold a p zs b q (let o : Result Y F = Err f in o)
+  relays_err is on = rw is (record { told = on.told; kept = tt })
 
   -- None.
-  pub whole_none : {a : D} {p : Passing} {zs : List Mark} → zs ≡ [] → IsWhole IsTold a p zs a p
+  pub whole_none : {a : D} {p : Relay} {zs : List Mark} → zs ≡ [] → IsWhole IsTold a p zs a p
   whole_none {a} {p} is =
       rw is (record {
         told = subst (Tells IsTold a a) (sym (passed-none p)) (Tells-none a);
@@ -74,12 +74,12 @@ module _ {D : Type 0} {IsTold : D → Event → D → Type 0} where
   pub whole_mark : {s t : Stage D} {m : Mark} {zs : List Mark}
       → zs ≡ m ∷ []
       → t ≡ at_mark m s
-      → told_with m s.passing.trust ≡ []
-      → IsWhole IsTold s.device.now s.passing zs t.device.now t.passing
+      → told_with m s.relay.trust ≡ []
+      → IsWhole IsTold s.device.now s.relay zs t.device.now t.relay
   whole_mark {s} {t} {m} is at none = rw is (silent IsTold s t m at none)
 
   -- The one part, and then the other.
-  pub whole_two : {a b c : D} {p q s : Passing} {xs ys zs : List Mark}
+  pub whole_two : {a b c : D} {p q s : Relay} {xs ys zs : List Mark}
       → zs ≡ xs ++ ys
       → IsWhole IsTold a p xs b q
       → IsWhole IsTold b q ys c s
@@ -90,22 +90,22 @@ module _ {D : Type 0} {IsTold : D → Event → D → Type 0} where
   pub whole_back : (s t : Stage D) (c : CheckerValue) {zs : List Mark}
       → zs ≡ back_marks c
       → t ≡ back_stage c s
-      → IsWhole IsTold s.device.now s.passing zs t.device.now t.passing
+      → IsWhole IsTold s.device.now s.relay zs t.device.now t.relay
   unfolding back_stage
   whole_back s t c is at = rw is (by (goes_back_now c) at)
     where
       by : (b : Bool) → t ≡ cond b (at_mark (GoesBack c.since) s) s
-          → IsWhole IsTold s.device.now s.passing (cond b (GoesBack c.since ∷ []) [])
-          t.device.now t.passing
+          → IsWhole IsTold s.device.now s.relay (cond b (GoesBack c.since ∷ []) [])
+          t.device.now t.relay
       by true at = whole_mark refl at (silent_back _ _)
       by false at =
-          subst (λ (u : Stage D). IsWhole IsTold s.device.now s.passing [] u.device.now u.passing)
+          subst (λ (u : Stage D). IsWhole IsTold s.device.now s.relay [] u.device.now u.relay)
           (sym at) (whole_none refl)
 
   -- The mark of a frame before it.
   pub whole_begun : (s t : Stage D) (c : CheckerValue)
       → t ≡ back_stage c (at_mark (Begins c.frame) s)
-      → IsWhole IsTold s.device.now s.passing (Begins c.frame ∷ back_marks c) t.device.now t.passing
+      → IsWhole IsTold s.device.now s.relay (Begins c.frame ∷ back_marks c) t.device.now t.relay
   whole_begun s t c at =
       whole_two {xs = Begins c.frame ∷ []} refl
       (whole_mark {s = s} {t = at_mark (Begins c.frame) s} refl refl (silent_begins _ _))
@@ -114,21 +114,21 @@ module _ {D : Type 0} {IsTold : D → Event → D → Type 0} where
   pub whole_quiet : (s t : Stage D) (c : CheckerValue) {zs : List Mark}
       → zs ≡ back_marks c ++ cond (c.within == 0) [] (AtEnd c.frame None false ∷ [])
       → t ≡ quiet_stage c s
-      → IsWhole IsTold s.device.now s.passing zs t.device.now t.passing
+      → IsWhole IsTold s.device.now s.relay zs t.device.now t.relay
   unfolding back_stage
   whole_quiet s t c is at = rw is (by c.beside (c.within == 0) at)
     where
       by : (b z : Bool)
           → t ≡ cond z s (at_mark (AtEnd c.frame None false)
           (cond (b && not z) (at_mark (GoesBack c.since) s) s))
-          → IsWhole IsTold s.device.now s.passing
+          → IsWhole IsTold s.device.now s.relay
           (cond (b && not z) (GoesBack c.since ∷ []) []
-          ++ cond z [] (AtEnd c.frame None false ∷ [])) t.device.now t.passing
+          ++ cond z [] (AtEnd c.frame None false ∷ [])) t.device.now t.relay
       by true true at =
-          subst (λ (u : Stage D). IsWhole IsTold s.device.now s.passing [] u.device.now u.passing)
+          subst (λ (u : Stage D). IsWhole IsTold s.device.now s.relay [] u.device.now u.relay)
           (sym at) (whole_none refl)
       by false true at =
-          subst (λ (u : Stage D). IsWhole IsTold s.device.now s.passing [] u.device.now u.passing)
+          subst (λ (u : Stage D). IsWhole IsTold s.device.now s.relay [] u.device.now u.relay)
           (sym at) (whole_none refl)
       by true false at =
           whole_two {xs = GoesBack c.since ∷ []} refl
@@ -136,29 +136,29 @@ module _ {D : Type 0} {IsTold : D → Event → D → Type 0} where
           (whole_mark refl at (silent_at_end _ _ _ _))
       by false false at = whole_mark refl at (silent_at_end _ _ _ _)
 
-  pub passes_two : {X E : Type 0} {a b c : D} {p q s : Passing} {xs ys zs : List Mark}
+  pub relays_two : {X E : Type 0} {a b c : D} {p q s : Relay} {xs ys zs : List Mark}
       {r : Result X E}
       → zs ≡ xs ++ ys
       → IsWhole IsTold a p xs b q
-      → PassesMarks IsTold b q ys c s r
-      → PassesMarks IsTold a p zs c s r
-  passes_two is first second = rw is (pass_then IsTold _ _ _ _ _ _ _ _ _ first second)
+      → RelaysMarks IsTold b q ys c s r
+      → RelaysMarks IsTold a p zs c s r
+  relays_two is first second = rw is (relay_then IsTold _ _ _ _ _ _ _ _ _ first second)
 
   -- The device said stop in the one part, or in the other.
-  pub stops_one : {X E Y F : Type 0} {a b : D} {p q : Passing} {xs zs : List Mark} {e : E}
+  pub stops_one : {X E Y F : Type 0} {a b : D} {p q : Relay} {xs zs : List Mark} {e : E}
       {f : F} (ys : List Mark)
       → zs ≡ xs ++ ys
-      → PassesMarks IsTold a p xs b q (let o : Result X E = Err e in o)
-      → PassesMarks IsTold a p zs b q (let o : Result Y F = Err f in o)
+      → RelaysMarks IsTold a p xs b q (let o : Result X E = Err e in o)
+      → RelaysMarks IsTold a p zs b q (let o : Result Y F = Err f in o)
   stops_one ys is first =
       rw is (record { told = stop_first IsTold _ _ _ _ ys first.told; kept = tt })
 
-  pub stops_two : {X E Y F : Type 0} {a b c : D} {p q s : Passing} {xs ys zs : List Mark}
+  pub stops_two : {X E Y F : Type 0} {a b c : D} {p q s : Relay} {xs ys zs : List Mark}
       {e : E} {f : F} (rest : List Mark)
       → zs ≡ xs ++ ys ++ rest
       → IsWhole IsTold a p xs b q
-      → PassesMarks IsTold b q ys c s (let o : Result X E = Err e in o)
-      → PassesMarks IsTold a p zs c s (let o : Result Y F = Err f in o)
+      → RelaysMarks IsTold b q ys c s (let o : Result X E = Err e in o)
+      → RelaysMarks IsTold a p zs c s (let o : Result Y F = Err f in o)
   stops_two {xs} {ys} rest is first second =
       rw (is ∙ append_assoc xs ys rest) (record {
         told =
@@ -186,35 +186,35 @@ module _ {D : Type 0} (IsTold : D → Event → D → Type 0) (has_stopped : D �
   pub told_ok : (s t : Stage D) (es : List Event) {zs : List Mark}
       → zs ≡ map Says es
       → has_stopped t.device.now ≡ false
-      → Tells (IsPassedOn IsTold has_stopped) s t es
-      → IsWhole IsTold s.device.now s.passing zs t.device.now t.passing
-  told_ok s t es is fine told = rw is (passes_whole IsTold has_stopped s t es fine told)
+      → Tells (IsRelayed IsTold has_stopped) s t es
+      → IsWhole IsTold s.device.now s.relay zs t.device.now t.relay
+  told_ok s t es is fine told = rw is (relays_whole IsTold has_stopped s t es fine told)
 
   -- A part of them, where the device said stop.
   pub told_err : {X E : Type 0} {e : E} (s t : Stage D) (es : List Event) {zs : List Mark}
       → zs ≡ map Says es
-      → TellsPrefix (IsPassedOn IsTold has_stopped) s t es
-      → PassesMarks IsTold s.device.now s.passing zs t.device.now t.passing
+      → TellsPrefix (IsRelayed IsTold has_stopped) s t es
+      → RelaysMarks IsTold s.device.now s.relay zs t.device.now t.relay
       (let o : Result X E = Err e in o)
   told_err s t es is told =
-      rw is (record { told = passes_prefix IsTold has_stopped s t es told; kept = tt })
+      rw is (record { told = relays_prefix IsTold has_stopped s t es told; kept = tt })
 
   -- And others would have followed.
   pub told_part : {X E : Type 0} {e : E} (s t : Stage D) (es : List Event) (ys : List Mark)
       {zs : List Mark}
       → zs ≡ map Says es ++ ys
-      → TellsPrefix (IsPassedOn IsTold has_stopped) s t es
-      → PassesMarks IsTold s.device.now s.passing zs t.device.now t.passing
+      → TellsPrefix (IsRelayed IsTold has_stopped) s t es
+      → RelaysMarks IsTold s.device.now s.relay zs t.device.now t.relay
       (let o : Result X E = Err e in o)
   told_part s t es ys is told =
       rw is (record {
         told =
-            stop_first IsTold s.device.now t.device.now s.passing (map Says es) ys
-            (passes_prefix IsTold has_stopped s t es told);
+            stop_first IsTold s.device.now t.device.now s.relay (map Says es) ys
+            (relays_prefix IsTold has_stopped s t es told);
         kept = tt;
       })
 
--- ---- that some was passed on
+-- ---- that some was relayed
 
 module _ {D : Type 0} (IsTold : D → Event → D → Type 0) (has_stopped : D → Bool) where
   -- One step, and then another.
@@ -239,27 +239,27 @@ module _ {D : Type 0} (IsTold : D → Event → D → Type 0) (has_stopped : D �
 
   -- Events that the device was told.
   pub Moves-told : (a b : Stage D)
-      → TellsSome (IsPassedOn IsTold has_stopped) a b
+      → TellsSome (IsRelayed IsTold has_stopped) a b
       → Moves IsTold has_stopped a b
   Moves-told a b some =
-      let both = passes_some IsTold has_stopped a b some in
+      let both = relays_some IsTold has_stopped a b some in
       record {
         same = both.0;
         some = both.1;
         in_day = λ still before.
             subst (λ (n : ℕ). n < day)
-            (sym (passes_last IsTold has_stopped a b some still)) before;
+            (sym (relays_last IsTold has_stopped a b some still)) before;
       }
 
   pub Moves-tells : (a b : Stage D) {es : List Event}
-      → Tells (IsPassedOn IsTold has_stopped) a b es
+      → Tells (IsRelayed IsTold has_stopped) a b es
       → Moves IsTold has_stopped a b
   Moves-tells a b {es} told = Moves-told a b (record { items = es; told = told })
 
   -- A mark with which nothing is told.
   mark_moves : (a b : Stage D) (m : Mark)
       → b ≡ at_mark m a
-      → (a.passing.trust.last < day → (after_mark m a.passing.trust).last < day)
+      → (a.relay.trust.last < day → (after_mark m a.relay.trust).last < day)
       → Moves IsTold has_stopped a b
   mark_moves a b m is keeps = rw is (record {
     same = refl;
@@ -359,7 +359,7 @@ module _ {D : Type 0} (IsTold : D → Event → D → Type 0) (has_stopped : D �
   -- The end of the file.
   pub Moves-closes : (a b : Stage D) {X E : Type 0} {x : X} {left more : Bool}
       → b.device.ghost_name ≡ a.device.ghost_name
-      → PassesMarks IsTold a.device.now a.passing (Closes left more ∷ []) b.device.now b.passing
+      → RelaysMarks IsTold a.device.now a.relay (Closes left more ∷ []) b.device.now b.relay
       (let o : Result X E = Ok x in o)
       → Moves IsTold has_stopped a b
   Moves-closes a b {X} {E} {x} {left} {more} same on = record {
@@ -367,5 +367,5 @@ module _ {D : Type 0} (IsTold : D → Event → D → Type 0) (has_stopped : D �
     some = record { items = _; told = on.told };
     in_day = λ fine before.
         subst (λ (n : ℕ). n < day)
-        (sym (ap (λ (q : Passing). q.trust.last) on.kept ∙ closes_last left more a.passing)) before;
+        (sym (ap (λ (q : Relay). q.trust.last) on.kept ∙ closes_last left more a.relay)) before;
   }

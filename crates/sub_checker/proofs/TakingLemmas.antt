@@ -27,13 +27,13 @@ use Rattle.sub_checker.specs.Checker.{AreFew, CheckerValue, HasHeard, after_head
 use Rattle.sub_checker.specs.Following.{Arrives, Follows, Heard, Keeps, StaysOpen, next_marks}
 use Rattle.sub_checker.specs.Following.{back_stage, reaching_marks}
 use Rattle.sub_checker.proofs.EndingLemmas.{back_are}
-use Rattle.sub_checker.specs.Passing.{at_mark}
+use Rattle.sub_checker.specs.Relay.{at_mark}
 use Rattle.sub_checker.specs.declared.counts.Counts.{Counts}
-use Rattle.sub_checker.specs.declared.passing.Stage.{Stage}
-use Rattle.sub_checker.specs.declared.passing.Passing.{Passing}
+use Rattle.sub_checker.specs.declared.relaying.Stage.{Stage}
+use Rattle.sub_checker.specs.declared.relaying.Relay.{Relay}
 use Rattle.sub_checker.proofs.HearingLemmas.{heard_here}
 use Rattle.sub_checker.proofs.MoreLemmas.{opens_more}
-use Rattle.sub_checker.proofs.PassingLemmas.{IsWhole}
+use Rattle.sub_checker.proofs.RelayLemmas.{IsWhole}
 use Rattle.sub_checker.proofs.StageLemmas.{whole_begun, whole_two}
 
 -- ---- what is kept between two PES packets
@@ -217,13 +217,13 @@ pub one_longer : (sent : Transmission) (s : SentFrame)
 one_longer sent s = length-append sent (s ∷ []) ∙ omega arith
 
 -- The way to its frame, and then the mark there. For `take_next`.
-pub arrived : {D : Type 0} {IsTold : D → Event → D → Type 0} {a : D} {p : Passing}
+pub arrived : {D : Type 0} {IsTold : D → Event → D → Type 0} {a : D} {p : Relay}
     (s t : Stage D) (g : Task) (frames : Transmission) (n : ℕ) (last : List (List ℕ))
     (c : CheckerValue)
     → Arrives g frames n last c
-    → IsWhole IsTold a p (reaching_marks g frames n) s.device.now s.passing
+    → IsWhole IsTold a p (reaching_marks g frames n) s.device.now s.relay
     → t ≡ back_stage c (at_mark (Begins c.frame) s)
-    → IsWhole IsTold a p (marks_of_arrival g frames n) t.device.now t.passing
+    → IsWhole IsTold a p (marks_of_arrival g frames n) t.device.now t.relay
 arrived s t g frames n last c arrives reached begins =
     let back =
     back_are g frames n n (frame_at frames n) last c arrives.waits.known arrives.waits.since_is in

@@ -17,8 +17,8 @@ use Rattle.sub_rules.specs.PieceEvents.{marks_of_arrival, marks_of_closing, mark
 use Rattle.sub_rules.specs.PieceEvents.{marks_of_gap, marks_of_packets, marks_of_waiting}
 use Rattle.sub_rules.specs.Trusted.{Mark}
 use Rattle.sub_rules.specs.Trusted.Mark.{AtEnd, GoesBack, Says}
-use Rattle.sub_checker.specs.Passing.{at_mark}
-use Rattle.sub_checker.specs.declared.passing.Stage.{Stage}
+use Rattle.sub_checker.specs.Relay.{at_mark}
+use Rattle.sub_checker.specs.declared.relaying.Stage.{Stage}
 
 -- ---- what is kept
 

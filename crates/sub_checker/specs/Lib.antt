@@ -2,7 +2,7 @@ pub mod Checker
 pub mod Following
 pub mod Lending
 pub mod PassedPieces
-pub mod Passing
+pub mod Relay
 pub mod PieceTelling
 pub mod Steps
 pub mod Telling

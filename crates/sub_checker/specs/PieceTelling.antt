@@ -14,9 +14,9 @@ use Rattle.sub_rules.specs.declared.event.Event.{Event}
 use Rattle.sub_rules.specs.declared.fault.CheckFault.{CheckFault}
 use Rattle.sub_rules.specs.declared.fault.CheckFault.TheVariants as fault
 use Rattle.sub_checker.specs.PassedPieces.{as_run}
-use Rattle.sub_checker.specs.Passing.{passed_on, passing_after}
+use Rattle.sub_checker.specs.Relay.{relayed, relay_after}
 use Rattle.sub_checker.specs.Telling.{AreTaken, AreWhole, CountsRead}
-use Rattle.sub_checker.specs.declared.passing.Passing.{Passing}
+use Rattle.sub_checker.specs.declared.relaying.Relay.{Relay}
 use Rattle.sub_checker.specs.declared.telling.Accepted.{Accepted}
 
 -- The bytes were read as pieces, and what these send is counted: where each is sent, and nothing is
@@ -54,5 +54,5 @@ ending_at pes None = None
 ending_at pes (Some f) = Some (fault_at_pes pes f)
 
 -- What is told with marks, and then up to which piece a run goes.
-abbrev pub finished : Passing → List Mark → List Event
-finished p marks = passed_on p marks ++ ended_run (as_run (passing_after p marks).run)
+abbrev pub finished : Relay → List Mark → List Event
+finished p marks = relayed p marks ++ ended_run (as_run (relay_after p marks).run)

@@ -29,8 +29,8 @@ trusted_before run whole back (Some f) = trusted run whole (unwrap_or back f)
 
 -- A run goes on; else it begins with this frame, where that has a header of the page.
 abbrev pub run_begun : Option ℕ → Bool → ℕ → Option ℕ
-run_begun (Some from) has_header f = Some from
-run_begun None has_header f = if has_header then Some f else None
+run_begun (Some from) has_beginning f = Some from
+run_begun None has_beginning f = if has_beginning then Some f else None
 
 -- What is left of the run where a frame is doubted.
 abbrev pub run_after : Option ℕ → Option ℕ → Option ℕ
@@ -82,8 +82,8 @@ after_mark (AtEnd f since late) t = record t {
   is_late = late;
   whole = if is_some t.run then first_whole t.whole since f else t.whole;
 }
-after_mark (Ends f has_header none) t = record t {
-  run = if t.is_clean && none then run_begun t.run has_header f else None;
+after_mark (Ends f has_beginning none) t = record t {
+  run = if t.is_clean && none then run_begun t.run has_beginning f else None;
   whole = whole_in t.run t.whole t.since f;
 }
 after_mark (Closes are_left more) t = record t { run = None }

@@ -6,10 +6,10 @@ ghost use Rattle.sub_rules.specs.FrameRules.{Task, frame_at};
 ghost use Rattle.sub_rules.specs.PieceEvents.{marks_of_gap};
 ghost use Rattle.sub_rules.specs.Transmission.{Transmission};
 ghost use Rattle.sub_checker.specs.Following.{Arrives, Follows, Waits, reaching_marks};
-ghost use Rattle.sub_checker.specs.Passing.{Moves, StagePasses};
+ghost use Rattle.sub_checker.specs.Relay.{Moves, StageRelays};
 
 use crate::checker::Checker;
-use crate::passing::Stage;
+use crate::relaying::Stage;
 use sub_io::{Audience, Stopped};
 use sub_packets::tell_if;
 use sub_rules::{CheckFault, Event};
@@ -33,7 +33,7 @@ impl<'a> Checker<'a> {
         ensures frame { OnOk result (self.new.frame ≡ frame) }
         ensures told { (g : Task) (frames : Transmission) (n : ℕ) (last : List (List ℕ))
             → Follows g frames n last self.old → frame_at frames n ≡ frame
-            → StagePasses A.is_told stage.old (reaching_marks g frames n) stage.new result
+            → StageRelays A.is_told stage.old (reaching_marks g frames n) stage.new result
             × OnOk result (Arrives g frames n last self.new) }
     {
         if self.counts.frames == 0 {
@@ -57,7 +57,7 @@ impl<'a> Checker<'a> {
         ensures frame { OnOk result (self.new.frame ≡ frame) }
         ensures told { (g : Task) (frames : Transmission) (last : List (List ℕ))
             → Follows g frames 0 last self.old → frame_at frames 0 ≡ frame
-            → StagePasses A.is_told stage.old (reaching_marks g frames 0) stage.new result
+            → StageRelays A.is_told stage.old (reaching_marks g frames 0) stage.new result
             × OnOk result (Arrives g frames 0 last self.new) }
     {
         let is_told = is_early(self.programme.first_in(), frame);
@@ -80,7 +80,7 @@ impl<'a> Checker<'a> {
         ensures frame { OnOk result (self.new.frame ≡ frame) }
         ensures told { (g : Task) (frames : Transmission) (n : ℕ) (last : List (List ℕ))
             → Follows g frames n last self.old → 0 < n → frame_at frames n ≡ frame
-            → StagePasses A.is_told stage.old (reaching_marks g frames n) stage.new result
+            → StageRelays A.is_told stage.old (reaching_marks g frames n) stage.new result
             × OnOk result (Arrives g frames n last self.new) }
     {
         let pes = self.counts.frames;
@@ -106,7 +106,7 @@ impl<'a> Checker<'a> {
         ensures latest { self.new.latest ≡ self.old.latest }
         ensures told { (g : Task) (frames : Transmission) (n : ℕ) (last : List (List ℕ))
             → Follows g frames n last self.old → 0 < n → frame_at frames n ≡ to
-            → StagePasses A.is_told stage.old (marks_of_gap g frames n (gap_length frames n))
+            → StageRelays A.is_told stage.old (marks_of_gap g frames n (gap_length frames n))
             stage.new result
             × OnOk result (Waits g frames n to last self.new) }
     {

@@ -7,7 +7,7 @@ ghost use Rattle.stl_rows.specs.Programme.{IsProgramme};
 ghost use Rattle.sub_plan.specs.Options.{IsOptions};
 
 use crate::counts::Counts;
-use crate::passing::Stage;
+use crate::relaying::Stage;
 use crate::telling::Accepted;
 use crate::undecided::known_from;
 use std::marker::Model;
@@ -85,7 +85,7 @@ impl<'a> Model for Checker<'a> {
 impl<'a> Checker<'a> {
     ghost use Rattle.sub_checker.specs.Checker.{AreFew, at_first, at_frame, at_next, after_headers};
     ghost use Rattle.sub_checker.specs.Following.{Keeps, back_stage};
-    ghost use Rattle.sub_checker.specs.Passing.{at_mark};
+    ghost use Rattle.sub_checker.specs.Relay.{at_mark};
     ghost use Rattle.sub_rules.specs.Trusted.Mark.{Begins};
     ghost use Rattle.sub_checker.specs.Steps.{AreCounted};
 

@@ -8,14 +8,14 @@ ghost use Rattle.sub_rules.specs.PieceEvents.{closing_of_pieces, marks_of_closin
 ghost use Rattle.sub_rules.specs.Transmission.{Transmission};
 ghost use Rattle.sub_rules.specs.Trusted.{tells_none};
 ghost use Rattle.sub_checker.specs.Following.{Follows, Keeps, last_marks};
-ghost use Rattle.sub_checker.specs.Passing.{Moves, StagePasses};
+ghost use Rattle.sub_checker.specs.Relay.{Moves, StageRelays};
 ghost use Rattle.sub_checker.specs.PieceTelling.{ending_at, finished};
 ghost use Rattle.sub_checker.specs.Steps.{FinishesTelling, ending_fault};
 ghost use Rattle.sub_checker.specs.Telling.{CountsRead};
 
 use crate::checker::Checker;
 use crate::closing::tell_fault;
-use crate::passing::{Stage, tell_some};
+use crate::relaying::{Stage, tell_some};
 use crate::telling::Accepted;
 use sub_io::{Audience, Stopped};
 use sub_rules::{CheckFault, Event};
@@ -30,7 +30,7 @@ pub(crate) fn finish<A: Audience<Event>>(
     stage: &mut Stage<'_, A>,
 ) -> Option<Accepted>
     requires goes_on { A.has_stopped stage.old.device.now ≡ false }
-    requires day { stage.old.passing.trust.last < day }
+    requires day { stage.old.relay.trust.last < day }
     ensures same { stage.new.device.ghost_name ≡ stage.old.device.ghost_name }
     ensures stopped { A.has_stopped stage.new.device.now ≡ is_none result }
     ensures some { TellsSome A.is_told stage.old.device.now stage.new.device.now }
@@ -38,7 +38,7 @@ pub(crate) fn finish<A: Audience<Event>>(
         → Keeps g list last checker.old
         → fault ≡ ending_fault pes g.unread
         → FinishesTelling A.is_told stage.old.device.now stage.new.device.now
-        (finished stage.old.passing (last_marks g list pes)) result }
+        (finished stage.old.relay (last_marks g list pes)) result }
     ensures counts { (g : Task) (list : Transmission) (last : List (List ℕ))
         → Keeps g list last checker.old → IfSome result (CountsRead g.watched.page list) }
 {
@@ -58,7 +58,7 @@ fn tell_end<A: Audience<Event>>(
     stage: &mut Stage<'_, A>,
 ) -> Result<(), Stopped>
     requires goes_on { A.has_stopped stage.old.device.now ≡ false }
-    requires day { stage.old.passing.trust.last < day }
+    requires day { stage.old.relay.trust.last < day }
     ensures same { stage.new.device.ghost_name ≡ stage.old.device.ghost_name }
     ensures stopped { A.has_stopped stage.new.device.now ≡ is_err result }
     ensures some { TellsSome A.is_told stage.old.device.now stage.new.device.now }
@@ -66,13 +66,13 @@ fn tell_end<A: Audience<Event>>(
         → Keeps g list last checker.old
         → fault ≡ ending_fault pes g.unread
         → TellsUntilStopped A.is_told stage.old.device.now stage.new.device.now
-        (finished stage.old.passing (last_marks g list pes)) result }
+        (finished stage.old.relay (last_marks g list pes)) result }
 {
     end_and_close(checker, pes, fault, stage)?;
-    tell_some(stage.passing.run.ended(), stage.device)
+    tell_some(stage.relay.run.ended(), stage.device)
 }
 
-// Passes on what is told after so many pieces, where this fault ended reading, if one did.
+// Relays what is told after so many pieces, where this fault ended reading, if one did.
 fn end_and_close<A: Audience<Event>>(
     checker: &mut Checker<'_>,
     pes: u32,
@@ -80,19 +80,19 @@ fn end_and_close<A: Audience<Event>>(
     stage: &mut Stage<'_, A>,
 ) -> Result<(), Stopped>
     requires goes_on { A.has_stopped stage.old.device.now ≡ false }
-    requires day { stage.old.passing.trust.last < day }
+    requires day { stage.old.relay.trust.last < day }
     ensures stopped { A.has_stopped stage.new.device.now ≡ is_err result }
     ensures moves { Moves A.is_told A.has_stopped stage.old stage.new }
     ensures told { (g : Task) (list : Transmission) (last : List (List ℕ))
         → Keeps g list last checker.old
         → fault ≡ ending_fault pes g.unread
-        → StagePasses A.is_told stage.old (last_marks g list pes) stage.new result }
+        → StageRelays A.is_told stage.old (last_marks g list pes) stage.new result }
 {
     checker.end_waiting(stage)?;
     close(checker, pes, fault, stage)
 }
 
-// Passes on what is told after the last end.
+// Relays what is told after the last end.
 fn close<A: Audience<Event>>(
     checker: &Checker<'_>,
     pes: u32,
@@ -100,13 +100,13 @@ fn close<A: Audience<Event>>(
     stage: &mut Stage<'_, A>,
 ) -> Result<(), Stopped>
     requires goes_on { A.has_stopped stage.old.device.now ≡ false }
-    requires day { stage.old.passing.trust.last < day }
+    requires day { stage.old.relay.trust.last < day }
     ensures stopped { A.has_stopped stage.new.device.now ≡ is_err result }
     ensures moves { Moves A.is_told A.has_stopped stage.old stage.new }
     ensures told { (g : Task) (list : Transmission) (last : List (List ℕ))
         → Follows g list (length list) last checker.now
         → fault ≡ ending_fault pes g.unread
-        → StagePasses A.is_told stage.old (marks_of_closing g list pes (length list)) stage.new
+        → StageRelays A.is_told stage.old (marks_of_closing g list pes (length list)) stage.new
         result }
 {
     stage.go_to(pes);

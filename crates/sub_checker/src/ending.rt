@@ -6,7 +6,7 @@ ghost use Rattle.sub_checker.specs.Checker.{after_end, end_marks, quiet_end, sta
 ghost use Rattle.sub_checker.specs.Checker.{AreFew, differs_now, is_overdue_at, late_now};
 ghost use Rattle.sub_checker.specs.Checker.{is_undecided_by, since_now, undecided_now, undue_now};
 ghost use Rattle.sub_checker.specs.Following.{Follows, Heard, Keeps, quiet_stage};
-ghost use Rattle.sub_checker.specs.Passing.{Moves, StagePasses};
+ghost use Rattle.sub_checker.specs.Relay.{Moves, StageRelays};
 ghost use Rattle.sub_packets.specs.Listener.{Knows};
 ghost use Rattle.sub_rules.specs.Events.{nothing_stands, silent_for};
 ghost use Rattle.sub_rules.specs.FrameRules.{Task, packets_of_frame};
@@ -18,7 +18,7 @@ ghost use Rattle.ttx_page.specs.Span.{holds_header};
 
 use crate::checker::Checker;
 use crate::late_end::{is_overdue, unfinished_from};
-use crate::passing::Stage;
+use crate::relaying::Stage;
 use crate::standing::tell_change;
 use sub_io::{Audience, Stopped};
 use sub_packets::tell_if;
@@ -215,7 +215,7 @@ impl<'a> Checker<'a> {
         ensures counts { self.new.counts ≡ self.old.counts }
         ensures latest { self.new.latest ≡ self.old.latest }
         ensures told { (heard : List (List ℕ)) → Knows heard self.old.listener
-            → StagePasses A.is_told stage.old (end_marks heard self.old) stage.new result }
+            → StageRelays A.is_told stage.old (end_marks heard self.old) stage.new result }
         ensures ended { (heard : List (List ℕ)) → Knows heard self.old.listener
             → OnOk result (self.new ≡ after_end heard self.old) }
     {
@@ -237,7 +237,7 @@ impl<'a> Checker<'a> {
         ensures counts { self.new.counts ≡ self.old.counts }
         ensures latest { self.new.latest ≡ self.old.latest }
         ensures told { (heard : List (List ℕ)) → Knows heard self.old.listener
-            → StagePasses A.is_told stage.old (end_marks heard self.old) stage.new result }
+            → StageRelays A.is_told stage.old (end_marks heard self.old) stage.new result }
         ensures ended { (heard : List (List ℕ)) → Knows heard self.old.listener
             → OnOk result (self.new ≡ after_end heard self.old) }
     {
@@ -269,7 +269,7 @@ impl<'a> Checker<'a> {
         ensures latest { self.new.latest ≡ self.old.latest }
         ensures due { self.old.listener.comparison.due ≡ due_in self.old.programme self.old.frame }
         ensures told { (heard : List (List ℕ)) → Knows heard self.old.listener
-            → StagePasses A.is_told stage.old (end_marks heard self.old) stage.new result }
+            → StageRelays A.is_told stage.old (end_marks heard self.old) stage.new result }
         ensures ended { (heard : List (List ℕ)) → Knows heard self.old.listener
             → OnOk result (self.new ≡ after_end heard self.old) }
     {
@@ -291,7 +291,7 @@ impl<'a> Checker<'a> {
         ensures counts { self.new.counts ≡ self.old.counts }
         ensures latest { self.new.latest ≡ self.old.latest }
         ensures told { (heard : List (List ℕ)) → Knows heard self.old.listener
-            → StagePasses A.is_told stage.old (end_marks heard self.old) stage.new result }
+            → StageRelays A.is_told stage.old (end_marks heard self.old) stage.new result }
         ensures ended { (heard : List (List ℕ)) → Knows heard self.old.listener
             → OnOk result (self.new ≡ after_end heard self.old) }
     {
@@ -325,7 +325,7 @@ impl<'a> Checker<'a> {
         ensures told { (g : Task) (frames : Transmission) (n : ℕ) (last : List (List ℕ))
             → Heard g frames n last self.old → n < length frames
             → has_header ≡ holds_header (kind g.watched.page) (packets_of_frame frames n)
-            → StagePasses A.is_told stage.old (marks_of_ending g frames n) stage.new result
+            → StageRelays A.is_told stage.old (marks_of_ending g frames n) stage.new result
             × OnOk result (Follows g frames (suc n) last self.new) }
     {
         let is_told = lacks_first(self.counts.frames, has_header);
@@ -353,7 +353,7 @@ impl<'a> Checker<'a> {
         ensures few { (pes : ℕ) → AreFew pes self.old.counts → AreFew pes self.new.counts }
         ensures told { (g : Task) (sent : Transmission) (last : List (List ℕ))
             → Keeps g sent last self.old
-            → StagePasses A.is_told stage.old (marks_of_waiting g sent) stage.new result
+            → StageRelays A.is_told stage.old (marks_of_waiting g sent) stage.new result
             × OnOk result (Follows g sent (length sent) last self.new) }
     {
         if !self.counts.is_open {
@@ -373,7 +373,7 @@ impl<'a> Checker<'a> {
         ensures few { (pes : ℕ) → AreFew pes self.old.counts → AreFew pes self.new.counts }
         ensures told { (g : Task) (sent : Transmission) (last : List (List ℕ))
             → Keeps g sent last self.old
-            → StagePasses A.is_told stage.old (marks_of_waiting g sent) stage.new result
+            → StageRelays A.is_told stage.old (marks_of_waiting g sent) stage.new result
             × OnOk result (Follows g sent (length sent) last self.new) }
     {
         self.counts.is_open = false;

@@ -19,7 +19,7 @@ mod ending;
 mod late_end;
 mod lending;
 mod passed_run;
-mod passing;
+mod relaying;
 mod standing;
 mod taking;
 mod telling;

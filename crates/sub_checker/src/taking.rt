@@ -15,10 +15,10 @@ ghost use Rattle.sub_rules.specs.Transmission.{Transmission};
 ghost use Rattle.sub_rules.specs.Trusted.Mark.{Says};
 ghost use Rattle.sub_checker.specs.Checker.{AreFew, HasHeard, sent_as, with_headers};
 ghost use Rattle.sub_checker.specs.Following.{Follows, Keeps, next_marks};
-ghost use Rattle.sub_checker.specs.Passing.{Moves, StagePasses};
+ghost use Rattle.sub_checker.specs.Relay.{Moves, StageRelays};
 
 use crate::checker::Checker;
-use crate::passing::Stage;
+use crate::relaying::Stage;
 use sub_io::{Audience, Stopped};
 use sub_rules::{Event, Sending};
 use ttx_pes::SentUnits;
@@ -49,7 +49,7 @@ impl<'a> Checker<'a> {
         ensures told { (g : Task) (sent : Transmission) (last : List (List ℕ))
             → Keeps g sent last self.old
             → (sending.again ≡ true → last ≡ packets_of_units units.now)
-            → StagePasses A.is_told stage.old
+            → StageRelays A.is_told stage.old
             (marks_of_sent g sent pes (sent_as sending units.now)) stage.new result
             × OnOk result (Keeps g (sent_after g.within sent (sent_as sending units.now))
             (packets_of_units units.now) self.new) }
@@ -93,7 +93,7 @@ impl<'a> Checker<'a> {
             → length frames ≡ suc n
             → IsSentFrame frames n sending.frame (packets_of_units units.now)
             → (sending.again ≡ true → last ≡ packets_of_units units.now)
-            → StagePasses A.is_told stage.old (next_marks g frames n) stage.new result
+            → StageRelays A.is_told stage.old (next_marks g frames n) stage.new result
             × OnOk result (Keeps g frames (packets_of_units units.now) self.new) }
     {
         self.reach(sending.frame, stage)?;
@@ -127,7 +127,7 @@ impl<'a> Checker<'a> {
         ensures told { (g : Task) (sent : Transmission) (last : List (List ℕ))
             → Keeps g sent last self.old
             → (again ≡ true → last ≡ packets_of_units units.now)
-            → StagePasses A.is_told stage.old (marks_of_more g sent (packets_of_units units.now))
+            → StageRelays A.is_told stage.old (marks_of_more g sent (packets_of_units units.now))
             stage.new result
             × OnOk result (Keeps g (with_packets (packets_of_units units.now) sent)
             (packets_of_units units.now) self.new) }
@@ -159,7 +159,7 @@ impl<'a> Checker<'a> {
         ensures told { (heard last : List (List ℕ))
             → KnowsLast heard last self.old.listener
             → (again ≡ true → last ≡ packets_of_units units.now)
-            → StagePasses A.is_told stage.old
+            → StageRelays A.is_told stage.old
             (map Says (packets_told self.old.listener.watched self.old.frame from heard
             (packets_of_units units.now) (length (packets_of_units units.now)))) stage.new result
             × IfOk result (λ headers.

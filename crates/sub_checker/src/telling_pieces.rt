@@ -12,13 +12,13 @@ ghost use Rattle.sub_rules.specs.Fault.{is_pes_read};
 ghost use Rattle.sub_rules.specs.FrameRules.{Unread, task_beside};
 ghost use Rattle.sub_rules.specs.Pieces.{FailsAtPiece, Piece, ReadsPieces, frames_of};
 ghost use Rattle.sub_rules.specs.Trusted.Mark.{AtPes, Says};
-ghost use Rattle.sub_checker.specs.Passing.{StagePasses};
+ghost use Rattle.sub_checker.specs.Relay.{StageRelays};
 ghost use Rattle.sub_checker.specs.PieceTelling.{TellsPieces};
 
 use crate::checker::Checker;
 use crate::closing_pieces::finish;
 use crate::lending::next_followed;
-use crate::passing::{Passing, Stage};
+use crate::relaying::{Relay, Stage};
 use crate::telling::{Accepted, is_source_failure};
 use stl_rows::Judging;
 use sub_io::{Audience, LiveAudience, Source, Stopped};
@@ -72,7 +72,7 @@ pub fn tell_pieces<S: Source, A: LiveAudience<Event>>(
     let mut checker = Checker::new(judging, options);
     let mut stage = Stage {
         device: audience,
-        passing: Passing::new(),
+        relay: Relay::new(),
     };
     let mut passed = false;
     let mut pes = 0;
@@ -130,10 +130,10 @@ fn tell_passed<A: Audience<Event>>(
     ensures same { stage.new.device.ghost_name ≡ stage.old.device.ghost_name }
     ensures stopped { A.has_stopped stage.new.device.now ≡ is_err result }
     ensures some { TellsSome A.is_told stage.old.device.now stage.new.device.now }
-    ensures told { StagePasses A.is_told stage.old (AtPes pes ∷ Says (Event.Told fault) ∷ [])
+    ensures told { StageRelays A.is_told stage.old (AtPes pes ∷ Says (Event.Told fault) ∷ [])
         stage.new result }
-    ensures day { OnOk result (stage.new.passing.trust.last ≡ stage.old.passing.trust.last) }
+    ensures day { OnOk result (stage.new.relay.trust.last ≡ stage.old.relay.trust.last) }
 {
     stage.go_to(pes);
-    stage.pass(Event::Told(fault))
+    stage.relay(Event::Told(fault))
 }

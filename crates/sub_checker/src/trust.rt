@@ -102,13 +102,13 @@ impl Trust {
     /// may begin, and whether nothing stands broken.
     #[inline(always)]
     #[tactic(auto, unfolding(crate::specs::Trust::after_mark))]
-    pub fn end_frame(&mut self, frame: u32, has_header: bool, none_stands: bool)
-        ensures { self.new ≡ after_mark (Ends frame has_header none_stands) self.old }
+    pub fn end_frame(&mut self, frame: u32, has_beginning: bool, none_stands: bool)
+        ensures { self.new ≡ after_mark (Ends frame has_beginning none_stands) self.old }
     {
         if self.stays_whole() && none_stands {
             return;
         }
-        self.end_another(frame, has_header, none_stands);
+        self.end_another(frame, has_beginning, none_stands);
     }
 
     // Whether a run goes on in which the page was whole, and no packet of this frame broke a rule
@@ -124,14 +124,14 @@ impl Trust {
     // The end of a frame after which other than before may be kept.
     #[inline(never)]
     #[tactic(auto, unfolding(crate::specs::Trust::after_mark))]
-    fn end_another(&mut self, frame: u32, has_header: bool, none_stands: bool)
-        ensures { self.new ≡ after_mark (Ends frame has_header none_stands) self.old }
+    fn end_another(&mut self, frame: u32, has_beginning: bool, none_stands: bool)
+        ensures { self.new ≡ after_mark (Ends frame has_beginning none_stands) self.old }
     {
         let before = if self.run.is_some() { self.whole } else { None };
         self.whole = first_whole(before, self.since, frame);
         if !(self.is_clean && none_stands) {
             self.run = None;
-        } else if has_header && self.run.is_none() {
+        } else if has_beginning && self.run.is_none() {
             self.run = Some(frame);
         }
     }

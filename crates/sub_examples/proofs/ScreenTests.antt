@@ -177,7 +177,7 @@ example_of_no_end = record {
               to = le_refl 900000;
               in_frame = none;
             };
-        marked = ((λ e. absurd (true≢false e)), tt);
+        headers = ((λ e. absurd (true≢false e)), tt);
         near = AreNear-themselves sent;
       })
       (open_with None, (opens (unheard None).held, first_header), refl) holds in

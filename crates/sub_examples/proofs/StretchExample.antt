@@ -69,7 +69,7 @@ example_of_clean_stretch = record {
       trusted.recovers Storing 900001 0 900001 (all_kept sent) got old new
       (record {
         listening = listening damaged_first 900001 900002 900001 0 900001 refl;
-        marked = may_all sent;
+        headers = may_all sent;
         near = near;
       }) hears in
       elim (served.cells refl 22 19 (omega arith, omega arith, omega arith)) [

@@ -38,7 +38,7 @@ use Rattle.sub_rules.specs.Kept.{HasSubtitleBits, IsControlledBy, IsRepeat}
 use Rattle.sub_rules.specs.PacketRules.{AreClean, KeepsAllRules, KeepsRule, codes_of, first_header}
 use Rattle.sub_rules.specs.PacketTests.{are_code_words, breaks, is_of_header, is_of_enhancement}
 use Rattle.sub_rules.specs.PacketTests.{is_other_mode, is_other_row, is_other_text}
-use Rattle.sub_rules.specs.PacketTests.{first_of_row, has_subtitle_bits, is_repeat}
+use Rattle.sub_rules.specs.PacketTests.{first_of_row, has_subtitle_bits, repeats_page}
 use Rattle.sub_rules.specs.PacketTests.{is_same_subcode, is_subtitle_header, is_wrong_header}
 use Rattle.sub_rules.specs.PacketTests.{may_come}
 use Rattle.sub_rules.specs.declared.packet_rule.PacketRule.{PacketRule}
@@ -96,7 +96,7 @@ shut_where asks opened = grind (arith, nat_tests, true≢false)
 
 -- A header of the page that repeats it.
 repeat_decided : (complete : Bool) (page : PageIdValue) (before : List (List ℕ)) (h : Header)
-    → Decides (is_repeat complete page before h) (IsRepeat complete page before h)
+    → Decides (repeats_page complete page before h) (IsRepeat complete page before h)
 repeat_decided complete page before h = grind (arith, nat_tests, same_subcode, shut_where)
 
 -- It erases the page or, where repeats may keep, repeats it.
@@ -113,7 +113,7 @@ subtitle_header : (w : Watched) (before : List (List ℕ)) (h : Header)
     × HasSubtitleBits w.national h)
 subtitle_header w before h =
     Decides-and (may_come w before h) (has_subtitle_bits w.national h)
-    (may_come_by w.keeps (c4 h) (is_repeat w.complete w.page before h)
+    (may_come_by w.keeps (c4 h) (repeats_page w.complete w.page before h)
     (IsRepeat w.complete w.page before h) (repeat_decided w.complete w.page before h))
     (subtitle_bits w.national h)
 

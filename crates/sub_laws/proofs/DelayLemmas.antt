@@ -75,10 +75,11 @@ module _ (keeps anew : Bool) (class : ReceiverClass) (programme : ProgrammeValue
   -- Receivers that may forget recover in it.
   pub recovers_forgetting :
       RecoversForgetting keeps anew class programme transmission options a b
-  recovers_forgetting g j f marks got old new is hears =
+  recovers_forgetting g j f arrived got old new is hears =
       let low = le_trans is.listening.from is.listening.in_order in
       let ends =
-      forgetting keeps transmission options a b stretch g j f marks got is anew class old new hears
+      forgetting keeps transmission options a b stretch g j f arrived got is anew class old new
+      hears
       in
       record {
         in_time = window keeps transmission options a b stretch g j f is.listening;
@@ -119,16 +120,16 @@ module _ (keeps anew : Bool) (class : ReceiverClass) (programme : ProgrammeValue
 
   -- What is due is on their screens where each cell is right and the page has ended.
   pub shown_forgetting : ShownForgetting keeps anew class programme transmission options a b
-  shown_forgetting g j f marks got old new is run holds fresh whole shut =
+  shown_forgetting g j f arrived got old new is run holds fresh whole shut =
       let held =
-      recovers_forgetting g j f marks got old.held new.held is
+      recovers_forgetting g j f arrived got old.held new.held is
       (screens.held_forgetting class anew options.page got old new run) in
       let closed = ended keeps transmission options a b stretch g j f is.listening shut holds in
       let open_is = held.is_open in
       let shut_now : new.held.is_open ≡ false = grind (arith, nat_tests) in (
         new.held.page,
         screens.law_of_forgetting_screen class anew options.page got old new run
-            (got_as keeps transmission options a b stretch g j f marks got is ∙ holds) shut_now,
+            (got_as keeps transmission options a b stretch g j f arrived got is ∙ holds) shut_now,
         held.cells holds fresh whole,
       )
 
@@ -167,11 +168,11 @@ module _ (programme : ProgrammeValue) (transmission : Transmission) (options : O
 
   -- Receivers recover in it.
   pub recovers_with_delay : RecoversWithDelay class programme transmission options a b
-  recovers_with_delay g j f marks got old new is hears =
+  recovers_with_delay g j f arrived got old new is hears =
       let sent : List (List ℕ) = on_air transmission g j f in
       let served =
       recovers_forgetting false false class programme transmission options a b
-      (repeated transmission options a b stretch) kept_codes g j f marks got old new is
+      (repeated transmission options a b stretch) kept_codes g j f arrived got old new is
       (law_of_forgetting class options.page got old new hears) in
       let open_is = served.is_open in
       record {
@@ -184,9 +185,9 @@ module _ (programme : ProgrammeValue) (transmission : Transmission) (options : O
 
   -- What is due is on their screens where it is shown and has ended.
   pub shown_with_delay : ShownWithDelay class programme transmission options a b
-  shown_with_delay g j f marks got old new is run holds shows shut =
+  shown_with_delay g j f arrived got old new is run holds shows shut =
       shown_forgetting false false class programme transmission options a b
-      (repeated transmission options a b stretch) kept_codes g j f marks got old new is
+      (repeated transmission options a b stretch) kept_codes g j f arrived got old new is
       (screens.shows_forgetting class options.page got old new run) holds
       (fresh_at (on_air transmission g j f) old.held holds) (whole_shown f shows) shut
 
@@ -221,12 +222,12 @@ served_later h1 h2 = grind (arith, nat_tests)
 -- Where each frame of a stretch shows the page that is due, the delay makes no difference.
 pub law_of_finished_stretch : LawOfFinishedStretch
 law_of_finished_stretch class programme transmission options a b first shows = (
-  λ recovers g j f marks got old new is hears.
-      served_at_once (recovers g j f marks got old new is hears)
+  λ recovers g j f arrived got old new is hears.
+      served_at_once (recovers g j f arrived got old new is hears)
       (shows f (le_trans is.listening.from is.listening.in_order) is.listening.to),
-  λ recovers g j f marks got old new is hears.
+  λ recovers g j f arrived got old new is hears.
       served_later (le_trans first (le_trans is.listening.from is.listening.in_order))
-      (recovers g j f marks got old new is hears),
+      (recovers g j f arrived got old new is hears),
 )
 
 -- Complete pages are ended at the end of each frame.
@@ -266,8 +267,8 @@ finished_at_once programme transmission options a b none again f low high =
 -- So what may be trusted within no frame may be trusted.
 pub law_of_trust_without_delay : LawOfTrustWithoutDelay
 law_of_trust_without_delay programme transmission options a b none trusted = record {
-  recovers = λ class g j f marks got old new is hears.
-      served_at_once (trusted.recovers class g j f marks got old new is hears)
+  recovers = λ class g j f arrived got old new is hears.
+      served_at_once (trusted.recovers class g j f arrived got old new is hears)
       (shows f (le_trans is.listening.from is.listening.in_order) is.listening.to);
   shown = λ complete class.
       shown_at_once class programme transmission options a b shows (trusted.shown class) complete;

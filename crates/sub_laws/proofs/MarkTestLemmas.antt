@@ -75,7 +75,7 @@ module _ (test : Mark → Bool) where
     pub begins : (f : ℕ) → test (Begins f) ≡ false
     pub at_end : (f : ℕ) (since : Option ℕ) (late : Bool) → test (AtEnd f since late) ≡ false
     pub at_back : (since : Option ℕ) → test (GoesBack since) ≡ false
-    pub ends : (f : ℕ) (has_header none : Bool) → test (Ends f has_header none) ≡ false
+    pub ends : (f : ℕ) (has_beginning none : Bool) → test (Ends f has_beginning none) ≡ false
     pub of_end :
         (old : Standing) (before : ℕ) (new : Standing) (f : ℕ)
         → list_any on (end_events old before new f) ≡ false

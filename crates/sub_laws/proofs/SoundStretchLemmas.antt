@@ -15,7 +15,7 @@ use Rattle.ttx_packet.specs.PageHeader.{HasExactWords}
 use Rattle.ttx_packet.specs.PageId.{PageIdValue}
 use Rattle.ttx_page.specs.declared.packet_kind.PacketKind.{PacketKind}
 use Rattle.ttx_page.specs.DroppedRows.{ExcusedBy}
-use Rattle.ttx_page.specs.LostRows.{IsHitOrLost, MayBeMarked, arrivals_of}
+use Rattle.ttx_page.specs.LostRows.{IsHitOrLost, LosesNoHeader, arrivals_of}
 use Rattle.ttx_page.specs.PacketKind.{kind}
 use Rattle.ttx_page.specs.Receiver.{ReceiverClass, State}
 use Rattle.ttx_page.specs.Repeats.{EndsForgetting, HearsForgetting, SendsText}
@@ -181,31 +181,31 @@ module _ (keeps : Bool) (transmission : Transmission) (options : OptionsValue) (
 
 -- It got one exactly where one was sent.
 holds-got :
-    (w : PageIdValue) (sent : List (List ℕ)) (marks : List Bool) (got : List (List ℕ))
+    (w : PageIdValue) (sent : List (List ℕ)) (arrived : List Bool) (got : List (List ℕ))
     → AllByRecursion HasExactWords sent
-    → AllZip MayBeMarked sent marks
-    → AllZip AreNear (items_where_true marks sent) got
+    → AllZip LosesNoHeader sent arrived
+    → AllZip AreNear (items_where_true arrived sent) got
     → holds_header (kind w) got ≡ holds_header (kind w) sent
 holds-got w [] [] [] exact may near = refl
 holds-got w [] [] (g ∷ got) exact may near = grind arith
-holds-got w [] (m ∷ marks) got exact may near = grind arith
-holds-got w (p ∷ ps) marks got exact may near =
+holds-got w [] (m ∷ arrived) got exact may near = grind arith
+holds-got w (p ∷ ps) arrived got exact may near =
     grind (arith, nat_tests, lost_is_no_header, kind-near, holds-got w ps)
 
 -- What is got there of what is sent.
 module _ (keeps : Bool) (transmission : Transmission) (options : OptionsValue) (a b : ℕ)
     (stretch : IsRepeatedStretch keeps transmission options a b)
-    (g j f : ℕ) (marks : List Bool) (got : List (List ℕ))
-    (is : IsGot transmission a b g j f marks got) where
+    (g j f : ℕ) (arrived : List Bool) (got : List (List ℕ))
+    (is : IsGot transmission a b g j f arrived got) where
   -- It holds a header of the page where one was sent.
   pub got_as :
       holds_header (kind options.page) got
       ≡ holds_header (kind options.page) (on_air transmission g j f)
   got_as =
-      holds-got options.page (on_air transmission g j f) marks got
+      holds-got options.page (on_air transmission g j f) arrived got
       (recursion_from_All HasExactWords (on_air transmission g j f)
       (heard_text keeps transmission options a b stretch g j f is.listening).exact)
-      is.marked is.near
+      is.headers is.near
 
   -- By the law of repeats.
   pub forgetting :
@@ -214,8 +214,9 @@ module _ (keeps : Bool) (transmission : Transmission) (options : OptionsValue) (
       → EndsForgetting keeps anew options.page (on_air transmission g j f)
       (kept keeps options.page (on_air_until transmission f))
       (ExcusedBy class
-      (IsHitOrLost options.page (on_air transmission g j f) (arrivals_of marks got)))
+      (IsHitOrLost options.page (on_air transmission g j f) (arrivals_of arrived got)))
       old new
   forgetting anew class old new hears =
-      law_of_repeats keeps anew class options.page (on_air transmission g j f) marks got _ old new
-      (heard_text keeps transmission options a b stretch g j f is.listening) is.marked is.near hears
+      law_of_repeats keeps anew class options.page (on_air transmission g j f) arrived got _ old new
+      (heard_text keeps transmission options a b stretch g j f is.listening) is.headers is.near
+      hears

@@ -21,7 +21,7 @@ use Rattle.sub_rules.specs.Transmission.{Transmission, first_frame, last_frame, 
 use Rattle.sub_laws.specs.Delay.{IsServedWithDelay, RecoversWithDelay, RobustWithDelay}
 use Rattle.sub_laws.specs.DelayLaws.{LawOfWholeStretchWithDelay}
 use Rattle.sub_laws.specs.Laws.{LawOfAllKept}
-use Rattle.sub_laws.specs.LostRows.{IsGot, IsRobustWithMarks, RobustToMarkedLoss}
+use Rattle.sub_laws.specs.LostRows.{IsGot, IsRobustWithLosses, RobustToAnyLoss}
 use Rattle.sub_laws.specs.Recovery.{RecoversWithin}
 use Rattle.sub_laws.specs.Robust.{IsListening, IsServed, Robust}
 use Rattle.sub_laws.specs.Stretch.{LawOfWholeRecovery, LawOfWholeStretch}
@@ -84,20 +84,20 @@ got_whole w transmission a b g j f got listening near =
     law_of_nothing_lost w sent (all_kept sent) (all_true sent) (may_all sent) in (
       record {
         listening = listening;
-        marked = may_all sent;
+        headers = may_all sent;
         near = subst (λ ps. AllZip AreNear ps got) (sym nothing.kept) near;
       },
       λ row column hit. (nothing.hits got near row column).0 hit,
     )
 
--- With all packets kept, robust by marks is robust.
+-- With all packets kept, robust by arrived is robust.
 pub law_of_all_kept : LawOfAllKept
 law_of_all_kept programme transmission options = (robust, kept)
   where
     robust :
-        ((marks : List Bool)
-        → All IsTrue marks
-        → IsRobustWithMarks programme transmission options marks)
+        ((arrived : List Bool)
+        → All IsTrue arrived
+        → IsRobustWithLosses programme transmission options arrived)
         → Robust programme transmission options
     robust with_all g j f got old new listening near unheard shut hears =
         let sent : List (List ℕ) = on_air transmission g j f in
@@ -107,12 +107,12 @@ law_of_all_kept programme transmission options = (robust, kept)
 
     kept :
         Robust programme transmission options
-        → (marks : List Bool)
-        → All IsTrue marks
-        → IsRobustWithMarks programme transmission options marks
-    kept robust marks all g j f got old new is unheard shut hears =
+        → (arrived : List Bool)
+        → All IsTrue arrived
+        → IsRobustWithLosses programme transmission options arrived
+    kept robust arrived all g j f got old new is unheard shut hears =
         let sent : List (List ℕ) = on_air transmission g j f in
-        let nothing = law_of_nothing_lost options.page sent marks all is.marked in
+        let nothing = law_of_nothing_lost options.page sent arrived all is.headers in
         let near_sent : AllZip AreNear sent got =
         subst (λ ps. AllZip AreNear ps got) nothing.kept is.near in
         served_as (λ row column hit. (nothing.hits got near_sent row column).1 hit)
@@ -125,14 +125,14 @@ module _ (programme : ProgrammeValue) (transmission : Transmission) (options : O
     RecoversWithin Storing programme transmission options (first_frame transmission)
     (last_frame transmission)) where
   -- Where receivers recover in all frames, the transmission is robust to lost rows.
-  to_loss : RobustToMarkedLoss programme transmission options
-  to_loss marks g j f got old new is unheard shut hears =
-      recovers g j f marks got old new is hears
+  to_loss : RobustToAnyLoss programme transmission options
+  to_loss arrived g j f got old new is unheard shut hears =
+      recovers g j f arrived got old new is hears
 
   -- So the transmission is robust. Also for the examples.
   pub robust_of_recovers : Robust programme transmission options
   robust_of_recovers =
-      (law_of_all_kept programme transmission options).0 (λ marks all. to_loss marks)
+      (law_of_all_kept programme transmission options).0 (λ arrived all. to_loss arrived)
 
 -- Recovery in all frames is enough for the headline.
 pub law_of_whole_recovery : LawOfWholeRecovery
@@ -174,7 +174,7 @@ robust_with_delay programme transmission options recovers g j f got old new list
 pub law_of_whole_stretch_with_delay : LawOfWholeStretchWithDelay
 law_of_whole_stretch_with_delay programme transmission options trusted = record {
   robust = robust_with_delay programme transmission options (trusted.recovers Storing);
-  to_loss = λ g j f marks got old new is unheard shut hears.
-      trusted.recovers Storing g j f marks got old new is hears;
+  to_loss = λ g j f arrived got old new is unheard shut hears.
+      trusted.recovers Storing g j f arrived got old new is hears;
   trusted = trusted;
 }

@@ -126,7 +126,7 @@ module _ (g : Task) where
         begins = λ f. refl;
         at_end = λ f since late. refl;
         at_back = λ since. refl;
-        ends = λ f has_header none. refl;
+        ends = λ f has_beginning none. refl;
         of_end = λ old before new f. none_closes (end_events old before new f);
         of_rule = λ r frame k. refl;
         of_order = λ frames k. none_closes (order_events g frames k);

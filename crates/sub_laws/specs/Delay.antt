@@ -54,11 +54,12 @@ pub record IsServedWithDelay
 abbrev pub RecoversWithDelay :
     ReceiverClass → ProgrammeValue → Transmission → OptionsValue → ℕ → ℕ → Type 0
 RecoversWithDelay class programme transmission options a b =
-    (g j f : ℕ) (marks : List Bool) (got : List (List ℕ)) (old new : State)
-    → IsGot transmission a b g j f marks got
+    (g j f : ℕ) (arrived : List Bool) (got : List (List ℕ)) (old new : State)
+    → IsGot transmission a b g j f arrived got
     → HearsBy class options.page old got new
     → IsServedWithDelay programme transmission options g f (on_air transmission g j f)
-    (ExcusedBy class (IsHitOrLost options.page (on_air transmission g j f) (arrivals_of marks got)))
+    (ExcusedBy class
+    (IsHitOrLost options.page (on_air transmission g j f) (arrivals_of arrived got)))
     old new
 
 -- The frames from a to b are shown by receivers of the class, as in `ShownWithin`, at the end of
@@ -67,8 +68,8 @@ RecoversWithDelay class programme transmission options a b =
 abbrev pub ShownWithDelay :
     ReceiverClass → ProgrammeValue → Transmission → OptionsValue → ℕ → ℕ → Type 0
 ShownWithDelay class programme transmission options a b =
-    (g j f : ℕ) (marks : List Bool) (got : List (List ℕ)) (old new : Display)
-    → IsGot transmission a b g j f marks got
+    (g j f : ℕ) (arrived : List Bool) (got : List (List ℕ)) (old new : Display)
+    → IsGot transmission a b g j f arrived got
     → ShowsBy class options.page old got new
     → IsTrue (holds_header (kind options.page) (on_air transmission g j f))
     → ShowsDuePage programme options.page transmission f
@@ -76,7 +77,8 @@ ShownWithDelay class programme transmission options a b =
     → (page : Rows)
     × (new.screen ≡ Some page)
     × HoldsDuePage programme f
-    (ExcusedBy class (IsHitOrLost options.page (on_air transmission g j f) (arrivals_of marks got)))
+    (ExcusedBy class
+    (IsHitOrLost options.page (on_air transmission g j f) (arrivals_of arrived got)))
     page
 
 -- ---- frames that follow one another
@@ -131,16 +133,16 @@ RobustWithDelay programme transmission options =
     → IsServedWithDelay programme transmission options g f (on_air transmission g j f)
     (IsHit options.page (on_air transmission g j f) got) old new
 
--- It is robust to lost rows: as in `RobustToMarkedLoss`.
+-- It is robust to lost rows: as in `RobustToAnyLoss`.
 abbrev pub RobustToLossWithDelay : ProgrammeValue → Transmission → OptionsValue → Type 0
 RobustToLossWithDelay programme transmission options =
-    (g j f : ℕ) (marks : List Bool) (got : List (List ℕ)) (old new : State)
-    → IsGot transmission (first_frame transmission) (last_frame transmission) g j f marks got
+    (g j f : ℕ) (arrived : List Bool) (got : List (List ℕ)) (old new : State)
+    → IsGot transmission (first_frame transmission) (last_frame transmission) g j f arrived got
     → IsFalse old.heard
     → IsFalse old.is_open
     → Hears options.page old got new
     → IsServedWithDelay programme transmission options g f (on_air transmission g j f)
-    (IsHitOrLost options.page (on_air transmission g j f) (arrivals_of marks got)) old new
+    (IsHitOrLost options.page (on_air transmission g j f) (arrivals_of arrived got)) old new
 
 -- What is promised of a whole transmission that may be late.
 pub record HasPromisesWithDelay

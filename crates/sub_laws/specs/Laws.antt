@@ -7,7 +7,7 @@ use Rattle.sub_plan.specs.Options.{OptionsValue}
 use Rattle.sub_rules.specs.Transmission.{Transmission, first_frame, last_frame, on_air}
 use Rattle.sub_rules.specs.Good.{Good}
 use Rattle.sub_laws.specs.Robust.{IsListening, Robust}
-use Rattle.sub_laws.specs.LostRows.{IsRobustWithMarks}
+use Rattle.sub_laws.specs.LostRows.{IsRobustWithLosses}
 use Rattle.sub_laws.specs.Stretch.{HasPromises}
 
 -- The law of the window: a start at any packet of a good transmission meets a header of the page by
@@ -35,7 +35,7 @@ LawOfGood =
 abbrev pub LawOfAllKept : Type 0
 LawOfAllKept =
     (programme : ProgrammeValue) (transmission : Transmission) (options : OptionsValue)
-    → ((marks : List Bool)
-    → All IsTrue marks
-    → IsRobustWithMarks programme transmission options marks)
+    → ((arrived : List Bool)
+    → All IsTrue arrived
+    → IsRobustWithLosses programme transmission options arrived)
     ↔ Robust programme transmission options

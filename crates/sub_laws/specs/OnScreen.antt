@@ -39,14 +39,15 @@ Complete transmission options =
 abbrev pub ShownWithin :
     ReceiverClass → ProgrammeValue → Transmission → OptionsValue → ℕ → ℕ → Type 0
 ShownWithin class programme transmission options a b =
-    (g j f : ℕ) (marks : List Bool) (got : List (List ℕ)) (old new : Display)
-    → IsGot transmission a b g j f marks got
+    (g j f : ℕ) (arrived : List Bool) (got : List (List ℕ)) (old new : Display)
+    → IsGot transmission a b g j f arrived got
     → ShowsBy class options.page old got new
     → IsTrue (holds_header (kind options.page) (on_air transmission g j f))
     → (page : Rows)
     × (new.screen ≡ Some page)
     × HoldsDuePage programme f
-    (ExcusedBy class (IsHitOrLost options.page (on_air transmission g j f) (arrivals_of marks got)))
+    (ExcusedBy class
+    (IsHitOrLost options.page (on_air transmission g j f) (arrivals_of arrived got)))
     page
 
 -- The schedule of a programme that has a subtitle is one of complete pages, in both modes.

@@ -17,9 +17,10 @@ use Rattle.sub_rules.specs.Transmission.{Transmission, on_air}
 abbrev pub RecoversWithin :
     ReceiverClass → ProgrammeValue → Transmission → OptionsValue → ℕ → ℕ → Type 0
 RecoversWithin class programme transmission options a b =
-    (g j f : ℕ) (marks : List Bool) (got : List (List ℕ)) (old new : State)
-    → IsGot transmission a b g j f marks got
+    (g j f : ℕ) (arrived : List Bool) (got : List (List ℕ)) (old new : State)
+    → IsGot transmission a b g j f arrived got
     → HearsBy class options.page old got new
     → IsServed programme options g f (on_air transmission g j f)
-    (ExcusedBy class (IsHitOrLost options.page (on_air transmission g j f) (arrivals_of marks got)))
+    (ExcusedBy class
+    (IsHitOrLost options.page (on_air transmission g j f) (arrivals_of arrived got)))
     old new

@@ -68,11 +68,12 @@ pub record IsServedForgetting
 abbrev pub RecoversForgetting :
     Bool → Bool → ReceiverClass → ProgrammeValue → Transmission → OptionsValue → ℕ → ℕ → Type 0
 RecoversForgetting keeps anew class programme transmission options a b =
-    (g j f : ℕ) (marks : List Bool) (got : List (List ℕ)) (old new : State)
-    → IsGot transmission a b g j f marks got
+    (g j f : ℕ) (arrived : List Bool) (got : List (List ℕ)) (old new : State)
+    → IsGot transmission a b g j f arrived got
     → HearsForgetting class anew options.page old got new
     → IsServedForgetting keeps anew programme transmission options g f (on_air transmission g j f)
-    (ExcusedBy class (IsHitOrLost options.page (on_air transmission g j f) (arrivals_of marks got)))
+    (ExcusedBy class
+    (IsHitOrLost options.page (on_air transmission g j f) (arrivals_of arrived got)))
     old new
 
 -- The frames from a to b are shown by such receivers at the end of each frame at which each cell is
@@ -80,8 +81,8 @@ RecoversForgetting keeps anew class programme transmission options a b =
 abbrev pub ShownForgetting :
     Bool → Bool → ReceiverClass → ProgrammeValue → Transmission → OptionsValue → ℕ → ℕ → Type 0
 ShownForgetting keeps anew class programme transmission options a b =
-    (g j f : ℕ) (marks : List Bool) (got : List (List ℕ)) (old new : Display)
-    → IsGot transmission a b g j f marks got
+    (g j f : ℕ) (arrived : List Bool) (got : List (List ℕ)) (old new : Display)
+    → IsGot transmission a b g j f arrived got
     → ShowsForgetting class anew options.page old got new
     → IsTrue (holds_header (kind options.page) (on_air transmission g j f))
     → IsFresh keeps anew options.page (on_air transmission g j f) old.held
@@ -90,7 +91,8 @@ ShownForgetting keeps anew class programme transmission options a b =
     → (page : Rows)
     × (new.screen ≡ Some page)
     × HoldsDuePage programme f
-    (ExcusedBy class (IsHitOrLost options.page (on_air transmission g j f) (arrivals_of marks got)))
+    (ExcusedBy class
+    (IsHitOrLost options.page (on_air transmission g j f) (arrivals_of arrived got)))
     page
 
 -- ---- what suffices

@@ -4,7 +4,7 @@ use Rattle.ttx_page.specs.Receiver.{ReceiverClass}
 use Rattle.ttx_page.specs.Receiver.ReceiverClass.{Storing}
 use Rattle.stl_rows.specs.Programme.{ProgrammeValue}
 use Rattle.sub_plan.specs.Options.{OptionsValue}
-use Rattle.sub_laws.specs.LostRows.{RobustToMarkedLoss}
+use Rattle.sub_laws.specs.LostRows.{RobustToAnyLoss}
 use Rattle.sub_laws.specs.OnScreen.{CompleteWithin, ShownWithin}
 use Rattle.sub_laws.specs.Recovery.{RecoversWithin}
 use Rattle.sub_laws.specs.Robust.{Robust}
@@ -29,7 +29,7 @@ pub record HasPromises
   -- The headline.
   pub robust : Robust programme transmission options
   -- With lost rows too.
-  pub to_loss : RobustToMarkedLoss programme transmission options
+  pub to_loss : RobustToAnyLoss programme transmission options
   -- In all frames receivers recover from whatever they held before, and where pages are complete,
   -- what is due is on their screens.
   pub trusted :
@@ -44,7 +44,7 @@ LawOfWholeRecovery =
     → RecoversWithin Storing programme transmission options (first_frame transmission)
     (last_frame transmission)
     → Robust programme transmission options
-    × RobustToMarkedLoss programme transmission options
+    × RobustToAnyLoss programme transmission options
 
 -- All of it is what may be trusted of all frames.
 abbrev pub LawOfWholeStretch : Type 0

@@ -31,8 +31,8 @@ pub fn law_of_window()
 
 /// A good transmission is robust: for every start, every old page, every receiver, and at most one
 /// wrong bit in each byte, each cell holds the due page's code or, where its byte was hit, a space.
-/// So it is where packets are lost, any but page headers: a mark beside each says whether it is
-/// kept, and a cell of a lost row counts as hit. The same holds whatever a receiver held before, of
+/// So it is where packets are lost, any but page headers: beside each stands whether it arrived,
+/// and a cell of a lost row counts as hit. The same holds whatever a receiver held before, of
 /// those that drop rows too, where a byte of the cell's row was hit; and of the screens of those
 /// that show a page only when a later header has ended it, where pages are complete.
 pub fn law_of_good()

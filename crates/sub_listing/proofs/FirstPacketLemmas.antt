@@ -12,11 +12,11 @@ use Rattle.ttx_pes.specs.declared.fault.PesFault.TheVariants.{Read}
 use Rattle.sub_rules.specs.Pieces.{FailsAtPiece}
 use Rattle.sub_rules.specs.declared.fault.CheckFault.TheVariants.{Pes}
 use Rattle.sub_listing.specs.DeviceCall.{SinkCall, SourceCall}
-use Rattle.sub_listing.specs.Faults.{check_told}
+use Rattle.sub_listing.specs.Faults.{check_line}
 use Rattle.sub_listing.specs.FirstPacket.{PrintsFrom}
-use Rattle.sub_listing.specs.Listing.{PrintsListing, PrintsOrFails, told_listing}
+use Rattle.sub_listing.specs.Listing.{PrintsListing, PrintsOrFails, fault_listing}
 use Rattle.sub_listing.specs.PacketsListing.{ListsPackets, pes_listing}
-use Rattle.sub_listing.specs.Told.{told_from}
+use Rattle.sub_listing.specs.FaultLine.{counted_from}
 use Rattle.sub_listing.specs.declared.status.Status.{Status}
 use Rattle.sub_listing.specs.declared.status.Status.TheVariants.{Fault}
 
@@ -207,7 +207,7 @@ pub prints_failed : (first : Option ℕ) (number : ℕ) (source : SourceCall) (o
     → ((n : ℕ) → first ≡ Some n → number ≤ n)
     → Keeps source.told source.left
     → source.new_count ≡ source.old_count + 1
-    → PrintsOrFails out (told_listing (told_from number (check_told (Pes 0 Read)))) status
+    → PrintsOrFails out (fault_listing (counted_from number (check_line (Pes 0 Read)))) status
     → PrintsFrom ListsPackets first source out status
 prints_failed first number source out status before kept risen printed = record {
   number = number;

@@ -26,14 +26,14 @@ use Rattle.stl_file.specs.Subtitle.{SubtitleValue}
 use Rattle.stl_file.proofs.OpeningLemmas.{opened_bad, opened_good}
 use Rattle.stl_file.specs.declared.fault.StlFault.{StlFault}
 use Rattle.stl_file.specs.declared.progress.Progress.TheVariants as progress
-use Rattle.sub_listing.specs.Faults.{kind_by, stl_told}
+use Rattle.sub_listing.specs.Faults.{kind_by, stl_line}
 use Rattle.sub_listing.specs.DeviceCall.{Counts, SinkCall, SourceCall}
 use Rattle.sub_listing.specs.Listing.{Gives, IsCut, IsListed, Listing, Lists, PrintsListing}
 use Rattle.sub_listing.specs.Listing.{PrintsOrFails, followed, has_failed}
 use Rattle.sub_listing.specs.Lines.{number_in_file}
 use Rattle.sub_listing.specs.PacketsListing.{frame_lines, pes_listing}
 use Rattle.sub_listing.specs.ShowListing.{ListsFrom, ReadsFile, ReadsSubtitles, subtitles_listing}
-use Rattle.sub_listing.specs.Told.{line_of, status_of}
+use Rattle.sub_listing.specs.FaultLine.{line_of, status_of}
 use Rattle.sub_listing.specs.declared.status.Status.{Status}
 use Rattle.sub_listing.specs.declared.status.Status.TheVariants.{Fault}
 
@@ -328,17 +328,17 @@ gives-opened count r told left start reading gsi taken rest opened =
 -- It was refused, or its source failed.
 pub gives-refused :
     (count : ℕ) (f : StlFault) (told left : Option (List ℕ)) (text : List ℕ)
-    → text ≡ line_of (stl_told f 0)
-    → IfTold told (λ bytes. stl_fault.is_read f ≡ false → opened_at bytes ≡ Err f)
-    → (stl_fault.is_read f ≡ true
+    → text ≡ line_of (stl_line f 0)
+    → IfTold told (λ bytes. stl_fault.is_file_read f ≡ false → opened_at bytes ≡ Err f)
+    → (stl_fault.is_file_read f ≡ true
     → (bytes : List ℕ) × (length bytes < gsi_size) × Consumes told left bytes)
     → (stl_fault.is_format f ≡ true → RefusesOpening told left f)
-    → ListsFrom None count told left (Some (status_of (kind_by (stl_fault.is_read f))))
-    (record { text = text; status = status_of (kind_by (stl_fault.is_read f)) })
+    → ListsFrom None count told left (Some (status_of (kind_by (stl_fault.is_file_read f))))
+    (record { text = text; status = status_of (kind_by (stl_fault.is_file_read f)) })
 unfolding findings_for
 gives-refused count f told left text line exact failed refused =
     gives-last _ (subtitles_listing count) outcome_of ReadsFile told left (fails f 0) text
-    (stl_fault.is_read f) line (kind_by-failed (stl_fault.is_read f))
+    (stl_fault.is_file_read f) line (kind_by-failed (stl_fault.is_file_read f))
     (λ bytes is fine. rw (opened_bad (gsi_of false bytes) f (exact bytes is fine)) refl)
     (inl (record {
       fault = f;

@@ -18,7 +18,7 @@ use Rattle.sub_rules.specs.Fault.{load_place}
 use Rattle.sub_rules.specs.declared.event.Event.{Event}
 use Rattle.sub_listing.specs.EventLines.{event_line, event_lines, most_counted, refusal, refusals}
 use Rattle.sub_listing.specs.EventLines.{subtitle_event, subtitle_events}
-use Rattle.sub_listing.specs.Told.{place_text}
+use Rattle.sub_listing.specs.FaultLine.{place_text}
 use Rattle.sub_listing.specs.Printer.{PrinterValue, PrintsEvent, PrintsEvents, StaysPrinted}
 use Rattle.sub_listing.specs.Printer.{HandsOnLines, can_fail, counted}
 

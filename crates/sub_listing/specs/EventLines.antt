@@ -8,9 +8,9 @@ use Rattle.sub_rules.specs.declared.event.Event.{Event}
 use Rattle.sub_rules.specs.declared.event.Event.TheVariants.{Ended, PassedUntil, Told, Trusted}
 use Rattle.sub_rules.specs.declared.fault.CheckFault.{CheckFault}
 use Rattle.sub_rules.specs.declared.fault.CheckFault.TheVariants.{Subtitles}
-use Rattle.sub_listing.specs.Faults.{check_told}
-use Rattle.sub_listing.specs.Told.{clock_text, code_text, frame_text, line_of, place_text}
-use Rattle.sub_listing.specs.Told.{told_from}
+use Rattle.sub_listing.specs.Faults.{check_line}
+use Rattle.sub_listing.specs.FaultLine.{clock_text, code_text, frame_text, line_of, place_text}
+use Rattle.sub_listing.specs.FaultLine.{counted_from}
 
 -- A rule stood broken up to this frame, and does so no more.
 abbrev pub ended_line : EndRule → ℕ → List ℕ
@@ -29,7 +29,7 @@ trusted_line from to =
 
 -- The line of an event.
 abbrev pub event_line : ℕ → Event → List ℕ
-event_line first (Told f) = line_of (told_from first (check_told f))
+event_line first (Told f) = line_of (counted_from first (check_line f))
 event_line first (Ended rule frame) = ended_line rule frame
 event_line first (PassedUntil f) = passed_line first f
 event_line first (Trusted from to) = trusted_line from to

@@ -16,14 +16,14 @@ use Rattle.sub_rules.specs.declared.fault.CheckFault.TheVariants as check
 use Rattle.sub_rules.specs.declared.fault_place.FaultPlace.TheVariants.{Nowhere}
 use Rattle.ttx_pes.specs.Fault.{is_read, pes_code}
 use Rattle.sub_listing.specs.DeviceCall.{SinkCall, SourceCall}
-use Rattle.sub_listing.specs.Faults.{check_told}
-use Rattle.sub_listing.specs.Listing.{Listing, PrintsOrFails, done, told_listing}
-use Rattle.sub_listing.specs.Told.{told_as, told_from}
+use Rattle.sub_listing.specs.Faults.{check_line}
+use Rattle.sub_listing.specs.Listing.{Listing, PrintsOrFails, done, fault_listing}
+use Rattle.sub_listing.specs.FaultLine.{line_as, counted_from}
 use Rattle.sub_listing.specs.declared.extract.ExtractFault.{ExtractFault}
 use Rattle.sub_listing.specs.declared.extract.ExtractFault.TheVariants.{Empty, Read, Refused, Write}
 use Rattle.sub_listing.specs.declared.extract.Extracted.{Extracted}
-use Rattle.sub_listing.specs.declared.told.Kind.TheVariants as kind
-use Rattle.sub_listing.specs.declared.told.Told.{Told}
+use Rattle.sub_listing.specs.declared.fault_line.Kind.TheVariants as kind
+use Rattle.sub_listing.specs.declared.fault_line.FaultLine.{FaultLine}
 use Rattle.sub_listing.specs.declared.status.Status.{Status}
 
 -- ---- what the bytes are
@@ -123,16 +123,16 @@ written_line e =
 
 -- What is told of a fault: that the source failed, or what is no PES packet, at the PES packet that
 -- was read.
-abbrev pub extract_told : ExtractFault → Told
-extract_told (Read n) = told_from n (check_told (check.Pes 0 pes.Read))
-extract_told Write = told_as kind.Fault (pes_code pes.Write) Nowhere
-extract_told Empty = check_told check.Empty
-extract_told (Refused f n) = told_from n (check_told (check.Pes 0 f))
+abbrev pub extract_line : ExtractFault → FaultLine
+extract_line (Read n) = counted_from n (check_line (check.Pes 0 pes.Read))
+extract_line Write = line_as kind.Fault (pes_code pes.Write) Nowhere
+extract_line Empty = check_line check.Empty
+extract_line (Refused f n) = counted_from n (check_line (check.Pes 0 f))
 
 -- What is printed.
 abbrev pub extract_listing : Result Extracted ExtractFault → Listing
 extract_listing (Ok e) = done (written_line e)
-extract_listing (Err f) = told_listing (extract_told f)
+extract_listing (Err f) = fault_listing (extract_line f)
 
 -- A file was written of what a source gave, and its line was printed.
 pub record EndsExtract (source : SourceCall) (file out : SinkCall) (status : Status) : Type 0 where

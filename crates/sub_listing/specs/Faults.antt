@@ -2,18 +2,18 @@
 -- usage, and all else is refused (own).
 use Rattle.std.specs.Prelude.{ℕ, Bool, codes, if◌then◌else◌}
 use Rattle.sub_io.specs.FaultCode.{FaultCodeValue, fault_code}
-use Rattle.stl_file.specs.Fault.{is_read, normal_code, stl_code}
+use Rattle.stl_file.specs.Fault.{is_file_read, normal_code, stl_code}
 use Rattle.stl_file.specs.declared.fault.NormalFault.TheVariants as normal
 use Rattle.stl_file.specs.declared.fault.StlFault.{StlFault}
 use Rattle.stl_file.specs.declared.fault.StlFault.TheVariants as stl
 use Rattle.stl_rows.specs.declared.fault.LoadFaultKind.{LoadFaultKind}
-use Rattle.sub_listing.specs.Told.{told_as}
+use Rattle.sub_listing.specs.FaultLine.{line_as}
 use Rattle.sub_listing.specs.declared.normal.InputFault.TheVariants as input
 use Rattle.sub_listing.specs.declared.packet.PacketFault.{PacketFault}
 use Rattle.sub_listing.specs.declared.packet.PacketFault.TheVariants as packet
-use Rattle.sub_listing.specs.declared.told.Kind.{Kind}
-use Rattle.sub_listing.specs.declared.told.Kind.TheVariants as kind
-use Rattle.sub_listing.specs.declared.told.Told.{Told}
+use Rattle.sub_listing.specs.declared.fault_line.Kind.{Kind}
+use Rattle.sub_listing.specs.declared.fault_line.Kind.TheVariants as kind
+use Rattle.sub_listing.specs.declared.fault_line.FaultLine.{FaultLine}
 use Rattle.sub_listing.specs.declared.writing.WriteFault.{WriteFault}
 use Rattle.sub_listing.specs.declared.writing.WriteFault.TheVariants as write
 use Rattle.sub_rules.specs.Fault.{check_code, is_failure, place_of}
@@ -32,16 +32,16 @@ abbrev pub kind_by : Bool → Kind
 kind_by fails = if fails then kind.Fault else kind.Refused
 
 -- A fault of a pair of files.
-abbrev pub check_told : CheckFault → Told
-check_told f = told_as (kind_by (is_failure f)) (check_code f) (place_of f)
+abbrev pub check_line : CheckFault → FaultLine
+check_line f = line_as (kind_by (is_failure f)) (check_code f) (place_of f)
 
 -- A fault of loading a subtitle file, at a TTI block. One of a text names its place in it too.
-abbrev pub load_told : LoadFaultKind → ℕ → Told
-load_told f block = check_told (check.Subtitles (record { kind = f; block = block }))
+abbrev pub load_line : LoadFaultKind → ℕ → FaultLine
+load_line f block = check_line (check.Subtitles (record { kind = f; block = block }))
 
 -- A fault of a subtitle file that is read, at a TTI block.
-abbrev pub stl_told : StlFault → ℕ → Told
-stl_told f block = told_as (kind_by (is_read f)) (stl_code f) (place.Block block)
+abbrev pub stl_line : StlFault → ℕ → FaultLine
+stl_line f block = line_as (kind_by (is_file_read f)) (stl_code f) (place.Block block)
 
 -- ---- one packet
 
@@ -51,8 +51,8 @@ packet_code packet.BadAddress = fault_code 3 (codes "BadAddress")
 packet_code packet.BadHeader = fault_code 4 (codes "BadHeader")
 
 -- A fault of a packet: it has no place.
-abbrev pub packet_told : PacketFault → Told
-packet_told f = told_as kind.Refused (packet_code f) place.Nowhere
+abbrev pub packet_line : PacketFault → FaultLine
+packet_line f = line_as kind.Refused (packet_code f) place.Nowhere
 
 -- ---- words
 
@@ -63,16 +63,16 @@ usage_kind usage.Memory = kind.Fault
 usage_kind _ = kind.Usage
 
 -- A fault of the words, or of the program itself: it has no place.
-abbrev pub usage_told : UsageFault → Told
-usage_told f = told_as (usage_kind f) (usage_code f) place.Nowhere
+abbrev pub usage_line : UsageFault → FaultLine
+usage_line f = line_as (usage_kind f) (usage_code f) place.Nowhere
 
 -- ---- a file that is written
 
 -- A failing device and want of memory are faults.
-abbrev pub write_told : WriteFault → Told
-write_told (write.Input (input.Read block)) = stl_told stl.Read block
-write_told (write.Input input.Memory) = usage_told usage.Memory
-write_told (write.Load f) = load_told f.kind f.block
-write_told (write.Normal (normal.Refused f block)) = stl_told f block
-write_told (write.Normal f) = told_as kind.Fault (normal_code f) place.Nowhere
-write_told (write.Plan f) = told_as (kind_by (is_plan_write f)) (plan_code f) place.Nowhere
+abbrev pub write_line : WriteFault → FaultLine
+write_line (write.Input (input.Read block)) = stl_line stl.Read block
+write_line (write.Input input.Memory) = usage_line usage.Memory
+write_line (write.Load f) = load_line f.kind f.block
+write_line (write.Normal (normal.Refused f block)) = stl_line f block
+write_line (write.Normal f) = line_as kind.Fault (normal_code f) place.Nowhere
+write_line (write.Plan f) = line_as (kind_by (is_plan_write f)) (plan_code f) place.Nowhere

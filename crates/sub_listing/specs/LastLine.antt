@@ -2,8 +2,8 @@
 use Rattle.std.specs.Prelude.{◌≡◌, ℕ, Bool, List, Option}
 use Rattle.sub_io.specs.Calls.{PutsByPushes}
 use Rattle.sub_io.specs.Device.{AppendsPrefix}
-use Rattle.sub_listing.specs.Told.{line_of}
-use Rattle.sub_listing.specs.declared.told.Told.{Told}
+use Rattle.sub_listing.specs.FaultLine.{line_of}
+use Rattle.sub_listing.specs.declared.fault_line.FaultLine.{FaultLine}
 
 -- Bytes were put, and nothing was done beside. Where `ok` is false the sink failed, and has a
 -- prefix of them.
@@ -20,11 +20,11 @@ pub record HoldsLastLine
     (IsPush : K → List ℕ → Option ℕ → K → Type 0) (new : K) : Type 0 where
   pub before : K
   pub settled : held before ≡ 0
-  pub told : Told
+  pub told : FaultLine
   pub line : PutsLine contents IsPush before (line_of told) new
 
 -- These are the last line of a listing, and nothing is held back before it.
 pub record IsAlone (held : ℕ) (text : List ℕ) : Type 0 where
   pub settled : held ≡ 0
-  pub told : Told
+  pub told : FaultLine
   pub line : text ≡ line_of told

@@ -1,7 +1,7 @@
 pub mod Lines
 pub mod StaysPrinted
 pub mod SurveyListing
-pub mod Told
+pub mod FaultLine
 pub mod Faults
 pub mod Listing
 pub mod Writing

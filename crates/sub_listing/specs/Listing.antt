@@ -8,13 +8,13 @@ use Rattle.std.specs.Io.KnownBytes.{Appends}
 use Rattle.sub_io.specs.Device.{AppendsPrefix, RisesIf}
 use Rattle.sub_io.specs.Reading.{IfTold}
 use Rattle.sub_listing.specs.DeviceCall.{SinkCall, SourceCall}
-use Rattle.sub_listing.specs.Faults.{packet_told}
+use Rattle.sub_listing.specs.Faults.{packet_line}
 use Rattle.sub_listing.specs.Lines.{address_line, header_line, text_line}
-use Rattle.sub_listing.specs.Told.{line_of, status_of}
+use Rattle.sub_listing.specs.FaultLine.{line_of, status_of}
 use Rattle.sub_listing.specs.declared.packet.PacketFault.TheVariants.{BadAddress, BadHeader}
 use Rattle.sub_listing.specs.declared.status.Status.{Status}
 use Rattle.sub_listing.specs.declared.status.Status.TheVariants.{Done, Refused, Fault}
-use Rattle.sub_listing.specs.declared.told.Told.{Told}
+use Rattle.sub_listing.specs.declared.fault_line.FaultLine.{FaultLine}
 
 -- A text and the status that goes with it where all of it was printed.
 pub record Listing : Type 0 where
@@ -26,8 +26,8 @@ abbrev pub done : List ℕ → Listing
 done text = record { text = text; status = Done }
 
 -- The line of what is told of a fault.
-abbrev pub told_listing : Told → Listing
-told_listing t = record { text = line_of t; status = status_of t.kind }
+abbrev pub fault_listing : FaultLine → Listing
+fault_listing t = record { text = line_of t; status = status_of t.kind }
 
 -- Lines, and what follows them.
 abbrev pub followed : List ℕ → Listing → Listing
@@ -37,7 +37,7 @@ followed text more = record { text = text ++ more.text; status = more.status }
 
 -- Packet X/0 (EN 300 706, page header): its eight coded bytes, then 32 text bytes.
 abbrev pub header_listing : ℕ → List ℕ → Option Header → Listing
-header_listing magazine packet None = told_listing (packet_told BadHeader)
+header_listing magazine packet None = fault_listing (packet_line BadHeader)
 header_listing magazine packet (Some h) =
     done (address_line magazine 0 ++ header_line h ++ text_line (drop 10 packet))
 
@@ -49,7 +49,7 @@ row_listing magazine packet_number packet = if nat_le packet_number 24
 
 -- What is listed of a packet, by the magazine and the packet number that it has.
 abbrev pub addressed_listing : Option (ℕ × ℕ) → List ℕ → Listing
-addressed_listing None packet = told_listing (packet_told BadAddress)
+addressed_listing None packet = fault_listing (packet_line BadAddress)
 addressed_listing (Some a) packet = if a.1 == 0
     then header_listing a.0 packet (header packet)
     else row_listing a.0 a.1 packet

@@ -3,11 +3,11 @@ use Rattle.std.specs.Prelude.{ℕ, ◌+◌, List, [], ◌∷◌, ◌++◌, codes
 use Rattle.ttx_pes.specs.DataUnit.{UnitValue}
 use Rattle.ttx_pes.specs.Outcome.{PesOutcome, ReadsPackets, ends, fails, gives, outcome_after}
 use Rattle.ttx_pes.specs.PesPacket.{PesValue}
-use Rattle.sub_listing.specs.Faults.{check_told}
+use Rattle.sub_listing.specs.Faults.{check_line}
 use Rattle.sub_rules.specs.declared.fault.CheckFault.TheVariants.{Pes}
 use Rattle.sub_listing.specs.Lines.{number_in_file, pes_line, unit_line}
-use Rattle.sub_listing.specs.Listing.{IsListed, Lists, Listing, done, followed, told_listing}
-use Rattle.sub_listing.specs.Told.{told_from}
+use Rattle.sub_listing.specs.Listing.{IsListed, Lists, Listing, done, followed, fault_listing}
+use Rattle.sub_listing.specs.FaultLine.{counted_from}
 
 -- The lines of Teletext units, of which the first has this number.
 abbrev pub unit_lines : ℕ → List UnitValue → List ℕ
@@ -22,7 +22,7 @@ frame_lines number v = pes_line number v.pts ++ unit_lines 0 v.units
 -- listed. The first of all that are read has the number `first` in its file.
 abbrev pub pes_listing : ℕ → ℕ → PesOutcome → Listing
 pes_listing first index ends = done (decimal index ++ codes " pes\n")
-pes_listing first index (fails f) = told_listing (told_from first (check_told (Pes index f)))
+pes_listing first index (fails f) = fault_listing (counted_from first (check_line (Pes index f)))
 pes_listing first index (gives v more) =
     followed (frame_lines (number_in_file first index) v) (pes_listing first (index + 1) more)
 

@@ -2,7 +2,7 @@
 use Rattle.std.specs.Io.KnownBytes.{Consumes}
 use Rattle.std.specs.Prelude.{◌≡◌, ◌⊎◌, ℕ, ◌+◌, ◌<◌, List, codes, decimal, ◌++◌, length, Option}
 use Rattle.std.specs.Prelude.{Bool, true, false, None, Some, ◌-◌, ◌≤◌}
-use Rattle.stl_file.specs.Fault.{is_format, is_read}
+use Rattle.stl_file.specs.Fault.{is_format, is_file_read}
 use Rattle.stl_file.specs.Gsi.{IsGsi, gsi_size}
 use Rattle.stl_file.specs.Reader.{FailsReading, Refuses, RefusesOpening, TakesPassed, ReaderValue}
 use Rattle.stl_file.specs.Reader.{TakesSubtitle, outcome_left, outcome_of}
@@ -11,9 +11,9 @@ use Rattle.stl_file.specs.Scope.{whole}
 use Rattle.stl_file.specs.Tti.{most_blocks}
 use Rattle.stl_file.specs.declared.fault.StlFault.{StlFault}
 use Rattle.stl_file.specs.declared.progress.Progress.TheVariants.{Reading}
-use Rattle.sub_listing.specs.Faults.{stl_told}
+use Rattle.sub_listing.specs.Faults.{stl_line}
 use Rattle.sub_listing.specs.Lines.{subtitle_line}
-use Rattle.sub_listing.specs.Listing.{IsListed, Lists, Listing, done, followed, told_listing}
+use Rattle.sub_listing.specs.Listing.{IsListed, Lists, Listing, done, followed, fault_listing}
 
 -- These subtitles were taken of a source, `from` blocks after the GSI block, and then blocks that
 -- are passed over; or there is no file of what comes then. Where the source failed, it failed at
@@ -22,7 +22,7 @@ abbrev pub ReadsSubtitles : Bool → ℕ → Option (List ℕ) → Outcome → O
 ReadsSubtitles failed from told ends left =
     (failed ≡ false) × (to : ℕ) × TakesPassed from to told left
 ReadsSubtitles failed from told (fails f block) left =
-    (is_read f ≡ failed)
+    (is_file_read f ≡ failed)
     × (failed ≡ true → FailsReading whole from block None told left)
     × (is_format f ≡ true → Refuses from block told left f)
 ReadsSubtitles failed from told (gives s block more) left =
@@ -34,7 +34,7 @@ pub record ReadsNoGsi (failed : Bool) (told : Option (List ℕ)) (outcome : Outc
     (left : Option (List ℕ)) : Type 0 where
   pub fault : StlFault
   pub outcome_is : outcome ≡ fails fault 0
-  pub read : is_read fault ≡ failed
+  pub read : is_file_read fault ≡ failed
   pub failure :
       failed ≡ true → (bytes : List ℕ) × (length bytes < gsi_size) × Consumes told left bytes
   pub refused : is_format fault ≡ true → RefusesOpening told left fault
@@ -49,7 +49,7 @@ ReadsFile failed told outcome left =
 -- What is printed after `count` subtitles: each of them in turn, and at the end their number.
 abbrev pub subtitles_listing : ℕ → Outcome → Listing
 subtitles_listing count ends = done (decimal count ++ codes " subtitles\n")
-subtitles_listing count (fails f block) = told_listing (stl_told f block)
+subtitles_listing count (fails f block) = fault_listing (stl_line f block)
 subtitles_listing count (gives s block more) =
     followed (subtitle_line s) (subtitles_listing (count + 1) more)
 

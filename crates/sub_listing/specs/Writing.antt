@@ -17,9 +17,9 @@ use Rattle.sub_plan.specs.Options.{OptionsValue}
 use Rattle.sub_plan.specs.Schedule.{plan, plan_frames}
 use Rattle.sub_plan.specs.declared.fault.PlanFault.{PlanFault}
 use Rattle.sub_plan.specs.declared.fault.PlanFault.TheVariants.{NoSubtitles, Write}
-use Rattle.sub_listing.specs.Faults.{load_told, write_told}
-use Rattle.sub_listing.specs.Listing.{Listing, done, told_listing, PrintsOrFails}
-use Rattle.sub_listing.specs.Told.{line_of}
+use Rattle.sub_listing.specs.Faults.{load_line, write_line}
+use Rattle.sub_listing.specs.Listing.{Listing, done, fault_listing, PrintsOrFails}
+use Rattle.sub_listing.specs.FaultLine.{line_of}
 use Rattle.sub_listing.specs.declared.normal.InputFault.{InputFault}
 use Rattle.sub_listing.specs.declared.normal.InputFault.TheVariants as input
 use Rattle.sub_listing.specs.declared.writing.WriteFault.{WriteFault}
@@ -37,7 +37,7 @@ is_input_read input.Memory = false
 -- The input failed.
 abbrev pub is_input_failure : WriteFault → Bool
 is_input_failure (write.Input f) = is_input_read f
-is_input_failure (write.Load f) = load_fault.is_read f
+is_input_failure (write.Load f) = load_fault.is_load_read f
 is_input_failure _ = false
 
 -- The file failed.
@@ -49,7 +49,7 @@ is_file_failure _ = false
 -- What is printed: how many things are in the file, or what is told of the fault.
 abbrev pub work_listing : List ℕ → Result ℕ WriteFault → Listing
 work_listing things (Ok count) = done (codes "written " ++ decimal count ++ things)
-work_listing things (Err f) = told_listing (write_told f)
+work_listing things (Err f) = fault_listing (write_line f)
 
 -- What the bytes of the input decide by what the file had and has, and what the input tells before
 -- and after decides where it failed.
@@ -97,7 +97,7 @@ Schedules drawing o serial told left old new (Err (write.Plan f)) =
     WritesSchedule programme o serial old new (Err f)))
 Schedules drawing o serial told left old new (Err (write.Load f)) =
     IfTold told (λ bytes. TellsFault drawing bytes f.block f.kind)
-    × (load_fault.is_read f ≡ true → FailsLoading drawing told left f.block)
+    × (load_fault.is_load_read f ≡ true → FailsLoading drawing told left f.block)
     × Keeps old new
 Schedules drawing o serial told left old new answer = ⊥
 
@@ -105,7 +105,7 @@ Schedules drawing o serial told left old new answer = ⊥
 abbrev pub PrintsMemory :
     Drawing → Option (List ℕ) → Option (List ℕ) → Option (List ℕ) → Type 0
 PrintsMemory drawing told old new =
-    (block : ℕ) × Appends old new (line_of (load_told Memory block))
+    (block : ℕ) × Appends old new (line_of (load_line Memory block))
     × IfTold told (λ bytes. EndsRecord drawing bytes block)
 
 -- ---- `normal`

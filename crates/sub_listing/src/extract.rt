@@ -2,19 +2,19 @@
 ghost use Rattle.std.specs.Prelude.{◌≡◌, ◌+◌, ◌<◌, IfErr, OnOk, false, if◌then◌else◌};
 ghost use Rattle.sub_io.specs.Device.{CountsIf, failed};
 ghost use Rattle.sub_listing.specs.DeviceCall.{CanFail, CountsFault, sink_call, source_call};
-ghost use Rattle.sub_listing.specs.Extracting.{EndsExtract, Extracts, extract_told};
+ghost use Rattle.sub_listing.specs.Extracting.{EndsExtract, Extracts, extract_line};
 ghost use Rattle.sub_listing.specs.Extracting.{is_extract_read, is_extract_write};
 ghost use Rattle.sub_listing.specs.Extracting.{tells_refused_read};
-ghost use Rattle.sub_listing.specs.Faults.{check_told};
-ghost use Rattle.sub_listing.specs.Told.{told_from};
+ghost use Rattle.sub_listing.specs.Faults.{check_line};
+ghost use Rattle.sub_listing.specs.FaultLine.{counted_from};
 ghost use Rattle.sub_rules.specs.declared.fault.CheckFault.TheVariants.{Pes};
 
 use crate::copying::{Copied, CopyFault, PIECE_ROOM, copy_next, copy_rest};
-use crate::faults::{told_of_check, told_of_file_write};
+use crate::fault_line::FaultLine;
+use crate::faults::{line_of_check, line_of_file_write};
 use crate::lines::{Line, push_number, push_text};
-use crate::printing::{print_done, print_told};
+use crate::printing::{print_done, print_fault_line};
 use crate::status::Status;
-use crate::told::Told;
 use sub_io::{Flush, Sink, Source};
 use sub_rules::CheckFault;
 use ttx_pes::PesFault;
@@ -88,7 +88,7 @@ pub fn extract_packets<S: Source, F: Flush, K: Sink>(
             push_text(&mut line, b" gaps\n");
             print_done(line.as_slice(), out)
         }
-        Err(fault) => print_told(&told_of_extract(fault), out),
+        Err(fault) => print_fault_line(&line_of_extract(fault), out),
     }
 }
 
@@ -142,20 +142,20 @@ fn counted(gaps: u64, is_mark: bool) -> u64
 }
 
 // What is told of a fault.
-fn told_of_extract(fault: ExtractFault) -> Told
-    ensures { result ≡ extract_told fault }
+fn line_of_extract(fault: ExtractFault) -> FaultLine
+    ensures { result ≡ extract_line fault }
 {
     match fault {
-        ExtractFault::Read { pes } => told_at_pes(PesFault::Read, pes),
-        ExtractFault::Write => told_of_file_write(),
-        ExtractFault::Empty => told_of_check(CheckFault::Empty),
-        ExtractFault::Refused { fault, pes } => told_at_pes(fault, pes),
+        ExtractFault::Read { pes } => line_at_pes(PesFault::Read, pes),
+        ExtractFault::Write => line_of_file_write(),
+        ExtractFault::Empty => line_of_check(CheckFault::Empty),
+        ExtractFault::Refused { fault, pes } => line_at_pes(fault, pes),
     }
 }
 
 // What is told of a fault of the PES packet that has this number.
-fn told_at_pes(fault: PesFault, pes: u64) -> Told
-    ensures { result ≡ told_from pes (check_told (Pes 0 fault)) }
+fn line_at_pes(fault: PesFault, pes: u64) -> FaultLine
+    ensures { result ≡ counted_from pes (check_line (Pes 0 fault)) }
 {
-    told_of_check(CheckFault::Pes { fault, pes: 0 }).counted_from(pes)
+    line_of_check(CheckFault::Pes { fault, pes: 0 }).counted_from(pes)
 }

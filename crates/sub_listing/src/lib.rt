@@ -11,6 +11,7 @@
 
 mod copying;
 mod extract;
+mod fault_line;
 mod faults;
 mod first_packet;
 mod help;
@@ -27,11 +28,11 @@ mod show;
 mod state;
 mod status;
 mod survey;
-mod told;
 mod writing;
 
 pub use extract::extract_packets;
-pub use faults::{told_of_check, told_of_failed_read, told_of_usage};
+pub use fault_line::{FaultLine, Kind};
+pub use faults::{line_of_check, line_of_failed_read, line_of_usage};
 pub use first_packet::{FirstPacket, PartOfFile, WholeFile};
 pub use help::print_help;
 pub use lines::{LINE_ROOM, Line, push_decimal, push_number, push_text};
@@ -39,10 +40,9 @@ pub use normal::{InputFault, read_input, write_normal};
 pub use packet::show_packet;
 pub use packets::list_packets;
 pub use printer::Printer;
-pub use printing::{print_done, print_told};
+pub use printing::{print_done, print_fault_line};
 pub use schedule::write_schedule;
 pub use show::list_subtitles;
 pub use state::print_state;
 pub use status::Status;
 pub use survey::print_survey;
-pub use told::{Kind, Told};

@@ -10,11 +10,11 @@ ghost use Rattle.stl_file.specs.TimeCode.{day};
 ghost use Rattle.sub_listing.specs.EventLines.{ended_line, event_line, passed_line, trusted_line};
 ghost use Rattle.sub_listing.specs.Lines.{glyph, number_in_file, text_digits, time_text};
 ghost use Rattle.sub_listing.specs.Lines.{two_digits};
-ghost use Rattle.sub_listing.specs.Told.{code_text, frame_text, line_of, place_text};
+ghost use Rattle.sub_listing.specs.FaultLine.{code_text, frame_text, line_of, place_text};
 
-use crate::faults::told_of_check;
+use crate::fault_line::{FaultLine, Kind};
+use crate::faults::line_of_check;
 use crate::hex_digits::digits_of_block;
-use crate::told::{Kind, Told};
 use arrayvec::ArrayVec;
 use stl_file::TimeCode;
 use sub_io::FaultCode;
@@ -146,7 +146,7 @@ pub fn glyph(code: u8) -> u8
 }
 
 /// Appends the line of what is told of a fault.
-pub fn push_told<const N: usize>(line: &mut ArrayVec<u8, N>, told: &Told)
+pub fn push_fault_line<const N: usize>(line: &mut ArrayVec<u8, N>, told: &FaultLine)
     requires { array_vec_len line.old + LINE_ROOM ≤ N }
     ensures { line.new.items ≡ line.old.items ++ line_of told.now }
 {
@@ -168,7 +168,7 @@ pub fn push_event<const N: usize>(line: &mut ArrayVec<u8, N>, event: Event, firs
     ensures { line.new.items ≡ line.old.items ++ event_line first event }
 {
     match event {
-        Event::Told(fault) => push_told(line, &told_of_check(fault).counted_from(first)),
+        Event::Told(fault) => push_fault_line(line, &line_of_check(fault).counted_from(first)),
         Event::Ended { rule, frame } => push_ended(line, rule, frame),
         Event::PassedUntil(fault) => push_passed(line, fault, first),
         Event::Trusted { from, to } => push_trusted(line, from, to),

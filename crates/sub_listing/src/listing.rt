@@ -6,13 +6,13 @@ ghost use Rattle.sub_listing.specs.DeviceCall.{CanFail, CountsFault, sink_call, 
 ghost use Rattle.sub_listing.specs.LastLine.{HoldsLastLine, IsAlone};
 ghost use Rattle.sub_listing.specs.Listing.{Gives, IsCut, IsListed, PrintsListing, has_failed};
 ghost use Rattle.sub_listing.specs.Printer.{StaysPrinted, printer_value};
-ghost use Rattle.sub_listing.specs.Told.{line_of, status_of};
+ghost use Rattle.sub_listing.specs.FaultLine.{line_of, status_of};
 ghost use Rattle.sub_listing.specs.declared.status.Status.TheVariants.{Done};
 
-use crate::lines::{push_decimal, push_text, push_told};
+use crate::fault_line::FaultLine;
+use crate::lines::{push_decimal, push_fault_line, push_text};
 use crate::printer::Printer;
 use crate::status::Status;
-use crate::told::Told;
 use arrayvec::ArrayVec;
 use sub_io::{Flush, Source};
 
@@ -149,12 +149,12 @@ fn list_to<L: Lister, S: Source, K: Flush>(
 }
 
 /// Ends a listing with the line of a fault.
-pub fn end_with(text: &mut Text, told: &Told) -> Option<Status>
+pub fn end_with(text: &mut Text, told: &FaultLine) -> Option<Status>
     requires { text.old.items ≡ [] }
     ensures line { text.new.items ≡ line_of told.now }
     ensures end { result ≡ Some (status_of told.now.kind) }
 {
-    push_told(text, told);
+    push_fault_line(text, told);
     Some(told.status())
 }
 

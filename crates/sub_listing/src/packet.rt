@@ -2,14 +2,14 @@
 ghost use Rattle.std.specs.Prelude.{◌≡◌, ◌+◌, ◌≤◌, [], ◌++◌, IfErr, OnOk, length};
 ghost use Rattle.arrayvec.specs.ArrayVec.{array_vec_len};
 ghost use Rattle.sub_listing.specs.DeviceCall.{CanFail, CountsFault, sink_call};
-ghost use Rattle.sub_listing.specs.Faults.{packet_code, packet_told};
+ghost use Rattle.sub_listing.specs.Faults.{packet_code, packet_line};
 ghost use Rattle.sub_listing.specs.Lines.{address_line, control_list, header_line, hex_two, marked};
 ghost use Rattle.sub_listing.specs.Lines.{text_line};
-ghost use Rattle.sub_listing.specs.Listing.{PrintsOrFails, done, packet_listing, told_listing};
+ghost use Rattle.sub_listing.specs.Listing.{PrintsOrFails, done, packet_listing, fault_listing};
 
-use crate::faults::told_of_packet;
+use crate::faults::line_of_packet;
 use crate::lines::{glyph, push_number, push_text};
-use crate::printing::{print_done, print_told};
+use crate::printing::{print_done, print_fault_line};
 use crate::status::Status;
 use arrayvec::ArrayVec;
 use bitflags::Flags;
@@ -71,7 +71,7 @@ pub fn show_packet<K: Sink>(bytes: &[u8; 42], out: &mut K) -> Status
     let mut text = Text::new();
     match push_packet(&mut text, &Packet::new(*bytes)) {
         Ok(()) => print_done(text.as_slice(), out),
-        Err(fault) => print_told(&told_of_packet(fault), out),
+        Err(fault) => print_fault_line(&line_of_packet(fault), out),
     }
 }
 
@@ -80,7 +80,7 @@ fn push_packet(text: &mut Text, packet: &Packet) -> Result<(), PacketFault>
     requires { text.old.items ≡ [] }
     ensures ok { OnOk result (packet_listing packet.now ≡ done text.new.items) }
     ensures err { IfErr result
-        (λ fault. packet_listing packet.now ≡ told_listing (packet_told fault)) }
+        (λ fault. packet_listing packet.now ≡ fault_listing (packet_line fault)) }
 {
     let Some((magazine, packet_number)) = packet.address() else {
         return Err(PacketFault::BadAddress);

@@ -18,12 +18,12 @@ ghost use Rattle.sub_listing.specs.Listing.{Lists};
 ghost use Rattle.sub_listing.specs.PacketsListing.{ListsPackets, frame_lines, pes_listing};
 ghost use Rattle.sub_listing.specs.Printer.{StaysPrinted, printer_value};
 
-use crate::faults::{told_of_check, told_of_failed_read};
+use crate::faults::{line_of_check, line_of_failed_read};
 use crate::first_packet::FirstPacket;
 use crate::lines::{number_in_file, push_lower_hex, push_number, push_text};
 use crate::listing::{Lister, PIECE, Text, end_at, end_with, list};
 use crate::printer::Printer;
-use crate::printing::print_told;
+use crate::printing::print_fault_line;
 use crate::status::Status;
 use sub_io::{Flush, Live, Source};
 use sub_rules::CheckFault;
@@ -52,7 +52,7 @@ pub fn list_packets<N: FirstPacket<S>, S: Source, K: Flush>(source: &mut S, out:
 {
     match N::find(source) {
         Ok(first) => list(&mut PacketLister::new(first), source, out),
-        Err(at) => print_told(&told_of_failed_read(at), out),
+        Err(at) => print_fault_line(&line_of_failed_read(at), out),
     }
 }
 
@@ -119,7 +119,7 @@ impl Lister for PacketLister {
             Ok(Compared::Other) => self.list_read(text),
             Err(fault) => {
                 let pes = self.index;
-                let told = told_of_check(CheckFault::Pes { fault, pes });
+                let told = line_of_check(CheckFault::Pes { fault, pes });
                 end_with(text, &told.counted_from(self.first))
             }
         }

@@ -2,12 +2,12 @@
 ghost use Rattle.std.specs.Prelude.{◌≡◌, ◌≢◌, ◌+◌, List, ℕ};
 ghost use Rattle.sub_listing.specs.DeviceCall.{CanFail, CountsFault, sink_call};
 ghost use Rattle.sub_listing.specs.LastLine.{PutsLine};
-ghost use Rattle.sub_listing.specs.Listing.{PrintsOrFails, done, told_listing};
-ghost use Rattle.sub_listing.specs.Told.{line_of, status_of};
+ghost use Rattle.sub_listing.specs.Listing.{PrintsOrFails, done, fault_listing};
+ghost use Rattle.sub_listing.specs.FaultLine.{line_of, status_of};
 
-use crate::lines::{Line, push_told};
+use crate::fault_line::FaultLine;
+use crate::lines::{Line, push_fault_line};
 use crate::status::Status;
-use crate::told::Told;
 use sub_io::{Sink, put_all};
 
 /// Puts a text that is all that was asked for: `Done`.
@@ -32,10 +32,10 @@ pub fn print_done<K: Sink>(text: &[u8], out: &mut K) -> Status
 ///
 /// `Fault` where the sink fails: then it has a prefix of the line.
 #[tactic(auto, unfolding(crate::specs::Listing::PrintsOrFails))]
-pub fn print_told<K: Sink>(told: &Told, out: &mut K) -> Status
+pub fn print_fault_line<K: Sink>(told: &FaultLine, out: &mut K) -> Status
     requires { CanFail (K.failure_count out.old) }
     ensures printed { PrintsOrFails (sink_call K.contents K.failure_count out.old out.new)
-        (told_listing told.now) result }
+        (fault_listing told.now) result }
     ensures count { CountsFault K.failure_count out.old result out.new }
     ensures fault { status_of told.now.kind ≡ Status.Fault → result ≡ Status.Fault }
     ensures not_done { result ≢ Status.Done }
@@ -44,7 +44,7 @@ pub fn print_told<K: Sink>(told: &Told, out: &mut K) -> Status
         → K.failure_count out.new ≡ K.failure_count out.old + 1 }
 {
     let mut line = Line::new();
-    push_told(&mut line, told);
+    push_fault_line(&mut line, told);
     match put_all(out, line.as_slice()) {
         Ok(()) => told.status(),
         Err(_) => Status::Fault,

@@ -5,7 +5,7 @@ ghost use Rattle.sub_listing.specs.Lines.{subtitle_line};
 ghost use Rattle.sub_listing.specs.Listing.{PrintsListing};
 ghost use Rattle.sub_listing.specs.ShowListing.{IsReady, ListsFrom, ListsSubtitles, blocks_left};
 
-use crate::faults::told_of_stl;
+use crate::faults::line_of_stl;
 use crate::lines::{push_number, push_text, push_text_digits, push_time};
 use crate::listing::{Lister, Text, end_at, end_with, list};
 use crate::printer::Printer;
@@ -74,7 +74,7 @@ impl Lister for SubtitleLister {
                     self.reader = Some(reader);
                     None
                 }
-                Err(fault) => end_with(text, &told_of_stl(fault, 0)),
+                Err(fault) => end_with(text, &line_of_stl(fault, 0)),
             };
         };
         match reader.next(source) {
@@ -84,7 +84,7 @@ impl Lister for SubtitleLister {
                 None
             }
             Ok(None) => end_at(text, self.count, b" subtitles\n"),
-            Err(fault) => end_with(text, &told_of_stl(fault, reader.block())),
+            Err(fault) => end_with(text, &line_of_stl(fault, reader.block())),
         }
     }
 }

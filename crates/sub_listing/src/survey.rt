@@ -3,8 +3,8 @@ ghost use Rattle.std.specs.Prelude.{◌≡◌};
 ghost use Rattle.sub_listing.specs.DeviceCall.{CanFail, CountsFault, sink_call};
 ghost use Rattle.sub_listing.specs.SurveyListing.{PrintsSurvey};
 
-use crate::faults::{told_of_failed_read, told_of_usage};
-use crate::printing::print_told;
+use crate::faults::{line_of_failed_read, line_of_usage};
+use crate::printing::print_fault_line;
 use crate::status::Status;
 use std::alloc::Global;
 use sub_io::{Flush, Source};
@@ -30,8 +30,8 @@ pub fn print_survey<S: Source, K: Flush>(
 {
     match survey(alloc, options, source, out) {
         Ok(()) => Status::Done,
-        Err(SurveyFault::Read) => print_told(&told_of_failed_read(FailedAt { pes: 0 }), out),
+        Err(SurveyFault::Read) => print_fault_line(&line_of_failed_read(FailedAt { pes: 0 }), out),
         Err(SurveyFault::Write) => Status::Fault,
-        Err(SurveyFault::Memory) => print_told(&told_of_usage(&UsageFault::Memory), out),
+        Err(SurveyFault::Memory) => print_fault_line(&line_of_usage(&UsageFault::Memory), out),
     }
 }

@@ -5,10 +5,10 @@ ghost use Rattle.sub_listing.specs.Writing.{EndsWork, is_file_failure, is_input_
 ghost use Rattle.sub_listing.specs.DeviceCall.{CanFail, CountsFault, sink_call, source_call};
 ghost use Rattle.sub_listing.specs.Writing as writing;
 
-use crate::faults::told_of_write;
+use crate::faults::line_of_write;
 use crate::lines::{Line, push_number, push_text};
 use crate::normal::InputFault;
-use crate::printing::{print_done, print_told};
+use crate::printing::{print_done, print_fault_line};
 use crate::status::Status;
 use std::alloc::Global;
 use stl_file::NormalFault;
@@ -84,6 +84,6 @@ pub fn write<W: Work, S: Source, F: Flush, K: Sink>(
             push_text(&mut line, things);
             print_done(line.as_slice(), out)
         }
-        Err(fault) => print_told(&told_of_write(fault), out),
+        Err(fault) => print_fault_line(&line_of_write(fault), out),
     }
 }

@@ -9,7 +9,7 @@ ghost use Rattle.ttx_page.specs.Page.{IsRow, row_at};
 ghost use Rattle.ttx_page.specs.PacketKind.{kind};
 ghost use Rattle.sub_packets.specs.Listener.{rule_set};
 ghost use Rattle.sub_rules.specs.PacketRules.{codes_of};
-ghost use Rattle.sub_rules.specs.PacketTests.{breaks, is_of_enhancement, is_repeat, may_come};
+ghost use Rattle.sub_rules.specs.PacketTests.{breaks, is_of_enhancement, repeats_page, may_come};
 ghost use Rattle.sub_rules.specs.PacketTests.{is_subtitle_header, packet_rules};
 
 use crate::listener::Listener;
@@ -78,13 +78,13 @@ impl Listener {
         ensures { (heard : List (List ℕ)) → Knows heard self.now
             → result ≡ may_come self.now.watched heard header.now }
     {
-        is_erasing(header) || (self.watched.keeps && self.is_repeat(header))
+        is_erasing(header) || (self.watched.keeps && self.repeats_page(header))
     }
 
     // Whether a header of the page repeats it.
-    fn is_repeat(&self, header: &Header) -> bool
+    fn repeats_page(&self, header: &Header) -> bool
         ensures { (heard : List (List ℕ)) → Knows heard self.now → result
-            ≡ is_repeat self.now.watched.complete self.now.watched.page heard header.now }
+            ≡ repeats_page self.now.watched.complete self.now.watched.page heard header.now }
     {
         is_same_subcode(self.subcode, header) && !self.is_incomplete()
     }

@@ -380,7 +380,7 @@ impl Listener {
                 if self.is_new(row) {
                     self.store(row, &text_codes(packet));
                 } else if self.is_open {
-                    self.mark(row);
+                    self.set_again(row);
                 }
                 false
             }
@@ -446,7 +446,7 @@ impl Listener {
     }
 
     // A row that was sent is sent again.
-    fn mark(&mut self, row: u8)
+    fn set_again(&mut self, row: u8)
         requires { (1 ≤ row) × (row ≤ 24) }
         ensures { self.new ≡ record self.old {
           again = slice_set self.old.again (row - 1) true;

@@ -110,7 +110,7 @@ is_pes_write _ = false
 
 -- The source of the subtitle file failed.
 abbrev pub is_stl_read : CheckFault → Bool
-is_stl_read (fault.Subtitles f) = load.is_read f
+is_stl_read (fault.Subtitles f) = load.is_load_read f
 is_stl_read _ = false
 
 -- The fault is one of the subtitle file.

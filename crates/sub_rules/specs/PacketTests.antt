@@ -70,15 +70,15 @@ is_same_subcode None h = true
 is_same_subcode (Some last) h = h.subcode == last.subcode
 
 -- A header of the page that is sent after these packets repeats the page.
-abbrev pub is_repeat : Bool → PageIdValue → List (List ℕ) → Header → Bool
-is_repeat complete page before h =
+abbrev pub repeats_page : Bool → PageIdValue → List (List ℕ) → Header → Bool
+repeats_page complete page before h =
     is_same_subcode (last_header page before) h
     && not (complete && is_open_after (kind page) before)
 
 -- A header of the page that is sent after these packets erases it or, where repeats may keep it,
 -- repeats it.
 abbrev pub may_come : Watched → List (List ℕ) → Header → Bool
-may_come w before h = c4 h || (w.keeps && is_repeat w.complete w.page before h)
+may_come w before h = c4 h || (w.keeps && repeats_page w.complete w.page before h)
 
 -- It is a subtitle's.
 abbrev pub is_subtitle_header : Watched → List (List ℕ) → Header → Bool

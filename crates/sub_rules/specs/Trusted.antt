@@ -115,9 +115,9 @@ stands_none s = not (list_any (λ rule. is_some (broken_at rule s)) end_rules)
 unfoldable pub run_of : List Mark → Option ℕ
 run_of [] = None
 run_of (Says e ∷ past) = if is_none (doubted_by past e) then run_of past else None
-run_of (Ends f has_header none ∷ past) =
+run_of (Ends f has_beginning none ∷ past) =
     if stays_quiet past && none
-    then option_or (run_of past) (if has_header then Some f else None)
+    then option_or (run_of past) (if has_beginning then Some f else None)
     else None
 run_of (Closes are_left more ∷ past) = None
 run_of (m ∷ past) = run_of past
@@ -131,7 +131,7 @@ whole_at f since = if is_none since then Some f else None
 unfoldable pub whole_of : List Mark → Option ℕ
 whole_of [] = None
 whole_of (AtEnd f since late ∷ past) = option_or (whole_of past) (whole_at f since)
-whole_of (Ends f has_header none ∷ past) =
+whole_of (Ends f has_beginning none ∷ past) =
     option_or (if is_none (run_of past) then None else whole_of past) (whole_at f (since_of past))
 whole_of (m ∷ past) = whole_of past
 

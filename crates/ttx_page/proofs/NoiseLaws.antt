@@ -21,7 +21,7 @@ use Rattle.ttx_page.specs.Receiver.ReceiverClass.{Storing}
 use Rattle.ttx_page.specs.Span.{holds_header, span}
 use Rattle.ttx_page.specs.Shown.{shown}
 use Rattle.ttx_page.specs.Noise.{HasSameCodes, IsSound, LawOfNoise}
-use Rattle.ttx_page.specs.LostRows.{IsHitOrLost, LawOfLostRows, LawOfNothingLost, MayBeMarked}
+use Rattle.ttx_page.specs.LostRows.{IsHitOrLost, LawOfLostRows, LawOfNothingLost, LosesNoHeader}
 use Rattle.ttx_page.specs.LostRows.{arrivals_of}
 use Rattle.ttx_page.specs.Recovery.{LawOfRecovery}
 use Rattle.ttx_page.specs.Repeats.{EndsForgetting, SendsText}
@@ -83,19 +83,19 @@ sends_shown w sent sound =
           below);
     }
 
-module _ (class : ReceiverClass) (w : PageIdValue) (sent : List (List ℕ)) (marks : List Bool)
+module _ (class : ReceiverClass) (w : PageIdValue) (sent : List (List ℕ)) (arrived : List Bool)
     (got : List (List ℕ)) (old new : State) (sound : IsSound w sent)
-    (may : AllZip MayBeMarked sent marks)
-    (near : AllZip AreNear (items_where_true marks sent) got)
+    (may : AllZip LosesNoHeader sent arrived)
+    (near : AllZip AreNear (items_where_true arrived sent) got)
     (hears : HearsBy class w old got new) where
   -- What excuses a space.
   abbrev Excused : ℕ → ℕ → Type 0
-  Excused = ExcusedBy class (IsHitOrLost w sent (arrivals_of marks got))
+  Excused = ExcusedBy class (IsHitOrLost w sent (arrivals_of arrived got))
 
   -- What has become of a receiver.
   ends_as : EndsForgetting false false w sent (shown w sent) Excused old new
   ends_as =
-      law_of_repeats false false class w sent marks got (shown w sent) old new
+      law_of_repeats false false class w sent arrived got (shown w sent) old new
       (sends_shown w sent sound) may near (law_of_forgetting class w got old new hears)
 
   -- Each cell, after a header of the page.
@@ -112,51 +112,51 @@ module _ (class : ReceiverClass) (w : PageIdValue) (sent : List (List ℕ)) (mar
 
 -- The law of recovery.
 pub law_of_recovery : LawOfRecovery
-law_of_recovery class w sent marks got old new sound may near holds hears =
-    let ends = ends_as class w sent marks got old new sound may near hears in
+law_of_recovery class w sent arrived got old new sound may near holds hears =
+    let ends = ends_as class w sent arrived got old new sound may near hears in
     let heard_is = ends.heard in
     let open_is = ends.is_open in
     record {
       heard = grind (arith, nat_tests);
       is_open = grind (arith, nat_tests);
-      cells = cell_shown class w sent marks got old new sound may near hears holds;
+      cells = cell_shown class w sent arrived got old new sound may near hears holds;
     }
 
 -- The law of lost rows.
 pub law_of_lost_rows : LawOfLostRows
-law_of_lost_rows class w sent marks got old new sound may near unheard shut hears =
-    let ends = ends_as class w sent marks got old new sound may near hears in
+law_of_lost_rows class w sent arrived got old new sound may near unheard shut hears =
+    let ends = ends_as class w sent arrived got old new sound may near hears in
     let heard_is = ends.heard in
     let open_is = ends.is_open in
     let heard_only : new.heard ≡ holds_header (kind w) sent = grind (arith, nat_tests) in
     record {
       heard = heard_only;
       is_open = grind (arith, nat_tests);
-      cells = λ now. cell_shown class w sent marks got old new sound may near hears
+      cells = λ now. cell_shown class w sent arrived got old new sound may near hears
           (rw heard_only at now);
     }
 
 -- ---- with nothing lost
 
 -- Marks that are all true keep all packets.
-items-all_true : (sent : List (List ℕ)) (marks : List Bool)
-    → AllByRecursion IsTrue marks
-    → AllZip MayBeMarked sent marks
-    → items_where_true marks sent ≡ sent
+items-all_true : (sent : List (List ℕ)) (arrived : List Bool)
+    → AllByRecursion IsTrue arrived
+    → AllZip LosesNoHeader sent arrived
+    → items_where_true arrived sent ≡ sent
 items-all_true [] [] all may = refl
-items-all_true [] (m ∷ marks) all may = elim may [ ]
-items-all_true (p ∷ sent) marks all may = grind (arith, nat_tests, items-all_true sent)
+items-all_true [] (m ∷ arrived) all may = elim may [ ]
+items-all_true (p ∷ sent) arrived all may = grind (arith, nat_tests, items-all_true sent)
 
--- Where marks are all true nothing of what was got is lost.
-arrivals_of-all_true : (sent got : List (List ℕ)) (marks : List Bool)
-    → AllByRecursion IsTrue marks
-    → AllZip MayBeMarked sent marks
+-- Where all arrived nothing of what was got is lost.
+arrivals_of-all_true : (sent got : List (List ℕ)) (arrived : List Bool)
+    → AllByRecursion IsTrue arrived
+    → AllZip LosesNoHeader sent arrived
     → AllZip AreNear sent got
-    → arrivals_of marks got ≡ map Some got
+    → arrivals_of arrived got ≡ map Some got
 arrivals_of-all_true [] [] [] all may near = refl
-arrivals_of-all_true [] (g ∷ got) marks all may near = elim near [ ]
-arrivals_of-all_true [] [] (m ∷ marks) all may near = elim may [ ]
-arrivals_of-all_true (p ∷ sent) got marks all may near =
+arrivals_of-all_true [] (g ∷ got) arrived all may near = elim near [ ]
+arrivals_of-all_true [] [] (m ∷ arrived) all may near = elim may [ ]
+arrivals_of-all_true (p ∷ sent) got arrived all may near =
     grind (arith, nat_tests, arrivals_of-all_true sent)
 
 -- The span of the items where all is got: that of the pairs.
@@ -168,16 +168,16 @@ span-zip_map_Some w sent got = grind (arith, nat_tests, kind_of_item, zip-map, s
 
 -- The law of lost rows with nothing lost is the law of noise.
 pub law_of_nothing_lost : LawOfNothingLost
-law_of_nothing_lost w sent marks all may = record {
-  kept = items-all_true sent marks (recursion_from_All IsTrue marks all) may;
+law_of_nothing_lost w sent arrived all may = record {
+  kept = items-all_true sent arrived (recursion_from_All IsTrue arrived all) may;
   hits = λ got near row column.
-      rw (arrivals_of-all_true sent got marks (recursion_from_All IsTrue marks all) may near) (
+      rw (arrivals_of-all_true sent got arrived (recursion_from_All IsTrue arrived all) may near) (
         λ hit. Any-map _ _ _ (rw (span-zip_map_Some w sent got) at hit),
         λ hit. rw (span-zip_map_Some w sent got) (map-Any _ _ _ hit),
       );
 }
 
--- A mark for each packet, all true.
+-- For each packet that it arrived.
 abbrev pub all_kept : List (List ℕ) → List Bool
 all_kept sent = map (λ p. true) sent
 
@@ -187,7 +187,7 @@ all_true [] = All-nil _
 all_true (p ∷ sent) = All-cons IsTrue true (all_kept sent) refl (all_true sent)
 
 -- No page header is lost by them.
-pub may_all : (sent : List (List ℕ)) → AllZip MayBeMarked sent (all_kept sent)
+pub may_all : (sent : List (List ℕ)) → AllZip LosesNoHeader sent (all_kept sent)
 may_all [] = tt
 may_all (p ∷ sent) = (λ h a is. let e : true ≡ false = h in absurd (cc), may_all sent)
 

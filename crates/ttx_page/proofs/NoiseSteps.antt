@@ -25,7 +25,7 @@ use Rattle.ttx_page.specs.DroppedRows.{ExcusedBy}
 use Rattle.ttx_page.specs.Receiver.{ReceiverClass, State, is_dropped}
 use Rattle.ttx_page.specs.Receiver.ReceiverClass.{Dropping, Storing}
 use Rattle.ttx_page.specs.Noise.{ErasesPage}
-use Rattle.ttx_page.specs.LostRows.{LosesByte, MayBeLost, MayBeMarked, arrivals_of}
+use Rattle.ttx_page.specs.LostRows.{LosesByte, MayBeLost, LosesNoHeader, arrivals_of}
 use Rattle.ttx_page.specs.Repeats.{BeginsAnew, ForgetsAt, HearsForgetting, StepForgetting}
 use Rattle.ttx_page.specs.Span.{holds_beginning, holds_header, is_open_after, span, text_span}
 use Rattle.ttx_page.proofs.SpanPush.{holds-push, span-push, open-this, open-other}
@@ -460,16 +460,16 @@ module _ (keeps anew : Bool) (class : ReceiverClass) (w : PageIdValue) (row colu
   }
 
   -- What is sent more, and kept or lost: by induction from the front, after any items.
-  pub over : (start : State) (items : List Item) (sent : List (List ℕ)) (marks : List Bool)
+  pub over : (start : State) (items : List Item) (sent : List (List ℕ)) (arrived : List Bool)
       (got : List (List ℕ)) (old new : State)
       → IsCell row column
       → AllByRecursion HasExactWords sent
       → AllByRecursion (λ packet. IsFalse keeps → ErasesPage w packet) sent
-      → AllZip MayBeMarked sent marks
-      → AllZip AreNear (items_where_true marks sent) got
+      → AllZip LosesNoHeader sent arrived
+      → AllZip AreNear (items_where_true arrived sent) got
       → HearsForgetting class anew w old got new
       → Becomes start items old
-      → Becomes start (items ++ zip sent (arrivals_of marks got)) new
+      → Becomes start (items ++ zip sent (arrivals_of arrived got)) new
   over start items [] [] [] old new named exact erases may near hears was =
       rw (append-nil, hears) was
   over start items [] [] (g ∷ gs) old new named exact erases may near hears was = elim near [ ]

@@ -23,27 +23,27 @@ use Rattle.ttx_page.specs.Repeats.{LawOfForgetting, LawOfRepeats, SendsText, Ste
 use Rattle.ttx_page.specs.Span.{holds_beginning, holds_header, is_unended, span}
 use Rattle.ttx_page.specs.Span.{text_span}
 use Rattle.ttx_page.specs.Noise.{IsOddRow}
-use Rattle.ttx_page.specs.LostRows.{IsHitOrLost, MayBeMarked, arrivals_of}
+use Rattle.ttx_page.specs.LostRows.{IsHitOrLost, LosesNoHeader, arrivals_of}
 use Rattle.ttx_page.proofs.RunLemmas.{RunsBy-as}
 use Rattle.ttx_page.proofs.SpanLists.{list_any-map, after-map, span-map}
 use Rattle.ttx_page.proofs.TextSpan.{text_span-map, text_span-none_keeps}
 use Rattle.ttx_page.proofs.NoiseSteps.{AreTargets, Becomes, IsFreshCell, Item, excused_as}
 use Rattle.ttx_page.proofs.NoiseSteps.{kind_of_item, over, starts}
 
--- There is an arrival for each mark.
+-- There is an arrival for each packet.
 length-arrivals_of :
-    (marks : List Bool) (got : List (List ℕ)) → length (arrivals_of marks got) ≡ length marks
+    (arrived : List Bool) (got : List (List ℕ)) → length (arrivals_of arrived got) ≡ length arrived
 length-arrivals_of [] got = refl
 length-arrivals_of (false ∷ ms) got = ap suc (length-arrivals_of ms got)
 length-arrivals_of (true ∷ ms) [] = ap suc (length-arrivals_of ms [])
 length-arrivals_of (true ∷ ms) (g ∷ gs) = ap suc (length-arrivals_of ms gs)
 
 -- What is sent, with what arrives of it.
-module _ (class : ReceiverClass) (w : PageIdValue) (sent : List (List ℕ)) (marks : List Bool)
-    (got : List (List ℕ)) (may : AllZip MayBeMarked sent marks)
-    (near : AllZip AreNear (items_where_true marks sent) got) where
+module _ (class : ReceiverClass) (w : PageIdValue) (sent : List (List ℕ)) (arrived : List Bool)
+    (got : List (List ℕ)) (may : AllZip LosesNoHeader sent arrived)
+    (near : AllZip AreNear (items_where_true arrived sent) got) where
   abbrev arrivals : List (Option (List ℕ))
-  arrivals = arrivals_of marks got
+  arrivals = arrivals_of arrived got
 
   abbrev items : List Item
   items = zip sent arrivals
@@ -100,7 +100,7 @@ module _ (class : ReceiverClass) (w : PageIdValue) (sent : List (List ℕ)) (mar
         → IsCell row column
         → Becomes keeps anew class w row column (text row column) (Excused row column) old items new
     becomes row column named =
-        over keeps anew class w row column _ _ old [] sent marks got old new named
+        over keeps anew class w row column _ _ old [] sent arrived got old new named
         (recursion_from_All _ sent sends.exact)
         (recursion_from_All _ sent (λ k d l none. sends.erases none k d l)) may near hears
         (starts keeps anew class w row column (text row column) (Excused row column) old)
@@ -156,8 +156,8 @@ module _ (class : ReceiverClass) (w : PageIdValue) (sent : List (List ℕ)) (mar
 
 -- The law of repeats.
 pub law_of_repeats : LawOfRepeats
-law_of_repeats keeps anew class w sent marks got text old new sends may near hears =
-    ends class w sent marks got may near keeps anew text old new sends hears
+law_of_repeats keeps anew class w sent arrived got text old new sends may near hears =
+    ends class w sent arrived got may near keeps anew text old new sends hears
 
 -- Where repeats may not keep, what is kept is what is shown. For a checker's laws.
 pub kept_shown : (w : PageIdValue) (packets : List (List ℕ)) (row column : ℕ)

@@ -19,18 +19,17 @@ use Rattle.ttx_page.specs.Span.{span}
 abbrev pub MayBeLost : List ℕ → Type 0
 MayBeLost packet = (a : PacketAddress) → address packet ≡ Some a → a.packet_number ≢ 0
 
--- Beside each packet stands a mark: true where it is kept, and false where it is lost. Page headers
--- are kept.
-abbrev pub MayBeMarked : List ℕ → Bool → Type 0
-MayBeMarked sent mark = IsFalse mark → MayBeLost sent
+-- Beside each packet stands whether it arrived. Page headers did.
+abbrev pub LosesNoHeader : List ℕ → Bool → Type 0
+LosesNoHeader sent arrives = IsFalse arrives → MayBeLost sent
 
 -- What was got of each packet, where these were got of those that are kept: nothing where it was
 -- lost.
 abbrev pub arrivals_of : List Bool → List (List ℕ) → List (Option (List ℕ))
 arrivals_of [] got = []
-arrivals_of (false ∷ marks) got = None ∷ arrivals_of marks got
-arrivals_of (true ∷ marks) [] = None ∷ arrivals_of marks []
-arrivals_of (true ∷ marks) (first ∷ got) = Some first ∷ arrivals_of marks got
+arrivals_of (false ∷ arrived) got = None ∷ arrivals_of arrived got
+arrivals_of (true ∷ arrived) [] = None ∷ arrivals_of arrived []
+arrivals_of (true ∷ arrived) (first ∷ got) = Some first ∷ arrivals_of arrived got
 
 -- The packet was lost, or got with another byte at the column.
 abbrev pub LosesByte : List ℕ → Option (List ℕ) → ℕ → Type 0
@@ -51,33 +50,34 @@ IsHitOrLost w sent arrivals row column =
 -- So here too noise never puts a wrong character on the screen.
 abbrev pub LawOfLostRows : Type 0
 LawOfLostRows =
-    (class : ReceiverClass) (w : PageIdValue) (sent : List (List ℕ)) (marks : List Bool)
+    (class : ReceiverClass) (w : PageIdValue) (sent : List (List ℕ)) (arrived : List Bool)
     → (got : List (List ℕ)) (old new : State)
     → IsSound w sent
-    → AllZip MayBeMarked sent marks
-    → AllZip AreNear (items_where_true marks sent) got
+    → AllZip LosesNoHeader sent arrived
+    → AllZip AreNear (items_where_true arrived sent) got
     → IsFalse old.heard
     → IsFalse old.is_open
     → HearsBy class w old got new
-    → EndsAs w sent (ExcusedBy class (IsHitOrLost w sent (arrivals_of marks got))) new
+    → EndsAs w sent (ExcusedBy class (IsHitOrLost w sent (arrivals_of arrived got))) new
 
 -- ---- with nothing lost
 
 -- Where every packet is kept, the list of those that are kept and the hits are those of the law of
 -- noise.
-pub record LosesNothing (w : PageIdValue) (sent : List (List ℕ)) (marks : List Bool) : Type 0 where
-  pub kept : items_where_true marks sent ≡ sent
+pub record LosesNothing (w : PageIdValue) (sent : List (List ℕ)) (arrived : List Bool)
+    : Type 0 where
+  pub kept : items_where_true arrived sent ≡ sent
   pub hits :
       (got : List (List ℕ))
       → AllZip AreNear sent got
       → (row column : ℕ)
-      → IsHitOrLost w sent (arrivals_of marks got) row column
+      → IsHitOrLost w sent (arrivals_of arrived got) row column
       ↔ IsHit w sent got row column
 
 -- So the law of noise is the law of lost rows with nothing lost.
 abbrev pub LawOfNothingLost : Type 0
 LawOfNothingLost =
-    (w : PageIdValue) (sent : List (List ℕ)) (marks : List Bool)
-    → All IsTrue marks
-    → AllZip MayBeMarked sent marks
-    → LosesNothing w sent marks
+    (w : PageIdValue) (sent : List (List ℕ)) (arrived : List Bool)
+    → All IsTrue arrived
+    → AllZip LosesNoHeader sent arrived
+    → LosesNothing w sent arrived

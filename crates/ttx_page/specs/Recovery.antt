@@ -6,7 +6,7 @@ use Rattle.std.specs.List.{AllZip, items_where_true}
 use Rattle.ttx_packet.specs.OneBit.{AreNear}
 use Rattle.ttx_packet.specs.PageId.{PageIdValue}
 use Rattle.ttx_page.specs.DroppedRows.{ExcusedBy}
-use Rattle.ttx_page.specs.LostRows.{IsHitOrLost, MayBeMarked, arrivals_of}
+use Rattle.ttx_page.specs.LostRows.{IsHitOrLost, LosesNoHeader, arrivals_of}
 use Rattle.ttx_page.specs.Noise.{IsSound}
 use Rattle.ttx_page.specs.Page.{space, cell, IsCell}
 use Rattle.ttx_page.specs.PacketKind.{kind}
@@ -33,11 +33,11 @@ pub record EndsAfresh
 -- page was sent, it holds what the law of lost rows says.
 abbrev pub LawOfRecovery : Type 0
 LawOfRecovery =
-    (class : ReceiverClass) (w : PageIdValue) (sent : List (List ℕ)) (marks : List Bool)
+    (class : ReceiverClass) (w : PageIdValue) (sent : List (List ℕ)) (arrived : List Bool)
     → (got : List (List ℕ)) (old new : State)
     → IsSound w sent
-    → AllZip MayBeMarked sent marks
-    → AllZip AreNear (items_where_true marks sent) got
+    → AllZip LosesNoHeader sent arrived
+    → AllZip AreNear (items_where_true arrived sent) got
     → IsTrue (holds_header (kind w) sent)
     → HearsBy class w old got new
-    → EndsAfresh w sent (ExcusedBy class (IsHitOrLost w sent (arrivals_of marks got))) new
+    → EndsAfresh w sent (ExcusedBy class (IsHitOrLost w sent (arrivals_of arrived got))) new

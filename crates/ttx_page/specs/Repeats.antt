@@ -11,7 +11,7 @@ use Rattle.ttx_packet.specs.RowPacket.{text_byte}
 use Rattle.ttx_page.specs.declared.packet_kind.PacketKind.{PacketKind}
 use Rattle.ttx_page.specs.declared.packet_kind.PacketKind.TheVariants.{Row, ThisPage}
 use Rattle.ttx_page.specs.DroppedRows.{ExcusedBy}
-use Rattle.ttx_page.specs.LostRows.{IsHitOrLost, MayBeMarked, arrivals_of}
+use Rattle.ttx_page.specs.LostRows.{IsHitOrLost, LosesNoHeader, arrivals_of}
 use Rattle.ttx_page.specs.Noise.{ErasesPage, IsOddRow}
 use Rattle.ttx_page.specs.Page.{IsCell, Rows, blank, cell, space}
 use Rattle.ttx_page.specs.PacketKind.{is_row, is_this_page, kind}
@@ -164,13 +164,13 @@ pub record EndsForgetting
 abbrev pub LawOfRepeats : Type 0
 LawOfRepeats =
     (keeps anew : Bool) (class : ReceiverClass) (w : PageIdValue) (sent : List (List ℕ))
-    → (marks : List Bool) (got : List (List ℕ)) (text : ℕ → ℕ → ℕ) (old new : State)
+    → (arrived : List Bool) (got : List (List ℕ)) (text : ℕ → ℕ → ℕ) (old new : State)
     → SendsText keeps w sent text
-    → AllZip MayBeMarked sent marks
-    → AllZip AreNear (items_where_true marks sent) got
+    → AllZip LosesNoHeader sent arrived
+    → AllZip AreNear (items_where_true arrived sent) got
     → HearsForgetting class anew w old got new
     → EndsForgetting keeps anew w sent text
-    (ExcusedBy class (IsHitOrLost w sent (arrivals_of marks got))) old new
+    (ExcusedBy class (IsHitOrLost w sent (arrivals_of arrived got))) old new
 
 -- With no wrong bit a receiver that keeps holds what is kept, where what it held before is
 -- forgotten.

@@ -33,9 +33,9 @@ pub fn law_of_quiet()
     ensures { LawOfQuiet }
 {}
 
-/// The law of noise where any packets but page headers are lost, a mark beside each packet says
-/// whether it is kept, and receivers may drop rows. A cell of a lost row counts as hit, and where
-/// rows are dropped each cell of a row of which a byte was hit.
+/// The law of noise where any packets but page headers are lost: beside each packet stands whether
+/// it arrived; and receivers may drop rows. A cell of a lost row counts as hit, and where rows are
+/// dropped each cell of a row of which a byte was hit.
 #[tactic(auto, using(crate::proofs::NoiseLaws::law_of_lost_rows))]
 pub fn law_of_lost_rows()
     ensures { LawOfLostRows }

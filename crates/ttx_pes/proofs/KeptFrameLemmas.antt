@@ -1,5 +1,5 @@
 -- What is known of a packet by its header and its data field: of one whose units are read,
--- held_anew, and of one whose data field is that of a packet before, held_again.
+-- known_anew, and of one whose data field is that of a packet before, known_again.
 use Rattle.std.proofs.lemmas.Bool.Decides.{nat_tests}
 use Rattle.std.proofs.Common.{◌≡◌, ℕ, ◌/◌, ◌<◌, List, ◌+◌, ◌%◌, ◌≤◌, ◌++◌, [], length, drop}
 use Rattle.std.proofs.Common.{take, Ok, Err, refl, sym, ap, subst, arith, length-drop}
@@ -10,7 +10,7 @@ use Rattle.ttx_pes.specs.declared.fault.PesFault.{PesFault}
 use Rattle.ttx_pes.specs.PesPacket.{IsPesValue, PesValue}
 use Rattle.ttx_pes.specs.Reading.{pts_at, units_at, value_at}
 use Rattle.ttx_pes.specs.SentUnits.{AreWithin, sent_units}
-use Rattle.ttx_pes.specs.Taking.{AreAllPlaces, HeldValue, IsHeld, field_in, held_frame, no_packet}
+use Rattle.ttx_pes.specs.Taking.{AreAllPlaces, RoomValue, IsInRoom, field_in, room_frame, no_packet}
 use Rattle.ttx_pes.proofs.HeadLemmas.{no_places}
 use Rattle.ttx_pes.proofs.PesHeaderLemmas.{body_sound, frame_made, six_of}
 use Rattle.ttx_pes.proofs.PesPacketLemmas.{value_of_packet}
@@ -47,12 +47,12 @@ pub record IsBody (body : List ℕ) : Type 0 where
   pub fit : AreBytes body
 
 -- What is known of a packet by these bytes.
-pub record IsKnown (body : List ℕ) (h : HeldValue) : Type 0 where
-  pub value : value_at body ≡ Ok (held_frame (drop 39 body) h)
-  pub held : IsHeld (drop 39 body) h
+pub record IsKnown (body : List ℕ) (h : RoomValue) : Type 0 where
+  pub value : value_at body ≡ Ok (room_frame (drop 39 body) h)
+  pub known : IsInRoom (drop 39 body) h
 
 -- Where the units of its data field are read.
-pub held_anew : (body field : List ℕ) (h : HeldValue)
+pub known_anew : (body field : List ℕ) (h : RoomValue)
     → IsBody body
     → pts_at body ≡ Ok h.pts
     → field ≡ drop 39 body
@@ -61,14 +61,14 @@ pub held_anew : (body field : List ℕ) (h : HeldValue)
     → AreAllPlaces field h.places
     → units_at (length (drop 1 field) / 46) [] (drop 1 field) ≡ Ok (sent_units field h.places)
     → IsKnown body h
-held_anew body field h is time same count within all read =
+known_anew body field h is time same count within all read =
     let there = rw (same, drop-drop 1 39 body) at read in
-    let value : value_at body ≡ Ok (held_frame (drop 39 body) h) =
+    let value : value_at body ≡ Ok (room_frame (drop 39 body) h) =
     frame_made body h.pts (length (drop 40 body) / 46) (sent_units (drop 39 body) h.places) time
     refl there in
     record {
       value = value;
-      held = record {
+      known = record {
         count = rw (← same) count;
         short = omega (arith, is.short, is.long, count, ap length same, length-drop 39 body);
         within = rw (← same) within;
@@ -79,20 +79,20 @@ held_anew body field h is time same count within all read =
     }
 
 -- Where it is that of a packet of which this is known.
-pub held_again : (body field before : List ℕ) (old h : HeldValue)
+pub known_again : (body field before : List ℕ) (old h : RoomValue)
     → IsBody body
     → pts_at body ≡ Ok h.pts
     → field ≡ drop 39 body
     → field ≡ before
-    → IsHeld before old
+    → IsInRoom before old
     → h.count ≡ old.count
     → h.places ≡ old.places
     → IsKnown body h
-held_again body field before old h is time same kept held count places =
-    let there : IsHeld field old = subst (λ f. IsHeld f old) (sym kept) held in
+known_again body field before old h is time same kept known count places =
+    let there : IsInRoom field old = subst (λ f. IsInRoom f old) (sym kept) known in
     let some : 0 < length field =
     omega (arith, is.long, ap length same, length-drop 39 body) in
-    held_anew body field h is time same (there.count ∙ sym count) (rw places there.within)
+    known_anew body field h is time same (there.count ∙ sym count) (rw places there.within)
     (rw places there.all) (rw places (there.units some))
 
 -- The data field in a packet's room, by the packet's bytes from byte 6 on. For `read_compared`.
@@ -110,6 +110,6 @@ field_of_body size count room body is all long fits =
     ∙ ap (λ n. drop 45 (take n room)) (sym sum) ∙ drop-take 45 count room)
 
 -- What is known of no packet is so of an empty data field. For a `KeptFrame` without one.
-pub none_held : IsHeld [] no_packet
+pub none_known : IsInRoom [] no_packet
 unfolding units_at
-none_held = grind (arith, nat_tests, no_places)
+none_known = grind (arith, nat_tests, no_places)

@@ -12,15 +12,15 @@ use Rattle.ttx_pes.specs.Comparing.{TakesDataField}
 use Rattle.ttx_pes.specs.PesPacket.{PesValue}
 use Rattle.ttx_pes.specs.Reader.{TellsPacket}
 use Rattle.ttx_pes.specs.Reading.{most_packets, pts_at, size_at, value_at}
-use Rattle.ttx_pes.specs.Taking.{HeldValue, IsFieldSize, IsHeld, IsSentAgain, held_frame}
+use Rattle.ttx_pes.specs.Taking.{RoomValue, IsFieldSize, IsInRoom, IsSentAgain, room_frame}
 use Rattle.ttx_pes.proofs.DataUnitLemmas.{AreBytes-drop, AreBytes-take}
-use Rattle.ttx_pes.proofs.KeptFrameLemmas.{IsBody, held_again}
+use Rattle.ttx_pes.proofs.KeptFrameLemmas.{IsBody, known_again}
 use Rattle.ttx_pes.proofs.TakingLemmas.{settled_field, settles_as, tells_settled, whole_settles}
 
 -- What is known of it, by its header and its data field. For `pts_again`.
-pub sent_again : (bytes before body field : List ℕ) (h : HeldValue) (size t : ℕ)
+pub sent_again : (bytes before body field : List ℕ) (h : RoomValue) (size t : ℕ)
     → AreBytes bytes
-    → IsHeld before h
+    → IsInRoom before h
     → size ≡ h.count + 45
     → size ≤ length bytes
     → IsFieldSize h.count
@@ -30,9 +30,9 @@ pub sent_again : (bytes before body field : List ℕ) (h : HeldValue) (size t : 
     → field ≡ before
     → pts_at body ≡ Ok t
     → IsSentAgain before h bytes t
-sent_again bytes before body field h size t fit held e le field_size told is same kept time =
+sent_again bytes before body field h size t fit known e le field_size told is same kept time =
     let long : 184 ≤ size = omega (arith, e, field_size.long) in
-    let short : size ≤ 1656 = rw e held.short in
+    let short : size ≤ 1656 = rw e known.short in
     let whole : size % 184 ≡ 0 = rw e field_size.whole in
     let len : length (take size bytes) ≡ size = length-take-le size bytes le in
     let six : length body + 6 ≡ size =
@@ -43,8 +43,8 @@ sent_again bytes before body field h size t fit held e le field_size told is sam
       long = rw six long;
       fit = rw is (AreBytes-drop 6 (take size bytes) (AreBytes-take size bytes fit));
     } in
-    let new : HeldValue = record h { pts = t } in
-    let known = held_again body field before h new there time same kept held refl refl in
+    let new : RoomValue = record h { pts = t } in
+    let again = known_again body field before h new there time same kept known refl refl in
     let here : drop 6 (take (h.count + 45) bytes) ≡ body =
     ap (λ n. drop 6 (take n bytes)) (sym e) ∙ sym is in
     let front : drop 39 body ≡ before = sym same ∙ kept in
@@ -52,20 +52,20 @@ sent_again bytes before body field h size t fit held e le field_size told is sam
       fit = fit;
       long = rw (← e) le;
       sized = told ∙ ap (λ (k : ℕ). Ok k) e;
-      value = ap value_at here ∙ known.value ∙ ap (λ f. Ok (held_frame f new)) front;
+      value = ap value_at here ∙ again.value ∙ ap (λ f. Ok (room_frame f new)) front;
       field_is = sym (drop-drop 39 6 (take (h.count + 45) bytes)) ∙ ap (drop 39) here ∙ front;
-      held = subst (λ f. IsHeld f new) front known.held;
+      known = subst (λ f. IsInRoom f new) front again.known;
     }
 
 -- What is told where it was passed over.
 pub record IsPassedAgain
-    (given : ℕ) (old new : Option (List ℕ)) (field : List ℕ) (h : HeldValue)
+    (given : ℕ) (old new : Option (List ℕ)) (field : List ℕ) (h : RoomValue)
     : Type 0 where
-  pub tells : TellsPacket (Reading given) old new (Ok (Some (held_frame field h)))
-  pub taken : TakesDataField old new (held_frame field h) field
+  pub tells : TellsPacket (Reading given) old new (Ok (Some (room_frame field h)))
+  pub taken : TakesDataField old new (room_frame field h) field
 
 -- That is told. For `passes_again`.
-pub passed_again : (given : ℕ) (old new : Option (List ℕ)) (bytes field : List ℕ) (h : HeldValue)
+pub passed_again : (given : ℕ) (old new : Option (List ℕ)) (bytes field : List ℕ) (h : RoomValue)
     (size t : ℕ)
     → given ≢ most_packets
     → AreNext bytes old
@@ -76,7 +76,7 @@ pub passed_again : (given : ℕ) (old new : Option (List ℕ)) (bytes field : Li
 passed_again given old new bytes field h size t ne begins again e passes =
     let n = h.count + 45 in
     let taken = take n bytes in
-    let v : PesValue = held_frame field (record h { pts = t }) in
+    let v : PesValue = room_frame field (record h { pts = t }) in
     let len : length taken ≡ n = length-take-le n bytes again.long in
     let consumed : Consumes old new taken =
     Consumes-passed old new bytes n begins again.long (rw e at passes) in

@@ -80,13 +80,13 @@ pub record IsFieldSize (count : ℕ) : Type 0 where
 
 -- What is known of the packet at the front of a room: its PTS, how many bytes its data field has,
 -- and where the data units of its Teletext units begin in it.
-pub record HeldValue : Type 0 where
+pub record RoomValue : Type 0 where
   pub pts : ℕ
   pub count : ℕ
   pub places : List ℕ
 
 -- What is known of no packet, whose data field is empty.
-abbrev pub no_packet : HeldValue
+abbrev pub no_packet : RoomValue
 no_packet = record { pts = 0; count = 0; places = [] }
 
 -- The data field of so many bytes of the packet at the front of a room.
@@ -94,29 +94,29 @@ abbrev pub field_in : ℕ → List ℕ → List ℕ
 field_in count room = take count (drop 45 room)
 
 -- The value of a packet with that data field.
-abbrev pub held_frame : List ℕ → HeldValue → PesValue
-held_frame field h = record { pts = h.pts; units = sent_units field h.places }
+abbrev pub room_frame : List ℕ → RoomValue → PesValue
+room_frame field h = record { pts = h.pts; units = sent_units field h.places }
 
 -- What is known is so of a packet with that data field.
-pub record IsHeld (field : List ℕ) (h : HeldValue) : Type 0 where
+pub record IsInRoom (field : List ℕ) (h : RoomValue) : Type 0 where
   pub count : length field ≡ h.count
   pub short : h.count + 45 ≤ longest_packet
   pub within : AreWithin (length field) h.places
   pub units : HasUnits field (sent_units field h.places)
   pub all : AreAllPlaces field h.places
-  pub value : IsPesValue (held_frame field h)
+  pub value : IsPesValue (room_frame field h)
 
 -- The bytes begin with the packet of that data field of which this is known, sent again with that
 -- PTS.
-pub record IsSentAgain (field : List ℕ) (h : HeldValue) (bytes : List ℕ) (pts : ℕ) : Type 0 where
+pub record IsSentAgain (field : List ℕ) (h : RoomValue) (bytes : List ℕ) (pts : ℕ) : Type 0 where
   pub fit : AreBytes bytes
   pub long : h.count + 45 ≤ length bytes
   pub sized : size_at (take 6 bytes) ≡ Ok (h.count + 45)
   pub value :
       value_at (drop 6 (take (h.count + 45) bytes))
-      ≡ Ok (held_frame field (record h { pts = pts }))
+      ≡ Ok (room_frame field (record h { pts = pts }))
   pub field_is : drop 45 (take (h.count + 45) bytes) ≡ field
-  pub held : IsHeld field (record h { pts = pts })
+  pub known : IsInRoom field (record h { pts = pts })
 
 -- The room of two in which the packet stands that is kept.
 abbrev pub kept_room : Bool → List ℕ → List ℕ → List ℕ

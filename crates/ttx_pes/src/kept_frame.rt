@@ -11,15 +11,15 @@ ghost use Rattle.ttx_pes.specs.Pieces.{TakesPiece};
 ghost use Rattle.ttx_pes.specs.Reader.{TellsPacket, given_frame};
 ghost use Rattle.ttx_pes.specs.Reading.{most_packets};
 ghost use Rattle.ttx_pes.specs.SentUnits.{sent_units};
-ghost use Rattle.ttx_pes.specs.Taking.{IsHeld, field_in, held_frame};
+ghost use Rattle.ttx_pes.specs.Taking.{IsInRoom, field_in, room_frame};
 ghost use Rattle.ttx_pes.specs.declared.comparing_reader.Compared.TheVariants.{Same, Other};
 ghost use Rattle.ttx_pes.specs.declared.progress.Progress.TheVariants.{Reading};
 
 use crate::comparing_reader::Compared;
 use crate::fault::PesFault;
-use crate::held_packet::HeldPacket;
 use crate::packet_bytes::{MOST_PACKETS, Room, body_of, take_packet};
 use crate::pes_header::LONGEST_PACKET;
+use crate::room_packet::RoomPacket;
 use crate::sent_units::SentUnits;
 use std::marker::Model;
 use sub_io::{Failed, Source};
@@ -32,21 +32,21 @@ pub(crate) struct KeptFrame {
     first: Room,
     second: Room,
     in_second: bool,
-    held: HeldPacket,
+    known: RoomPacket,
 }
 
 impl Model for KeptFrame {
-    ghost use Rattle.ttx_pes.specs.Taking.{IsHeld, KeptValue, field_in, held_frame, kept_room};
+    ghost use Rattle.ttx_pes.specs.Taking.{IsInRoom, KeptValue, field_in, room_frame, kept_room};
 
     ghost Value = { KeptValue };
 
     ghost view = { λ k. record {
-      frame = held_frame (field_in k.held.count (kept_room k.in_second k.first k.second)) k.held;
-      data_field = field_in k.held.count (kept_room k.in_second k.first k.second);
+      frame = room_frame (field_in k.known.count (kept_room k.in_second k.first k.second)) k.known;
+      data_field = field_in k.known.count (kept_room k.in_second k.first k.second);
     } };
 
     ghost invariant = { λ k.
-        IsHeld (field_in k.held.count (kept_room k.in_second k.first k.second)) k.held };
+        IsInRoom (field_in k.known.count (kept_room k.in_second k.first k.second)) k.known };
 }
 
 // Takes the next packet into a room, and compares it with the one that is held in another.
@@ -56,24 +56,25 @@ fn read_compared<S: Source>(
     source: &mut S,
     room: &mut Room,
     before: &Room,
-    held: &mut HeldPacket,
+    known: &mut RoomPacket,
 ) -> Result<Compared, PesFault>
     requires count { CanFail (S.failure_count source.old) }
-    requires held { IsHeld (field_in held.old.count before.now) held.old }
-    ensures held { IsHeld (field_in held.new.count room.new) held.new }
+    requires known { IsInRoom (field_in known.old.count before.now) known.old }
+    ensures known { IsInRoom (field_in known.new.count room.new) known.new }
     ensures tells { TellsPacket (Reading given) (S.remaining source.old) (S.remaining source.new)
         (given_frame (as_given result)
-        (held_frame (field_in held.new.count room.new) held.new)) }
+        (room_frame (field_in known.new.count room.new) known.new)) }
     ensures taken { as_given result ≡ Ok true → TakesDataField
         (S.remaining source.old) (S.remaining source.new)
-        (held_frame (field_in held.new.count room.new) held.new)
-        (field_in held.new.count room.new) }
+        (room_frame (field_in known.new.count room.new) known.new)
+        (field_in known.new.count room.new) }
     ensures same { result ≡ Ok Same
-        → field_in held.new.count room.new ≡ field_in held.old.count before.now }
-    ensures units { result ≡ Ok Same → sent_units (field_in held.new.count room.new) held.new.places
-        ≡ sent_units (field_in held.old.count before.now) held.old.places }
+        → field_in known.new.count room.new ≡ field_in known.old.count before.now }
+    ensures units { result ≡ Ok Same
+        → sent_units (field_in known.new.count room.new) known.new.places
+        ≡ sent_units (field_in known.old.count before.now) known.old.places }
     ensures other { result ≡ Ok Other
-        → field_in held.new.count room.new ≢ field_in held.old.count before.now }
+        → field_in known.new.count room.new ≢ field_in known.old.count before.now }
     ensures below { as_given result ≡ Ok true → given ≢ most_packets }
     ensures piece { IfErr result (λ fault. is_of_piece fault ≡ true
         → TakesPiece (S.remaining source.old) (S.remaining source.new) fault) }
@@ -85,19 +86,19 @@ fn read_compared<S: Source>(
     let size = match take_packet(given, source, room) {
         Ok(Some(size)) => size,
         Ok(None) => {
-            held.clear();
+            known.clear();
             return Ok(Compared::End);
         }
         Err(fault) => {
-            held.clear();
+            known.clear();
             return Err(fault);
         }
     };
-    match held.take(before, body_of(room, size)) {
+    match known.take(before, body_of(room, size)) {
         Ok(true) => Ok(Compared::Same),
         Ok(false) => Ok(Compared::Other),
         Err(fault) => {
-            held.clear();
+            known.clear();
             Err(fault)
         }
     }
@@ -107,13 +108,13 @@ fn read_compared<S: Source>(
 // looked for only where the packet in the room was sent again. A source that can't read on is known
 // to lend nothing still, so that no code is left of this.
 #[inline(always)]
-fn read_on_again<S: Source>(given: u32, source: &mut S, held: &HeldPacket) -> Result<bool, Failed>
+fn read_on_again<S: Source>(given: u32, source: &mut S, known: &RoomPacket) -> Result<bool, Failed>
     requires count { CanFail (S.failure_count source.old) }
     ensures bytes { Keeps (S.remaining source.old) (S.remaining source.new) }
     ensures lent { S.lent source.old ≢ [] → (source.new ≡ source.old) × IsOk result }
     ensures count { CountsFailure (S.failure_count source.old) result (S.failure_count source.new) }
 {
-    if !held.repeats() || given == MOST_PACKETS || !source.held().is_empty() {
+    if !known.repeats() || given == MOST_PACKETS || !source.held().is_empty() {
         return Ok(false);
     }
     source.read_on()?;
@@ -124,32 +125,37 @@ fn read_on_again<S: Source>(given: u32, source: &mut S, held: &HeldPacket) -> Re
 // one in a room, sent again. Else nothing is done. It looks for one only where the packet in the
 // room was sent again too: where each packet is another, none is compared twice.
 #[inline(always)]
-fn passes_again<S: Source>(given: u32, source: &mut S, before: &Room, held: &mut HeldPacket) -> bool
+fn passes_again<S: Source>(
+    given: u32,
+    source: &mut S,
+    before: &Room,
+    known: &mut RoomPacket,
+) -> bool
     requires count { CanFail (S.failure_count source.old) }
-    requires held { IsHeld (field_in held.old.count before.now) held.old }
-    ensures held { IsHeld (field_in held.old.count before.now) held.new }
-    ensures known { held.new ≡ record held.old { pts = held.new.pts } }
+    requires known { IsInRoom (field_in known.old.count before.now) known.old }
+    ensures known { IsInRoom (field_in known.old.count before.now) known.new }
+    ensures others { known.new ≡ record known.old { pts = known.new.pts } }
     ensures tells { result ≡ true → TellsPacket (Reading given)
         (S.remaining source.old) (S.remaining source.new)
-        (Ok (Some (held_frame (field_in held.old.count before.now) held.new))) }
+        (Ok (Some (room_frame (field_in known.old.count before.now) known.new))) }
     ensures taken { result ≡ true → TakesDataField
         (S.remaining source.old) (S.remaining source.new)
-        (held_frame (field_in held.old.count before.now) held.new)
-        (field_in held.old.count before.now) }
+        (room_frame (field_in known.old.count before.now) known.new)
+        (field_in known.old.count before.now) }
     ensures below { result ≡ true → given ≢ most_packets }
     ensures count { S.failure_count source.new ≡ S.failure_count source.old }
-    ensures none { result ≡ false → (source.new ≡ source.old) × (held.new ≡ held.old) }
+    ensures none { result ≡ false → (source.new ≡ source.old) × (known.new ≡ known.old) }
 {
-    if !held.repeats() || given == MOST_PACKETS {
+    if !known.repeats() || given == MOST_PACKETS {
         return false;
     }
-    let Some(pts) = held.pts_again(before, source.held()) else {
+    let Some(pts) = known.pts_again(before, source.held()) else {
         return false;
     };
-    if !source.pass(held.size()) {
+    if !source.pass(known.size()) {
         return false;
     }
-    held.set_pts(pts);
+    known.set_pts(pts);
     true
 }
 
@@ -169,7 +175,7 @@ impl KeptFrame {
             first: [0; LONGEST_PACKET],
             second: [0; LONGEST_PACKET],
             in_second: false,
-            held: HeldPacket::new(),
+            known: RoomPacket::new(),
         }
     }
 
@@ -177,7 +183,7 @@ impl KeptFrame {
     pub(crate) fn pts(&self) -> u64
         ensures { result ≡ self.now.frame.pts }
     {
-        self.held.pts()
+        self.known.pts()
     }
 
     // The Teletext units.
@@ -185,7 +191,7 @@ impl KeptFrame {
         ensures value { result ≡ self.now.frame.units }
         ensures frame { IsPesValue self.now.frame }
     {
-        self.held
+        self.known
             .units(kept_in(self.in_second, &self.first, &self.second))
     }
 
@@ -193,7 +199,7 @@ impl KeptFrame {
     pub(crate) fn clear(&mut self)
         ensures { self.new ≡ record { frame = empty_value; data_field = [] } }
     {
-        self.held.clear();
+        self.known.clear();
     }
 
     // Takes the next packet, and compares it with the one that is kept.
@@ -223,7 +229,7 @@ impl KeptFrame {
         if self.pass_again(given, source) {
             return Ok(Compared::Same);
         }
-        if read_on_again(given, source, &self.held)? {
+        if read_on_again(given, source, &self.known)? {
             return self.read_lent(given, source);
         }
         self.read_other(given, source)
@@ -245,7 +251,7 @@ impl KeptFrame {
         ensures count { S.failure_count source.new ≡ S.failure_count source.old }
     {
         let kept = kept_in(self.in_second, &self.first, &self.second);
-        passes_again(given, source, kept, &mut self.held)
+        passes_again(given, source, kept, &mut self.known)
     }
 
     // Takes the next packet, and compares it, where the source lends bytes since it read on. These
@@ -295,10 +301,22 @@ impl KeptFrame {
     {
         if self.in_second {
             self.in_second = false;
-            read_compared(given, source, &mut self.first, &self.second, &mut self.held)
+            read_compared(
+                given,
+                source,
+                &mut self.first,
+                &self.second,
+                &mut self.known,
+            )
         } else {
             self.in_second = true;
-            read_compared(given, source, &mut self.second, &self.first, &mut self.held)
+            read_compared(
+                given,
+                source,
+                &mut self.second,
+                &self.first,
+                &mut self.known,
+            )
         }
     }
 }

@@ -4,7 +4,7 @@ ghost use Rattle.sub_io.specs.Device.{CountsIf, failed};
 ghost use Rattle.sub_io.specs.Reading.{IfTold};
 ghost use Rattle.ttx_pes.specs.Reader.{FailsAtPacket};
 ghost use Rattle.stl_rows.specs.Layout.{drawing_within};
-ghost use Rattle.stl_rows.specs.Fault.{is_read};
+ghost use Rattle.stl_rows.specs.Fault.{is_load_read};
 ghost use Rattle.stl_rows.specs.Loading.{FailsLoading};
 ghost use Rattle.stl_rows.specs.declared.fault.LoadFault.{LoadFault};
 ghost use Rattle.sub_check.specs.CheckedFiles.{AreChecked, IsChecked, IsCheckedBy};
@@ -22,7 +22,7 @@ use stl_rows::{Drawing, Layout, National, Programme, law_of_loading, load};
 use sub_check::{Accepted, CheckFault, check};
 use sub_io::{Sink, Source};
 use sub_listing::{
-    FirstPacket, Line, Status, print_done, print_told, push_number, push_text, told_of_check,
+    FirstPacket, Line, Status, line_of_check, print_done, print_fault_line, push_number, push_text,
 };
 use sub_plan::Options;
 use ttx_pes::PesFault;
@@ -86,7 +86,7 @@ fn check_files<N: FirstPacket<T>, S: Source, T: Source>(
         result.first }
     ensures stl_read { (fault : LoadFault)
         → result.result ≡ Err (CheckFault.Subtitles fault)
-        → is_read fault ≡ true
+        → is_load_read fault ≡ true
         → FailsLoading (drawing_within national layout scope) (S.remaining stl.old)
         (S.remaining stl.new)
         fault.block }
@@ -154,7 +154,7 @@ fn print_answer<K: Sink>(first: u64, answer: Result<Accepted, CheckFault>, out: 
 {
     match answer {
         Ok(accepted) => print_accepted(accepted, out),
-        Err(fault) => print_told(&told_of_check(fault).counted_from(first), out),
+        Err(fault) => print_fault_line(&line_of_check(fault).counted_from(first), out),
     }
 }
 

@@ -7,11 +7,11 @@ ghost use Rattle.sub_listing.specs.DeviceCall.{CanFail, CountsFault, sink_call, 
 ghost use Rattle.sub_answer.specs.EveryFault.{AnswersAll, TellsBoth, TellsPes};
 ghost use Rattle.sub_listing.specs.EventLines.{most_counted};
 ghost use Rattle.sub_answer.specs.FaultListing.{faults_listing, last_listing};
-ghost use Rattle.sub_listing.specs.Faults.{check_told};
+ghost use Rattle.sub_listing.specs.Faults.{check_line};
 ghost use Rattle.sub_listing.specs.LastLine.{HoldsLastLine, PutsLine};
 ghost use Rattle.sub_listing.specs.Listing.{PrintsOrFails};
 ghost use Rattle.sub_listing.specs.Printer.{printer_value};
-ghost use Rattle.sub_listing.specs.Told.{line_of, told_from};
+ghost use Rattle.sub_listing.specs.FaultLine.{line_of, counted_from};
 
 use crate::answering::check::print_accepted;
 use std::alloc::Global;
@@ -19,7 +19,7 @@ use stl_rows::{Drawing, Judging, LoadFault, law_of_loading, load_all};
 use sub_check::{Accepted, CheckFault, check_all};
 use sub_io::{Flush, LiveAudience, Sink, Source, Stopped, put_all};
 use sub_listing::{
-    FirstPacket, Line, Printer, Status, print_told, push_decimal, push_text, told_of_check,
+    FirstPacket, Line, Printer, Status, line_of_check, print_fault_line, push_decimal, push_text,
 };
 use sub_plan::Options;
 use ttx_pes::PesFault;
@@ -190,12 +190,12 @@ fn print_end<K: Sink>(
         (sink_call K.contents K.failure_count out.old out.new) (last_listing first refused answer)
         result }
     ensures line { IfErr answer (λ f.
-        PutsLine K.contents K.is_push out.old (line_of (told_from first (check_told f)))
+        PutsLine K.contents K.is_push out.old (line_of (counted_from first (check_line f)))
         out.new) }
     ensures count { CountsFault K.failure_count out.old result out.new }
 {
     match answer {
-        Err(fault) => print_told(&told_of_check(fault).counted_from(first), out),
+        Err(fault) => print_fault_line(&line_of_check(fault).counted_from(first), out),
         Ok(None) => print_count(refused, out),
         Ok(Some(accepted)) => {
             if refused == 0 {

@@ -3,13 +3,14 @@ ghost use Rattle.std.specs.Prelude.{◌≡◌, ℕ, ◌+◌, ◌<◌, slice_inde
 ghost use Rattle.ttx_page.specs.Page.{AreCodes};
 ghost use Rattle.sub_answer.specs.Answering.{AnswersListen, PrintsHeard};
 ghost use Rattle.sub_listing.specs.DeviceCall.{CanFail, CountsFault, sink_call, source_call};
-ghost use Rattle.sub_answer.specs.ListenListing.{IsOldPage, listen_told};
+ghost use Rattle.sub_answer.specs.ListenListing.{IsOldPage, listen_line};
 ghost use Rattle.sub_listen.specs.Reception.{left_by};
 
 use sub_io::{Sink, Source};
 use sub_listen::{ListenFault, listen};
 use sub_listing::{
-    FirstPacket, Kind, Status, Told, print_state, print_told, told_of_check, told_of_failed_read,
+    FaultLine, FirstPacket, Kind, Status, line_of_check, line_of_failed_read, print_fault_line,
+    print_state,
 };
 use sub_request::{Listening, ReceiverKind};
 use sub_rules::FaultPlace;
@@ -72,7 +73,7 @@ fn print_state_of<N: FirstPacket<S>, R: Receiver + Drop, S: Source, K: Sink>(
 {
     match N::find(pes) {
         Ok(first) => print_heard::<R, S, K>(pes, first, listening, out),
-        Err(at) => print_told(&told_of_failed_read(at), out),
+        Err(at) => print_fault_line(&line_of_failed_read(at), out),
     }
 }
 
@@ -98,7 +99,7 @@ fn print_heard<R: Receiver + Drop, S: Source, K: Sink>(
     let mut screen = None;
     match listen(&mut receiver, &mut screen, pes, listening) {
         Ok(()) => print_state(&receiver, &screen, listening.options.asks_complete(), out),
-        Err(fault) => print_told(&told_of_listen(fault).counted_from(first), out),
+        Err(fault) => print_fault_line(&line_of_listen(fault).counted_from(first), out),
     }
 }
 
@@ -123,13 +124,13 @@ fn old_row() -> [u8; 40]
 }
 
 // A fault of a PES file that is not heard.
-fn told_of_listen(fault: ListenFault) -> Told
-    ensures { result ≡ listen_told fault }
+fn line_of_listen(fault: ListenFault) -> FaultLine
+    ensures { result ≡ listen_line fault }
 {
     match fault {
-        ListenFault::File(fault) => told_of_check(fault),
+        ListenFault::File(fault) => line_of_check(fault),
         ListenFault::LostHeader { frame, packet } => {
-            Told {
+            FaultLine {
                 kind: Kind::Refused,
                 code: fault.code(),
                 place: FaultPlace::Packet { frame, packet },

@@ -58,7 +58,7 @@ subtitles-preserved-in-Ok-Refused g c =
     let l = rw (c.in-Ok-Refused.field-0-is, i.scope) at (c.in-Ok-Refused.ensures.leads refl) in
     let first = rw c.in-Ok-Refused.field-0-is at c.in-Ok-Refused.ensures.first in
     let told = rw c.block-in-Ok-Refused.ensures.value at c.in-Ok-tell_fault.ensures.told in
-    rw c.pass.ensures (record {
+    rw c.refuse.ensures (record {
       early = i.early ++ load_fault here (File fault) ∷ [];
       told = Tells-trans _ _ _ i.early _ i.told told;
       early_told = told-refused fault c.subtitles.reader.block here i.early

@@ -2,7 +2,7 @@
 use Rattle.std.proofs.Common.{length, refl}
 use Rattle.std.proofs.lemmas.Result.{err_from_is_err_and}
 use Rattle.sub_rules.specs.PieceEvents.{marks_of_closing}
-use Rattle.sub_checker.proofs.StageLemmas.{Moves-trans, passes_two, stops_one, whole_ok}
+use Rattle.sub_checker.proofs.StageLemmas.{Moves-trans, relays_two, stops_one, whole_ok}
 use Rattle.sub_checker.proofs.closing_pieces.end_and_close.Goals as goal
 
 pub close-requires-clause-day : goal.close-requires-clause-day
@@ -24,4 +24,4 @@ returns-clause-moves g c =
 pub returns-clause-told : goal.returns-clause-told
 returns-clause-told g c = λ task list last keeps is.
     let end = c.in_ok-end_waiting.ensures.told task list last keeps in
-    passes_two refl (whole_ok refl end.0) (c.close.ensures.told task list last end.1 is)
+    relays_two refl (whole_ok refl end.0) (c.close.ensures.told task list last end.1 is)

@@ -6,7 +6,7 @@ use Rattle.sub_io.specs.Telling.{TellsUntilStopped}
 use Rattle.sub_rules.specs.PieceEvents.{ended_run}
 use Rattle.sub_rules.specs.declared.event.Event.{Event}
 use Rattle.sub_checker.specs.PassedPieces.{as_run}
-use Rattle.sub_checker.specs.declared.passing.Passing.{Passing}
+use Rattle.sub_checker.specs.declared.relaying.Relay.{Relay}
 use Rattle.sub_checker.proofs.closing_pieces.tell_end.Goals as goal
 
 pub returns-in_err-end_and_close-clause-told : goal.returns-in_err-end_and_close-clause-told
@@ -21,5 +21,5 @@ returns-clause-told g c = λ task list last keeps is.
     TellsUntilStopped-after _ _ _ _ _ c.tell_some.result first.told
     (subst (λ (es : List Event). TellsUntilStopped g.A.Audience.is_told
     c.end_and_close.new.stage.device.now c.tell_some.new.audience es c.tell_some.result)
-    (c.ended.ensures ∙ ap (λ (p : Passing). ended_run (as_run p.run)) first.kept)
+    (c.ended.ensures ∙ ap (λ (p : Relay). ended_run (as_run p.run)) first.kept)
     c.tell_some.ensures.told)

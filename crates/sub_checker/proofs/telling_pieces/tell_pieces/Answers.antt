@@ -33,8 +33,8 @@ use Rattle.sub_rules.specs.declared.event.Event.TheVariants.{Told}
 use Rattle.sub_rules.specs.declared.piece.NextPiece.{NextPiece}
 use Rattle.sub_checker.specs.Checker.{sent_as}
 use Rattle.sub_checker.specs.Following.{Keeps}
-use Rattle.sub_checker.specs.Passing.{passed_on, passing_after}
-use Rattle.sub_checker.specs.declared.passing.Passing.{Passing}
+use Rattle.sub_checker.specs.Relay.{relayed, relay_after}
+use Rattle.sub_checker.specs.declared.relaying.Relay.{Relay}
 use Rattle.sub_checker.proofs.ReadsOnLemmas.{named_pes, packets_taken, reads_on_none}
 use Rattle.sub_checker.proofs.telling_pieces.tell_pieces.Goals.{
   in-Passed+in-Ok-tell_passed,
@@ -53,7 +53,7 @@ pieces-init g c = record {
   goes_on = c.requires.goes_on;
   same = refl;
   day =
-      let none = ap (λ (p : Passing). p.trust.last) c.new.ensures in
+      let none = ap (λ (p : Relay). p.trust.last) c.new.ensures in
       omega (arith, none);
   some = TellsSome-none c.args.audience.now;
   holds = λ none still. none;
@@ -162,7 +162,7 @@ returns-in-Err-tell_passed-clause-exact g c = λ pieces unread bytes told reads.
     (passed_marks task i.0 c.pieces.pes i.1.count at.0)
     so_far
     (subst (λ (l : List Mark). TellsPrefix g.A.Audience.is_told c.next_followed.new.audience
-    c.tell_passed.new.stage.device.now (passed_on c.pieces.stage.passing l)) same
+    c.tell_passed.new.stage.device.now (relayed c.pieces.stage.relay l)) same
     c.in-Err-tell_passed.ensures.told.told) in
     search rules
 
@@ -196,7 +196,7 @@ returns-in-Err-go_on-clause-exact g c = λ pieces unread bytes told reads.
     (sent_marks task i.0 c.pieces.pes i.1.count s)
     so_far
     (subst (λ (x : SentFrame). TellsPrefix g.A.Audience.is_told c.next_followed.new.audience
-    c.go_on.new.stage.device.now (passed_on c.pieces.stage.passing
+    c.go_on.new.stage.device.now (relayed c.pieces.stage.relay
     (marks_of_sent task (frames_sent task i.0) c.pieces.pes x)))
     same go.0.told) in
     search rules
@@ -235,7 +235,7 @@ pieces-preserved g c =
                 (here.exact i.1.ahead unread i.1.rest i.1.rest_is refl i.1.left) in
                 let left = (rw c.in-Some-next.is at (here.left i.1.rest i.1.rest_is)) refl in
                 let s = step_passed c.args.judging.now i.1 i.3 g.A.Audience.is_told _ at.0
-                w.in-Passed.fault w.tell_passed.new.stage.passing _ _ _ left at.2 at.1
+                w.in-Passed.fault w.tell_passed.new.stage.relay _ _ _ left at.2 at.1
                 w.in-Ok-tell_passed.ensures.told.kept so_far
                 w.in-Ok-tell_passed.ensures.told.told in (
                   i.0 ++ Passed at.0 ∷ [],
@@ -288,17 +288,17 @@ pieces-preserved g c =
                 let step = step_sent c.args.judging.now i.1 i.3 g.A.Audience.is_told _
                 c.next_followed.new.reader.frame w.in-Sent.sending.frame
                 (packets_of_units c.next_followed.new.reader.frame.units)
-                w.go_on.new.self w.go_on.new.stage.passing _ _ _ left next at.1
+                w.go_on.new.self w.go_on.new.stage.relay _ _ _ left next at.1
                 (here.sent w.in-Sent.sending given) w.units_of-units.ensures.frame
                 (subst (λ (x : SentFrame). Keeps task (sent_after task.within
                 (frames_sent task i.0) x) x.packets w.go_on.new.self) same go.1)
-                (subst (λ (x : SentFrame). w.go_on.new.stage.passing
-                ≡ passing_after c.pieces.stage.passing (marks_of_sent task (frames_sent task i.0)
+                (subst (λ (x : SentFrame). w.go_on.new.stage.relay
+                ≡ relay_after c.pieces.stage.relay (marks_of_sent task (frames_sent task i.0)
                 c.pieces.pes x)) same go.0.kept)
                 so_far
                 (subst (λ (x : SentFrame). Tells g.A.Audience.is_told
                 c.next_followed.new.audience w.go_on.new.stage.device.now
-                (passed_on c.pieces.stage.passing (marks_of_sent task (frames_sent task i.0)
+                (relayed c.pieces.stage.relay (marks_of_sent task (frames_sent task i.0)
                 c.pieces.pes x))) same go.0.told) in (
                   i.0 ++ Sent s ∷ [],
                   step.reads,

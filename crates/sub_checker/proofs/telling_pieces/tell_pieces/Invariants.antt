@@ -23,7 +23,7 @@ invariant-pieces g l = record {
   failures : g.S.Source.failure_count l.source ≡ g.S.Source.failure_count l.fn.source;
   goes_on : g.A.Audience.has_stopped l.stage.device.now ≡ false;
   same : l.stage.device.ghost_name ≡ l.initial.stage.device.ghost_name;
-  day : l.stage.passing.trust.last < day;
+  day : l.stage.relay.trust.last < day;
   some : TellsSome g.A.Audience.is_told l.fn.audience l.stage.device.now;
   holds :
       g.A.Live.held l.fn.audience ≡ 0
@@ -36,7 +36,7 @@ invariant-pieces g l = record {
       → (done : List Piece)
       × ReadsOn l.options bytes pieces unread (g.S.Source.remaining l.source) l.pes done
       × (last : List (List ℕ))
-      × Tracks (task_beside l.fn.judging l.options unread) done last l.checker l.stage.passing
+      × Tracks (task_beside l.fn.judging l.options unread) done last l.checker l.stage.relay
       × (l.passed ≡ false → last ≡ packets_of_units l.reader.frame.units)
       × Tells g.A.Audience.is_told l.fn.audience l.stage.device.now
       (events_of_pieces (task_beside l.fn.judging l.options unread) done);

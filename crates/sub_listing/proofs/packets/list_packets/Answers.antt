@@ -23,4 +23,4 @@ returns-in-Err-clause-listing g c =
     (source_call g.S.Source.remaining g.S.Source.failure_count c.args.source.now
     c.find.new.source)
     _ _ (λ n is. c.in-Err.ensures.before n is) c.in-Err.ensures.kept risen
-    (rw c.told_of_failed_read.ensures at c.print_told.ensures.printed)
+    (rw c.line_of_failed_read.ensures at c.print_fault_line.ensures.printed)

@@ -4,24 +4,24 @@ use Rattle.std.proofs.Common.{◌≡◌, arith, drop, refl, sym, ◌∙◌, rule
 use Rattle.std.proofs.lemmas.List.{length-take-le}
 use Rattle.ttx_pes.specs.Taking.{field_in}
 use Rattle.ttx_pes.proofs.DataUnitLemmas.{AreBytes-take}
-use Rattle.ttx_pes.proofs.KeptFrameLemmas.{field_of_body, none_held}
+use Rattle.ttx_pes.proofs.KeptFrameLemmas.{field_of_body, none_known}
 use Rattle.ttx_pes.proofs.PieceLemmas.{taken_piece}
 use Rattle.ttx_pes.proofs.TakingLemmas.{settled_field, settles_as, tells_settled}
 use Rattle.ttx_pes.proofs.kept_frame.read_compared.Given.{Over}
 use Rattle.ttx_pes.proofs.kept_frame.read_compared.Goals as goal
 use Rattle.ttx_pes.proofs.kept_frame.read_compared.Goals.{In-Ok-false, In-Ok-true}
 
-pub returns-in-Ok-None-clause-held : goal.returns-in-Ok-None-clause-held
-returns-in-Ok-None-clause-held g c = rw c.clear.ensures none_held
+pub returns-in-Ok-None-clause-known : goal.returns-in-Ok-None-clause-known
+returns-in-Ok-None-clause-known g c = rw c.clear.ensures none_known
 
 pub returns-in-Ok-None-clause-tells : goal.returns-in-Ok-None-clause-tells
 returns-in-Ok-None-clause-tells g c = c.in-Ok-None.ensures.end (rw c.in-Ok-None.field-0-is refl)
 
-pub returns-in-Err-clause-held : goal.returns-in-Err-clause-held
-returns-in-Err-clause-held g c = rw c.clear-in-Err.ensures none_held
+pub returns-in-Err-clause-known : goal.returns-in-Err-clause-known
+returns-in-Err-clause-known g c = rw c.clear-in-Err.ensures none_known
 
-pub returns-in-Err-take-clause-held : goal.returns-in-Err-take-clause-held
-returns-in-Err-take-clause-held g c = rw c.clear-in-Err-take.ensures none_held
+pub returns-in-Err-take-clause-known : goal.returns-in-Err-take-clause-known
+returns-in-Err-take-clause-known g c = rw c.clear-in-Err-take.ensures none_known
 
 -- Where the data field is the one of the packet before: it stands in the room.
 field-true : (g : Over) (c : In-Ok-true g)
@@ -39,10 +39,10 @@ field-false g c =
     field_of_body c.in-Ok-Some.size _ _ _ c.body_of.ensures.value c.in-Ok-false.ensures.count
     (omega arith) (omega arith)
 
-pub returns-in-Ok-true-clause-held : goal.returns-in-Ok-true-clause-held
-returns-in-Ok-true-clause-held g c =
+pub returns-in-Ok-true-clause-known : goal.returns-in-Ok-true-clause-known
+returns-in-Ok-true-clause-known g c =
     let there = field-true g c in
-    rw there c.in-Ok-true.ensures.held
+    rw there c.in-Ok-true.ensures.known
 
 pub returns-in-Ok-true-clause-tells : goal.returns-in-Ok-true-clause-tells
 returns-in-Ok-true-clause-tells g c =
@@ -71,10 +71,10 @@ returns-in-Ok-true-clause-units g c = λ _.
     let there = field-true g c in
     rw there (c.in-Ok-true.ensures.units (search rules))
 
-pub returns-in-Ok-false-clause-held : goal.returns-in-Ok-false-clause-held
-returns-in-Ok-false-clause-held g c =
+pub returns-in-Ok-false-clause-known : goal.returns-in-Ok-false-clause-known
+returns-in-Ok-false-clause-known g c =
     let there = field-false g c in
-    rw there c.in-Ok-false.ensures.held
+    rw there c.in-Ok-false.ensures.known
 
 pub returns-in-Ok-false-clause-tells : goal.returns-in-Ok-false-clause-tells
 returns-in-Ok-false-clause-tells g c =

@@ -38,12 +38,12 @@ returns-clause-exact g c = record {
         c.old_page.ensures
         (c.in-Err.ensures.exact frames unread bytes told reads
         (did_not_rise (is_failed_read c.in-Err.fault) _ _ c.in-Err.ensures.count same)) tt,
-    rw (c.counted_from.ensures, c.told_of_listen.ensures) at c.print_told.ensures.printed,
+    rw (c.counted_from.ensures, c.line_of_listen.ensures) at c.print_fault_line.ensures.printed,
   );
   read = λ other. (
     c.in-Err.fault,
     c.in-Err.ensures.failed
         (did_rise (is_failed_read c.in-Err.fault) _ _ c.in-Err.ensures.count other),
-    rw (c.counted_from.ensures, c.told_of_listen.ensures) at c.print_told.ensures.printed,
+    rw (c.counted_from.ensures, c.line_of_listen.ensures) at c.print_fault_line.ensures.printed,
   );
 }

@@ -31,5 +31,5 @@ returns-in-Err-clause-exact g c =
           (source_call g.S.Source.remaining g.S.Source.failure_count c.args.pes.now
           c.find.new.source)
           _ _ c.in-Err.ensures.kept risen
-          (rw c.told_of_failed_read.ensures at c.print_told.ensures.printed);
+          (rw c.line_of_failed_read.ensures at c.print_fault_line.ensures.printed);
     }

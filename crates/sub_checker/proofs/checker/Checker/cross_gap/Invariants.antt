@@ -3,10 +3,10 @@ use Rattle.std.proofs.Common.{◌≡◌, ℕ, ◌+◌, ◌-◌, ◌<◌, ◌≤�
 use Rattle.sub_rules.specs.Events.{latest}
 use Rattle.sub_rules.specs.PieceEvents.{marks_of_gap}
 use Rattle.sub_checker.specs.Following.{Follows, Waits}
-use Rattle.sub_checker.specs.Passing.{Moves}
+use Rattle.sub_checker.specs.Relay.{Moves}
 use Rattle.sub_rules.specs.FrameRules.{Task, frame_at}
 use Rattle.sub_rules.specs.Transmission.{Transmission}
-use Rattle.sub_checker.proofs.PassingLemmas.{IsWhole}
+use Rattle.sub_checker.proofs.RelayLemmas.{IsWhole}
 use Rattle.sub_checker.proofs.checker.Checker.cross_gap.Given as goal
 
 abbrev pub invariant-loop-f : goal.invariant-loop-f
@@ -22,7 +22,7 @@ invariant-loop-f g l = record {
       → Follows task frames n last l.fn.self
       → 0 < n
       → frame_at frames n ≡ l.to
-      → IsWhole g.A.Audience.is_told l.fn.stage.device.now l.fn.stage.passing
-      (marks_of_gap task frames n (l.f - (latest frames n + 1))) l.stage.device.now l.stage.passing
+      → IsWhole g.A.Audience.is_told l.fn.stage.device.now l.fn.stage.relay
+      (marks_of_gap task frames n (l.f - (latest frames n + 1))) l.stage.device.now l.stage.relay
       × Waits task frames n l.f last l.self;
 }

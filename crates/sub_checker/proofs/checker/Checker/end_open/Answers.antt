@@ -3,7 +3,7 @@ use Rattle.std.proofs.Common.{◌-◌, ◌<◌, ◌∙◌, length, arith, ap, fa
 use Rattle.sub_checker.specs.Checker.{CheckerValue}
 use Rattle.sub_checker.proofs.HearingLemmas.{header_more}
 use Rattle.sub_checker.proofs.TakingLemmas.{follows_all, heard_shut, waiting_some}
-use Rattle.sub_checker.proofs.StageLemmas.{passes_same}
+use Rattle.sub_checker.proofs.StageLemmas.{relays_same}
 use Rattle.sub_checker.proofs.checker.Checker.end_open.Goals as goal
 
 pub returns-clause-told : goal.returns-clause-told
@@ -20,6 +20,6 @@ returns-clause-told g c = λ task sent last keeps.
     c.end_sent.ensures.told task sent (length sent - 1) last shut there
     (header_more task sent (length sent - 1) last _ shut _ there
     (ap (λ (v : CheckerValue). v.counts.headers_before) c.self.view_is ∙ opens.before)) in (
-      passes_same (waiting_some task sent last c.args.self.now keeps opened) end.0,
+      relays_same (waiting_some task sent last c.args.self.now keeps opened) end.0,
       follows_all c.end_sent.result task sent last _ some end.1,
     )

@@ -7,11 +7,11 @@ use Rattle.sub_rules.specs.Trusted.Mark.{Says}
 use Rattle.sub_rules.specs.declared.event.Event.{Event}
 use Rattle.sub_checker.specs.Checker.{CheckerValue}
 use Rattle.sub_checker.specs.Following.{Follows, Heard}
-use Rattle.sub_checker.specs.Passing.{at_mark}
+use Rattle.sub_checker.specs.Relay.{at_mark}
 use Rattle.sub_checker.proofs.HearingLemmas.{end_mark, ending_marks, first_told, follows_then}
-use Rattle.sub_checker.proofs.PassingLemmas.{silent_ends}
+use Rattle.sub_checker.proofs.RelayLemmas.{silent_ends}
 use Rattle.sub_checker.proofs.StageLemmas.{Moves-ends, Moves-tells, Moves-trans, ok_whole}
-use Rattle.sub_checker.proofs.StageLemmas.{passes_same, stops_two, told_ok, told_part, whole_mark}
+use Rattle.sub_checker.proofs.StageLemmas.{relays_same, stops_two, told_ok, told_part, whole_mark}
 use Rattle.sub_checker.proofs.StageLemmas.{whole_ok, whole_two}
 use Rattle.sub_checker.proofs.TakingLemmas.{ending_part, ending_rest}
 use Rattle.sub_checker.proofs.checker.Checker.end_sent.Goals as goal
@@ -69,7 +69,7 @@ returns-in_err-end_of_frame-clause-told g c = λ task frames n last heard there 
           (told_ok g.A.Audience.is_told g.A.Audience.has_stopped c.args.stage.now
           c.tell_if.new.audience _ (ap (map Says) first) c.in_ok-tell_if.ensures.stopped
           c.in_ok-tell_if.ensures.told)
-          (passes_same (sym marks) told),
+          (relays_same (sym marks) told),
       tt,
     )
 

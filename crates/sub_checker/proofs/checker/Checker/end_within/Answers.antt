@@ -3,9 +3,9 @@ use Rattle.std.proofs.Common.{ap, refl}
 use Rattle.std.proofs.lemmas.Result.{err_from_is_err_and}
 use Rattle.sub_checker.specs.Checker.{back_marks}
 use Rattle.sub_checker.proofs.EndingLemmas.{within_after, within_marks}
-use Rattle.sub_checker.proofs.PassingLemmas.{silent_at_end}
+use Rattle.sub_checker.proofs.RelayLemmas.{silent_at_end}
 use Rattle.sub_checker.proofs.StageLemmas.{Moves-at_end, Moves-backed, Moves-marked}
-use Rattle.sub_checker.proofs.StageLemmas.{Moves-tells, back_fine, ok_whole, passes_two, told_err}
+use Rattle.sub_checker.proofs.StageLemmas.{Moves-tells, back_fine, ok_whole, relays_two, told_err}
 use Rattle.sub_checker.proofs.StageLemmas.{told_ok, whole_back, whole_mark, whole_two}
 use Rattle.sub_checker.proofs.checker.Checker.end_within.Goals as goal
 
@@ -40,7 +40,7 @@ returns-in_err-tell_change-clause-told g c = λ heard knows.
     let p = err_from_is_err_and c.from_residual.result c.from_residual.ensures.1 in
     let end = c.end_now-end.ensures in
     rw p.1
-    (passes_two
+    (relays_two
     (within_marks heard _ c.args.self.now _ _ _ c.self.view_is c.requires.within
     (end.standing heard knows) (end.since heard knows) (end.late heard knows))
     (whole_two refl (whole_back _ _ _ (ap back_marks c.self.view_is) c.go_back.ensures.back)

@@ -8,8 +8,8 @@ use Rattle.sub_rules.proofs.JoinedLemmas.{sent_after-other, sent_after-same}
 use Rattle.sub_checker.specs.Checker.{sent_as}
 use Rattle.sub_checker.specs.Following.{Keeps}
 use Rattle.sub_checker.proofs.FollowingLemmas.{Follows-prefix}
-use Rattle.sub_checker.proofs.PassingLemmas.{silent_pes}
-use Rattle.sub_checker.proofs.StageLemmas.{Moves-marked, Moves-pes, Moves-trans, passes_two}
+use Rattle.sub_checker.proofs.RelayLemmas.{silent_pes}
+use Rattle.sub_checker.proofs.StageLemmas.{Moves-marked, Moves-pes, Moves-trans, relays_two}
 use Rattle.sub_checker.proofs.StageLemmas.{stops_one, whole_mark, whole_ok}
 use Rattle.sub_checker.proofs.TakingLemmas.{goes_on_is, is_sent, more_is, next_is, one_longer}
 use Rattle.sub_checker.proofs.checker.Checker.go_on.Goals as goal
@@ -28,7 +28,7 @@ returns-then-goes_on-clause-told g c = λ task sent last keeps again.
     goes_on_is task sent last c.args.self.now s c.goes_on.result keeps c.goes_on.ensures
     ∙ c.if-goes_on.true in
     let more = c.take_more.ensures.told task sent last keeps again in (
-      passes_two (more_is task sent c.args.pes s same)
+      relays_two (more_is task sent c.args.pes s same)
           (whole_mark refl c.go_to.ensures (silent_pes c.args.pes _)) more.0,
       subst (λ (l : Transmission). OnOk c.take_more.result (Keeps task l
           (packets_of_units c.args.units.now) c.take_more.new.self))
@@ -71,8 +71,8 @@ returns-clause-told g c = λ task sent last keeps again.
     c.take_next.ensures.told task (sent ++ s ∷ []) (length sent) last
     (Follows-prefix task sent (s ∷ []) last c.end_waiting.new.self end.1) (one_longer sent s)
     (is_sent sent s) again in (
-      passes_two (next_is task sent c.args.pes s other) (whole_ok refl end.0)
-          (passes_two refl (whole_mark refl c.go_to-2.ensures (silent_pes c.args.pes _)) next.0),
+      relays_two (next_is task sent c.args.pes s other) (whole_ok refl end.0)
+          (relays_two refl (whole_mark refl c.go_to-2.ensures (silent_pes c.args.pes _)) next.0),
       subst (λ (l : Transmission). OnOk c.take_next.result (Keeps task l
           (packets_of_units c.args.units.now) c.take_next.new.self))
           (sym (sent_after-other task.within sent s other)) next.1,

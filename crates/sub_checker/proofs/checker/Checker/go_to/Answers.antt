@@ -7,8 +7,8 @@ use Rattle.sub_rules.specs.Trusted.Mark.{Says}
 use Rattle.sub_rules.specs.declared.event.Event.{Event}
 use Rattle.sub_checker.specs.Following.{Arrives, Follows}
 use Rattle.sub_checker.proofs.FollowingLemmas.{arrives_next, order_are}
-use Rattle.sub_checker.proofs.StageLemmas.{Moves-tells, Moves-trans, passes_err, passes_ok}
-use Rattle.sub_checker.proofs.StageLemmas.{passes_two, told_ok, told_part}
+use Rattle.sub_checker.proofs.StageLemmas.{Moves-tells, Moves-trans, relays_err, relays_ok}
+use Rattle.sub_checker.proofs.StageLemmas.{relays_two, told_ok, told_part}
 use Rattle.sub_checker.proofs.checker.Checker.go_to.Goals as goal
 
 pub returns-in_err-tell_if-clause-moves : goal.returns-in_err-tell_if-clause-moves
@@ -56,11 +56,11 @@ returns-in_err-cross_gap-clause-told g c = λ task frames n last follows some is
     order_are task frames n c.args.frame _ _ _ some is (here.last_is some) here.number refl in
     let gap = c.in_err-cross_gap.ensures.told task frames n last follows some is in
     rw p.1 (
-      passes_two refl
+      relays_two refl
           (told_ok g.A.Audience.is_told g.A.Audience.has_stopped c.args.stage.now
           c.tell_if.new.audience _ (ap (map Says) order) c.in_ok-tell_if.ensures.stopped
           c.in_ok-tell_if.ensures.told)
-          (passes_err refl gap.0),
+          (relays_err refl gap.0),
       tt,
     )
 
@@ -70,11 +70,11 @@ returns-clause-told g c = λ task frames n last follows some is.
     let order =
     order_are task frames n c.args.frame _ _ _ some is (here.last_is some) here.number refl in
     let gap = c.in_ok-cross_gap.ensures.told task frames n last follows some is in (
-      passes_two refl
+      relays_two refl
           (told_ok g.A.Audience.is_told g.A.Audience.has_stopped c.args.stage.now
           c.tell_if.new.audience _ (ap (map Says) order) c.in_ok-tell_if.ensures.stopped
           c.in_ok-tell_if.ensures.told)
-          (passes_ok refl gap.0),
+          (relays_ok refl gap.0),
       subst (Arrives task frames n last) (sym c.arrive.ensures)
           (arrives_next task frames n c.args.frame last _ gap.1 is
           (c.in_ok-cross_gap.ensures.latest ∙ follows.latest_is some)),

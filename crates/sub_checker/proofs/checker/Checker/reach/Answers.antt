@@ -2,7 +2,7 @@
 use Rattle.std.proofs.Common.{◌≡◌, ◌∙◌, ◌<◌, ℕ, ap, arith, sym, subst}
 use Rattle.std.specs.Prelude.{OnOk}
 use Rattle.sub_checker.specs.Following.{Arrives, Follows, reaching_marks}
-use Rattle.sub_checker.specs.Passing.{StagePasses}
+use Rattle.sub_checker.specs.Relay.{StageRelays}
 use Rattle.sub_rules.specs.FrameRules.{frame_at}
 use Rattle.sub_checker.proofs.checker.Checker.reach.Goals as goal
 
@@ -15,7 +15,7 @@ returns-then-self-eq0-clause-told g c = λ task frames n last follows is.
     let here = subst (Follows task frames n last) (sym c.self.view_is) follows in
     let none : n ≡ 0 = sym here.number ∙ c.if-self-eq0.true in
     subst (λ (k : ℕ).
-    StagePasses g.A.Audience.is_told c.args.stage.now (reaching_marks task frames k)
+    StageRelays g.A.Audience.is_told c.args.stage.now (reaching_marks task frames k)
     c.begin.new.stage c.begin.result
     × OnOk c.begin.result (Arrives task frames k last c.begin.new.self)) (sym none)
     (c.begin.ensures.told task frames last

@@ -8,7 +8,7 @@ use Rattle.sub_rules.specs.PacketRules.{packets_of_units}
 use Rattle.sub_rules.specs.Trusted.Mark.{Says}
 use Rattle.sub_checker.specs.Checker.{CheckerValue, HasHeard}
 use Rattle.sub_checker.proofs.MoreLemmas.{more_are}
-use Rattle.sub_checker.proofs.StageLemmas.{passes_err, passes_ok}
+use Rattle.sub_checker.proofs.StageLemmas.{relays_err, relays_ok}
 use Rattle.sub_checker.proofs.TakingLemmas.{more_keeps}
 use Rattle.sub_checker.proofs.checker.Checker.take_more.Goals as goal
 
@@ -26,7 +26,7 @@ returns-in_err-hear-clause-told g c = λ task sent last keeps again.
     let marks = more_are task sent (length sent - 1) last ps c.args.self.now opens all in
     let from = ap (λ (v : CheckerValue). v.counts.packets) c.self.view_is in
     rw p.1 (
-      passes_err
+      relays_err
           (marks ∙ ap (λ (k : ℕ). map Says (packets_told c.args.self.now.listener.watched
           c.args.self.now.frame k (packets_before sent (suc (length sent - 1))) ps (length ps)))
           (sym from)) heard.0,
@@ -45,7 +45,7 @@ returns-clause-told g c = λ task sent last keeps again.
     opens.heard.known.knows again in
     let marks = more_are task sent (length sent - 1) last ps c.args.self.now opens all in
     let from = ap (λ (v : CheckerValue). v.counts.packets) c.self.view_is in (
-      passes_ok
+      relays_ok
           (marks ∙ ap (λ (k : ℕ). map Says (packets_told c.args.self.now.listener.watched
           c.args.self.now.frame k (packets_before sent (suc (length sent - 1))) ps (length ps)))
           (sym from)) heard.0,

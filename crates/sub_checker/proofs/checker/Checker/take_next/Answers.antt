@@ -12,7 +12,7 @@ use Rattle.sub_checker.specs.Following.{Follows}
 use Rattle.sub_checker.specs.declared.counts.Counts.{Counts}
 use Rattle.sub_checker.proofs.HearingLemmas.{packets_are}
 use Rattle.sub_checker.proofs.StageLemmas.{Moves-begun, Moves-trans, ok_whole}
-use Rattle.sub_checker.proofs.StageLemmas.{passes_same, passes_two, stops_one, stops_two, whole_ok}
+use Rattle.sub_checker.proofs.StageLemmas.{relays_same, relays_two, stops_one, stops_two, whole_ok}
 use Rattle.sub_checker.proofs.StageLemmas.{whole_two}
 use Rattle.sub_checker.proofs.TakingLemmas.{Keeps-closed, arrived, each_is, next_each}
 use Rattle.sub_checker.proofs.TakingLemmas.{next_heard, next_keeps, next_within, reached_part}
@@ -48,7 +48,7 @@ returns-in_err-headers-clause-told g c = λ task frames n last follows long sent
       stops_two _ refl
           (arrived _ _ task frames n last _ arrives (whole_ok refl reached.0)
           c.begin_frame.ensures.begun)
-          (passes_same marks heard.0),
+          (relays_same marks heard.0),
       tt,
     )
 
@@ -96,7 +96,7 @@ returns-then-self-eq0-clause-told g c = λ task frames n last follows long sent 
     ∙ ap (λ (v : CheckerValue). v.counts.is_open) heard.1.0.new_is
     ∙ ap (λ (m : Counts). m.is_open) c.in_ok-reach.ensures.counts
     ∙ c.requires.closed in (
-      passes_two (next_each task frames n each)
+      relays_two (next_each task frames n each)
           (whole_two refl
           (arrived _ _ task frames n last _ arrives (whole_ok refl reached.0)
           c.begin_frame.ensures.begun)

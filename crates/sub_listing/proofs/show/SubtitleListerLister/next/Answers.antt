@@ -1,7 +1,7 @@
 -- The GSI block, the line of one subtitle more, and the last one: gives-opened, gives-next,
 -- gives-last; a subtitle takes a block or more, block-rises.
 use Rattle.std.proofs.Common.{◌≡◌, ◌∙◌, ◌+◌, ap, arith, refl, rules, sym, None, Some, false}
-use Rattle.stl_file.specs.Fault.{is_read}
+use Rattle.stl_file.specs.Fault.{is_file_read}
 use Rattle.stl_file.specs.Reader.{outcome_left}
 use Rattle.stl_file.specs.Reading.{ends, fails, gives}
 use Rattle.stl_file.specs.declared.progress.Progress.TheVariants.{Reading}
@@ -9,7 +9,7 @@ use Rattle.sub_listing.specs.Faults.{kind_by}
 use Rattle.sub_listing.specs.Lines.{subtitle_line}
 use Rattle.sub_listing.specs.Listing.{followed}
 use Rattle.sub_listing.specs.ShowListing.{ReadsSubtitles, subtitles_listing}
-use Rattle.sub_listing.specs.Told.{status_of}
+use Rattle.sub_listing.specs.FaultLine.{status_of}
 use Rattle.sub_listing.proofs.ListingLemmas.{block-rises, gives-last, gives-next, gives-opened}
 use Rattle.sub_listing.proofs.ListingLemmas.{gives-refused, kind_by-failed}
 use Rattle.sub_listing.proofs.show.SubtitleListerLister.next.Goals as goal
@@ -25,7 +25,7 @@ returns-in-Ok-clause-gives g c =
 pub returns-in-Err-clause-gives : goal.returns-in-Err-clause-gives
 returns-in-Err-clause-gives g c =
     let none : c.args.self.now.reader ≡ None = search rules in
-    let end : c.end_with.result ≡ Some (status_of (kind_by (is_read c.in-Err.fault))) =
+    let end : c.end_with.result ≡ Some (status_of (kind_by (is_file_read c.in-Err.fault))) =
     search rules in
     rw (none, end) (λ _.
     gives-refused c.args.self.now.count c.in-Err.fault _ _ c.end_with.new.text.items
@@ -92,12 +92,12 @@ pub returns-in-Err-next-clause-gives : goal.returns-in-Err-next-clause-gives
 returns-in-Err-next-clause-gives g c =
     let f = c.in-Err-next.fault in
     let ready = rw c.in-Some.is at c.requires.ready in
-    let end : c.end_with-in-Err-next.result ≡ Some (status_of (kind_by (is_read f))) =
+    let end : c.end_with-in-Err-next.result ≡ Some (status_of (kind_by (is_file_read f))) =
     search rules in
     rw (c.in-Some.is, end) (λ _.
     gives-last _ (subtitles_listing c.args.self.now.count) (outcome_left c.in-Some.reader)
     (λ failed. ReadsSubtitles failed c.in-Some.reader.block) _ _
-    (fails f c.next.new.self.block) c.end_with-in-Err-next.new.text.items (is_read f)
-    (search rules) (kind_by-failed (is_read f))
+    (fails f c.next.new.self.block) c.end_with-in-Err-next.new.text.items (is_file_read f)
+    (search rules) (kind_by-failed (is_file_read f))
     (λ bytes told ok. sym (c.in-Err-next.ensures.exact bytes told ok).outcome)
     (refl, c.in-Err-next.ensures.failed ready.0, c.in-Err-next.ensures.refused ready.0))

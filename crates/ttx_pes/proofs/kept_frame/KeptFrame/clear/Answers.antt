@@ -1,6 +1,6 @@
 -- No packet is known.
-use Rattle.ttx_pes.proofs.KeptFrameLemmas.{none_held}
+use Rattle.ttx_pes.proofs.KeptFrameLemmas.{none_known}
 use Rattle.ttx_pes.proofs.kept_frame.KeptFrame.clear.Goals as goal
 
 pub invariant_of-self : goal.invariant_of-self
-invariant_of-self c = rw c.clear.ensures none_held
+invariant_of-self c = rw c.clear.ensures none_known

@@ -1,6 +1,6 @@
 -- No packet is known.
-use Rattle.ttx_pes.proofs.KeptFrameLemmas.{none_held}
+use Rattle.ttx_pes.proofs.KeptFrameLemmas.{none_known}
 use Rattle.ttx_pes.proofs.kept_frame.KeptFrame.new.Goals as goal
 
 pub invariant_of-result : goal.invariant_of-result
-invariant_of-result c = rw c.new.ensures none_held
+invariant_of-result c = rw c.new.ensures none_known

@@ -1,5 +1,5 @@
--- What a device passes on of what it is told: `passes_result`, `passes_some`; of marks in parts:
--- `pass_then`, `stop_first`, `stop_then`.
+-- What a device relays of what it is told: `relays_result`, `relays_some`; of marks in parts:
+-- `relay_then`, `stop_first`, `stop_then`.
 use Rattle.std.proofs.Common.{◌≡◌, ℕ, List, [], ◌∷◌, ◌++◌, Bool, false, map, take, drop, refl, sym}
 use Rattle.std.proofs.Common.{ap, ◌∙◌, subst, Option, Result, Ok, Err}
 use Rattle.std.proofs.lemmas.Bool.{true≢false}
@@ -18,11 +18,11 @@ use Rattle.sub_rules.specs.PieceEvents.{PassedRun}
 use Rattle.sub_checker.specs.declared.trust.Trust.{Trust}
 use Rattle.sub_rules.proofs.PieceEventLemmas.{all_announced-append, passed_after-append}
 use Rattle.sub_checker.specs.PassedPieces.{as_run, kept_run}
-use Rattle.sub_checker.specs.Passing.{Passes, PassesMarks, at_mark, passed_on}
+use Rattle.sub_checker.specs.Relay.{Relays, RelaysMarks, at_mark, relayed}
 use Rattle.sub_checker.specs.declared.passed_run.PassedPieces.{PassedPieces}
-use Rattle.sub_checker.specs.Passing.{passing_after}
-use Rattle.sub_checker.specs.declared.passing.Passing.{Passing}
-use Rattle.sub_checker.specs.declared.passing.Stage.{Stage}
+use Rattle.sub_checker.specs.Relay.{relay_after}
+use Rattle.sub_checker.specs.declared.relaying.Relay.{Relay}
+use Rattle.sub_checker.specs.declared.relaying.Stage.{Stage}
 use Rattle.sub_checker.proofs.TrustLemmas.{told_by-append, trust_after-append}
 use Rattle.sub_checker.specs.Trust.{after_mark, doubted, late_since, told_by, told_with}
 use Rattle.sub_checker.specs.Trust.{trust_after}
@@ -30,44 +30,44 @@ use Rattle.sub_checker.specs.Trust.{trusted_before}
 
 -- ---- marks, one list after another
 
-pub after-append : (p : Passing) (xs ys : List Mark)
-    → passing_after p (xs ++ ys) ≡ passing_after (passing_after p xs) ys
-unfolding passing_after
+pub after-append : (p : Relay) (xs ys : List Mark)
+    → relay_after p (xs ++ ys) ≡ relay_after (relay_after p xs) ys
+unfolding relay_after
 after-append p xs ys =
     rw (told_by-append p.trust xs ys, trust_after-append p.trust xs ys)
-    (ap (λ (r : PassedRun). let q : Passing = record {
+    (ap (λ (r : PassedRun). let q : Relay = record {
       trust = trust_after (trust_after p.trust xs) ys;
       run = kept_run r;
     } in q) (passed_after-append (as_run p.run) (told_by p.trust xs) _))
 
-pub passed-append : (p : Passing) (xs ys : List Mark)
-    → passed_on p (xs ++ ys) ≡ passed_on p xs ++ passed_on (passing_after p xs) ys
-unfolding passed_on passing_after
+pub passed-append : (p : Relay) (xs ys : List Mark)
+    → relayed p (xs ++ ys) ≡ relayed p xs ++ relayed (relay_after p xs) ys
+unfolding relayed relay_after
 passed-append p xs ys =
     ap (all_announced (as_run p.run)) (told_by-append p.trust xs ys)
     ∙ all_announced-append (as_run p.run) (told_by p.trust xs) _
 
-pub after-none : (p : Passing) → passing_after p [] ≡ p
-unfolding passing_after trust_after told_by passed_after_all
+pub after-none : (p : Relay) → relay_after p [] ≡ p
+unfolding relay_after trust_after told_by passed_after_all
 after-none p = refl
 
-pub passed-none : (p : Passing) → passed_on p [] ≡ []
-unfolding passed_on told_by all_announced
+pub passed-none : (p : Relay) → relayed p [] ≡ []
+unfolding relayed told_by all_announced
 passed-none p = refl
 
 -- ---- what is told, part by part
 
 module _ {D : Type 0} (IsTold : D → Event → D → Type 0) where
-  -- All was passed on of these, and this is kept then.
-  pub record IsWhole (a : D) (p : Passing) (xs : List Mark) (b : D) (q : Passing) : Type 0 where
-    pub told : Tells IsTold a b (passed_on p xs)
-    pub kept : q ≡ passing_after p xs
+  -- All was relayed of these, and this is kept then.
+  pub record IsWhole (a : D) (p : Relay) (xs : List Mark) (b : D) (q : Relay) : Type 0 where
+    pub told : Tells IsTold a b (relayed p xs)
+    pub kept : q ≡ relay_after p xs
 
   -- The one part, and then the other.
-  pub whole_then : (a b c : D) (p q s : Passing) (xs ys : List Mark)
+  pub whole_then : (a b c : D) (p q s : Relay) (xs ys : List Mark)
       → IsWhole a p xs b q → IsWhole b q ys c s → IsWhole a p (xs ++ ys) c s
   whole_then a b c p q s xs ys first second =
-      let rest = subst (λ (q : Passing). IsWhole b q ys c s) first.kept second in
+      let rest = subst (λ (q : Relay). IsWhole b q ys c s) first.kept second in
       record {
         told =
             subst (Tells IsTold a c) (sym (passed-append p xs ys))
@@ -75,70 +75,70 @@ module _ {D : Type 0} (IsTold : D → Event → D → Type 0) where
         kept = rest.kept ∙ sym (after-append p xs ys);
       }
 
-  pub pass_then : {X E : Type 0} (a b c : D) (p q s : Passing) (xs ys : List Mark) (r : Result X E)
+  pub relay_then : {X E : Type 0} (a b c : D) (p q s : Relay) (xs ys : List Mark) (r : Result X E)
       → IsWhole a p xs b q
-      → PassesMarks IsTold b q ys c s r
-      → PassesMarks IsTold a p (xs ++ ys) c s r
-  pass_then a b c p q s xs ys r first second =
-      let rest = subst (λ (q : Passing). PassesMarks IsTold b q ys c s r) first.kept second in
+      → RelaysMarks IsTold b q ys c s r
+      → RelaysMarks IsTold a p (xs ++ ys) c s r
+  relay_then a b c p q s xs ys r first second =
+      let rest = subst (λ (q : Relay). RelaysMarks IsTold b q ys c s r) first.kept second in
       record {
         told =
             subst (λ (l : List Event). TellsUntilStopped IsTold a c l r)
             (sym (passed-append p xs ys))
             (TellsUntilStopped-after a b c _ _ r first.told rest.told);
-        kept = subst (λ (t : Passing). OnOk r (s ≡ t)) (sym (after-append p xs ys)) rest.kept;
+        kept = subst (λ (t : Relay). OnOk r (s ≡ t)) (sym (after-append p xs ys)) rest.kept;
       }
 
   -- The device said stop in the one part, or in the other.
-  pub stop_first : (a b : D) (p : Passing) (xs ys : List Mark)
-      → TellsPrefix IsTold a b (passed_on p xs)
-      → TellsPrefix IsTold a b (passed_on p (xs ++ ys))
+  pub stop_first : (a b : D) (p : Relay) (xs ys : List Mark)
+      → TellsPrefix IsTold a b (relayed p xs)
+      → TellsPrefix IsTold a b (relayed p (xs ++ ys))
   stop_first a b p xs ys first =
       subst (TellsPrefix IsTold a b) (sym (passed-append p xs ys))
       (TellsPrefix-first a b _ _ first)
 
-  pub stop_then : (a b c : D) (p q : Passing) (xs ys : List Mark)
+  pub stop_then : (a b c : D) (p q : Relay) (xs ys : List Mark)
       → IsWhole a p xs b q
-      → TellsPrefix IsTold b c (passed_on q ys)
-      → TellsPrefix IsTold a c (passed_on p (xs ++ ys))
+      → TellsPrefix IsTold b c (relayed q ys)
+      → TellsPrefix IsTold a c (relayed p (xs ++ ys))
   stop_then a b c p q xs ys first second =
       subst (TellsPrefix IsTold a c) (sym (passed-append p xs ys))
       (TellsPrefix-second a b c _ _ first.told
-      (subst (λ (q : Passing). TellsPrefix IsTold b c (passed_on q ys)) first.kept second))
+      (subst (λ (q : Relay). TellsPrefix IsTold b c (relayed q ys)) first.kept second))
 
 -- ---- one mark
 
-one_told : (p : Passing) (m : Mark)
-    → passed_on p (m ∷ []) ≡ all_announced (as_run p.run) (told_with m p.trust)
-unfolding passed_on told_by
+one_told : (p : Relay) (m : Mark)
+    → relayed p (m ∷ []) ≡ all_announced (as_run p.run) (told_with m p.trust)
+unfolding relayed told_by
 one_told p m = ap (all_announced (as_run p.run)) (append-nil (told_with m p.trust))
 
-one_kept : (p : Passing) (m : Mark)
-    → passing_after p (m ∷ []) ≡ record {
+one_kept : (p : Relay) (m : Mark)
+    → relay_after p (m ∷ []) ≡ record {
       trust = after_mark m p.trust;
       run = kept_run (passed_after_all (as_run p.run) (told_with m p.trust));
     }
-unfolding passing_after told_by trust_after
+unfolding relay_after told_by trust_after
 one_kept p m =
-    ap (λ (es : List Event). let q : Passing = record {
+    ap (λ (es : List Event). let q : Relay = record {
       trust = after_mark m p.trust;
       run = kept_run (passed_after_all (as_run p.run) es);
     } in q) (append-nil (told_with m p.trust))
 
--- What is told with one, after a run of pieces that were passed over. For `close` and `pass`.
-pub pass_one : {D X E : Type 0} (IsTold : D → Event → D → Type 0) (a b : D) (p then : Passing)
+-- What is told with one, after a run of pieces that were passed over. For `close` and `relay`.
+pub relay_one : {D X E : Type 0} (IsTold : D → Event → D → Type 0) (a b : D) (p then : Relay)
     (m : Mark) (es : List Event) (r : Result X E)
     → es ≡ told_with m p.trust
     → then.trust ≡ after_mark m p.trust
     → TellsUntilStopped IsTold a b (all_announced (as_run p.run) es) r
     → OnOk r (then.run ≡ kept_run (passed_after_all (as_run p.run) es))
-    → PassesMarks IsTold a p (m ∷ []) b then r
-pass_one IsTold a b p then m es (Ok x) is trust told run = record {
+    → RelaysMarks IsTold a p (m ∷ []) b then r
+relay_one IsTold a b p then m es (Ok x) is trust told run = record {
   told = subst (Tells IsTold a b) (ap (all_announced (as_run p.run)) is ∙ sym (one_told p m)) told;
   kept =
       rw (one_kept p m, trust, run, is) refl;
 }
-pass_one IsTold a b p then m es (Err x) is trust told run = record {
+relay_one IsTold a b p then m es (Err x) is trust told run = record {
   told = subst (TellsPrefix IsTold a b) (ap (all_announced (as_run p.run)) is ∙ sym (one_told p m))
       told;
   kept = tt;
@@ -163,7 +163,7 @@ both_kept run mid xs e is =
     ap (λ (r : PassedPieces). kept_run (passed_after (as_run r) e)) is
     ∙ sym (ap kept_run (passed_after-append run xs (e ∷ [])))
 
--- What is told with an event. For `pass`.
+-- What is told with an event. For `relay`.
 pub says_with : (t u : Trust) (e named : Event) (first : Option Event)
     → first_alone first ≡ trusted_before t.run t.whole t.back (doubted t.last (late_since t) e)
     → u ≡ after_mark (Says e) t
@@ -195,62 +195,62 @@ pub pes_last : (pes : ℕ) (t : Trust) → (after_mark (AtPes pes) t).last ≡ t
 unfolding after_mark
 pes_last pes t = refl
 
-pub closes_last : (left more : Bool) (p : Passing)
-    → (passing_after p (Closes left more ∷ [])).trust.last ≡ p.trust.last
-unfolding passing_after trust_after after_mark
+pub closes_last : (left more : Bool) (p : Relay)
+    → (relay_after p (Closes left more ∷ [])).trust.last ≡ p.trust.last
+unfolding relay_after trust_after after_mark
 closes_last left more p = refl
 
-pub says_last : (e : Event) (p : Passing)
-    → (passing_after p (Says e ∷ [])).trust.last ≡ p.trust.last
-unfolding passing_after trust_after after_mark
+pub says_last : (e : Event) (p : Relay)
+    → (relay_after p (Says e ∷ [])).trust.last ≡ p.trust.last
+unfolding relay_after trust_after after_mark
 says_last e p = refl
 
-pub all_last : (es : List Event) (p : Passing)
-    → (passing_after p (map Says es)).trust.last ≡ p.trust.last
-unfolding passing_after trust_after
+pub all_last : (es : List Event) (p : Relay)
+    → (relay_after p (map Says es)).trust.last ≡ p.trust.last
+unfolding relay_after trust_after
 all_last [] p = refl
 all_last (e ∷ es) p =
-    ap (λ (q : Passing). q.trust.last) (after-append p (Says e ∷ []) (map Says es))
-    ∙ all_last es (passing_after p (Says e ∷ []))
+    ap (λ (q : Relay). q.trust.last) (after-append p (Says e ∷ []) (map Says es))
+    ∙ all_last es (relay_after p (Says e ∷ []))
     ∙ says_last e p
 
 -- With this mark nothing is told.
 pub silent : {D : Type 0} (IsTold : D → Event → D → Type 0) (s t : Stage D) (m : Mark)
     → t ≡ at_mark m s
-    → told_with m s.passing.trust ≡ []
-    → IsWhole IsTold s.device.now s.passing (m ∷ []) t.device.now t.passing
+    → told_with m s.relay.trust ≡ []
+    → IsWhole IsTold s.device.now s.relay (m ∷ []) t.device.now t.relay
 unfolding all_announced passed_after_all
 silent {D} IsTold s t m is none = record {
   told =
-      subst (λ (d : D). Tells IsTold s.device.now d (passed_on s.passing (m ∷ [])))
+      subst (λ (d : D). Tells IsTold s.device.now d (relayed s.relay (m ∷ [])))
       (sym (ap (λ (u : Stage D). u.device.now) is))
       (subst (Tells IsTold s.device.now s.device.now)
-      (sym (one_told s.passing m ∙ ap (all_announced (as_run s.passing.run)) none))
+      (sym (one_told s.relay m ∙ ap (all_announced (as_run s.relay.run)) none))
       (Tells-none s.device.now));
   kept =
-      ap (λ (u : Stage D). u.passing) is
-      ∙ sym (one_kept s.passing m ∙ ap (λ (es : List Event). let q : Passing = record {
-        trust = after_mark m s.passing.trust;
-        run = kept_run (passed_after_all (as_run s.passing.run) es);
+      ap (λ (u : Stage D). u.relay) is
+      ∙ sym (one_kept s.relay m ∙ ap (λ (es : List Event). let q : Relay = record {
+        trust = after_mark m s.relay.trust;
+        run = kept_run (passed_after_all (as_run s.relay.run) es);
       } in q) none);
 }
 
--- ---- what a device passes on
+-- ---- what a device relays
 
 module _ {D : Type 0} (Behind : D → Event → D → Type 0) (has_stopped : D → Bool) where
   -- How the device stands after an event.
-  abbrev pub IsPassedOn : Stage D → Event → Stage D → Type 0
-  IsPassedOn s e t = (t.device.ghost_name ≡ s.device.ghost_name)
-      × Passes Behind has_stopped s.device.now s.passing e t.device.now t.passing
+  abbrev pub IsRelayed : Stage D → Event → Stage D → Type 0
+  IsRelayed s e t = (t.device.ghost_name ≡ s.device.ghost_name)
+      × Relays Behind has_stopped s.device.now s.relay e t.device.now t.relay
 
-  -- An event was passed on, or the device behind said stop. For `tell`.
-  pub passes_until : {X E : Type 0} (s t : Stage D) (e : Event) (r : Result X E)
+  -- An event was relayed, or the device behind said stop. For `tell`.
+  pub relays_until : {X E : Type 0} (s t : Stage D) (e : Event) (r : Result X E)
       → t.device.ghost_name ≡ s.device.ghost_name
       → has_stopped s.device.now ≡ false
       → has_stopped t.device.now ≡ is_err r
-      → PassesMarks Behind s.device.now s.passing (Says e ∷ []) t.device.now t.passing r
-      → Tells IsPassedOn s t (e ∷ [])
-  passes_until s t e (Ok x) same goes stopped on =
+      → RelaysMarks Behind s.device.now s.relay (Says e ∷ []) t.device.now t.relay r
+      → Tells IsRelayed s t (e ∷ [])
+  relays_until s t e (Ok x) same goes stopped on =
       Tells-one s t e (
         same,
         record {
@@ -260,7 +260,7 @@ module _ {D : Type 0} (Behind : D → Event → D → Type 0) (has_stopped : D �
           cut = TellsPrefix-whole _ _ _ on.told;
         },
       )
-  passes_until s t e (Err x) same goes stopped on =
+  relays_until s t e (Err x) same goes stopped on =
       Tells-one s t e (
         same,
         record {
@@ -271,61 +271,61 @@ module _ {D : Type 0} (Behind : D → Event → D → Type 0) (has_stopped : D �
         },
       )
 
-  -- What was passed on of these.
-  pub record PassesAll (old new : Stage D) (es : List Event) : Type 0 where
+  -- What was relayed of these.
+  pub record RelaysAll (old new : Stage D) (es : List Event) : Type 0 where
     pub same : new.device.ghost_name ≡ old.device.ghost_name
     pub whole :
         has_stopped new.device.now ≡ false
-        → Tells Behind old.device.now new.device.now (passed_on old.passing (map Says es))
+        → Tells Behind old.device.now new.device.now (relayed old.relay (map Says es))
     pub kept :
         has_stopped new.device.now ≡ false
-        → new.passing ≡ passing_after old.passing (map Says es)
+        → new.relay ≡ relay_after old.relay (map Says es)
     pub cut :
-        TellsPrefix Behind old.device.now new.device.now (passed_on old.passing (map Says es))
+        TellsPrefix Behind old.device.now new.device.now (relayed old.relay (map Says es))
 
   -- Where it was told more, the device behind had not said stop.
-  fine_before : (mid new : Stage D) (es : List Event) → TellsInTurn IsPassedOn mid new es
+  fine_before : (mid new : Stage D) (es : List Event) → TellsInTurn IsRelayed mid new es
       → has_stopped new.device.now ≡ false → has_stopped mid.device.now ≡ false
   fine_before mid new [] same fine =
       ap (λ (s : Stage D). has_stopped s.device.now) (sym same) ∙ fine
   fine_before mid new (e ∷ es) (next, first, rest) fine = first.1.goes_on
 
-  -- What is passed on of one event and then of others, where the device behind had not said stop.
+  -- What is relayed of one event and then of others, where the device behind had not said stop.
   then_passed : (old mid : Stage D) (e : Event) (es : List Event)
-      → mid.passing ≡ passing_after old.passing (Says e ∷ [])
-      → passed_on old.passing (Says e ∷ []) ++ passed_on mid.passing (map Says es)
-      ≡ passed_on old.passing (map Says (e ∷ es))
+      → mid.relay ≡ relay_after old.relay (Says e ∷ [])
+      → relayed old.relay (Says e ∷ []) ++ relayed mid.relay (map Says es)
+      ≡ relayed old.relay (map Says (e ∷ es))
   then_passed old mid e es kept =
-      ap (λ (p : Passing). passed_on old.passing (Says e ∷ []) ++ passed_on p (map Says es)) kept
-      ∙ sym (passed-append old.passing (Says e ∷ []) (map Says es))
+      ap (λ (p : Relay). relayed old.relay (Says e ∷ []) ++ relayed p (map Says es)) kept
+      ∙ sym (passed-append old.relay (Says e ∷ []) (map Says es))
 
   -- All, or a prefix.
   after_one : (old mid new : Stage D) (e : Event) (es : List Event)
-      → TellsInTurn IsPassedOn mid new es
-      → Passes Behind has_stopped old.device.now old.passing e mid.device.now mid.passing
-      → TellsPrefix Behind mid.device.now new.device.now (passed_on mid.passing (map Says es))
+      → TellsInTurn IsRelayed mid new es
+      → Relays Behind has_stopped old.device.now old.relay e mid.device.now mid.relay
+      → TellsPrefix Behind mid.device.now new.device.now (relayed mid.relay (map Says es))
       → TellsPrefix Behind old.device.now new.device.now
-      (passed_on old.passing (map Says (e ∷ es)))
+      (relayed old.relay (map Says (e ∷ es)))
   after_one old mid new e [] same p q =
       subst (λ (s : Stage D). TellsPrefix Behind old.device.now s.device.now
-      (passed_on old.passing (Says e ∷ []))) (sym same) p.cut
+      (relayed old.relay (Says e ∷ []))) (sym same) p.cut
   after_one old mid new e (x ∷ xs) (next, second, others) p q =
       let fine = second.1.goes_on in
       subst (TellsPrefix Behind old.device.now new.device.now)
       (then_passed old mid e (x ∷ xs) (p.kept fine))
       (TellsPrefix-second _ _ _ _ _ (p.whole fine) q)
 
-  in_turn : (old new : Stage D) (es : List Event) → TellsInTurn IsPassedOn old new es
-      → PassesAll old new es
+  in_turn : (old new : Stage D) (es : List Event) → TellsInTurn IsRelayed old new es
+      → RelaysAll old new es
   in_turn old new [] same =
-      let none : Tells Behind old.device.now new.device.now (passed_on old.passing []) =
-      subst (Tells Behind old.device.now new.device.now) (sym (passed-none old.passing))
+      let none : Tells Behind old.device.now new.device.now (relayed old.relay []) =
+      subst (Tells Behind old.device.now new.device.now) (sym (passed-none old.relay))
       (subst (λ (s : Stage D). Tells Behind old.device.now s.device.now []) (sym same)
       (Tells-none old.device.now)) in
       record {
         same = ap (λ (s : Stage D). s.device.ghost_name) same;
         whole = λ fine. none;
-        kept = λ fine. ap (λ (s : Stage D). s.passing) same ∙ sym (after-none old.passing);
+        kept = λ fine. ap (λ (s : Stage D). s.relay) same ∙ sym (after-none old.relay);
         cut = TellsPrefix-whole _ _ _ none;
       }
   in_turn old new (e ∷ es) (mid, first, rest) =
@@ -341,59 +341,59 @@ module _ {D : Type 0} (Behind : D → Event → D → Type 0) (has_stopped : D �
         kept = λ fine.
             let on = fine_before mid new es rest fine in
             q.kept fine
-            ∙ ap (λ (p : Passing). passing_after p (map Says es)) (p.kept on)
-            ∙ sym (after-append old.passing (Says e ∷ []) (map Says es));
+            ∙ ap (λ (p : Relay). relay_after p (map Says es)) (p.kept on)
+            ∙ sym (after-append old.relay (Says e ∷ []) (map Says es));
         cut = after_one old mid new e es rest p q.cut;
       }
 
-  passes_all : (old new : Stage D) (es : List Event) → Tells IsPassedOn old new es
-      → PassesAll old new es
-  passes_all old new es told = in_turn old new es told.in_turn
+  relays_all : (old new : Stage D) (es : List Event) → Tells IsRelayed old new es
+      → RelaysAll old new es
+  relays_all old new es told = in_turn old new es told.in_turn
 
   -- Whatever was told.
-  pub passes_some : (old new : Stage D) → TellsSome IsPassedOn old new
+  pub relays_some : (old new : Stage D) → TellsSome IsRelayed old new
       → (new.device.ghost_name ≡ old.device.ghost_name)
       × TellsSome Behind old.device.now new.device.now
-  passes_some old new some =
-      let p = passes_all old new some.items some.told in
+  relays_some old new some =
+      let p = relays_all old new some.items some.told in
       (p.same, record { items = take p.cut.0 _; told = p.cut.2 })
 
   -- The frame of the last PES packet stays, where the device behind had not said stop.
-  pub passes_last : (old new : Stage D) → TellsSome IsPassedOn old new
+  pub relays_last : (old new : Stage D) → TellsSome IsRelayed old new
       → has_stopped new.device.now ≡ false
-      → new.passing.trust.last ≡ old.passing.trust.last
-  passes_last old new some fine =
-      let p = passes_all old new some.items some.told in
-      ap (λ (q : Passing). q.trust.last) (p.kept fine) ∙ all_last some.items old.passing
+      → new.relay.trust.last ≡ old.relay.trust.last
+  relays_last old new some fine =
+      let p = relays_all old new some.items some.told in
+      ap (λ (q : Relay). q.trust.last) (p.kept fine) ∙ all_last some.items old.relay
 
   -- All of these, or a prefix.
-  pub passes_whole : (old new : Stage D) (es : List Event)
+  pub relays_whole : (old new : Stage D) (es : List Event)
       → has_stopped new.device.now ≡ false
-      → Tells IsPassedOn old new es
-      → IsWhole Behind old.device.now old.passing (map Says es) new.device.now new.passing
-  passes_whole old new es fine told =
-      let p = passes_all old new es told in record { told = p.whole fine; kept = p.kept fine }
+      → Tells IsRelayed old new es
+      → IsWhole Behind old.device.now old.relay (map Says es) new.device.now new.relay
+  relays_whole old new es fine told =
+      let p = relays_all old new es told in record { told = p.whole fine; kept = p.kept fine }
 
-  pub passes_prefix : (old new : Stage D) (es : List Event)
-      → TellsPrefix IsPassedOn old new es
-      → TellsPrefix Behind old.device.now new.device.now (passed_on old.passing (map Says es))
-  passes_prefix old new es (n, l, told) =
-      let p = passes_all old new (take n es) told in
+  pub relays_prefix : (old new : Stage D) (es : List Event)
+      → TellsPrefix IsRelayed old new es
+      → TellsPrefix Behind old.device.now new.device.now (relayed old.relay (map Says es))
+  relays_prefix old new es (n, l, told) =
+      let p = relays_all old new (take n es) told in
       let parts : map Says es ≡ map Says (take n es) ++ map Says (drop n es) =
       ap (map Says) (sym (take-append-drop n es)) ∙ map-append Says (take n es) (drop n es) in
       subst (TellsPrefix Behind old.device.now new.device.now)
-      (sym (ap (passed_on old.passing) parts
-      ∙ passed-append old.passing (map Says (take n es)) (map Says (drop n es))))
+      (sym (ap (relayed old.relay) parts
+      ∙ passed-append old.relay (map Says (take n es)) (map Says (drop n es))))
       (TellsPrefix-first _ _ _ _ p.cut)
 
-  pub passes_result : {X E : Type 0} (old new : Stage D) (es : List Event) (r : Result X E)
+  pub relays_result : {X E : Type 0} (old new : Stage D) (es : List Event) (r : Result X E)
       → has_stopped new.device.now ≡ is_err r
-      → TellsUntilStopped IsPassedOn old new es r
-      → PassesMarks Behind old.device.now old.passing (map Says es) new.device.now new.passing r
-  passes_result old new es (Ok x) stopped told =
-      let p = passes_whole old new es stopped told in record { told = p.told; kept = p.kept }
-  passes_result old new es (Err x) stopped told =
-      record { told = passes_prefix old new es told; kept = tt }
+      → TellsUntilStopped IsRelayed old new es r
+      → RelaysMarks Behind old.device.now old.relay (map Says es) new.device.now new.relay r
+  relays_result old new es (Ok x) stopped told =
+      let p = relays_whole old new es stopped told in record { told = p.told; kept = p.kept }
+  relays_result old new es (Err x) stopped told =
+      record { told = relays_prefix old new es told; kept = tt }
 
 -- ---- marks with which nothing is told
 

@@ -1,6 +1,6 @@
 //! What is told of a fault: one line, from which the status follows.
 ghost use Rattle.std.specs.Prelude.{◌≡◌};
-ghost use Rattle.sub_listing.specs.Told.{status_of, told_from};
+ghost use Rattle.sub_listing.specs.FaultLine.{status_of, counted_from};
 
 use crate::status::Status;
 use sub_io::FaultCode;
@@ -19,7 +19,7 @@ pub enum Kind {
 
 /// What is told of a fault.
 #[derive(Drop)]
-pub struct Told {
+pub struct FaultLine {
     /// What the line begins with.
     pub kind: Kind,
     /// The number and the name of the fault.
@@ -30,18 +30,18 @@ pub struct Told {
     pub first: u64,
 }
 
-impl Told {
+impl FaultLine {
     /// The same where the first PES packet that is read has this number in its file.
-    pub fn counted_from(self, first: u64) -> Told
-        ensures { result ≡ told_from first self }
+    pub fn counted_from(self, first: u64) -> FaultLine
+        ensures { result ≡ counted_from first self }
     {
-        let Told {
+        let FaultLine {
             kind,
             code,
             place,
             first: _,
         } = self;
-        Told {
+        FaultLine {
             kind,
             code,
             place,

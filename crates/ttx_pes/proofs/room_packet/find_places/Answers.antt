@@ -2,7 +2,7 @@
 use Rattle.std.proofs.Common.{◌≡◌, length, arith, rules}
 use Rattle.ttx_pes.specs.Taking.{AreSameHeads}
 use Rattle.ttx_pes.proofs.HeadLemmas.{places_alike}
-use Rattle.ttx_pes.proofs.held_packet.find_places.Goals as goal
+use Rattle.ttx_pes.proofs.room_packet.find_places.Goals as goal
 
 pub returns-then-are_same_heads-clause-all : goal.returns-then-are_same_heads-clause-all
 returns-then-are_same_heads-clause-all c =

@@ -1,12 +1,12 @@
--- What is trusted, if anything is, and then the event: by PassingLemmas.
+-- What is trusted, if anything is, and then the event: by RelayLemmas.
 use Rattle.std.proofs.Common.{◌∙◌, [], ◌∷◌}
 use Rattle.std.proofs.lemmas.Result.{err_from_is_err_and}
 use Rattle.sub_io.specs.Telling.{first_alone}
 use Rattle.sub_rules.proofs.PieceEventLemmas.{all_announced-append}
 use Rattle.sub_checker.specs.PassedPieces.{as_run}
-use Rattle.sub_checker.proofs.PassingLemmas.{both_are, both_kept}
+use Rattle.sub_checker.proofs.RelayLemmas.{both_are, both_kept}
 use Rattle.sub_checker.proofs.TellingLemmas.{on_ok, stopped_first, told_then}
-use Rattle.sub_checker.proofs.passing.announce_both.Goals as goal
+use Rattle.sub_checker.proofs.relaying.announce_both.Goals as goal
 
 pub returns-in_err-announce_some-clause-told : goal.returns-in_err-announce_some-clause-told
 returns-in_err-announce_some-clause-told g c =

@@ -3,7 +3,7 @@ use Rattle.std.proofs.Common.{ap, ◌∙◌, ◌≡◌, take, drop, Ok, arith, r
 use Rattle.sub_io.specs.Reading.{AreBytes}
 use Rattle.ttx_pes.specs.Reading.{size_at}
 use Rattle.ttx_pes.proofs.SentAgainLemmas.{sent_again}
-use Rattle.ttx_pes.proofs.held_packet.HeldPacket.pts_again.Goals as goal
+use Rattle.ttx_pes.proofs.room_packet.RoomPacket.pts_again.Goals as goal
 
 pub returns-in-Ok : goal.returns-in-Ok
 returns-in-Ok c =
@@ -15,6 +15,6 @@ returns-in-Ok c =
     let kept = c.is_same.ensures.0 (search rules) ∙ c.field.ensures in
     record {
       again = sent_again bytes _ c.split_at-2.result.1.now c.split_at-3.result.1.now
-          c.args.self.now size c.in-Ok.pts fit c.requires.held c.size-size.ensures (omega arith)
+          c.args.self.now size c.in-Ok.pts fit c.requires.known c.size-size.ensures (omega arith)
           c.requires.size told body c.split_at-3.ensures.back kept c.in-Ok.ensures.exact;
     }

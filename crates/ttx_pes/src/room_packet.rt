@@ -6,8 +6,8 @@ ghost use Rattle.ttx_pes.specs.DataUnit.{data_unit_size};
 ghost use Rattle.ttx_pes.specs.PesPacket.{IsPesValue, longest_packet, payload_size};
 ghost use Rattle.ttx_pes.specs.Reading.{size_at, units_at, value_at, is_format_fault};
 ghost use Rattle.ttx_pes.specs.SentUnits.{AreWithin, sent_units};
-ghost use Rattle.ttx_pes.specs.Taking.{AreAllPlaces, HasUnits, IsFieldSize, IsHeld, IsSentAgain};
-ghost use Rattle.ttx_pes.specs.Taking.{field_in, held_frame, no_packet};
+ghost use Rattle.ttx_pes.specs.Taking.{AreAllPlaces, HasUnits, IsFieldSize, IsInRoom, IsSentAgain};
+ghost use Rattle.ttx_pes.specs.Taking.{field_in, room_frame, no_packet};
 
 use crate::fault::PesFault;
 use crate::packet_bytes::Room;
@@ -24,7 +24,7 @@ const FIELD: usize = 45;
 /// What is known of the PES packet at the front of a room: its PTS, how many bytes its data field
 /// has, bytes 45 to the end, and where the Teletext units stand in it.
 #[derive(Drop)]
-pub(crate) struct HeldPacket {
+pub(crate) struct RoomPacket {
     pts: u64,
     count: usize,
     places: UnitPlaces,
@@ -32,11 +32,11 @@ pub(crate) struct HeldPacket {
     repeats: bool,
 }
 
-impl Model for HeldPacket {
+impl Model for RoomPacket {
     ghost use Rattle.std.specs.Prelude.{◌≡◌, true};
-    ghost use Rattle.ttx_pes.specs.Taking.{HeldValue, IsFieldSize};
+    ghost use Rattle.ttx_pes.specs.Taking.{RoomValue, IsFieldSize};
 
-    ghost Value = { HeldValue };
+    ghost Value = { RoomValue };
 
     ghost view = { λ h. record { pts = h.pts; count = h.count; places = h.places } };
 
@@ -91,12 +91,12 @@ fn is_kept(kept: &[u8], field: &[u8]) -> bool
     kept.len() == field.len() && begin_alike(field, kept) && is_same(field, kept)
 }
 
-impl HeldPacket {
+impl RoomPacket {
     // What is known of no packet.
     pub(crate) fn new() -> Self
         ensures { result ≡ no_packet }
     {
-        HeldPacket {
+        RoomPacket {
             pts: 0,
             count: 0,
             places: UnitPlaces::new(),
@@ -149,7 +149,7 @@ impl HeldPacket {
     // is whole, has no fault, and the same data field.
     #[inline(always)]
     pub(crate) fn pts_again(&self, before: &Room, bytes: &[u8]) -> Option<u64>
-        requires held { IsHeld (field_in self.now.count before.now) self.now }
+        requires known { IsInRoom (field_in self.now.count before.now) self.now }
         requires size { IsFieldSize self.now.count }
         ensures again { IfSome result (λ pts.
             IsSentAgain (field_in self.now.count before.now) self.now bytes.now pts) }
@@ -182,9 +182,9 @@ impl HeldPacket {
 
     // The Teletext units, in the packet's room.
     pub(crate) fn units<'a>(&'a self, room: &'a Room) -> SentUnits<'a>
-        requires { IsHeld (field_in self.now.count room.now) self.now }
+        requires { IsInRoom (field_in self.now.count room.now) self.now }
         ensures value { result
-            ≡ (held_frame (field_in self.now.count room.now) self.now).units }
+            ≡ (room_frame (field_in self.now.count room.now) self.now).units }
     {
         SentUnits::new(self.field(room), self.places.as_slice())
     }
@@ -194,13 +194,13 @@ impl HeldPacket {
     #[inline(always)]
     #[tactic(auto, unfolding(crate::specs::Reading::value_at))]
     pub(crate) fn take(&mut self, before: &Room, body: &[u8]) -> Result<bool, PesFault>
-        requires held { IsHeld (field_in self.old.count before.now) self.old }
+        requires known { IsInRoom (field_in self.old.count before.now) self.old }
         requires long { payload_size ≤ length body.now + 6 }
         requires short { length body.now + 6 ≤ longest_packet }
         requires whole { (length body.now + 6) % payload_size ≡ 0 }
         ensures value { OnOk result
-            (value_at body.now ≡ Ok (held_frame (drop 39 body.now) self.new)) }
-        ensures held { OnOk result (IsHeld (drop 39 body.now) self.new) }
+            (value_at body.now ≡ Ok (room_frame (drop 39 body.now) self.new)) }
+        ensures known { OnOk result (IsInRoom (drop 39 body.now) self.new) }
         ensures count { OnOk result (self.new.count + 39 ≡ length body.now) }
         ensures same { IfOk result (λ same.
             (same ≡ true) ↔ (drop 39 body.now ≡ field_in self.old.count before.now)) }

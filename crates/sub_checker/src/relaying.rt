@@ -1,4 +1,4 @@
-//! What the checker tells, passed on to a device: with the frames that may stay on air as they are,
+//! What the checker tells, relayed to a device: with the frames that may stay on air as they are,
 //! and of PES packets that are passed over one directly after the other the first, and up to which
 //! one they go.
 ghost use Rattle.std.specs.Prelude.{◌≡◌, ◌<◌, ◌++◌, [], ◌∷◌, OnOk, false, is_err};
@@ -9,7 +9,7 @@ ghost use Rattle.sub_rules.specs.PieceEvents.{passed_after_all};
 ghost use Rattle.sub_rules.specs.Trusted.Mark.{AtEnd, AtPes, Begins, Closes, Ends, GoesBack};
 ghost use Rattle.sub_rules.specs.Trusted.Mark.{Says};
 ghost use Rattle.sub_checker.specs.PassedPieces.{as_run, kept_run};
-ghost use Rattle.sub_checker.specs.Passing.{Passes, PassesMarks, at_mark, nothing_passed};
+ghost use Rattle.sub_checker.specs.Relay.{Relays, RelaysMarks, at_mark, nothing_relayed};
 
 use crate::passed_run::PassedPieces;
 use crate::trust::Trust;
@@ -18,7 +18,7 @@ use sub_rules::Event;
 
 /// What is kept from one mark to the next.
 #[derive(Clone, Copy)]
-pub(crate) struct Passing {
+pub(crate) struct Relay {
     /// The frames that may be trusted.
     pub trust: Trust,
     /// The pieces that were passed over last.
@@ -31,15 +31,15 @@ pub(crate) struct Stage<'a, A> {
     /// The device.
     pub device: &'a mut A,
     /// What is kept.
-    pub passing: Passing,
+    pub relay: Relay,
 }
 
-impl Passing {
+impl Relay {
     /// Before the first mark.
     pub fn new() -> Self
-        ensures { result ≡ nothing_passed }
+        ensures { result ≡ nothing_relayed }
     {
-        Passing {
+        Relay {
             trust: Trust::new(),
             run: PassedPieces::new(),
         }
@@ -51,14 +51,14 @@ impl<A: Audience<Event>> Stage<'_, A> {
     pub fn go_to(&mut self, pes: u32)
         ensures { self.new ≡ at_mark (AtPes pes) self.old }
     {
-        self.passing.trust.go_to(pes);
+        self.relay.trust.go_to(pes);
     }
 
     /// The packets of a frame follow.
     pub fn begin_frame(&mut self, frame: u32)
         ensures { self.new ≡ at_mark (Begins frame) self.old }
     {
-        self.passing.trust.begin_frame(frame);
+        self.relay.trust.begin_frame(frame);
     }
 
     /// What follows is told of a frame or at its end: since which frame the page is not whole up to
@@ -66,7 +66,7 @@ impl<A: Audience<Event>> Stage<'_, A> {
     pub fn go_back(&mut self, since: Option<u32>)
         ensures { self.new ≡ at_mark (GoesBack since) self.old }
     {
-        self.passing.trust.go_back(since);
+        self.relay.trust.go_back(since);
     }
 
     /// What follows is told at the end of a frame: since which frame the page is not whole, and
@@ -74,15 +74,17 @@ impl<A: Audience<Event>> Stage<'_, A> {
     pub fn at_end(&mut self, frame: u32, since: Option<u32>, is_late: bool)
         ensures { self.new ≡ at_mark (AtEnd frame since is_late) self.old }
     {
-        self.passing.trust.at_end(frame, since, is_late);
+        self.relay.trust.at_end(frame, since, is_late);
     }
 
     /// The end of a frame of PES packets: whether it has a header of the page with which a run may
     /// begin, and whether nothing stands broken.
-    pub fn end_frame(&mut self, frame: u32, has_header: bool, none_stands: bool)
-        ensures { self.new ≡ at_mark (Ends frame has_header none_stands) self.old }
+    pub fn end_frame(&mut self, frame: u32, has_beginning: bool, none_stands: bool)
+        ensures { self.new ≡ at_mark (Ends frame has_beginning none_stands) self.old }
     {
-        self.passing.trust.end_frame(frame, has_header, none_stands);
+        self.relay
+            .trust
+            .end_frame(frame, has_beginning, none_stands);
     }
 
     /// Tells what is trusted of the last run, where anything was told or will be. The last frame is
@@ -93,14 +95,14 @@ impl<A: Audience<Event>> Stage<'_, A> {
     /// `Stopped` where the device said stop.
     pub fn close(&mut self, are_left: bool, tells_more: bool) -> Result<(), Stopped>
         requires goes_on { A.has_stopped self.old.device.now ≡ false }
-        requires day { self.old.passing.trust.last < day }
+        requires day { self.old.relay.trust.last < day }
         ensures same { self.new.device.ghost_name ≡ self.old.device.ghost_name }
         ensures stopped { A.has_stopped self.new.device.now ≡ is_err result }
-        ensures passes { PassesMarks A.is_told self.old.device.now self.old.passing
-            (Closes are_left tells_more ∷ []) self.new.device.now self.new.passing result }
+        ensures relays { RelaysMarks A.is_told self.old.device.now self.old.relay
+            (Closes are_left tells_more ∷ []) self.new.device.now self.new.relay result }
     {
-        let last = self.passing.trust.close(are_left, tells_more);
-        announce_some(last, &mut self.passing.run, self.device)
+        let last = self.relay.trust.close(are_left, tells_more);
+        announce_some(last, &mut self.relay.run, self.device)
     }
 
     /// Hands on an event, and tells before it what is trusted of the run that it ends.
@@ -108,22 +110,22 @@ impl<A: Audience<Event>> Stage<'_, A> {
     /// # Errors
     ///
     /// `Stopped` where the device said stop.
-    pub fn pass(&mut self, event: Event) -> Result<(), Stopped>
+    pub fn relay(&mut self, event: Event) -> Result<(), Stopped>
         requires goes_on { A.has_stopped self.old.device.now ≡ false }
         ensures same { self.new.device.ghost_name ≡ self.old.device.ghost_name }
         ensures stopped { A.has_stopped self.new.device.now ≡ is_err result }
-        ensures passes { PassesMarks A.is_told self.old.device.now self.old.passing
-            (Says event ∷ []) self.new.device.now self.new.passing result }
+        ensures relays { RelaysMarks A.is_told self.old.device.now self.old.relay
+            (Says event ∷ []) self.new.device.now self.new.relay result }
     {
-        let first = self.passing.trust.say(&event);
-        let event = self.passing.trust.at_pes(event);
-        announce_both(first, event, &mut self.passing.run, self.device)
+        let first = self.relay.trust.say(&event);
+        let event = self.relay.trust.at_pes(event);
+        announce_both(first, event, &mut self.relay.run, self.device)
     }
 }
 
 impl<A: Audience<Event>> Audience<Event> for Stage<'_, A> {
     ghost is_told = { λ s event t. (t.device.ghost_name ≡ s.device.ghost_name)
-        × Passes A.is_told A.has_stopped s.device.now s.passing event t.device.now t.passing };
+        × Relays A.is_told A.has_stopped s.device.now s.relay event t.device.now t.relay };
 
     ghost has_stopped = { λ s. A.has_stopped s.device.now };
 
@@ -133,7 +135,7 @@ impl<A: Audience<Event>> Audience<Event> for Stage<'_, A> {
     ///
     /// `Stopped` where the device said stop, at this or at what is told before it.
     fn tell(&mut self, item: Event) -> Result<(), Stopped> {
-        self.pass(item)
+        self.relay(item)
     }
 }
 

@@ -7,19 +7,19 @@ use Rattle.stl_file.specs.TimeCode.{day}
 use Rattle.sub_listing.specs.Lines.{number_in_file, time_text}
 use Rattle.sub_listing.specs.declared.status.Status.{Status}
 use Rattle.sub_listing.specs.declared.status.Status.TheVariants as status
-use Rattle.sub_listing.specs.declared.told.Kind.{Kind}
-use Rattle.sub_listing.specs.declared.told.Kind.TheVariants as kind
-use Rattle.sub_listing.specs.declared.told.Told.{Told}
+use Rattle.sub_listing.specs.declared.fault_line.Kind.{Kind}
+use Rattle.sub_listing.specs.declared.fault_line.Kind.TheVariants as kind
+use Rattle.sub_listing.specs.declared.fault_line.FaultLine.{FaultLine}
 use Rattle.sub_rules.specs.declared.fault_place.FaultPlace.{FaultPlace}
 use Rattle.sub_rules.specs.declared.fault_place.FaultPlace.TheVariants as place
 
 -- What is told of a fault with this code. PES packets are counted from 0.
-abbrev pub told_as : Kind → FaultCodeValue → FaultPlace → Told
-told_as k c p = record { kind = k; code = c; place = p; first = 0 }
+abbrev pub line_as : Kind → FaultCodeValue → FaultPlace → FaultLine
+line_as k c p = record { kind = k; code = c; place = p; first = 0 }
 
 -- The same where the first PES packet that is read has this number in its file.
-abbrev pub told_from : ℕ → Told → Told
-told_from first t = record t { first = first }
+abbrev pub counted_from : ℕ → FaultLine → FaultLine
+counted_from first t = record t { first = first }
 
 -- What the line begins with.
 abbrev pub kind_text : Kind → List ℕ
@@ -54,7 +54,7 @@ abbrev pub code_text : FaultCodeValue → List ℕ
 code_text code = decimal code.number ++ codes " " ++ code.name
 
 -- The line.
-abbrev pub line_of : Told → List ℕ
+abbrev pub line_of : FaultLine → List ℕ
 line_of t = kind_text t.kind ++ code_text t.code ++ place_text t.first t.place ++ codes "\n"
 
 -- The status that goes with it.

@@ -1,10 +1,10 @@
--- What is known of a packet by its header and its data field: held_anew, held_again.
+-- What is known of a packet by its header and its data field: known_anew, known_again.
 use Rattle.std.proofs.Common.{ap, ◌≡◌, arith, refl, rules}
 use Rattle.std.proofs.lemmas.Result.{err_from_is_err_and}
-use Rattle.ttx_pes.specs.Taking.{HeldValue}
-use Rattle.ttx_pes.proofs.KeptFrameLemmas.{IsBody, held_again, held_anew, value_refused}
-use Rattle.ttx_pes.proofs.held_packet.HeldPacket.take.Goals as goal
-use Rattle.ttx_pes.proofs.held_packet.HeldPacket.take.Goals.{In_ok-pts}
+use Rattle.ttx_pes.specs.Taking.{RoomValue}
+use Rattle.ttx_pes.proofs.KeptFrameLemmas.{IsBody, known_again, known_anew, value_refused}
+use Rattle.ttx_pes.proofs.room_packet.RoomPacket.take.Goals as goal
+use Rattle.ttx_pes.proofs.room_packet.RoomPacket.take.Goals.{In_ok-pts}
 
 -- The bytes are those of a packet.
 is_body : (c : In_ok-pts) → IsBody c.args.body.now
@@ -18,17 +18,17 @@ is_body c = record {
 pub returns-then-is_kept-clause-value : goal.returns-then-is_kept-clause-value
 returns-then-is_kept-clause-value c =
     let count : c.self.inside.count ≡ c.args.self.now.count =
-    ap (λ (h : HeldValue). h.count) c.self.view_is in
+    ap (λ (h : RoomValue). h.count) c.self.view_is in
     let places : c.self.inside.places ≡ c.args.self.now.places =
-    ap (λ (h : HeldValue). h.places) c.self.view_is in
-    let h : HeldValue = record {
+    ap (λ (h : RoomValue). h.places) c.self.view_is in
+    let h : RoomValue = record {
       pts = c.in_ok-pts.pts;
       count = c.self.inside.count;
       places = c.self.inside.places;
     } in
-    (held_again c.args.body.now c.split_at.result.1.now _ _ h
+    (known_again c.args.body.now c.split_at.result.1.now _ _ h
     (is_body (goal.at.returns-then-is_kept-clause-value c).In_ok-pts) c.in_ok-pts.ensures.exact
-    (search rules) (search rules) c.requires.held count places).value
+    (search rules) (search rules) c.requires.known count places).value
 
 pub returns-in_err-find_places-clause-err : goal.returns-in_err-find_places-clause-err
 returns-in_err-find_places-clause-err c =
@@ -39,14 +39,14 @@ returns-in_err-find_places-clause-err c =
 
 pub returns-clause-value : goal.returns-clause-value
 returns-clause-value c =
-    (held_anew c.args.body.now c.split_at.result.1.now _
+    (known_anew c.args.body.now c.split_at.result.1.now _
     (is_body (goal.at.returns-clause-value c).In_ok-pts) c.in_ok-pts.ensures.exact (search rules)
     refl c.in_ok-find_places.ensures.within c.in_ok-find_places.ensures.all
     c.in_ok-find_places.ensures.ok).value
 
-pub returns-clause-held : goal.returns-clause-held
-returns-clause-held c =
-    (held_anew c.args.body.now c.split_at.result.1.now _
-    (is_body (goal.at.returns-clause-held c).In_ok-pts) c.in_ok-pts.ensures.exact (search rules)
+pub returns-clause-known : goal.returns-clause-known
+returns-clause-known c =
+    (known_anew c.args.body.now c.split_at.result.1.now _
+    (is_body (goal.at.returns-clause-known c).In_ok-pts) c.in_ok-pts.ensures.exact (search rules)
     refl c.in_ok-find_places.ensures.within c.in_ok-find_places.ensures.all
-    c.in_ok-find_places.ensures.ok).held
+    c.in_ok-find_places.ensures.ok).known

@@ -3,8 +3,8 @@ use Rattle.std.proofs.Common.{◌≡◌, rules, subst, true}
 use Rattle.std.specs.Io.KnownBytes.{Appends}
 use Rattle.sub_io.proofs.DeviceLemmas.{AppendsPrefix-whole}
 use Rattle.sub_io.specs.Calls.{PutsByPushes}
-use Rattle.sub_listing.specs.Told.{line_of}
-use Rattle.sub_listing.proofs.printing.print_told.Goals as goal
+use Rattle.sub_listing.specs.FaultLine.{line_of}
+use Rattle.sub_listing.proofs.printing.print_fault_line.Goals as goal
 
 pub returns-in-Ok-clause-line : goal.returns-in-Ok-clause-line
 returns-in-Ok-clause-line g c =
