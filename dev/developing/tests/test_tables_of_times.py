@@ -141,6 +141,18 @@ class Times(unittest.TestCase):
             found = cut_of(packets_with(pts), 0, 50, 0, 25).range
             self.assertEqual(found, wanted, frames)
 
+    def test_ends_within_some_frames(self) -> None:
+        """The last page is blank, and where a header had ended it before, that too; or it is so
+        many frames behind the last TCO."""
+        closed = [(0, "heo"), (1, "c"), (100, "heob"), (101, "cb"), (102, "heob"), (125, "heob")]
+        for sent, last in ((closed, 3), ([one for one in closed if one[1] != "c"], 1),
+                           ([*closed[:3], *closed[4:]], 3), ([*closed[:3], (125, "heob")], 3),
+                           ([(0, "heo"), (100, "heo"), (101, "heob"), (125, "heob")], 2),
+                           ([(0, "heo"), (100, "heo"), (102, "heo"), (125, "heob")], 2)):
+            made = Packets(257, [Run(at, 1, TICKS * frame, 0, does, "")
+                                 for at, (frame, does) in enumerate(sent)])
+            self.assertEqual(cut_of(made, 0, 100, 0, 25, 2).range, (0, last), sent)
+
     def test_jumps(self) -> None:
         """Where nothing is missing, and more packets than a tenth of those of that time would be
         there: the clock was set anew."""
