@@ -22,16 +22,11 @@ calls              calls of the program, and what the definitions answer
 
 What is known:
 
-known              pairs of files whose lines are known
-within             such pairs where a page may be some frames late
-beside             such pairs of which some subtitles are refused, and parts of a file
-keeping            such pairs with headers that keep the page, and with pauses
+known              pairs of files whose lines are known, and stand in no test of the crates
+within             such pairs where a page may be some frames late, or is kept
 one_file           such pairs for each field of a subtitle file and each kind of text
 one_rule           pairs of files that break one rule
 recorded           such calls about transport streams and ranges of PES packets
-wrong_recordings   mistakes in reading a recording
-wrong_keeping      mistakes where headers keep the page, and of pauses
-mistakes           tries such a mistake
 carried_laws       what is promised of a recording, tried at random
 
 At random:

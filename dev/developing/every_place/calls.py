@@ -103,8 +103,3 @@ def answer_to(call: Call) -> Answer:
         return Answer(listen_lines(data, options, words, call.is_failing))
     lines = check_all(call.files[0], data, options, call.is_failing)
     return Answer(lines if ALL in call.options else first_told(lines))
-
-
-def wrong_answers(known: list[KnownCall]) -> Iterator[str]:
-    """The names of those that the definitions answer otherwise."""
-    return (one.call.name for one in known if answer_to(one.call) != one.answer)

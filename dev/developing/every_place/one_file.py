@@ -118,19 +118,6 @@ def first_faults() -> list[KnownCall]:
     return [*made, of_file("all of them mended", file, TAKEN)]
 
 
-def cuts() -> list[KnownCall]:
-    """The file cut at the end of each block, and a byte before and after it."""
-    ends = {GSI: TAKEN, GSI + TTI: TAKEN, GSI + 2 * TTI: refused("24 Unfinished block 2"),
-            GSI + 3 * TTI: refused("24 Unfinished block 3"), GSI + 4 * TTI: TAKEN,
-            GSI + 5 * TTI: TAKEN}
-    made = [of_file("no byte", b"", refused("10 Truncated block 0"))]
-    for block, (end, lines) in enumerate(ends.items()):
-        for length, told in ((end - 1, refused(f"10 Truncated block {block}")), (end, lines),
-                             (end + 1, refused(f"10 Truncated block {block + 1}"))):
-            made.append(of_file(f"{length} bytes", (WHOLE + b"\0")[:length], told))
-    return made
-
-
 def many_blocks() -> list[KnownCall]:
     """A subtitle of nine blocks, and no tenth."""
     heads = [tti_block(1, 25, 50, 20, 2, b"AAAA", ebn=ebn) for ebn in range(10)]
@@ -243,5 +230,5 @@ DRAWN = [
     not_drawn("german", b"A\xc8\x8aB", 5, 0, "50 Character", 1),
 ]
 
-ONE_FILE = [*general_blocks(), *first_blocks(), *further_blocks(), *first_faults(), *cuts(),
+ONE_FILE = [*general_blocks(), *first_blocks(), *further_blocks(), *first_faults(),
             *many_blocks(), *DRAWN]

@@ -1,7 +1,8 @@
-"""Pairs with the lines that `check --all --within N` prints of them, worked out by hand.
+"""Pairs with the lines that `check --all --within N` or `--keeping` prints of them, worked out by
+hand.
 
-A transmission is written as in `one_rule`: `o` is row 22 with an o in place of its i, and `e` with
-an even byte in place of its H. What `keeping` has besides is named there.
+A transmission is written as in `one_rule`: `o` is row 22 with an o in place of its i, `e` with an
+even byte in place of its H, `r2` on row 20, and `k` is a header that keeps the page.
 """
 from __future__ import annotations
 
@@ -10,15 +11,12 @@ from subtitles.core.stl import GSI
 from subtitles.core.times import CLOCK, FRAMES_OF_A_DAY, TICKS
 from .calls import KnownCall, known_pair
 from .known import (
-    EARLY_WRONG, HELLO, LAST, ROW, SENT, accepted, ended, poked, refused, stands, told, trusted,
-    wrong)
-from .one_rule import CLOSING, FIRST, HEADER, PAGE, coded, header, pes_packets_of
+    EARLY_WRONG, HELLO, HI, LAST, ROW, SENT, accepted, ended, of_texts, poked, refused, stands,
+    told, trusted, wrong)
+from .one_rule import CLOSING, HEADER, PAGE, header, pes_packets_of
 
-KEEPS, SUBCODE_1 = header(c4="15"), {4: 0x02}
 PACKETS = {"h": HEADER, "r": ROW, "c": CLOSING, "o": poked(ROW, {22: 0xEF}),
-           "e": poked(ROW, {21: 0x48}), "s": coded("15 9B"), "r2": poked(ROW, {1: 0x8C}),
-           "k": KEEPS, "x": header(c4="15", c5_c6="15"), "k1": poked(KEEPS, SUBCODE_1),
-           "h1": poked(HEADER, SUBCODE_1), "p": coded("15 15 15 02 15 D0 15 15 15 15")}
+           "e": poked(ROW, {21: 0x48}), "r2": poked(ROW, {1: 0x8C}), "k": header(c4="15")}
 
 
 def pes_file(packets: str, *changes: tuple[int, int, int]) -> bytes:
@@ -120,6 +118,27 @@ TICKS_OF_A_FRAME = [
               "02:01"))),
 ]
 
-WITHIN = [
-    *of_pair("the file twice", SENT + SENT, (ONE, UP_TO_TCO, "refused 62 Order pes 2")),
-    *STOPPED, *ENDS, *TICKS_OF_A_FRAME, *DAY]
+WITHIN = [*STOPPED, *ENDS, *TICKS_OF_A_FRAME, *DAY]
+
+# Headers that keep the page: rows that a first one brought, rows while the page is not open, and
+# where it is not known what is due.
+KEEPING = "--keeping"
+AFTER_BAD = of_texts((0, 50, 22, HI.replace(b"i", b"\xe6")), (50, 100, 22, HI))
+BAD = "refused 50 Character block 1 at 4"
+KEPT = [
+    *of_pair("another row behind a first header that keeps", pes_file("0 k r c, 25 k o c, 50 h c"),
+             (KEEPING, refused("69 RowChanged", "01:00", "packet 1"), LAST)),
+    *of_pair("the same row behind it", pes_file("0 k r c, 25 k r c, 50 h c"),
+             (KEEPING, accepted(51, 3))),
+    *of_pair("a row behind the closing header", pes_file("0 h r c r2, 25 k r c, 50 h c"),
+             (KEEPING, accepted(51, 3))),
+    *of_pair("a row that was not sent before it is known what is due",
+             pes_file("0 h c, 50 k r c, 100 h c"),
+             (KEEPING, BAD, *stands("78 Undecided", "00:00", "01:24"), trusted("04:00", "04:00")),
+             stl=AFTER_BAD),
+    *of_pair("another row before it is known what is due", pes_file("0 h o c, 50 k r c, 100 h c"),
+             (KEEPING, BAD, refused("78 Undecided", "00:00"),
+              refused("69 RowChanged", "02:00", "packet 1"), wrong("02:00", column=20)[0],
+              ended("78 Undecided", "01:24"), ended("72 Content", "03:24"),
+              trusted("04:00", "04:00")), stl=AFTER_BAD),
+]

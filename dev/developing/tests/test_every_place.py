@@ -1,47 +1,15 @@
-"""The second implementation: calls whose answers are known, mistakes that these tell, and what is
-promised of a recording."""
+"""The second implementation: the status of a last line, and what is promised of a recording."""
 from __future__ import annotations
 
 import unittest
-from concurrent.futures import ThreadPoolExecutor
-from functools import partial
 from random import Random
 
-from developing.every_place.beside import BESIDE
-from developing.every_place.calls import KnownCall, answer_to
 from developing.every_place.carried_laws import LAWS, random_packets
-from developing.every_place.keeping import KNOWN_KEEPING, OF_PACE
-from developing.every_place.mistakes import Mistake, told_apart
-from developing.every_place.recorded import RECORDED
 from developing.every_place.recordings import UNSEEN
 from developing.every_place.streams import multiplexed, with_losses
 from developing.every_place.trying import status_of
-from developing.every_place.wrong_keeping import OF_SILENCE, WRONG_KEEPING
-from developing.every_place.wrong_recordings import WRONG
 
 SEEDS = 150
-AT_ONCE = 2  # processes
-
-
-class Known(unittest.TestCase):
-    """Calls whose answers are known."""
-
-    def have_answers(self, known: list[KnownCall]) -> None:
-        for call, answer in known:
-            with self.subTest(call.name, command=call.command, words=call.words):
-                self.assertEqual(answer_to(call), answer)
-
-    def test_recordings(self) -> None:
-        self.have_answers(RECORDED)
-
-    def test_beside_refused_subtitles(self) -> None:
-        self.have_answers(BESIDE)
-
-    def test_headers_that_keep(self) -> None:
-        self.have_answers(KNOWN_KEEPING)
-
-    def test_pauses(self) -> None:
-        self.have_answers(OF_PACE)
 
 
 class Statuses(unittest.TestCase):
@@ -56,26 +24,6 @@ class Statuses(unittest.TestCase):
                 ("fault 41 Read pes 1", 2)):
             with self.subTest(line):
                 self.assertEqual(status_of(line), status)
-
-
-class Told(unittest.TestCase):
-    """Each mistake is told by a known call."""
-
-    def are_told(self, mistakes: list[Mistake], module: str, name: str) -> None:
-        with ThreadPoolExecutor(AT_ONCE) as pool:
-            found = pool.map(partial(told_apart, module=module, name=name), mistakes)
-            for mistake, call in zip(mistakes, found):
-                with self.subTest(mistake.name):
-                    self.assertNotEqual(call, "")
-
-    def test_mistakes_in_recordings(self) -> None:
-        self.are_told(WRONG, "recorded", "RECORDED")
-
-    def test_mistakes_of_headers_that_keep(self) -> None:
-        self.are_told(WRONG_KEEPING, "keeping", "KNOWN_KEEPING")
-
-    def test_mistakes_of_pauses(self) -> None:
-        self.are_told(OF_SILENCE, "keeping", "OF_PACE")
 
 
 class Promised(unittest.TestCase):
