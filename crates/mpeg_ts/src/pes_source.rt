@@ -56,6 +56,14 @@ impl<S: Source> PesSource<S> {
             stream: Stream::new(pid, packet_size),
         }
     }
+
+    /// The source inside. Bytes that are ready are lost.
+    pub fn into_inner(self) -> S
+        ensures { result ≡ self.device }
+    {
+        let PesSource { inner, .. } = self;
+        inner
+    }
 }
 
 impl<S: Source> Source for PesSource<S> {

@@ -66,6 +66,14 @@ impl<'a, K: Sink> BufferedSink<'a, K> {
         }
     }
 
+    /// The sink inside. Bytes that are held back are lost.
+    pub fn into_inner(self) -> K
+        ensures { result ≡ self.entry.device }
+    {
+        let BufferedSink { inner, .. } = self;
+        inner
+    }
+
     // Pushes into the sink inside, past the room.
     fn push_through(&mut self, from: &[u8]) -> Result<usize, Failed>
         requires nonempty { 0 < length from.now }

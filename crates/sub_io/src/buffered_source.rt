@@ -56,6 +56,14 @@ impl<'a, S: Source> BufferedSource<'a, S> {
         }
     }
 
+    /// The source inside. Bytes that are held are lost.
+    pub fn into_inner(self) -> S
+        ensures { result ≡ self.entry.device }
+    {
+        let BufferedSource { inner, .. } = self;
+        inner
+    }
+
     // Asks the source inside once, where no byte is held.
     #[tactic(auto, using(crate::proofs::BufferLemmas::none_held))]
     fn refill(&mut self) -> Result<(), Failed>

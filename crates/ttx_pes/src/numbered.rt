@@ -18,6 +18,9 @@ pub trait Numbered: Source {
     // The number of the first PES packet that it gives, where it tells its bytes.
     ghost first: { Self → Option ℕ };
 
+    // How many PES packets of the file it has passed over, before the first one that it gives.
+    ghost passed: { Self → ℕ };
+
     /// Reads up to the first PES packet that it gives, and answers which one of the file that is,
     /// counted from 0. Nothing of what it gives is taken.
     ///
@@ -29,6 +32,8 @@ pub trait Numbered: Source {
         ensures kept { Keeps (Self.remaining self.old) (Self.remaining self.new) }
         ensures first { (n : ℕ) → first self.old ≡ Some n → IfOk result (λ found. found ≡ n) }
         ensures before { (n : ℕ) → first self.old ≡ Some n → IfErr result (λ at. at.pes ≤ n) }
+        // It fails at the PES packet behind those that it has passed over.
+        ensures failed { IfErr result (λ at. at.pes ≡ passed self.new) }
         ensures count { CountsFailure (Self.failure_count self.old) result
             (Self.failure_count self.new) };
 }

@@ -79,6 +79,14 @@ impl<S: Source> RangeSource<S> {
         }
     }
 
+    /// The source inside. Bytes that are held are lost.
+    pub fn into_inner(self) -> S
+        ensures { result ≡ self.inner }
+    {
+        let RangeSource { inner, .. } = self;
+        inner
+    }
+
     // Passes over a piece before the range; where none comes, what comes is to be given.
     fn pass_piece(&mut self) -> Result<(), Failed>
         requires phase { self.old.phase ≡ Phase.Passing }
@@ -402,6 +410,8 @@ impl<S: Source> Source for RangeSource<S> {
 
 impl<S: Source> Numbered for RangeSource<S> {
     ghost first = { λ s. told_index s.phase s.ahead s.held (S.remaining s.inner) };
+
+    ghost passed = { λ s. s.ahead.passed };
 
     fn find_first(&mut self) -> Result<u64, FailedAt> {
         if let Phase::Passing = self.phase {
