@@ -2,26 +2,32 @@
 from __future__ import annotations
 
 import argparse
+import calendar
 import contextlib
 import csv
 import dataclasses
 import io
 import json
+import os
+import time
 import unittest
+from types import SimpleNamespace
 from typing import Any
+from unittest import mock
 from xml.etree import ElementTree
 
 from subtitles.calls import collecting
 from subtitles.calls.junit import TestCase, text_of as junit_of
 from subtitles.calls.machine import asked_words, file_words, gap_words, part_words
-from subtitles.calls.objects import Row
+from subtitles.calls.objects import Row, modified
+from subtitles.calls.single import now
 from subtitles.calls.table import cell_words, of_part, said, text_of as csv_of
 from subtitles.core.words import shown
 from subtitles.qc.clock import GIVEN
 from subtitles.qc.sums import File
 from subtitles.qc.verdict import Gap
 from subtitles.reading.gaps import Place
-from .bench import Case
+from .bench import Case, alone
 from .parts import asked_for, part_with
 
 ASKED = {"stl": "one.stl", "recording": "one.ts"}
@@ -161,6 +167,17 @@ class Statuses(Case):
 
 class Members(unittest.TestCase):
     """Members of an object."""
+
+    @alone
+    def test_times(self) -> None:
+        """The date, and when a file was written to, are in UTC wherever the machine stands."""
+        self.addCleanup(time.tzset)
+        with mock.patch.dict(os.environ, TZ="EAST-5"):
+            time.tzset()
+            date = calendar.timegm(time.strptime(now(), "%Y-%m-%dT%H:%M:%SZ"))
+            about: Any = SimpleNamespace(st_mtime_ns=1_000_000_007)
+            self.assertLess(abs(date - time.time()), 600)
+            self.assertEqual(modified(about), "1970-01-01T00:00:01.000000007Z")
 
     def test_gap(self) -> None:
         """What is before a place and what is behind it, as times and as PTS."""

@@ -141,6 +141,16 @@ class Laws(unittest.TestCase):
             self.assertEqual([part.origin for part in one.parts],
                              [(origin + TICKS * min(late)) % CLOCK], one.told)
 
+    def test_fields(self) -> None:
+        """Within some frames what comes in the second field of a frame is not late."""
+        for chance, shown, edges, origin in self.each():
+            first, *others = sent(edges, origin)
+            sendings = [first, *((pts + TICKS // 2 * chance.randrange(2), text)
+                                 for pts, text in others)]
+            one = found(shown, packets_of(sendings), 1)
+            self.assertEqual([part.origin for part in one.parts], [origin % CLOCK], one.told)
+            self.assertIn("no edge is late", one.told)
+
     def test_breaks(self) -> None:
         """Each part of the programme has its own origin, also where an encoder begins anew."""
         for chance, shown, _, origin in self.each():

@@ -5,10 +5,14 @@ import random
 
 from developing.pes import pes_packet
 from subtitles.core.times import CLOCK, TICKS
+from subtitles.qc.recording import Recording
+from subtitles.reading.gaps import SECOND
 from subtitles.reading.languages import names_of
+from subtitles.reading.packets import Mark, Packets, Run
 from developing.multiplex import Multiplex
-from subtitles.reading.survey import survey
+from subtitles.reading.survey import Survey, survey
 from .bench import Case, packets
+from .judged import Heard
 from .parts import HEADER, row
 
 PID = 0x101
@@ -41,6 +45,21 @@ class Written(Case):
                 found.lines())
             [one] = found.programmes
             self.must("its PCR", (one.number, one.pcr_pid, one.kinds) == (1, 0x1FF0, {PID: 6}), one)
+
+    def test_places(self) -> None:
+        """Where something is missing: twenty lines at most, the last of which counts the others."""
+        for count in (1, 20, 21, 25):
+            one, made = Recording.__new__(Recording), Packets(PID)
+            for number in range(0, 2 * count, 2):
+                made.runs += [Run(number, 1, SECOND * number, 0, "h", ""),
+                              Run(number + 1, 1, None, 0, "m", "")]
+                made.marks.append(Mark(number + 1, SECOND * number, 1, 0))
+            one.packets, one.survey, one.speech = made, Survey(), Heard()
+            one.survey.size = 188
+            lines = one.say_read()
+            more = [f"and at {count - 19} more places"] * (count > 20)
+            self.must(f"{count}", len(lines) == min(count, 20) and [
+                line for line in lines if not line.endswith("1 TS packet lost")] == more, lines)
 
     def test_languages(self) -> None:
         """EBU Tech 3264, appendix 3: those that national options are for, and others."""

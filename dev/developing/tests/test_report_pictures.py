@@ -183,7 +183,7 @@ class Pictured(unittest.TestCase):
             kind_at=by_frame.__getitem__, at=lambda frame: f"<large {frame}>" + "x" * size,
             small_at=lambda frame: f"<small {frame}>" + "x" * size)
         held: Any = SimpleNamespace(last_before=lambda pes: 10 * pes,
-                                    sendings_between=lambda first, end: (end - first) // 25)
+                                    sendings_between=lambda first, end: len(range(first, end, 25)))
         made = faults(*lines)
         made.programme = Programme(subtitles)
         return Entries(figures, held, list(subtitles), looked, window, made, broken)

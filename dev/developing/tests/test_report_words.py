@@ -84,8 +84,8 @@ class Box(unittest.TestCase):
             with self.subTest(count=count):
                 self.assertEqual("more fault" in box, words is not None)
                 self.assertIn(words or "", box)
-        box = verdict_box(self.report(notes=["a & b", "c"], sentence="It <is>."))
-        self.assertIn('<p class="note">a &amp; b</p><p class="note">c</p>', box)
+        box = verdict_box(self.report(notes=["a & b", "c"], sentence="It <is>.", fitted="d"))
+        self.assertIn("".join(f'<p class="note">{one}</p>' for one in ("a &amp; b", "c", "d")), box)
         self.assertLess(box.index("It &lt;is&gt;."), box.index("accepted 5 frames"))
         self.assertNotIn("What receivers show", verdict_box(self.report()))
 
