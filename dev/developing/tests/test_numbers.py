@@ -54,7 +54,7 @@ OWN: dict[str, dict[str, object]] = {
     "qc.layouts": {"FEWEST": 10, "TENTHS": 9, "MOST_STRIPPED": 5, "MOST_KEPT": 6},
     "qc.midnight": {"HOUR": 90_000}, "qc.naming": {"FEW": 3},
     "qc.off_frame": {"MILLISECOND": 90, "FEWEST": 10, "MOST_PPM": 1000, "LOOKED_AT": 100_000},
-    "qc.pes_header": {"LOOKED_AT": 67_108_864}, "qc.progress": {"EACH": 0.2},
+    "qc.progress": {"EACH": 0.2},
     "qc.severity": {"REFUSALS": {3, 4, *range(10, 26), *range(30, 41), 44, 45, *range(50, 58),
                                  *range(60, 75), *range(76, 80), 82}},
     "qc.speech": {"MOST_LINES": 40},

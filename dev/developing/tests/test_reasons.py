@@ -6,7 +6,7 @@ from subtitles.core.teletext import CODE_WORDS
 from subtitles.core.times import TICKS
 from subtitles.qc.causes import EVEN, IN_PARTS, UNSEEN, Namer
 from subtitles.qc.due_pages import DuePages
-from subtitles.qc.pes_header import header_length, header_words
+from subtitles.qc.pes_header import first_of, header_words
 from subtitles.reading.finding import other_words
 from subtitles.reading.gaps import Place, places_of, what_of
 from subtitles.reading.packets import Clocked, Mark, Packets, Run
@@ -133,13 +133,14 @@ class Reasons(Case):
                       found.word == ("refused" if length > 99 else "not judged"), found.said)
             self.must(f"{length}: asked for", words in judged(
                 self, self.stl, path, "--pid", "0x101", "--origin", "0").verdict.sentence)
-            self.assertEqual(header_length(path, TELETEXT_PID, 188), length)
-            path = self.write("one.pes", b"".join(of_length))
-            self.assertEqual(header_length(path, 0, 0), length)
-        self.assertEqual((header_words(36, 0), header_words(None, 0)), ("", ""))
-        for data, size in ((b"", 188), (b"\x47\x41\x01", 188), (b"", 0),
-                           (b"\x47\x41\x01\x30\xff".ljust(188, b"\0") + b"G", 188)):
-            self.assertIsNone(header_length(self.write("none", data), TELETEXT_PID, size))
+            words = words.replace(" of PID 0x101", "")
+            self.assertEqual(header_words(of_length[0], 0), words)
+        found = judged(self, self.stl, self.write("one.pes", b"".join(of_length)), "--origin", "0")
+        self.must("PES packets", words in found.verdict.sentence, found.said)
+        for data in (b"", b"refused 60", self.pes[0], self.pes[0][:8]):
+            self.assertEqual(header_words(data, 0), "")
+        path = self.write("none", b"\x47\x41\x01\x30\xff".ljust(188, b"\0") * 9)
+        self.assertEqual(first_of(self.bench.program, path, TELETEXT_PID, 188), b"refused 6")
 
     def test_rows_of_a_page_that_is_not_open(self) -> None:
         """Another header, or one that ends all pages, between header and rows: that is told with

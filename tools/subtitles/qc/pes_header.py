@@ -1,41 +1,36 @@
-"""The header of the first PES packet of a PID, read where it is not one of Teletext.
+"""The header of the first PES packet of a PID, where it is not one of Teletext.
 
 Teletext has PES headers of 45 bytes and PES packets of 184 N bytes (EN 300 472, PES packet).
 """
 from __future__ import annotations
 
-from ..core.words import pid_name
+import subprocess
+
+from ..core.pes import START
+from ..core.words import pid_name, stream_words
 from ..reading.packets import PES
 
-LOOKED_AT = 1 << 26  # bytes
-BEGINS, ADAPTED = 0x40, 0x20  # bits of a TS packet's second byte, and of its fourth
+OUTPUT = "/dev/stdout"  # as the program opens it
 # PES_header_data_length: its place, how many bytes it does not count, and what it is of Teletext.
 LENGTH_AT, FIXED, TELETEXT = 8, 9, 0x24
 
 
-def header_length(path: str, pid: int, size: int) -> int | None:
-    """PES_header_data_length of the first PES packet of a PID, of packets so many bytes apart, or
-    of a file of PES packets; `None` where none is found near the beginning."""
-    with open(path, "rb") as file:
-        data = file.read(LOOKED_AT if size else FIXED)
-    if pid == PES or not size:
-        return data[LENGTH_AT] if len(data) >= FIXED else None
-    wanted = bytes([0x47, BEGINS | pid >> 8, pid & 255])
-    at = data.find(wanted)
-    while at >= 0:
-        control, length = (*data[at + 3:at + 5], 0, 0)[:2]
-        start = at + 4 + (1 + length if control & ADAPTED else 0)
-        begun = data[start:start + FIXED]
-        if data[at + size:at + size + 1] == b"G" and len(begun) == FIXED and begun[:3] == b"\0\0\1":
-            return begun[LENGTH_AT]
-        at = data.find(wanted, at + 1)
-    return None
+def first_of(program: str, path: str, pid: int, size: int) -> bytes:
+    """The first bytes of what `extract` gives of a PID."""
+    words = [program, "extract", *stream_words(pid, size), "--", path, OUTPUT]
+    with subprocess.Popen(words, stdin=subprocess.DEVNULL, stdout=subprocess.PIPE,
+                          stderr=subprocess.DEVNULL) as call:
+        assert call.stdout
+        begun = call.stdout.read(FIXED)
+        call.kill()
+    return begun
 
 
-def header_words(length: int | None, pid: int) -> str:
-    """What is wrong with such a header; nothing where it is one of Teletext."""
-    if length is None or length == TELETEXT:
+def header_words(begun: bytes, pid: int) -> str:
+    """What is wrong with the PES header of a PID whose first PES packet begins so; nothing where it
+    is one of Teletext, or none."""
+    if not begun.startswith(START[:3]) or begun[LENGTH_AT:FIXED] in (b"", bytes([TELETEXT])):
         return ""
-    whose = f" of {pid_name(pid)}" if pid != PES else ""
+    length, whose = begun[LENGTH_AT], f" of {pid_name(pid)}" if pid != PES else ""
     return (f"the PES header{whose} has {FIXED + length} bytes (PES_header_data_length "
             f"{length:02X}), where Teletext has {FIXED + TELETEXT} ({TELETEXT:02X}): EN 300 472")

@@ -20,7 +20,7 @@ from .asked import Asked
 from .ending import Ending
 from .feed import Feed
 from .names import Names, again, of_pid
-from .pes_header import header_length, header_words
+from .pes_header import first_of, header_words
 from .speech import Speech
 from .start import NoFirst
 from .sums import File, Files
@@ -175,8 +175,10 @@ class Recording:
         """What is wrong with the PES header of a PID, where the file can be read once more."""
         if not self.is_file or packets.pid != PES and not packets.packets:
             return ""
-        return header_words(header_length(self.name, packets.pid, self.survey.size or 0),
-                            packets.pid)
+        begun = self.survey.head if packets.pid == PES else first_of(
+            self.typed.program_path, self.names.as_program(self.name), packets.pid,
+            self.survey.size or 0)
+        return header_words(begun, packets.pid)
 
     def say_read(self) -> list[str]:
         """What was read, and where something is missing."""
