@@ -32,8 +32,10 @@ pub trait Numbered: Source {
         ensures kept { Keeps (Self.remaining self.old) (Self.remaining self.new) }
         ensures first { (n : ℕ) → first self.old ≡ Some n → IfOk result (λ found. found ≡ n) }
         ensures before { (n : ℕ) → first self.old ≡ Some n → IfErr result (λ at. at.pes ≤ n) }
-        // It fails at the PES packet behind those that it has passed over.
+        // It fails at the PES packet behind those that it has passed over, and the number is kept.
         ensures failed { IfErr result (λ at. at.pes ≡ passed self.new) }
+        ensures left { (n : ℕ) → first self.old ≡ Some n
+            → IfErr result (λ _. first self.new ≡ Some n) }
         ensures count { CountsFailure (Self.failure_count self.old) result
             (Self.failure_count self.new) };
 }

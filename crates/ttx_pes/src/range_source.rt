@@ -68,6 +68,7 @@ impl<S: Source> RangeSource<S> {
         ensures first { told_index result.phase result.ahead result.held
             (S.remaining result.inner) ≡ option_map (first_index range) (S.remaining inner) }
         ensures held { HoldsNoMore result.phase result.held }
+        ensures inner { result.inner ≡ inner }
         ensures count { S.failure_count result.inner ≡ S.failure_count inner }
     {
         RangeSource {
