@@ -151,18 +151,6 @@ IsAllGiven Between left = left ≡ Some 0
 IsAllGiven (Giving k) left = (k ≡ 0) × (left ≡ Some 0)
 IsAllGiven _ left = ⊥
 
--- A source of a range as it was left: what it has still to give, and the number of the first piece
--- that it gives, of the bytes that the source inside has left; and how many it has passed over.
-pub record IsLeftOfRange
-    (inside left : Option (List ℕ)) (number : Option ℕ) (passed : ℕ) : Type 0 where
-  pub phase : Phase
-  pub ahead : AheadValue
-  pub room : Option ℕ
-  pub held : List ℕ
-  pub left_is : left ≡ told_of phase ahead.to_pass room held inside
-  pub number_is : number ≡ told_index phase ahead held inside
-  pub passed_is : passed ≡ ahead.passed
-
 -- ---- what that is, in a file that falls into pieces
 
 -- No piece begins these bytes.
