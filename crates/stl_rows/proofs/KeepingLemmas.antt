@@ -10,7 +10,7 @@ use Rattle.std.proofs.Math.Seq.{drop-cons, take-append_seam}
 use Rattle.std.proofs.lemmas.Bool.{cases_Bool}
 use Rattle.std.proofs.lemmas.Bool.Decides.{nat_tests}
 use Rattle.std.proofs.lemmas.List.Elements.{All-nil, All-push, All-take}
-use Rattle.std.specs.Prelude.{All, IsOk, ◌==◌, is_some, option_map, ◌&&◌, not, nat_lt, is_none}
+use Rattle.std.specs.Prelude.{All, IsOk, is_some, option_map, ◌&&◌, not, nat_lt, is_none}
 use Rattle.std.specs.Prelude.{if◌then◌else◌}
 use Rattle.stl_file.specs.Reading.{Findings, finds, no_more, refuses}
 use Rattle.stl_file.specs.Subtitle.{IsSubtitle, SubtitleValue}

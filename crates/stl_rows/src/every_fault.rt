@@ -160,12 +160,7 @@ pub fn load_all_in<A: Allocator + Copy, S: Source, D: Audience<LoadFault>>(
                 Ok(()) => return Ok(None),
                 Err(failed) => return Err(failed),
             },
-            Ok(Found::End) => {
-                if kept.is_enough() {
-                    return Ok(Some(kept));
-                }
-                return Ok(None);
-            }
+            Ok(Found::End) => return Ok(kept.if_enough()),
             Ok(Found::Refused(fault)) => {
                 let kind = Some(LoadFaultKind::File(fault));
                 let Ok(_) = tell_fault(kind, reader.block(), audience) else {

@@ -1,6 +1,6 @@
 //! What is kept of the subtitles of a file while it is read.
 
-ghost use Rattle.std.specs.Prelude.{◌≡◌, [], true, IfErr, IfSome, None, OnOk};
+ghost use Rattle.std.specs.Prelude.{◌≡◌, [], true, if◌then◌else◌, IfErr, IfSome, None, OnOk, Some};
 ghost use Rattle.stl_rows.specs.Judged.{are_in_order, with_bits};
 ghost use Rattle.stl_rows.specs.Keeping.{bits_after, is_enough, is_whole, kept_after, nothing_kept};
 ghost use Rattle.stl_rows.specs.Keeping.{refused_one, broken_one, without_last, with_one};
@@ -146,7 +146,7 @@ impl<A: Allocator + Copy> Kept<A> {
 
     // Whether a transmission is judged by these: they are all of the file, or some of it and in
     // order.
-    pub(crate) fn is_enough(&self) -> bool
+    fn is_enough(&self) -> bool
         ensures { result ≡ is_enough self.now }
     {
         if self.is_whole() {
@@ -156,6 +156,13 @@ impl<A: Allocator + Copy> Kept<A> {
             return false;
         }
         are_in_order(self.subtitles.as_slice())
+    }
+
+    // What is kept, where a transmission is judged by it.
+    pub(crate) fn if_enough(self) -> Option<Self>
+        ensures { result ≡ (if is_enough self then Some self else None) }
+    {
+        if self.is_enough() { Some(self) } else { None }
     }
 
     // The subtitles alone.

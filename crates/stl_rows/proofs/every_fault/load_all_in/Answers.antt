@@ -2,14 +2,15 @@
 -- goes_on-next, tells-end, tells-stop, fails-next; and what is judged by: judges-enough,
 -- judges-not, judges-broken.
 use Rattle.std.proofs.Common.{◌∙◌, ◌++◌, ◌<◌, refl, rules, sym, [], ◌∷◌, map, arith}
-use Rattle.std.proofs.Common.{drop, inr}
+use Rattle.std.proofs.Common.{◌≡◌, drop, false, inl, inr}
 use Rattle.std.proofs.lemmas.Bool.Decides.{nat_tests}
-use Rattle.std.proofs.lemmas.Bool.{lt-ltb}
+use Rattle.std.proofs.lemmas.Bool.{cases_Bool, lt-ltb}
 use Rattle.std.specs.Prelude.{◌≢◌}
 use Rattle.sub_io.proofs.TellingLemmas.{Tells-none, Tells-trans}
 use Rattle.stl_file.specs.declared.fault.StlFault.TheVariants.{Ended}
 use Rattle.stl_rows.specs.declared.fault.LoadFaultKind.TheVariants.{File}
 use Rattle.stl_rows.specs.EveryFault.{load_fault}
+use Rattle.stl_rows.specs.Keeping.{is_enough}
 use Rattle.stl_rows.specs.Programme.{follow_faults}
 use Rattle.std.proofs.lemmas.List.Elements.{All-nil}
 use Rattle.stl_file.proofs.FileLemmas.{findings_for-begun, findings_for-refused}
@@ -157,34 +158,49 @@ returns-in_default-tell_faults-clause-some g c = λ none.
     c.subtitles.reader.block c.next_into.new.self.block i.early (let b = l.block in omega arith)
     i.early_told) i.told (rw c.block-block.ensures.value at c.in_default-tell_faults.ensures.stops)
 
-pub returns-then-is_enough-clause-exact : goal.returns-then-is_enough-clause-exact
-returns-then-is_enough-clause-exact g c = λ bytes e.
+pub returns-in-Ok-End-clause-exact : goal.returns-in-Ok-End-clause-exact
+returns-in-Ok-End-clause-exact g c = λ bytes e.
     let i = c.subtitles.invariant in
     let here = i.goes_on bytes e in
     let l = rw (c.in-Ok-End.field-0-is, i.scope) at (c.in-Ok-End.ensures.leads refl) in
     let end = left-then _ _ here.0 l here.1 in
-    judges-enough here.2 end.2 i.are_kept (sym c.is_enough.ensures ∙ c.if-is_enough.true)
+    elim (cases_Bool (is_enough c.subtitles.kept)) [
+      | inl enough ↦
+          rw (c.if_enough.ensures, enough) (judges-enough here.2 end.2 i.are_kept enough)
+      | inr few ↦ rw (c.if_enough.ensures, few) tt
+    ]
 
-pub returns-then-is_enough-clause-told_all : goal.returns-then-is_enough-clause-told_all
-returns-then-is_enough-clause-told_all g c = λ bytes e.
+pub returns-in-Ok-End-clause-told_all : goal.returns-in-Ok-End-clause-told_all
+returns-in-Ok-End-clause-told_all g c = λ bytes e.
     let i = c.subtitles.invariant in
     let here = i.goes_on bytes e in
     let l = rw (c.in-Ok-End.field-0-is, i.scope) at (c.in-Ok-End.ensures.leads refl) in
     let end = left-then _ _ here.0 l here.1 in
-    rw (told-all here.2 end.2) i.told
+    elim (cases_Bool (is_enough c.subtitles.kept)) [
+      | inl enough ↦ rw (c.if_enough.ensures, enough, told-all here.2 end.2) i.told
+      | inr few ↦ rw (c.if_enough.ensures, few) tt
+    ]
 
-pub returns-then-is_enough-clause-programme : goal.returns-then-is_enough-clause-programme
-returns-then-is_enough-clause-programme g c =
-    programme-kept c.subtitles.invariant.are_kept (sym c.is_enough.ensures ∙ c.if-is_enough.true)
+pub returns-in-Ok-End-clause-programme : goal.returns-in-Ok-End-clause-programme
+returns-in-Ok-End-clause-programme g c =
+    elim (cases_Bool (is_enough c.subtitles.kept)) [
+      | inl enough ↦
+          rw (c.if_enough.ensures, enough)
+          (programme-kept c.subtitles.invariant.are_kept enough)
+      | inr few ↦ rw (c.if_enough.ensures, few) tt
+    ]
 
-pub returns-then-is_enough-clause-any : goal.returns-then-is_enough-clause-any
-returns-then-is_enough-clause-any g c =
+pub returns-in-Ok-End-clause-any : goal.returns-in-Ok-End-clause-any
+returns-in-Ok-End-clause-any g c =
     let i = c.subtitles.invariant in
-    record {
-      faults = i.early;
-      of_file = told-of_file c.subtitles.reader.block i.early i.early_told;
-      told = i.told;
-    }
+    elim (cases_Bool (is_enough c.subtitles.kept)) [
+      | inl enough ↦ rw (c.if_enough.ensures, enough) (record {
+        faults = i.early;
+        of_file = told-of_file c.subtitles.reader.block i.early i.early_told;
+        told = i.told;
+      })
+      | inr few ↦ rw (c.if_enough.ensures, few) tt
+    ]
 
 pub returns-in-Ok-End-clause-told : goal.returns-in-Ok-End-clause-told
 returns-in-Ok-End-clause-told g c = λ bytes e none.
@@ -192,8 +208,8 @@ returns-in-Ok-End-clause-told g c = λ bytes e none.
     let here = i.goes_on bytes e in
     let l = rw (c.in-Ok-End.field-0-is, i.scope) at (c.in-Ok-End.ensures.leads refl) in
     let end = left-then _ _ here.0 l here.1 in
-    tells-none here.2 i.told end.2
-    (some-few i.are_kept (sym c.is_enough.ensures ∙ c.if-is_enough.false))
+    let few : is_enough c.subtitles.kept ≡ false = grind (arith, nat_tests) in
+    tells-none here.2 i.told end.2 (some-few i.are_kept few)
 
 pub returns-in-Ok-End-clause-not_judged : goal.returns-in-Ok-End-clause-not_judged
 returns-in-Ok-End-clause-not_judged g c = λ bytes e none.
@@ -201,14 +217,16 @@ returns-in-Ok-End-clause-not_judged g c = λ bytes e none.
     let here = i.goes_on bytes e in
     let l = rw (c.in-Ok-End.field-0-is, i.scope) at (c.in-Ok-End.ensures.leads refl) in
     let end = left-then _ _ here.0 l here.1 in
-    inr (judges-not here.2 end.2 (sym c.is_enough.ensures ∙ c.if-is_enough.false))
+    let few : is_enough c.subtitles.kept ≡ false = grind (arith, nat_tests) in
+    inr (judges-not here.2 end.2 few)
 
 pub returns-in-Ok-End-clause-some : goal.returns-in-Ok-End-clause-some
 returns-in-Ok-End-clause-some g c = λ none.
     let i = c.subtitles.invariant in
+    let few : is_enough c.subtitles.kept ≡ false = grind (arith, nat_tests) in
     record {
       faults = i.early;
-      some = some-few i.are_kept (sym c.is_enough.ensures ∙ c.if-is_enough.false);
+      some = some-few i.are_kept few;
       of_file = told-of_file c.subtitles.reader.block i.early i.early_told;
       told = i.told;
     }
