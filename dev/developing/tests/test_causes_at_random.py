@@ -267,6 +267,15 @@ class ByHand(unittest.TestCase):
                                    None if one.sent is None else pages.get(one.sent, "due"))
                                   for one in causes.all()], wanted)
 
+    def test_reached(self) -> None:
+        """The frames of which a recording is: of its PES packets, or more by its PCR."""
+        for reach, wanted in ((None, (10, 20)), ((5, 30), (5, 30)), ((12, 18), (10, 20)),
+                              ((5, 18), (5, 20)), ((12, 30), (10, 30))):
+            held = empty()
+            held.first, held.last = 10, 20
+            causes = Causes(DuePages([], []), held, (), reach and Span(*reach))
+            self.assertEqual(causes.reached(), wanted, reach)
+
 
 if __name__ == "__main__":
     for NUMBER in range(COUNT):

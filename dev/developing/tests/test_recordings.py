@@ -61,6 +61,20 @@ class Written(Case):
             self.must(f"{count}", len(lines) == min(count, 20) and [
                 line for line in lines if not line.endswith("1 TS packet lost")] == more, lines)
 
+    def test_why_nothing(self) -> None:
+        """Of each PID that has TS packets and no PES packet, in the order of the PIDs."""
+        one = Recording.__new__(Recording)
+        one.is_feed, one.survey = True, Survey()
+        one.survey.by_pid = {
+            pid: Packets(pid, packets=packets, scrambled=scrambled, refusal=refusal)
+            for pid, packets, scrambled, refusal in (
+                (5, 3, 3, 0), (4, 9, 0, 31), (3, 0, 0, 0), (2, 7, 0, 31), (1, 1, 0, 0))}
+        one.survey.by_pid[4].runs.append(Run(0, 1, 0, 0, "", ""))
+        self.must("words", one.why_nothing() == [
+            "PID 0x1 has no whole PES packet in 1 TS packet",
+            "PID 0x2 has no PES packets of private_stream_1, as Teletext has",
+            "PID 0x5 is scrambled: all 3 TS packets of it"], one.why_nothing())
+
     def test_languages(self) -> None:
         """EBU Tech 3264, appendix 3: those that national options are for, and others."""
         for code, wanted in (

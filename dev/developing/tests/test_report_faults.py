@@ -11,6 +11,7 @@ from subtitles.core.times import time_of
 from subtitles.preview.fault_list import FaultList
 from subtitles.preview.faults import Entry, Faults
 from subtitles.preview.reasons import Reasons
+from subtitles.preview.report import mark_unheard
 from subtitles.qc.causes import Cause
 from subtitles.qc.checking import Answer
 from subtitles.qc.counted import End
@@ -69,6 +70,24 @@ class Told(unittest.TestCase):
                 numbers = [number for number, _ in wanted]
                 self.assertEqual(made.first_entries, {number: numbers.index(number) + 1
                                                       for number in numbers})
+
+    def test_marks(self) -> None:
+        """The frames of faults that name a PES packet: those that fall, those around what was
+        passed over, and the last one that was heard, where one of the faults ended that."""
+        order = "refused 62 Order pes 42"
+        rows: list[tuple[list[str], int | None, bool]] = [
+            ([], 20, False), ([order], 20, True), ([order], None, False), ([order], 0, True),
+            (["refused 62 Order pes 41"], 20, False),
+            (["refused 68 Parity frame @30", order, "refused 62 Order pes 43"], 20, True)]
+        for lines, last, is_marked in rows:
+            made = faults(*lines)
+            before = list(made.spans)
+            seen: Any = SimpleNamespace(falls=[60, 62], doubted=lambda: iter([(5, 7), (90, 95)]),
+                                        last_frame=last, stop=42)
+            mark_unheard(made, seen)
+            wanted = [*before, (60, 60), (62, 62), (5, 7), (90, 95),
+                      *[(last or 0, last or 0)] * is_marked]
+            self.assertEqual(list(made.spans), sorted(wanted), lines)
 
     def test_first_and_last(self) -> None:
         """The first line of each number, the first and the last of all, and of faults the last."""

@@ -135,11 +135,7 @@ class Looks:
 
     def __init__(self, report: Report, seen: Seen) -> None:
         asked, faults = report.asked, report.faults
-        last = seen.last_frame
-        faults.mark((frame, frame) for frame in seen.falls)
-        faults.mark(seen.doubted())
-        if last is not None and any(entry.first.pes == seen.stop for entry in faults.entries):
-            faults.mark([(last, last)])
+        mark_unheard(faults, seen)
         option = BY_WORD[asked.option].bits
         header = bytes([0, 0, 0, 8, 0, 8, 1, option << 1])  # C4, C6 and C7
         due = report.part.due().timeline
@@ -158,6 +154,16 @@ class Looks:
         self.fault_list = FaultList(report, self, seen)
         self.timeline = Timeline(report.subtitles, seen.sendings, self.entries, faults, broken,
                                  report.flag(broken), end_of_knowledge(seen, report))
+
+
+def mark_unheard(faults: Faults, seen: Seen) -> None:
+    """Marks the frames of faults that name a PES packet: of those that go back, around those that
+    were passed over, and the last that was heard, where a fault ended that."""
+    faults.mark((frame, frame) for frame in seen.falls)
+    faults.mark(seen.doubted())
+    last = seen.last_frame
+    if last is not None and any(entry.first.pes == seen.stop for entry in faults.entries):
+        faults.mark([(last, last)])
 
 
 def pages_of_content(faults: Faults, seen: Seen, figures: Figures) -> dict[int, tuple[Rows, Rows]]:
