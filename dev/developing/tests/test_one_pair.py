@@ -349,6 +349,9 @@ class Overview(Case):
         scope = overview.scope(verdict)
         count = 3 * overview.subtitles_of(verdict.parts[0])
         self.must("scope", f"00:00:00:00 to 00:00:05:24, {count} subtitles" in scope, scope)
+        verdict.asked = asked_for("piped.stl", "one.pes")  # what came through a pipe is kept
+        verdict.asked.kept_stl = example("story.stl")
+        self.must("a pipe", "Programme" in scope and overview.scope(verdict) == scope, scope)
 
     def test_pairs(self) -> None:
         """What is broken first, then what nobody judged, warnings, and what is accepted."""

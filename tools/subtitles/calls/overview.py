@@ -57,7 +57,7 @@ def scope(verdict: Verdict) -> str:
     begins, ends = ([time for part in verdict.parts for time in [part.times()[at]] if time]
                     for at in (0, 1))
     recording = verdict.recording
-    one = Scope(titles_in(verdict.asked.stl), recording,
+    one = Scope(titles_in(verdict.asked.stl_path), recording,
                 frame_of(min(begins)) or 0, frame_of(max(ends)) or 0,
                 sum(subtitles_of(part) for part in verdict.parts), None, bool(verdict.fitted),
                 True)
