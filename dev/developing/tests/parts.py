@@ -6,6 +6,7 @@ import os
 from typing import Sequence
 
 from developing.pes import packet
+from subtitles.core.told import Told, told_of
 from subtitles.core.words import Words
 from subtitles.qc.asked import Asked, add_pair_options, asked_with
 from subtitles.qc.checking import Answer
@@ -24,6 +25,13 @@ CLOSING = packet(0, 0, [15, 15, 15, 7, 15, 3, 0, 0], b" " * 32)
 def row(number: int, text: bytes) -> bytes:
     """A row of the magazine of page 888."""
     return packet(0, number, (), b"\x0b\x0b" + text.ljust(38))
+
+
+def fault_of(line: str) -> Told:
+    """A line of `check --all` that tells a fault."""
+    told = told_of(line)
+    assert told, line
+    return told
 
 
 def answer(lines: Sequence[str] = ("accepted 10 frames 2 transmissions",),

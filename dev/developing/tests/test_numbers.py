@@ -36,7 +36,7 @@ OWN: dict[str, dict[str, object]] = {
     "preview.places": {"HAS_PTS": range(37, 41), "BYTES_A_LINE": 14, "OFF_FRAME": 61, "ORDER": 62},
     "preview.reasons": {"MOST": 1000}, "preview.report": {"EMPTY": 60, "ORDER": 62},
     "preview.subtitles": {"ROOM": 10_000_000, "NEAR": 25, "MOST_LARGE": 500},
-    "preview.timeline": {"UNITS": [(250, "ten seconds", 25, 50), (1500, "a minute", 250, 250),
+    "preview.strips": {"UNITS": [(250, "ten seconds", 25, 50), (1500, "a minute", 250, 250),
                                    (15_000, "ten minutes", 1500, 3000),
                                    (90_000, "an hour", 7500, 15_000)],
                          "MOST_STRIPS": 24, "WIDTH": 1000, "CLOSE": 3, "CLOSE_ON_MANY": 8,

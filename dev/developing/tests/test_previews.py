@@ -3,31 +3,29 @@ from __future__ import annotations
 
 import array
 import unittest
-from types import SimpleNamespace
-from typing import Any
 
 from developing.pes import packet
 from subtitles.core.times import FRAMES_OF_A_DAY
 from subtitles.preview.fits import Fits
 from subtitles.preview.places import around, marked_bytes
-from subtitles.preview.seen import Changes, Seen
+from subtitles.preview.seen import Seen
+from subtitles.reading.held import Held, Stored, with_marks
 from subtitles.reading.receiver import Rows, State
 
 PAGES: list[Rows] = [(bytes([code]) * 40,) * 24 for code in b"ABC"]
 ONE, TWO, THREE = PAGES
 
 
-def changes(*known: tuple[int, Rows]) -> Changes:
+def changes(*known: tuple[int, Rows]) -> Held:
     """The pages that are held, each from a frame on."""
-    held: Any = SimpleNamespace(states=[(frame, 0, State(True, False, None, rows, None))
-                                        for frame, rows in known])
-    return Changes(held)
+    return with_marks(Stored(frame, 0, State(True, False, None, rows, None))
+                      for frame, rows in known)
 
 
 class WhatFits(unittest.TestCase):
     """The nearest sending that would fit."""
 
-    def fits(self, due: Changes, held: Changes, frame: int, pages: tuple[Rows, Rows]) -> Fits:
+    def fits(self, due: Held, held: Held, frame: int, pages: tuple[Rows, Rows]) -> Fits:
         return Fits(due, held, {frame: pages})
 
     def test_words(self) -> None:

@@ -15,6 +15,7 @@ from subtitles.preview.report import mark_unheard
 from subtitles.qc.causes import Cause
 from subtitles.qc.checking import Answer
 from subtitles.qc.counted import End
+from .parts import fault_of
 
 # Three subtitles, of which the second has another number than its place.
 SUBTITLES = [Subtitle(1, 1, 25, 50, 20, 2, b"one"), Subtitle(2, 7, 75, 100, 20, 2, b"two"),
@@ -100,7 +101,7 @@ class Told(unittest.TestCase):
         self.assertEqual({number: told.line for number, told in made.firsts.items()},
                          {72: first, 68: f"refused 68 Parity frame {at(31)}"})
         self.assertEqual(list(made.trusted), [(0, 9), (40, 60)])
-        self.assertEqual([one.last_line[-11:] for one in made.entries],
+        self.assertEqual([one.last.line[-11:] for one in made.entries],
                          [first[-11:], at(32)])
 
     def test_spans(self) -> None:
@@ -150,7 +151,7 @@ class Told(unittest.TestCase):
                       "refused 51 X block 10000 at 2")
         self.assertEqual((len(made.of_blocks), made.entry_count, made.count),
                          (20_000, 10_001, 20_001))
-        self.assertEqual((made.first_entries, made.of_blocks[-1]),
+        self.assertEqual((made.first_entries, made.of_blocks[-1].line),
                          ({50: 1, 51: 10_001}, "refused 50 X block 9999 at 1"))
 
 
@@ -210,8 +211,8 @@ class Lists(unittest.TestCase):
                                                                 "until 00:00:02:00, 1 frame"),
                 (2, 60, None, "2 faults, the last at 00:00:02:00, until 00:00:02:10"),
                 (1, None, 7, "up to PES packet 7")):
-            entry = Entry(1, "refused 68 Parity frame 00:00:01:00")
-            entry.last_line = "refused 68 Parity frame 00:00:02:00"
+            entry = Entry(1, fault_of("refused 68 Parity frame 00:00:01:00"))
+            entry.add(fault_of("refused 68 Parity frame 00:00:02:00"))
             entry.count = count
             entry.end = End(None if until is None else time_of(until), until_pes)
             self.assertEqual(FaultList.span_words(entry), words)
@@ -221,7 +222,7 @@ class Lists(unittest.TestCase):
         for count, listed, words in ((1, 1, None), (3, 2, "1 more entry</b>"),
                                      (1002, 1000, "2 more entries</b>")):
             made = FaultList.__new__(FaultList)
-            made.entries = [Entry(number, "refused 74 End") for number in range(1, listed + 1)]
+            made.entries = [Entry(number, fault_of("refused 74 End")) for number in range(1, listed + 1)]
             found: Any = SimpleNamespace(faults=SimpleNamespace(count=count, entry_count=count))
             made.report = found
             looks: Any = SimpleNamespace(entries=SimpleNamespace(frame_of=lambda entry: None))

@@ -10,12 +10,12 @@ from subtitles.core.programme import Programme, Subtitle
 from subtitles.core.spans import Spans
 from subtitles.preview import blocks
 from subtitles.preview.figures import DIFFERENT, NOT_KNOWN, NOTHING, SAME, Figures
-from subtitles.preview.program import verdict_of
 from subtitles.preview.subtitles import Entries, Looked, looked_at
-from subtitles.preview.timeline import Strip, Timeline, runs_of
+from subtitles.preview.strips import Strip, Strips, runs_of
 from subtitles.qc.subtitle_file import SubtitleFile
 from subtitles.reading.receiver import TUNED, State
 from .bench import Case
+from .parts import fault_of
 from .test_report_faults import SUBTITLES, at, faults
 
 COUNT = 60
@@ -23,16 +23,16 @@ MANY = [Subtitle(number + 1, number + 1, 100 * number, 100 * number + 50, 20, 2,
         for number in range(COUNT)]
 
 
-class Strips(unittest.TestCase):
+class Drawn(unittest.TestCase):
     """What is drawn of time."""
 
     def line(self, subtitles: Sequence[Subtitle] = SUBTITLES, sendings: Sequence[int] = (),
              odd: Sequence[int] = (), end: int | None = None, broken: int | None = None,
-             lines: Sequence[str] = ()) -> Timeline:
+             lines: Sequence[str] = ()) -> Strips:
         entry = SimpleNamespace(index=5)
         entries: Any = SimpleNamespace(drawn={1: ""}, odd=set(odd), unknown=set[int](),
                                        entry_in=lambda begin, end: entry)
-        return Timeline(list(subtitles), sendings, entries, faults(*lines), broken, "flag", end)
+        return Strips(list(subtitles), sendings, entries, faults(*lines), broken, "flag", end)
 
     def test_runs(self) -> None:
         rows: list[tuple[list[int], list[tuple[int, int]]]] = [
@@ -276,7 +276,7 @@ class Blocks(Case):
                 tti_block(7, 75, 99, 18, 2, b"tw\x8ao ", 0), user,
                 tti_block(7, 75, 99, 18, 2, b"more\x07"), tti_block(3, 60, 70, 20, 2, b"three")]
         path = self.write("one.stl", gsi_block(b"", len(made), 3) + b"".join(made))
-        return blocks.Blocks(SubtitleFile(path), (verdict_of(line, 1) for line in told))
+        return blocks.Blocks(SubtitleFile(path), (fault_of(line) for line in told))
 
     def test_of_blocks(self) -> None:
         """The subtitle of each block, its text with that of those behind, and the one before."""
@@ -303,9 +303,9 @@ class Blocks(Case):
         for number in range(10, 60):
             line = f"refused {number} X block {int(number > 14)}"
             head, _, value = fields.get(number, "").rpartition(" ")
-            self.must(line, made.field(verdict_of(line)) == (
-                f"{head} <mark>{value}</mark>" if head else ""), made.field(verdict_of(line)))
-        self.must("no block", made.field(verdict_of("refused 14 Cct")) == "")
+            self.must(line, made.field(fault_of(line)) == (
+                f"{head} <mark>{value}</mark>" if head else ""), made.field(fault_of(line)))
+        self.must("no block", made.field(fault_of("refused 14 Cct")) == "")
 
     def test_ends(self) -> None:
         """What ends reading a file; and after which faults a subtitle is as if it were not there."""
@@ -325,7 +325,7 @@ class Blocks(Case):
     def test_marks(self) -> None:
         """The byte or the line that a fault names, in a text and in tables."""
         def marked(*lines: str) -> str:
-            return blocks.marked_text(b"a b\x8ac", [verdict_of(line, 1) for line in lines])
+            return blocks.marked_text(b"a b\x8ac", [fault_of(line) for line in lines])
 
         for lines, words in (
                 ((), "a b<br/>c"), (("refused 50 X block 2 at 0",), "<mark>a</mark> b<br/>c"),
@@ -354,14 +354,14 @@ class Blocks(Case):
                 ("refused 56 X block 6", (f"<mark>{begin}</mark>", end)),
                 ("refused 57 X block 6", (f"<mark>{begin}</mark>", end)),
                 ("refused 20 X block 6", (begin, end)), ("refused 50 X block 6", (begin, end))):
-            self.must(line, blocks.times_of(one, [verdict_of(line, 1)]) == wanted)
+            self.must(line, blocks.times_of(one, [fault_of(line)]) == wanted)
         wrong = one._replace(begin="99:00:00:00")
-        self.must("no time", blocks.times_of(wrong, [verdict_of("refused 20 X block 6", 1)])
+        self.must("no time", blocks.times_of(wrong, [fault_of("refused 20 X block 6")])
                   == ("<mark>99:00:00:00</mark>", end))
         first, last = "00:00:03:00", "00:00:03:24"
         for line, words in (("refused 56 X block 6", f"<mark>{first}</mark></td><td>{last}"),
                             ("refused 57 X block 6", f"{first}</td><td><mark>{last}")):
-            table = blocks.two_times(made, one, verdict_of(line, 1))
+            table = blocks.two_times(made, one, fault_of(line))
             own = f"<mark>{begin}</mark></td><td>{end}"
             self.must(line, words in table and own in table, table)
 
@@ -385,7 +385,7 @@ class Blocks(Case):
         for more, last, words in (
                 (0, lines[-1], "read to its end, 6 blocks"),
                 (1, "refused 15 Ebn block 6", "ended at block 6</b>, with 15 Ebn")):
-            faults = SimpleNamespace(of_blocks=lines, counts={50: 1, 51: 1, 56: 1 + more, 78: 9})
+            faults = SimpleNamespace(of_blocks=[*map(fault_of, lines)], counts={50: 1, 51: 1, 56: 1 + more, 78: 9})
             report: Any = SimpleNamespace(faults=faults, is_beside=False, part=SimpleNamespace(
                 answer=SimpleNamespace(last_told=last)))
             said = blocks.refused_blocks(report, self.blocks())

@@ -12,7 +12,8 @@ from subtitles.core.teletext import CODE_WORDS
 from subtitles.core.times import CLOCK, TICKS
 from subtitles.preview.page import navigation, pages_table, reading_words
 from subtitles.preview.places import between, between_words, passed_words, units_table
-from subtitles.preview.program import Unit, Verdict
+from subtitles.preview.program import Unit
+from .parts import fault_of
 
 ORIGIN = CLOCK - 20 * TICKS
 LINKS = ("timeline", "faults", "place", "causes", "subtitles", "pages", "key", "files")
@@ -34,7 +35,7 @@ class Parts(unittest.TestCase):
 
     def test_how_far_it_was_read(self) -> None:
         """All; all but some; up to what ends reading, or both."""
-        ending: Any = Verdict("refused 30 <x>", 1)
+        ending: Any = SimpleNamespace(line="refused 30 <x>")
         passed = "A receiver is followed without 3 others that can't be read, or whose PTS is no " \
             "frame's: what those put on air is not known."
         for spans, end, words in (
@@ -93,7 +94,7 @@ class Places(unittest.TestCase):
                 (40, (3, 5), f"PES packets 3 to 5 can't be read. PTS: {first} to {second}."),
                 (37, (7,), "PES packet 7 can't be read."),
                 (38, (7, 5), f"PES packets 7 to 5 can't be read. PTS: {second}.")):
-            self.assertEqual(passed_words(Verdict("", 1, number), them, report), words)
+            self.assertEqual(passed_words(fault_of(f"refused {number} X"), them, report), words)
 
     def test_between(self) -> None:
         """The frames around what was passed over, where there are such."""

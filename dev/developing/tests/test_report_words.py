@@ -15,10 +15,8 @@ from subtitles.preview import page, program as asking
 from subtitles.preview.counts import (
     meaning_of_verdict, means_and_do, numbers_table, place_words)
 from subtitles.core.spans import Spans
-from subtitles.core.told import told_of
 from subtitles.preview.page import lost_places, subtitles_words, verdict_box
 from subtitles.preview.places import pes_words
-from subtitles.preview.program import Verdict, verdict_of
 from subtitles.preview.report import Report, Subject, end_of_knowledge
 from subtitles.preview.scope import BETWEEN, DELAY, ROW_0, Scope
 from subtitles.qc.clock import GIVEN, START, Clock
@@ -27,7 +25,7 @@ from subtitles.qc.midnight import AT_MIDNIGHT
 from subtitles.qc.subtitle_file import SubtitleFile
 from subtitles.qc.sums import File
 from .bench import Case, example
-from .parts import asked_for
+from .parts import asked_for, fault_of
 from .test_report_faults import SUBTITLES, faults
 
 
@@ -46,7 +44,8 @@ class Box(unittest.TestCase):
         judged = {"sentence": "", "word": "", "fitted": None}
         judged.update({name: more.pop(name) for name in list(more) if name in judged})
         known: dict[str, Any] = {
-            "verdict": Verdict("accepted 5 frames", 0), "reasons": None, "meanings": {},
+            "line": "accepted 5 frames", "first": None, "is_refused": False, "reasons": None,
+            "meanings": {},
             "faults": SimpleNamespace(count=0, counts={}, firsts={}, trusted=Spans()),
             "asked": SimpleNamespace(**asked), "looks": None, "seen": None, "lost": [],
             "notes": [], "subject": SimpleNamespace(judged=SimpleNamespace(**judged)),
@@ -55,10 +54,9 @@ class Box(unittest.TestCase):
         return SimpleNamespace(**{**known, **more})
 
     def refused(self, count: int, **more: Any) -> Any:
-        return self.report(verdict=verdict_of("refused 68 Parity frame 00:00:01:00", 1),
-                           faults=SimpleNamespace(count=count, counts={68: count}, firsts={
-                               68: told_of("refused 68 Parity frame 00:00:01:00")},
-                                                      trusted=Spans()),
+        first = fault_of("refused 68 Parity frame 00:00:01:00")
+        return self.report(line=first.line, first=first, is_refused=True, faults=SimpleNamespace(
+            count=count, counts={68: count}, firsts={68: first}, trusted=Spans()),
                            first_link=lambda first: "link", **more)
 
     def test_frames(self) -> None:
@@ -124,7 +122,7 @@ class Box(unittest.TestCase):
         self.assertEqual(numbers_table(self.refused(1)), "")
         one = self.refused(3)
         one.faults.counts = {73: 1234, 68: 2}
-        one.faults.firsts[73] = told_of("refused 73 Gap frame 00:00:02:00")
+        one.faults.firsts[73] = fault_of("refused 73 Gap frame 00:00:02:00")
         table = numbers_table(one)
         self.assertEqual(re.findall('row">(.*?)</th><td data-name="Faults">(.*?)</td>', table),
                          [("68 Parity", "2"), ("73 Gap", "1,234")])
@@ -133,7 +131,7 @@ class Box(unittest.TestCase):
         for line, words in (("refused 73 Gap frame 00:00:02:00", "00:00:02:00"),
                             ("refused 38 UnitLength pes 5", "pes 5"),
                             ("refused 74 End", "End")):
-            self.assertEqual(place_words(verdict_of(line, 1)), words)
+            self.assertEqual(place_words(fault_of(line)), words)
 
     def test_meanings(self) -> None:
         """What the manual says, or for times that fall at midnight what to do then."""
@@ -142,15 +140,15 @@ class Box(unittest.TestCase):
             with tempfile.NamedTemporaryFile() as file:
                 file.write(gsi_block(b"", 1, 1) + tti_block(1, *times, 20, 2, b"a"))
                 file.flush()
-                one = self.report(part=part_of(file.name), verdict=verdict_of(told, 1), meanings={
+                one = self.report(part=part_of(file.name), first=fault_of(told), meanings={
                     21: Meaning("EmptyTime", "`a` < b", "do it")}, faults=SimpleNamespace(
-                        firsts={21: told_of(told)}))
+                        firsts={21: fault_of(told)}))
                 self.assertEqual(means_and_do(one, 21), ("<code>a</code> &lt; b", do))
                 self.assertEqual(meaning_of_verdict(one), '<dl id="n21"><dt>means</dt><dd><code>a'
                                  f"</code> &lt; b</dd><dt>do</dt><dd>{do}</dd></dl>")
                 self.assertIsNone(means_and_do(one, 20))
         self.assertIn('id="n21">docs/manual/', meaning_of_verdict(self.report(
-            verdict=verdict_of(told, 1))))
+            first=fault_of(told))))
         self.assertEqual(meaning_of_verdict(self.report()), "")
 
     def test_scope(self) -> None:
@@ -200,8 +198,7 @@ class Reports(Case):
                 (None, "refused 62 Order pes 7", "The frame of PES packet 7 is not after that"),
                 (None, "refused 31 Start pes 7", "PES packet 7 can't be read, and nothing after")):
             seen: Any = SimpleNamespace(halt=halt, last_frame=9, span_of=lambda _: None)
-            told = verdict_of(line, 1)
-            assert told
+            told = fault_of(line)
             self.must(f"{halt} {line}", pes_words(told, None, report, seen).startswith(
                 f"<p>{words}"), pes_words(told, None, report, seen))
 
@@ -226,7 +223,7 @@ class Reports(Case):
                 (True, 60, "refused 69 RowChanged frame 00:00:02:10"), (True, 40, ""),
                 (True, None, "")):
             report: Any = SimpleNamespace(is_beside=is_beside, faults=made,
-                                          verdict=SimpleNamespace(line="the verdict"))
+                                          line="the verdict")
             self.must(f"{is_beside} {broken}", Report.flag(report, broken) == line)
 
     def test_units_of_a_program(self) -> None:

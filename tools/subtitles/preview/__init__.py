@@ -9,7 +9,7 @@ fits       how far the sending is that would fit
 counts     how many faults there are of each number, and what it means
 drawing    a page as Teletext level 1 draws it, as SVG
 figures    the pictures at a frame
-timeline   strips with subtitles, sendings and faults
+strips     strips of time with subtitles, sendings and faults
 subtitles  the pictures of each subtitle, as many as the report has room for
 places     a place in a transmission: its PES packet, its Teletext packets
 fault_list the list of faults, and the pictures of the first of them

@@ -7,11 +7,10 @@ from typing import TYPE_CHECKING, Iterable
 from ..core.manual import number_link, shown
 from ..core.stl import GSI, LAST, TTI, USER_DATA
 from ..core.times import frame_of
-from ..core.told import STL_FAULTS
+from ..core.told import STL_FAULTS, Told, told_of
 from ..core.words import counted
 from ..qc.subtitle_file import COMMENT, NamedSubtitle, SubtitleFile
 from .counts import heads
-from .program import Verdict, verdict_of
 
 if TYPE_CHECKING:
     from .report import Report
@@ -34,7 +33,7 @@ DRAWN_BESIDE = "It is drawn as undecided: what was sent from the subtitle before
 class Blocks:
     """The blocks of a file, and the subtitles that they are of."""
 
-    def __init__(self, file: SubtitleFile, told: Iterable[Verdict]) -> None:
+    def __init__(self, file: SubtitleFile, told: Iterable[Told]) -> None:
         self.file = file
         self.count = len(self.file.firsts) - 1
         self.passed_over = {one.block for one in told if one.number in OF_FIRST_BLOCK}
@@ -70,7 +69,7 @@ class Blocks:
                 return self.subtitle(number)
         return None
 
-    def field(self, fault: Verdict) -> str:
+    def field(self, fault: Told) -> str:
         """The field that a fault is about, with its bytes marked; nothing for another fault."""
         if fault.number not in FIELDS or fault.block is None:
             return ""
@@ -82,23 +81,23 @@ class Blocks:
 
 def block_place(report: Report, blocks: Blocks) -> str:
     """The broken place, which `check` names."""
-    verdict = report.verdict
-    assert verdict.block is not None
-    begin = GSI + TTI * (verdict.block - 1)
-    named = f"TTI block {verdict.block} begins at byte {begin} of the subtitle file." \
-        if verdict.block else "The GSI block, block 0, is the first 1024 bytes of the file."
+    first = report.first
+    assert first and first.block is not None
+    begin = GSI + TTI * (first.block - 1)
+    named = f"TTI block {first.block} begins at byte {begin} of the subtitle file." \
+        if first.block else "The GSI block, block 0, is the first 1024 bytes of the file."
     why = DRAWN_BESIDE if report.is_beside else \
         "No page is drawn: what is due is known from a whole subtitle file alone."
     parts = [f'<section id="place"><h2>The broken place</h2><p>{named} {why}</p>']
-    subtitle = blocks.subtitle(verdict.block)
+    subtitle = blocks.subtitle(first.block)
     if subtitle:
-        parts.append(refused_subtitle(blocks, subtitle, verdict))
-    elif blocks.field(verdict):
-        parts.append(f'<p class="text">{blocks.field(verdict)}</p>')
+        parts.append(refused_subtitle(blocks, subtitle, first))
+    elif blocks.field(first):
+        parts.append(f'<p class="text">{blocks.field(first)}</p>')
     return "".join(parts) + "</section>"
 
 
-def refused_subtitle(blocks: Blocks, subtitle: NamedSubtitle, fault: Verdict) -> str:
+def refused_subtitle(blocks: Blocks, subtitle: NamedSubtitle, fault: Told) -> str:
     """The first refused subtitle, in tables."""
     assert fault.block is not None
     text = blocks.text(fault.block)
@@ -124,7 +123,7 @@ def mark(text: str) -> str:
     return f"<mark>{text}</mark>"
 
 
-def times_of(subtitle: NamedSubtitle, faults: list[Verdict]) -> tuple[str, str]:
+def times_of(subtitle: NamedSubtitle, faults: list[Told]) -> tuple[str, str]:
     """TCI and TCO of a subtitle, marked where a fault is about them."""
     numbers = {one.number for one in faults}
     is_begin, is_end = (20 in numbers and frame_of(time) is None or 21 in numbers
@@ -138,8 +137,8 @@ def refused_blocks(report: Report, blocks: Blocks) -> str:
     """All that is told of the subtitle file, subtitle by subtitle."""
     faults = report.faults
     items = []
-    told = map(lambda line: verdict_of(line), faults.of_blocks)
-    for index, (block, several) in enumerate(itertools.groupby(told, lambda one: one.block), 1):
+    by_block = itertools.groupby(faults.of_blocks, lambda one: one.block)
+    for index, (block, several) in enumerate(by_block, 1):
         items.append(refused_item(blocks, index, block, list(several)))
     count = sum(count for number, count in faults.counts.items() if number in STL_FAULTS)
     more = count - len(faults.of_blocks)
@@ -152,14 +151,14 @@ def refused_blocks(report: Report, blocks: Blocks) -> str:
 
 def end_of_reading(report: Report, blocks: Blocks) -> str:
     """Where reading ended."""
-    last = verdict_of(report.part.answer.last_told)
-    if last.number not in ENDS:
+    last = told_of(report.part.answer.last_told)
+    if last is None or last.number not in ENDS:
         return f"The file was read to its end, {counted(blocks.count, 'block')}."
     return (f"<b>Reading ended at block {last.block}</b>, with {last.number} {last.name}: nothing "
             "is known of what comes after it.")
 
 
-def refused_item(blocks: Blocks, index: int, block: int | None, faults: list[Verdict]) -> str:
+def refused_item(blocks: Blocks, index: int, block: int | None, faults: list[Told]) -> str:
     """A block with what is told of it, and its subtitle with its text."""
     lines = [f"<code>{number_link(one.line)}</code> {blocks.field(one)}" for one in faults]
     subtitle = blocks.subtitle(block)
@@ -173,7 +172,7 @@ def refused_item(blocks: Blocks, index: int, block: int | None, faults: list[Ver
     return f'<li id="e{index}">{"<br/>".join([words, *lines, text])}</li>'
 
 
-def marked_text(text: bytes, faults: list[Verdict]) -> str:
+def marked_text(text: bytes, faults: list[Told]) -> str:
     """The lines of a text with the byte or the line marked that a fault names."""
     marked = {(one.number in BYTE_FAULTS, one.at) for one in faults if one.number in ROW_FAULTS}
     lines, begin = [], 0
@@ -207,7 +206,7 @@ def listed(lines: list[str]) -> str:
     return f'<pre class="lines">{shown(chr(10).join(lines))}</pre>'
 
 
-def two_times(blocks: Blocks, subtitle: NamedSubtitle, fault: Verdict) -> str:
+def two_times(blocks: Blocks, subtitle: NamedSubtitle, fault: Told) -> str:
     """The times of a subtitle and the one before; those that the refusal is about are marked."""
     rows = [(subtitle.number, *times_of(subtitle, [fault]))]
     before = blocks.before(fault.block or 0)

@@ -5,8 +5,8 @@ from typing import TYPE_CHECKING, Iterable
 
 from ..core.manual import marked_up, shown
 from ..core.times import time_of
+from ..core.told import Told
 from ..qc.midnight import midnight_words
-from .program import Verdict, verdict_of
 
 if TYPE_CHECKING:
     from .report import Report
@@ -26,7 +26,7 @@ def row_of(head: str, columns: Iterable[str], cells: Iterable[str], name: str = 
     return f'<tr{name}><th scope="row">{head}</th>{named}</tr>'
 
 
-def place_words(fault: Verdict) -> str:
+def place_words(fault: Told) -> str:
     """The place of a fault: its time, or what it names; the name of the fault where it has none."""
     if fault.frame is not None:
         return time_of(fault.frame)
@@ -44,9 +44,9 @@ def means_and_do(report: Report, number: int) -> tuple[str, str] | None:
 
 def meaning_of_verdict(report: Report) -> str:
     """What the number of the verdict means; the table leads here."""
-    number = report.verdict.number
-    if number is None:
+    if report.first is None:
         return ""
+    number = report.first.number
     words = means_and_do(report, number)
     if not words:
         return f'<p id="n{number}">docs/manual/, which says what it means, is not beside ' \
@@ -62,14 +62,14 @@ def numbers_table(report: Report) -> str:
         return ""
     rows = []
     for number, count in sorted(faults.counts.items()):
-        first = verdict_of(faults.firsts[number].line)
+        first = faults.firsts[number]
         cells = [f"{count:,}", report.first_link(first)]
-        if number == report.verdict.number:
+        if report.first and number == report.first.number:
             name, words = "", None
             cells += [f'<a href="#n{number}">at the verdict</a>'] * 2
         else:
             name, words = f' id="n{number}"', means_and_do(report, number)
             cells += words or ("", "")
-        rows.append(row_of(f"{number} {shown(first.name or '')}", COLUMNS, cells, name))
+        rows.append(row_of(f"{number} {shown(first.name)}", COLUMNS, cells, name))
     return (f'<table class="numbers"><thead><tr>{heads("Number", *COLUMNS)}</tr></thead>'
             f"<tbody>{''.join(rows)}</tbody></table>")

@@ -5,7 +5,7 @@ from typing import TYPE_CHECKING
 
 from ..core.manual import number_link
 from ..core.times import frame_of, time_of
-from ..core.told import CONTENT, UNDECIDED, WITH_CAUSE
+from ..core.told import CONTENT, UNDECIDED, WITH_CAUSE, Told
 from ..reading.receiver import national_option
 from .counts import place_words
 from .drawing import text_of_code
@@ -13,7 +13,6 @@ from .faults import Entry
 from .figures import NOT_READ
 from .fits import frames_words
 from .places import around, between_words, pes_words, units_table
-from .program import Verdict
 from .seen import Seen
 
 if TYPE_CHECKING:
@@ -47,7 +46,7 @@ class FaultList:
             return f'<a href="#s{one.index}">{one.name}</a>'
         return one.name
 
-    def cell_words(self, fault: Verdict) -> str:
+    def cell_words(self, fault: Told) -> str:
         """What is due and what is held in the cell that a fault names."""
         assert fault.frame is not None and fault.row is not None and fault.column is not None
         state = self.held.state_at(fault.frame)

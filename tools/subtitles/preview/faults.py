@@ -1,15 +1,13 @@
 """The faults of a report: what was told, as entries of a list."""
 from __future__ import annotations
 
-import functools
 from typing import Iterable
 
 from ..core.programme import Programme
 from ..core.spans import Span, Spans, joined
-from ..core.told import ENDS_READING, UNDECIDED
+from ..core.told import ENDS_READING, UNDECIDED, Told, told_of
 from ..qc.checking import Answer
 from ..qc.counted import End
-from .program import Verdict, verdict_of
 
 MOST_ENTRIES = 1000  # that are listed; the others are counted
 MOST_OF_BLOCKS = 20_000  # faults of a subtitle file that are listed
@@ -18,32 +16,23 @@ MOST_OF_BLOCKS = 20_000  # faults of a subtitle file that are listed
 class Entry:
     """Faults of one number within one subtitle that are told one after another.
 
-    `first` is the line of the first one as a verdict. `end` is where the last one ended, where it
-    stood for some time.
+    `end` is where the last one ended, where it stood for some time.
     """
 
-    def __init__(self, index: int, line: str) -> None:
-        self.index, self.first_line, self.last_line = index, line, line
+    def __init__(self, index: int, told: Told) -> None:
+        self.index, self.first, self.last = index, told, told
         self.count, self.end = 1, End(None, None)
 
-    @functools.cached_property
-    def first(self) -> Verdict:
-        return verdict_of(self.first_line)
-
-    @property
-    def last(self) -> Verdict:
-        return verdict_of(self.last_line)
-
-    def add(self, line: str) -> None:
+    def add(self, told: Told) -> None:
         """One more of them."""
         self.count += 1
-        self.last_line = line
+        self.last = told
 
 
 class Faults:
     """What `check --all` told, as entries: the first ones; `entry_count` is how many there are.
 
-    The lines that name a block are `of_blocks`, an entry for each block. `first_entries` is by
+    Those that name a block are `of_blocks`, an entry for each block. `first_entries` is by
     number the entry that has the first fault of it. `spans` are the frames at which something is
     told, or stands; at those that are `undecided` it is not known what is due.
     """
@@ -56,7 +45,7 @@ class Faults:
                             if number != UNDECIDED)
         self.undecided = answer.marks.get(UNDECIDED, Spans())
         self.entries: list[Entry] = []
-        self.of_blocks: list[str] = []
+        self.of_blocks: list[Told] = []
         self.entry_count = 0
         self.first_entries: dict[int, int] = {}
         last: tuple[object, ...] = ()  # what the last entry has in common
@@ -65,22 +54,22 @@ class Faults:
             of_entry = (told.block,) if told.block is not None else (
                 told.number, None if told.frame is None else programme.due(told.frame))
             if told.block is not None and len(self.of_blocks) < MOST_OF_BLOCKS:
-                self.of_blocks.append(told.line)
+                self.of_blocks.append(told)
             if entry is None or of_entry != last or index in answer.anew and not told.block:
                 self.entry_count += 1
-                entry = Entry(self.entry_count, told.line)
+                entry = Entry(self.entry_count, told)
                 if told.block is None and self.entry_count <= MOST_ENTRIES:
                     self.entries.append(entry)
             elif told.block is None:
-                entry.add(told.line)
+                entry.add(told)
             if self.entry_count <= MOST_ENTRIES or told.block is not None:
                 self.first_entries.setdefault(told.number, self.entry_count)
             entry.end, last = end, of_entry
 
-    def ending(self) -> Verdict | None:
+    def ending(self) -> Told | None:
         """The last fault, where it is that the recording can't be read on."""
-        last = verdict_of(self.answer.last_told)
-        return last if last.number in ENDS_READING else None
+        last = told_of(self.answer.last_told)
+        return last if last and last.number in ENDS_READING else None
 
     def mark(self, spans: Iterable[Span]) -> None:
         """Marks the frames of faults whose lines name a PES packet."""

@@ -2,8 +2,8 @@
 from __future__ import annotations
 
 from ..core.times import time_of
+from ..reading.held import Held
 from ..reading.receiver import BLANK_PAGE, Rows
-from .seen import Changes
 
 
 def frames_words(count: int) -> str:
@@ -13,10 +13,11 @@ def frames_words(count: int) -> str:
 class Fits:
     """Of some frames, each with the page that is due and the one that is held, what would fit.
 
-    `due` and `held` are the changes of pages in the program's own schedule, and in the PES file.
+    `due` and `held` are the pages with their marks in the program's own schedule, and in the PES
+    file.
     """
 
-    def __init__(self, due: Changes, held: Changes, pages: dict[int, tuple[Rows, Rows]]) -> None:
+    def __init__(self, due: Held, held: Held, pages: dict[int, tuple[Rows, Rows]]) -> None:
         self.due, self.held, self.pages = due, held, pages
         self.when_held = {one: held.spans_of(one) for one, _ in pages.values()}
         self.when_due = {other: due.spans_of(other) for _, other in pages.values()}

@@ -12,7 +12,6 @@ from ..qc.hints import HINTED
 from ..qc.status import ACCEPTED, LOST, REFUSED, WAIVED, WARNED
 from .counts import heads, meaning_of_verdict, numbers_table, row_of
 from .places import place_of_pts
-from .program import verdict_of
 from .scope import listed
 
 if TYPE_CHECKING:
@@ -128,14 +127,13 @@ def report_page(report: Report) -> str:
     if report.looks:
         parts += [keys_of(report.asked.within), trusted_words(report)]
     parts.append(foot(report))
-    return document(report.verdict.line, title, parts)
+    return document(report.line, title, parts)
 
 
 def refused_file_parts(report: Report) -> list[str]:
     """What is said of a subtitle file that is refused."""
     from . import blocks  # a subtitle file that is read needs nothing of it
-    told = (verdict_of(line) for line in report.faults.of_blocks)
-    known = blocks.Blocks(report.part.subtitle_file(), told)
+    known = blocks.Blocks(report.part.subtitle_file(), report.faults.of_blocks)
     return [blocks.block_place(report, known), faults_head(report),
             blocks.refused_blocks(report, known), blocks.printed(report)]
 
@@ -143,25 +141,24 @@ def refused_file_parts(report: Report) -> list[str]:
 def beside_parts(report: Report) -> list[str]:
     """The subtitles that are refused, beside which the others are judged."""
     from . import blocks
-    told = (verdict_of(line) for line in report.faults.of_blocks)
-    known = blocks.Blocks(report.part.subtitle_file(), told)
+    known = blocks.Blocks(report.part.subtitle_file(), report.faults.of_blocks)
     return [blocks.block_place(report, known), '<h2 id="refused">Refused subtitles</h2>',
             blocks.refused_blocks(report, known)]
 
 
 def transmission_parts(report: Report, looks: Looks) -> list[str]:
-    """The faults of a transmission, its timeline and its subtitles."""
+    """The faults of a transmission, its strips and its subtitles."""
     place = looks.fault_list.place()
     parts = [*(beside_parts(report) if report.is_beside else [place]),
-             f'<h2 id="timeline">Timeline</h2><p>A strip is {looks.timeline.called}.</p>'
-             f"{looks.timeline.overview()}"]
+             f'<h2 id="timeline">Timeline</h2><p>A strip is {looks.strips.called}.</p>'
+             f"{looks.strips.overview()}"]
     if report.reasons:
         parts.append(report.reasons.section())
     if report.faults.count:
         parts += [faults_head(report), looks.fault_list.listed(), *[place] * report.is_beside,
                   looks.fault_list.others()]
     parts.append(f'<h2 id="subtitles">Subtitles</h2>{subtitles_words(report, looks)}'
-                 f"{looks.entries.all(looks.timeline)}")
+                 f"{looks.entries.all(looks.strips)}")
     return parts
 
 
@@ -179,9 +176,8 @@ def faults_words(report: Report) -> str:
 
 def verdict_box(report: Report) -> str:
     """The verdict word for word, with what the manual says of its number."""
-    verdict, faults = report.verdict, report.faults
-    parts = []
-    if verdict.number is not None:
+    faults, parts = report.faults, []
+    if report.first:
         if faults.count > 1:
             parts.append(f'<p class="count">and {faults.count - 1:,} more '
                          f'fault{"s" * (faults.count != 2)}: <a href="#faults">all '
@@ -197,20 +193,20 @@ def verdict_box(report: Report) -> str:
                          f"{promised(report.asked)}.</p>")
     parts += [lost_places(report.lost)] if report.lost else []
     judged = report.subject.judged
-    word = REFUSED if verdict.status else LOST if report.lost else ACCEPTED
+    word = REFUSED if report.is_refused else LOST if report.lost else ACCEPTED
     kind, shape = FRAMES.get(judged.word if judged.word in (WAIVED, LOST, WARNED) else word,
                              REFUSAL)
     notes = [*report.notes, *([judged.fitted] if judged.fitted else [])]
     parts += [f'<p class="note">{shown(words)}</p>' for words in notes]
     said = f'<p class="sentence">{shown(judged.sentence)}</p>'
     return (f'<div class="verdict {kind}">{shape}<div>{said}<p class="line" id="verdict">'
-            f'{shown(verdict.line)}</p>{"".join(parts)}</div></div>')
+            f'{shown(report.line)}</p>{"".join(parts)}</div></div>')
 
 
 def advice(report: Report) -> str:
     """What the manual says of the verdict's number; where the sentence says what to know of this
     case it is unfolded."""
-    words, number = meaning_of_verdict(report), report.verdict.number
+    words, number = meaning_of_verdict(report), report.first and report.first.number
     if not report.reasons and number not in HINTED:
         return words
     return (f"<details><summary>what the manual says of {number}</summary>{words}"

@@ -7,9 +7,10 @@ from typing import TYPE_CHECKING
 from ..core.manual import shown
 from ..core.teletext import CODE_WORDS, NUMBER
 from ..core.times import FRAMES_OF_A_DAY, TICKS, frame_at, pts_of, ticks_between, time_of, wrapped
+from ..core.told import Told
 from ..reading.receiver import HIT, STORED
 from .fits import frames_words
-from .program import Program, Verdict
+from .program import Program
 from .seen import Seen
 
 if TYPE_CHECKING:
@@ -34,7 +35,7 @@ def place_of_pts(pts: int, origin: int, within: int) -> str:
     return time if ticks % TICKS == 0 else f"none: {time} is {ticks % TICKS} ticks before"
 
 
-def pes_words(fault: Verdict, until: int | None, report: Report, seen: Seen) -> str:
+def pes_words(fault: Told, until: int | None, report: Report, seen: Seen) -> str:
     """What is known of the PES packet that a fault names, up to another one where it is given."""
     number, packets = fault.pes, report.part.packets
     assert number is not None
@@ -55,7 +56,7 @@ def pes_words(fault: Verdict, until: int | None, report: Report, seen: Seen) -> 
     return f"<p>PES packet {number} can't be read, and nothing after it.</p>"
 
 
-def passed_words(fault: Verdict, them: tuple[int, ...], report: Report) -> str:
+def passed_words(fault: Told, them: tuple[int, ...], report: Report) -> str:
     """What is known of PES packets that were passed over, the first and the last of some in a row.
     """
     which = " to ".join(map(str, them))

@@ -1,41 +1,15 @@
-"""A line of the program as a verdict with its place, and what more a report asks of the program."""
+"""What more a report asks of the program."""
 from __future__ import annotations
 
 import os
 import subprocess
 from typing import NamedTuple, Sequence
 
-from ..core.told import ENDED, told_of
 from ..core.words import Stop, stream_words
 
 
 class NoReport(Stop):
     """No report can be made; its text is the line for standard error."""
-
-
-class Verdict(NamedTuple):
-    """A line of a command with the status that it ends with, and the place that it names."""
-
-    line: str
-    status: int
-    number: int | None = None
-    name: str | None = None
-    block: int | None = None
-    at: int | None = None
-    pes: int | None = None
-    frame: int | None = None
-    packet: int | None = None
-    row: int | None = None
-    column: int | None = None
-
-
-def verdict_of(line: str, status: int = 1) -> Verdict:
-    """The last line of a command, with its place where it names one."""
-    told = told_of(line)
-    if told is None or told.word == ENDED:
-        return Verdict(line, status)
-    return Verdict(line, status, told.number, told.name, told.block, told.at, told.pes, told.frame,
-                   told.packet, told.row, told.column)
 
 
 class Unit(NamedTuple):
@@ -80,7 +54,7 @@ class Program:
         """The Teletext packets of some PES packets, which follow one another."""
         if self.recording is None:
             return []
-        if self.stream is not None:  # more than one place is looked at: not each time from its begin
+        if self.stream is not None:  # of several places not each is looked for from its beginning
             path = os.path.join(self.folder, "report.pes")
             self.answered("extract", *stream_words(*self.stream), "--", self.recording, path)
             self.recording, self.stream = path, None

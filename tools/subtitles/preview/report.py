@@ -4,32 +4,33 @@ from __future__ import annotations
 import os
 from typing import NamedTuple, Sequence
 
-from ..core.national import BY_WORD
 from ..core.gsi import titles_in
 from ..core.manual import meanings
+from ..core.national import BY_WORD
 from ..core.programme import Programme
 from ..core.teletext import page_name
 from ..core.times import FRAMES_OF_A_DAY, time_of
-from ..core.told import UNDECIDED
+from ..core.told import UNDECIDED, Told
 from ..core.words import counted, shown
 from ..qc.clock import START, TCP
 from ..qc.made_with import program_at
 from ..qc.sums import File
-from ..qc.verdict import Part, Verdict as Judged
+from ..qc.verdict import Part, Verdict
 from ..reading.gaps import TOLD
+from ..reading.held import with_marks
 from ..reading.receiver import Rows
-from ..reading.timeline import Timeline as HeldAlone
+from ..reading.timeline import Timeline
 from .counts import place_words
 from .fault_list import FaultList
 from .faults import Faults
 from .figures import Figures
 from .fits import Fits
-from .program import NoReport, Program, Verdict, verdict_of
+from .program import NoReport, Program
 from .reasons import Reasons
 from .scope import Scope
-from .seen import Changes, Seen
+from .seen import Seen
+from .strips import Strips
 from .subtitles import Entries, looked_at
-from .timeline import Timeline
 
 EMPTY, ORDER = 60, 62
 ALL_DAY = 0, FRAMES_OF_A_DAY - 1
@@ -41,7 +42,7 @@ class Subject(NamedTuple):
     frame of which subtitles get pictures; `files` were read, each with what it is; `folder` is for
     what is needed meanwhile."""
 
-    judged: Judged
+    judged: Verdict
     part: Part
     parts: int
     program: Program
@@ -75,14 +76,15 @@ class Report:
         size = os.path.getsize(self.program.path)
         self.files = [*subject.files,
                       ("Program", File(self.program.name, size, self.made_with.sha256))]
-        self.verdict: Verdict = verdict_of(answer.line, answer.status or 0)
+        self.line, self.first, self.is_refused = answer.line, answer.first, bool(answer.status)
         # Subtitles are refused; the others are judged beside them where PES packets are.
-        self.is_beside = self.verdict.block is not None and self.part.pes is not None
-        self.is_refused_file = self.verdict.block is not None and not self.is_beside
+        is_of_file = self.first is not None and self.first.block is not None
+        self.is_beside = is_of_file and self.part.pes is not None
+        self.is_refused_file = is_of_file and not self.is_beside
         due = self.part.due()
         self.subtitles = due.subtitles
         self.programme: Programme = due
-        if self.part.pes is None and self.verdict.number == EMPTY:
+        if self.part.pes is None and self.first and self.first.number == EMPTY:
             raise NoReport(f"nothing is wrong with {self.stl}, "
                            f"{counted(len(self.subtitles), 'subtitle')}: give the PES file, which "
                            "is drawn beside it")
@@ -100,8 +102,8 @@ class Report:
                        for one, frames in zip(self.subtitles, self.part.delays)]
         held = self.part.held
         if ORDER in answer.counts and held and self.part.pes:
-            held = HeldAlone(self.part.packets, self.asked.page, self.origin, self.asked.within,
-                             self.part.pes, is_single=True)
+            held = Timeline(self.part.packets, self.asked.page, self.origin, self.asked.within,
+                            self.part.pes, is_single=True)
         self.seen: Seen | None = Seen(held, answer.passed, self.faults.ending()) if held else None
         self.looks = Looks(self, self.seen) if self.seen and not self.is_refused_file else None
 
@@ -119,19 +121,18 @@ class Report:
     def flag(self, broken: int | None) -> str:
         """The line of the first fault on the strips."""
         if not self.is_beside:
-            return self.verdict.line
+            return self.line
         return next((entry.first.line for entry in self.faults.entries
                      if entry.first.frame == broken), "")
 
-    def first_link(self, fault: Verdict) -> str:
+    def first_link(self, fault: Told) -> str:
         """The place of the first fault of a number, as a link where the list has it."""
-        assert fault.number is not None
         entry = self.faults.first_entries.get(fault.number)
         return f'<a href="#e{entry}">{place_words(fault)}</a>' if entry else place_words(fault)
 
 
 class Looks:
-    """What there is to see of a transmission: its pictures, its faults, its timeline."""
+    """What there is to see of a transmission: its pictures, its faults, its strips."""
 
     def __init__(self, report: Report, seen: Seen) -> None:
         asked, faults = report.asked, report.faults
@@ -140,10 +141,11 @@ class Looks:
         header = bytes([0, 0, 0, 8, 0, 8, 1, option << 1])  # C4, C6 and C7
         due = report.part.due().timeline
         self.figures: Figures = Figures(due, seen, header, report.page, asked.is_complete)
-        self.fits: Fits = Fits(Changes(due), Changes(seen.held),
+        self.fits: Fits = Fits(with_marks(due.states if due else ()), with_marks(seen.held.states),
                                pages_of_content(faults, seen, self.figures))
-        pes = report.verdict.pes
-        broken = report.verdict.frame if pes is None else seen.last_before(pes)
+        pes = report.first.pes if report.first else None
+        broken = seen.last_before(pes) if pes is not None else \
+            report.first.frame if report.first else None
         if report.is_beside:
             broken = next((frame for entry in faults.entries if entry.first.number != UNDECIDED
                            and (frame := entry.first.frame) is not None), None)
@@ -152,8 +154,8 @@ class Looks:
         if report.reasons:
             report.reasons.drawn = self.entries.drawn
         self.fault_list = FaultList(report, self, seen)
-        self.timeline = Timeline(report.subtitles, seen.sendings, self.entries, faults, broken,
-                                 report.flag(broken), end_of_knowledge(seen, report))
+        self.strips = Strips(report.subtitles, seen.sendings, self.entries, faults, broken,
+                             report.flag(broken), end_of_knowledge(seen, report))
 
 
 def mark_unheard(faults: Faults, seen: Seen) -> None:

@@ -9,11 +9,11 @@ from typing import Iterator, NamedTuple
 
 from ..core.spans import Span, Spans
 from ..core.teletext import page_name, page_of
-from ..core.times import FRAMES_OF_A_DAY, NO_FRAME
+from ..core.times import NO_FRAME
+from ..core.told import Told
 from ..reading.packets import HEADER
-from ..reading.receiver import Rows, State, control_words
+from ..reading.receiver import State, control_words
 from ..reading.timeline import Timeline
-from .program import Verdict
 
 
 class PageCount(NamedTuple):
@@ -30,7 +30,7 @@ class Seen:
     """A timeline of what is judged, with the PES packets that `check` passed over and the fault
     that ended reading, where one did."""
 
-    def __init__(self, held: Timeline, passed: Spans, ending: Verdict | None) -> None:
+    def __init__(self, held: Timeline, passed: Spans, ending: Told | None) -> None:
         self.held, self.passed, self.ending = held, passed, ending
         self.sendings, self.falls = held.sendings, held.falls
         self.page, self.within, self.halt = held.page, held.within, held.halt
@@ -109,30 +109,3 @@ class Seen:
             if page is not None and name != page_name(*self.page):
                 found[page] = PageCount(count)
         return found
-
-
-class Changes:
-    """The frames at whose ends another page is held than before, with its marks."""
-
-    def __init__(self, held: Timeline | None) -> None:
-        self.frames: list[int] = []
-        self.pages: list[Rows] = []
-        for frame, _, state in held.states if held else ():
-            if self.frames and self.frames[-1] == frame:
-                self.frames.pop()
-                self.pages.pop()
-            if not self.pages or self.pages[-1] != state.rows:
-                self.frames.append(frame)
-                self.pages.append(state.rows)
-        self.spans: dict[Rows, list[Span]] = {}
-        for first, end, page in zip(self.frames, [*self.frames[1:], FRAMES_OF_A_DAY], self.pages):
-            self.spans.setdefault(page, []).append((first, end - 1))
-
-    def spans_of(self, page: Rows) -> list[Span]:
-        """When a page is held."""
-        return list(self.spans.get(page, ()))
-
-    def is_change(self, frame: int) -> bool:
-        """Whether another page comes to be held at a frame."""
-        at = bisect.bisect_left(self.frames, frame)
-        return at < len(self.frames) and self.frames[at] == frame

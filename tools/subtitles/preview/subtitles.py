@@ -12,7 +12,7 @@ from ..core.words import counted
 from .faults import Entry, Faults
 from .figures import DIFFERENT, KINDS, NOTHING, SAME, Figures
 from .seen import Seen
-from .timeline import MINUTE, Timeline
+from .strips import MINUTE, Strips
 
 ROOM = 10_000_000  # bytes of pictures in a report
 NEAR, MOST_LARGE = 25, 500  # subtitles by the broken place, and with other cells, that come first
@@ -129,15 +129,15 @@ class Entries:
                 f"{subtitle.row}, justification {subtitle.justify}; {words}"
                 f"{self.faults_in(subtitle)}</p>{self.figures.at(looked.frame)}</section>")
 
-    def all(self, timeline: Timeline) -> str:
-        """The entries in order, by minute where the timeline has strips of minutes."""
-        if not timeline.has_minutes():
+    def all(self, strips: Strips) -> str:
+        """The entries in order, by minute where there are strips of minutes."""
+        if not strips.has_minutes():
             return self.listed(self.subtitles)
         parts = []
         groups = itertools.groupby(self.subtitles, lambda one: one.begin // MINUTE)
         members = {minute: list(group) for minute, group in groups}
-        for minute in sorted(timeline.used(MINUTE)):
-            parts.append(f'<section class="minute" id="m{minute}">{timeline.minute(minute)}'
+        for minute in sorted(strips.used(MINUTE)):
+            parts.append(f'<section class="minute" id="m{minute}">{strips.minute(minute)}'
                          f"{self.listed(members.get(minute, []))}</section>")
         return "".join(parts)
 

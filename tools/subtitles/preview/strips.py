@@ -53,8 +53,8 @@ def runs_of(frames: Iterable[int]) -> Iterator[Span]:
         yield begin, last
 
 
-class Timeline:
-    """What is drawn on strips: subtitles in order, frames with a sending, and faults.
+class Strips:
+    """What is drawn on them: subtitles in order, frames with a sending, and faults.
 
     `entries` are the subtitles' entries, `faults` what `check --all` told, `broken` the frame of
     the first of them and `flag` its line. Nothing is known from the frame `end` on, where it is
@@ -113,8 +113,8 @@ class Timeline:
 class Strip:
     """One strip: its first frame, and its length with the distances of its ticks and words."""
 
-    def __init__(self, timeline: Timeline, begin: int, unit: tuple[int, int, int]) -> None:
-        self.timeline, self.begin = timeline, begin
+    def __init__(self, strips: Strips, begin: int, unit: tuple[int, int, int]) -> None:
+        self.strips, self.begin = strips, begin
         self.unit, self.step, self.words = unit
         self.end = begin + self.unit
 
@@ -124,7 +124,7 @@ class Strip:
 
     def drawn(self, minutes: Collection[int]) -> str:
         """The strip; `minutes` are those that have strips of their own to lead to."""
-        line = self.timeline
+        line = self.strips
         words: list[str] = []
         shapes = [f'<rect class="lane" y="0" width="{WIDTH}" height="{LANE}"/>']
         shapes += self.undecided()
@@ -152,7 +152,7 @@ class Strip:
 
     def bars(self, words: list[str]) -> Iterator[str]:
         """The subtitles: bars that are links, and a path of narrow ones and others."""
-        line, entries = self.timeline, self.timeline.entries
+        line, entries = self.strips, self.strips.entries
         narrow: dict[Look, list[list[float]]] = {GOOD: [], ODD: [], UNKNOWN: []}
         place = bisect.bisect_right(line.ends, self.begin)
         while place < len(line.subtitles) and line.firsts[place] < self.end:
@@ -176,7 +176,7 @@ class Strip:
             words: list[str]) -> str:
         """A bar, and its number where it has room and is not hatched."""
         kind, top, height = look
-        name, end = f"subtitle {subtitle.index}", self.timeline.end
+        name, end = f"subtitle {subtitle.index}", self.strips.end
         has_room = right - left > WORDS_WIDTH * len(str(subtitle.index)) + 4
         if has_room and (end is None or subtitle.end <= end):
             words.append(f'<span class="in {kind}" style="left:{(left + right) / 20:.4g}%">'
@@ -184,13 +184,13 @@ class Strip:
         shape = (f'<rect class="{kind}" x="{left}" y="{top}" width="{right - left:.1f}" '
                  f'height="{height}"><title>{name}: {time_of(subtitle.begin)} to '
                  f"{time_of(subtitle.end)}</title></rect>")
-        if subtitle.index in self.timeline.entries.drawn:
+        if subtitle.index in self.strips.entries.drawn:
             return f'<a href="#s{subtitle.index}" aria-label="{name}">{shape}</a>'
         return shape
 
     def hatching(self, words: list[str]) -> Iterator[str]:
         """Lines over the time of which a receiver hears nothing."""
-        end = self.timeline.end
+        end = self.strips.end
         if end is None or end >= self.end:
             return
         left = self.x(end)
@@ -207,7 +207,7 @@ class Strip:
     def undecided(self) -> Iterator[str]:
         """The frames at which it is not known what is due."""
         _, top, height = UNKNOWN
-        for begin, end in self.timeline.undecided.between(self.begin, self.end):
+        for begin, end in self.strips.undecided.between(self.begin, self.end):
             left = self.x(begin)
             width = max(self.x(end + 1) - left, 2)
             yield (f'<rect class="unknown" x="{left:g}" y="{top}" width="{width:.4g}" '
@@ -216,9 +216,9 @@ class Strip:
 
     def sendings(self) -> Iterator[str]:
         """The sendings, those that are close to each other as one block."""
-        close = self.timeline.close
+        close = self.strips.close
         runs: list[list[float]] = []
-        for begin, end in self.timeline.sendings.between(self.begin, self.end):
+        for begin, end in self.strips.sendings.between(self.begin, self.end):
             left = self.x(begin)
             right = self.x(min(end, self.end - 1)) if begin < end else left
             if begin < end and self.x(begin + 1) - left >= close:
@@ -248,7 +248,7 @@ class Strip:
 
     def trusted(self) -> Iterator[str]:
         """The frames that may be trusted: a line below the axis, thinner than a fault's mark."""
-        for begin, end in self.timeline.trusted.between(self.begin, self.end):
+        for begin, end in self.strips.trusted.between(self.begin, self.end):
             left = self.x(begin)
             width = max(self.x(end + 1) - left, 2)
             yield (f'<rect class="trusted" x="{left:g}" y="{TRUSTED}" width="{width:.4g}" '
@@ -259,7 +259,7 @@ class Strip:
         """What is told: a mark for each span that has room for one, which leads to the list."""
         near = CLOSE * self.unit / WIDTH
         runs: list[list[int]] = []
-        for begin, end in self.timeline.spans.between(self.begin, self.end):
+        for begin, end in self.strips.spans.between(self.begin, self.end):
             if runs and begin - runs[-1][1] <= near:
                 runs[-1][1] = end
             else:
@@ -269,6 +269,6 @@ class Strip:
             width = max(self.x(end + 1) - left, 2)
             mark = (f'<rect class="bad" x="{left:g}" y="{FAULTS}" width="{width:.4g}" '
                     f'height="{HEIGHT - FAULTS}"/>')
-            entry = self.timeline.entries.entry_in(max(begin, self.begin), end + 1)
+            entry = self.strips.entries.entry_in(max(begin, self.begin), end + 1)
             yield f'<a href="#e{entry.index}" aria-label="fault {entry.index}">{mark}</a>' \
                 if entry else mark
