@@ -1,34 +1,39 @@
--- What is told after the last frame, by what is kept: `closing_none`, `closing_some`,
--- `tells_closing`; and with pieces that are passed over: `closing_unsent`, `closing_sent`.
+-- What is told after the last piece, by what is kept: `closing_are`, `relays_alike`, `closes_are`,
+-- `tells_closing`, `closing_parts`.
 use Rattle.std.proofs.lemmas.Bool.Decides.{nat_tests}
-use Rattle.std.proofs.Common.{◌≡◌, ℕ, zero, suc, ◌<◌, ◌≤◌, Bool, true, false, ◌&&◌, ◌||◌, not, cond}
-use Rattle.std.proofs.Common.{is_some, List, [], ◌∷◌, ◌++◌, length, Option, Some, None, refl, sym}
-use Rattle.std.proofs.Common.{ap, ◌∙◌, arith, flat_map, ◌==◌}
+use Rattle.std.proofs.Common.{◌≡◌, ℕ, zero, suc, ◌+◌, ◌<◌, Bool, true, false, ◌&&◌, ◌||◌, not}
+use Rattle.std.proofs.Common.{cond, is_some, List, [], ◌∷◌, ◌++◌, length, Option, Some, None, refl}
+use Rattle.std.proofs.Common.{sym, subst, ap, ap₂, ◌∙◌, arith, flat_map, ◌==◌, map, Result}
 use Rattle.std.specs.List.{list_any}
 use Rattle.stl_rows.specs.Programme.{last_out}
 use Rattle.sub_checker.specs.Checker.{CheckerValue, is_overdue_at, is_pending_now}
 use Rattle.sub_checker.specs.Following.{Follows}
-use Rattle.sub_checker.specs.PieceTelling.{ending_at}
-use Rattle.sub_checker.specs.Steps.{ending_fault, fault_events, last_fault, last_fault_after}
-use Rattle.sub_rules.specs.Events.{broken_at, closing_events, end_events, end_rules}
-use Rattle.sub_rules.specs.Events.{is_late, is_overdue, is_pending, is_short, nothing_stands}
-use Rattle.sub_rules.specs.Events.{rest_events, rule_events, standing_at, unfinished_since}
-use Rattle.sub_rules.specs.Events.{unread_fault}
+use Rattle.sub_checker.specs.Relay.{RelaysMarks, relay_after, relayed}
+use Rattle.sub_checker.specs.Steps.{closing_now, ending_fault, fault_events, last_fault}
+use Rattle.sub_checker.specs.Steps.{last_fault_after}
+use Rattle.sub_checker.specs.Trust.{after_mark, doubted, is_order, told_by, told_with, trust_after}
+use Rattle.sub_checker.specs.declared.relaying.Relay.{Relay}
+use Rattle.sub_checker.specs.declared.trust.Trust.{Trust}
+use Rattle.sub_rules.specs.Events.{broken_at, closing_events, end_events, end_rules, endings}
+use Rattle.sub_rules.specs.Events.{is_late, is_overdue, is_pending, is_short, late_events}
+use Rattle.sub_rules.specs.Events.{nothing_stands, rest_events, rule_events, standing_at}
+use Rattle.sub_rules.specs.Events.{unfinished_since, unread_fault}
 use Rattle.sub_rules.specs.FrameRules.{Task, Unread, end_frame, frame_at}
 use Rattle.sub_rules.specs.FrameRules.Unread.{BadPacket, NoFrame}
-use Rattle.sub_rules.specs.PieceEvents.{closing_of_pieces, told_of_unread}
+use Rattle.sub_rules.specs.PieceEvents.{closing_of_pieces}
 use Rattle.sub_rules.specs.Transmission.{Transmission}
-use Rattle.sub_rules.specs.Trusted.{stands_none, tells_none}
-use Rattle.sub_rules.specs.Trusted.Mark.{Closes}
+use Rattle.sub_rules.specs.Trusted.{at_pes, stands_none, tells_none}
+use Rattle.sub_rules.specs.Trusted.Mark.{Closes, Says}
 use Rattle.sub_rules.specs.declared.end_rule.EndRule.{EndRule}
 use Rattle.sub_rules.specs.declared.event.Event.{Event}
 use Rattle.sub_rules.specs.declared.event.Event.TheVariants.{Told}
 use Rattle.sub_rules.specs.declared.fault.CheckFault.{CheckFault}
 use Rattle.sub_rules.specs.declared.fault.CheckFault.TheVariants as fault
 use Rattle.sub_rules.specs.declared.standing.Standing.{Standing}
-use Rattle.sub_rules.proofs.EndRuleLemmas.{nothing_at, rules_none}
+use Rattle.sub_rules.proofs.EndRuleLemmas.{nothing_at}
 use Rattle.sub_rules.proofs.TrustedLemmas.{tells_none-two}
 use Rattle.sub_checker.proofs.EndingLemmas.{overdue_is, since_last}
+use Rattle.sub_checker.proofs.TellingLemmas.{ok_map, told_same}
 
 -- ---- the last end
 
@@ -87,11 +92,9 @@ module _ (g : Task) (frames : Transmission) (n : ℕ) (last : List (List ℕ)) (
         ∙ ap (λ (k : ℕ). pends g.within k (frame_at frames n)) (sym all)
         ∙ ap (pends g.within (length frames)) (sym end_is)
 
-    -- What follows it.
-    rest_are : (u : Option Unread)
-        → rest_events g frames u ≡ fault_events (last_fault (ending_fault (suc n) u) c)
-    rest_are (Some u) = ap (λ (k : ℕ). Told (unread_fault k (Some u)) ∷ []) all
-    rest_are None = late (is_short g.last_out (end_frame frames) || is_pending g frames) late_is
+    -- What follows it, where nothing is left.
+    pub late_are : (pes : ℕ) → late_events g frames ≡ fault_events (last_fault pes None c)
+    late_are pes = by (is_short g.last_out (end_frame frames) || is_pending g frames) late_is
       where
         late_is : (is_short (last_out c.programme.records) c.last || is_pending_now c)
             ≡ (is_short g.last_out (end_frame frames) || is_pending g frames)
@@ -100,66 +103,145 @@ module _ (g : Task) (frames : Transmission) (n : ℕ) (last : List (List ℕ)) (
             (ap (λ (t : Task). is_short t.last_out (frame_at frames n) || is_pending g frames)
             (sym follows.known.task_is))
 
-        late : (b : Bool)
+        by : (b : Bool)
             → (is_short (last_out c.programme.records) c.last || is_pending_now c) ≡ b
             → cond b (Told (fault.Late (end_frame frames)) ∷ []) []
-            ≡ fault_events (last_fault None c)
-        late true is = rw (follows.number, is, last_is, end_is) refl
-        late false is = rw (follows.number, is) refl
+            ≡ fault_events (last_fault pes None c)
+        by true is = rw (follows.number, is, last_is, end_is) refl
+        by false is = rw (follows.number, is) refl
+
+    -- What stands broken has ended there.
+    pub endings_are :
+        endings (standing_at g frames (suc n) (end_frame frames)) (end_frame frames)
+        ≡ endings c.standing c.last
+    endings_are =
+        let stands : c.standing ≡ standing_at g frames (suc n) (frame_at frames n) =
+        follows.standing_is (omega arith)
+        ∙ ap (λ (k : ℕ). standing_at g frames (suc n) (frame_at frames k)) (omega arith) in
+        rw (stands, last_is, end_is) refl
 
 -- ---- the end of the file
 
--- What is told where there is no frame. For `close`.
-pub closing_none :
-    (g : Task) (frames : Transmission) (last : List (List ℕ)) (c : CheckerValue)
-    (given told : Option CheckFault)
-    → Follows g frames (length frames) last c
-    → given ≡ ending_fault (length frames) g.unread
-    → c.counts.frames ≡ 0
-    → told ≡ last_fault given c
-    → closing_events g frames (length frames) ≡ fault_events told
-unfolding closing_events
-closing_none g frames last c given told follows is none e =
-    let zero_is : length frames ≡ 0 = sym follows.number ∙ none in
-    rw (e, is, none, zero_is) (by g.unread)
-  where
-    by : (u : Option Unread)
-        → Told (unread_fault 0 u) ∷ []
-        ≡ fault_events (last_fault_after (ending_fault 0 u) 0
-        (is_short (last_out c.programme.records) c.last || is_pending_now c) c.last)
-    by None = refl
-    by (Some u) = refl
+-- These events are told as those are: a refusal that names a PES packet is told of the one of which
+-- is told, whichever it names.
+pub record AreAlike (es fs : List Event) : Type 0 where
+  pub none_are : tells_none es ≡ tells_none fs
+  pub told_are : (t : Trust) → told_by t (map Says es) ≡ told_by t (map Says fs)
+  pub kept_are : (t : Trust) → trust_after t (map Says es) ≡ trust_after t (map Says fs)
 
--- What is told after the last one. For `close`.
-pub closing_some :
-    (g : Task) (frames : Transmission) (last : List (List ℕ)) (c : CheckerValue)
-    (given told : Option CheckFault) (none : Standing)
-    → Follows g frames (length frames) last c
-    → given ≡ ending_fault (length frames) g.unread
-    → 0 < c.counts.frames
-    → told ≡ last_fault given c
-    → none ≡ nothing_stands
-    → closing_events g frames (length frames)
-    ≡ end_events c.standing c.last none c.last ++ fault_events told
-unfolding closing_events
-closing_some g frames last c given told none follows is some e nothing =
-    go (length frames) refl follows is
+same_alike : (es fs : List Event) → es ≡ fs → AreAlike es fs
+same_alike es fs is =
+    rw is (record { none_are = refl; told_are = λ t. refl; kept_are = λ t. refl })
+
+module _ (k n : ℕ) (u : Unread) where
+  -- Others, and then what is left, as this PES packet.
+  abbrev with_last : List Event → ℕ → List Event
+  with_last es i = es ++ Told (unread_fault i (Some u)) ∷ []
+
+  none_with : (es : List Event) → tells_none (with_last es k) ≡ tells_none (with_last es n)
+  none_with [] = refl
+  none_with (e ∷ es) = refl
+
+  told_with_last : (es : List Event) (t : Trust)
+      → told_by t (map Says (with_last es k)) ≡ told_by t (map Says (with_last es n))
+  unfolding told_by told_with doubted at_pes
+  told_with_last [] t = one u
+    where
+      one : (v : Unread)
+          → told_by t (Says (Told (unread_fault k (Some v))) ∷ [])
+          ≡ told_by t (Says (Told (unread_fault n (Some v))) ∷ [])
+      one (BadPacket f) = refl
+      one NoFrame = refl
+  told_with_last (e ∷ es) t =
+      ap (λ (l : List Event). told_with (Says e) t ++ l)
+      (told_with_last es (after_mark (Says e) t))
+
+  kept_with_last : (es : List Event) (t : Trust)
+      → trust_after t (map Says (with_last es k)) ≡ trust_after t (map Says (with_last es n))
+  unfolding trust_after after_mark doubted is_order
+  kept_with_last [] t = one u
+    where
+      one : (v : Unread)
+          → trust_after t (Says (Told (unread_fault k (Some v))) ∷ [])
+          ≡ trust_after t (Says (Told (unread_fault n (Some v))) ∷ [])
+      one (BadPacket f) = refl
+      one NoFrame = refl
+  kept_with_last (e ∷ es) t = kept_with_last es (after_mark (Says e) t)
+
+  unread_alike : (es : List Event) → AreAlike (with_last es k) (with_last es n)
+  unread_alike es = record {
+    none_are = none_with es;
+    told_are = told_with_last es;
+    kept_are = kept_with_last es;
+  }
+
+none_ended : (f : ℕ) → endings nothing_stands f ≡ []
+unfolding end_events end_rules
+none_ended f = refl
+
+-- What is told after the last piece is told by what is kept.
+pub closing_are :
+    (g : Task) (list : Transmission) (pes : ℕ) (last : List (List ℕ)) (c : CheckerValue)
+    (given : Option CheckFault)
+    → Follows g list (length list) last c
+    → given ≡ ending_fault pes g.unread
+    → AreAlike (closing_of_pieces g list pes (length list)) (closing_now pes given c)
+unfolding closing_of_pieces closing_events
+closing_are g list pes last c given follows is = rw is (go (length list) refl follows)
   where
-    go : (n : ℕ) → length frames ≡ n → Follows g frames n last c
-        → given ≡ ending_fault n g.unread
-        → closing_events g frames n
-        ≡ end_events c.standing c.last none c.last ++ fault_events told
-    go zero all here is = absurd (omega (arith, some, here.number))
-    go (suc n) all here is =
-        let at = last_is g frames n last c all here in
-        let end = end_is g frames n last c all here in
-        let stands : c.standing ≡ standing_at g frames (suc n) (frame_at frames n) =
-        here.standing_is (omega arith)
-        ∙ ap (λ (k : ℕ). standing_at g frames (suc n) (frame_at frames k)) (omega arith) in
-        rw (end, nothing, stands, at, e, is)
-        (ap (λ (es : List Event).
-        end_events (standing_at g frames (suc n) (frame_at frames n)) (frame_at frames n)
-        nothing_stands (frame_at frames n) ++ es) (rest_are g frames n last c all here g.unread))
+    unsent : (pes : ℕ) (late : Bool) (u : Option Unread) → g.unread ≡ u
+        → closing_of_pieces g list pes 0
+        ≡ fault_events (last_fault_after (ending_fault pes u) 0 pes late c.last)
+    unsent zero late None is = rw is refl
+    unsent zero late (Some u) is = rw is refl
+    unsent (suc pes) late None is = rw is refl
+    unsent (suc pes) late (Some u) is = rw is refl
+
+    sent : (pes n : ℕ)
+        → closing_of_pieces g list pes (suc n)
+        ≡ endings (standing_at g list (suc n) (end_frame list)) (end_frame list)
+        ++ rest_events g list g.unread
+    sent zero n = refl
+    sent (suc pes) n = refl
+
+    by : (n : ℕ) → length list ≡ suc n → Follows g list (suc n) last c → (u : Option Unread)
+        → AreAlike (endings c.standing c.last ++ rest_events g list u)
+        (closing_now pes (ending_fault pes u) c)
+    by n all here None =
+        same_alike _ _
+        (ap (λ (es : List Event). endings c.standing c.last ++ es)
+        (late_are g list n last c all here pes))
+    by n all here (Some u) = unread_alike (length list) pes u (endings c.standing c.last)
+
+    go : (n : ℕ) → length list ≡ n → Follows g list n last c
+        → AreAlike (closing_of_pieces g list pes n) (closing_now pes (ending_fault pes g.unread) c)
+    go zero all here =
+        same_alike _ _
+        (rw (here.none refl, here.number, none_ended c.last) (unsent pes _ g.unread refl))
+    go (suc n) all here =
+        subst (λ (es : List Event). AreAlike es (closing_now pes (ending_fault pes g.unread) c))
+        (sym (sent pes n
+        ∙ ap (λ (es : List Event). es ++ rest_events g list g.unread)
+        (endings_are g list n last c all here)))
+        (by n all here g.unread)
+
+-- Marks with such events are relayed alike.
+module _ {D X E : Type 0} {IsTold : D → Event → D → Type 0} {old new : D} {p then : Relay}
+    {r : Result X E}
+  where
+    pub relays_alike : (es fs : List Event) → AreAlike es fs
+        → RelaysMarks IsTold old p (map Says fs) new then r
+        → RelaysMarks IsTold old p (map Says es) new then r
+    unfolding relayed relay_after
+    relays_alike es fs alike relays =
+        let told : relayed p (map Says es) ≡ relayed p (map Says fs) =
+        rw (alike.told_are p.trust) refl in
+        let kept : relay_after p (map Says es) ≡ relay_after p (map Says fs) =
+        rw (alike.told_are p.trust, alike.kept_are p.trust) refl in
+        record {
+          told = told_same IsTold old new _ _ r told relays.told;
+          kept = ok_map _ _ r relays.kept (λ e. e ∙ sym kept);
+        }
 
 -- Whether anything is told of a change.
 tells_end : (s : Standing) (f : ℕ) → tells_none (end_events s f nothing_stands f) ≡ stands_none s
@@ -186,84 +268,51 @@ tells_end s f = go end_rules
         rw (nothing_at rule) grind (arith, nat_tests)
 
 -- Whether anything is told then. For `tells_last`.
-pub tells_closing :
-    (g : Task) (frames : Transmission) (last : List (List ℕ)) (c : CheckerValue)
-    (given told : Option CheckFault)
-    → Follows g frames (length frames) last c
-    → given ≡ ending_fault (length frames) g.unread
-    → told ≡ last_fault given c
-    → (is_some told || not (stands_none c.standing))
-    ≡ not (tells_none (closing_events g frames (length frames)))
-tells_closing g frames last c given told follows is e = go c.counts.frames refl
+pub tells_closing : (pes : ℕ) (given : Option CheckFault) (c : CheckerValue)
+    → (is_some (last_fault pes given c) || not (stands_none c.standing))
+    ≡ not (tells_none (closing_now pes given c))
+tells_closing pes given c = by (last_fault pes given c)
   where
-    by : (t : Option CheckFault)
-        → (is_some t || not true) ≡ not (tells_none (fault_events t))
-    by None = refl
-    by (Some f) = refl
+    one : (told : Option CheckFault) → tells_none (fault_events told) ≡ not (is_some told)
+    one None = refl
+    one (Some f) = refl
 
-    go : (n : ℕ) → c.counts.frames ≡ n
+    by : (told : Option CheckFault)
         → (is_some told || not (stands_none c.standing))
-        ≡ not (tells_none (closing_events g frames (length frames)))
-    go zero none =
-        let quiet : stands_none c.standing ≡ true =
-        ap stands_none (follows.none (sym follows.number ∙ none))
-        ∙ rules_none nothing_stands nothing_at in
-        ap (λ (b : Bool). is_some told || not b) quiet
-        ∙ by told
-        ∙ ap (λ (es : List Event). not (tells_none es))
-        (sym (closing_none g frames last c given told follows is none e))
-    go (suc n) some =
-        let all = closing_some g frames last c given told nothing_stands follows is
-        (omega (arith, some)) e refl in
-        let ends = end_events c.standing c.last nothing_stands c.last in
-        let parts = tells_none-two ends (fault_events told) in
+        ≡ not (tells_none (endings c.standing c.last ++ fault_events told))
+    by told =
+        let parts = tells_none-two (endings c.standing c.last) (fault_events told) in
         let end = tells_end c.standing c.last in
-        let rest = by told in
+        let rest = one told in
         grind (arith, nat_tests)
 
--- ---- with pieces that are passed over
-
--- The fault that ended reading, by another count.
-pub ending_named : (frames pes : ℕ) (u : Option Unread)
-    → ending_at frames (ending_fault pes u) ≡ ending_fault frames u
-ending_named frames pes None = refl
-ending_named frames pes (Some (BadPacket f)) = refl
-ending_named frames pes (Some NoFrame) = refl
-
--- What is told last where there are pieces and none is sent, and where that is not so.
-pub closing_unsent : (g : Task) (list : Transmission) (pes frames : ℕ)
-    → frames ≡ 0
-    → 0 < pes
-    → closing_of_pieces g list pes frames ≡ fault_events (ending_fault pes g.unread)
-unfolding closing_of_pieces
-closing_unsent g list zero frames none some = absurd (omega arith)
-closing_unsent g list (suc pes) (suc frames) none some = absurd (omega arith)
-closing_unsent g list (suc pes) zero none some = go g.unread
+-- Bytes are left where a fault ended reading, and more is told.
+pub closes_are :
+    (g : Task) (list : Transmission) (pes : ℕ) (last : List (List ℕ)) (c : CheckerValue)
+    (given : Option CheckFault) (left more : Bool)
+    → Follows g list (length list) last c
+    → given ≡ ending_fault pes g.unread
+    → left ≡ is_some given
+    → more ≡ (c.beside || not (tells_none (closing_now pes given c)))
+    → Closes left more
+    ≡ Closes (is_some g.unread)
+    (g.beside || not (tells_none (closing_of_pieces g list pes (length list))))
+closes_are g list pes last c given left more follows is left_is more_is =
+    ap₂ Closes (left_is ∙ ap is_some is ∙ some g.unread)
+    (more_is
+    ∙ ap₂ (λ (a b : Bool). a || not b) (sym (ap (λ (t : Task). t.beside) follows.known.task_is))
+    (sym (closing_are g list pes last c given follows is).none_are))
   where
-    go : (u : Option Unread) → told_of_unread (suc pes) u ≡ fault_events (ending_fault (suc pes) u)
-    go None = refl
-    go (Some u) = refl
+    some : (u : Option Unread) → is_some (ending_fault pes u) ≡ is_some u
+    some None = refl
+    some (Some u) = refl
 
-pub closing_sent : (g : Task) (list : Transmission) (pes frames : ℕ)
-    → (frames ≡ 0 → pes ≤ 0)
-    → closing_of_pieces g list pes frames ≡ closing_events g list frames
-unfolding closing_of_pieces
-closing_sent g list zero zero so = refl
-closing_sent g list zero (suc frames) so = refl
-closing_sent g list (suc pes) (suc frames) so = refl
-closing_sent g list (suc pes) zero so = let none = so refl in absurd (omega arith)
-
--- Whether anything is told then.
-pub unsent_more : (fault : Option CheckFault)
-    → is_some fault ≡ not (tells_none (fault_events fault))
-unsent_more None = refl
-unsent_more (Some f) = refl
-
--- Bytes are left where a fault ended reading.
-pub closes_are : (fault : Option CheckFault) (pes : ℕ) (u : Option Unread) (left more any : Bool)
-    → left ≡ is_some fault
-    → fault ≡ ending_fault pes u
-    → more ≡ any
-    → Closes left more ≡ Closes (is_some u) any
-closes_are fault pes None left more any is from same = rw (is, from, same) refl
-closes_are fault pes (Some u) left more any is from same = rw (is, from, same) refl
+-- What is told after the last end, by the fields of what is kept.
+pub closing_parts : (pes : ℕ) (given told : Option CheckFault) (v c : CheckerValue)
+    (none : Standing)
+    → v ≡ c
+    → none ≡ nothing_stands
+    → told ≡ last_fault pes given c
+    → closing_now pes given c
+    ≡ end_events v.standing v.last none v.last ++ fault_events told
+closing_parts pes given told v c none same is last = rw (is, last, same) refl

@@ -1,7 +1,7 @@
 -- What a device relays of what it is told: `relays_result`, `relays_some`; of marks in parts:
 -- `relay_then`, `stop_first`, `stop_then`.
-use Rattle.std.proofs.Common.{◌≡◌, ℕ, List, [], ◌∷◌, ◌++◌, Bool, false, map, take, drop, refl, sym}
-use Rattle.std.proofs.Common.{ap, ◌∙◌, subst, Option, Result, Ok, Err}
+use Rattle.std.proofs.Common.{◌≡◌, List, [], ◌∷◌, ◌++◌, Bool, true, false, map, take, drop}
+use Rattle.std.proofs.Common.{refl, sym, ap, ◌∙◌, subst, Option, Result, Ok, Err}
 use Rattle.std.proofs.lemmas.Bool.{true≢false}
 use Rattle.std.proofs.lemmas.List.{append-nil, map-append, take-append-drop}
 use Rattle.std.specs.Prelude.{OnOk, is_err}
@@ -12,7 +12,7 @@ use Rattle.sub_io.proofs.TellingLemmas.{TellsPrefix-second, TellsPrefix-whole}
 use Rattle.sub_io.proofs.TellingLemmas.{TellsUntilStopped-after}
 use Rattle.sub_rules.specs.PieceEvents.{all_announced, announced, passed_after, passed_after_all}
 use Rattle.sub_rules.specs.Trusted.{Mark, at_pes}
-use Rattle.sub_rules.specs.Trusted.Mark.{AtEnd, AtPes, Begins, Closes, Ends, GoesBack, Says}
+use Rattle.sub_rules.specs.Trusted.Mark.{Begins, Closes, Says}
 use Rattle.sub_rules.specs.declared.event.Event.{Event}
 use Rattle.sub_rules.specs.PieceEvents.{PassedRun}
 use Rattle.sub_checker.specs.declared.trust.Trust.{Trust}
@@ -172,38 +172,20 @@ pub says_with : (t u : Trust) (e named : Event) (first : Option Event)
 unfolding told_with after_mark
 says_with t u e named first before kept is = rw (before, is, kept) refl
 
--- Of which frame the last PES packet was.
-pub begins_last : (f : ℕ) (t : Trust) → (after_mark (Begins f) t).last ≡ f
+-- No frame begins with a mark, and of which frame the last PES packet was stays.
+abbrev pub begins_one : Mark → Bool
+begins_one (Begins f) = true
+begins_one m = false
+
+pub last_same : (m : Mark) (t : Trust) → begins_one m ≡ false → (after_mark m t).last ≡ t.last
 unfolding after_mark
-begins_last f t = refl
+last_same (Begins f) t none = absurd (true≢false none)
+last_same m t none = refl
 
-pub ends_last : (f : ℕ) (has none : Bool) (t : Trust)
-    → (after_mark (Ends f has none) t).last ≡ t.last
-unfolding after_mark
-ends_last f has none t = refl
-
-pub at_end_last : (f : ℕ) (since : Option ℕ) (late : Bool) (t : Trust)
-    → (after_mark (AtEnd f since late) t).last ≡ t.last
-unfolding after_mark
-at_end_last f since late t = refl
-
-pub back_last : (since : Option ℕ) (t : Trust) → (after_mark (GoesBack since) t).last ≡ t.last
-unfolding after_mark
-back_last since t = refl
-
-pub pes_last : (pes : ℕ) (t : Trust) → (after_mark (AtPes pes) t).last ≡ t.last
-unfolding after_mark
-pes_last pes t = refl
-
-pub closes_last : (left more : Bool) (p : Relay)
-    → (relay_after p (Closes left more ∷ [])).trust.last ≡ p.trust.last
-unfolding relay_after trust_after after_mark
-closes_last left more p = refl
-
-pub says_last : (e : Event) (p : Relay)
-    → (relay_after p (Says e ∷ [])).trust.last ≡ p.trust.last
-unfolding relay_after trust_after after_mark
-says_last e p = refl
+pub one_last : (m : Mark) (p : Relay) → begins_one m ≡ false
+    → (relay_after p (m ∷ [])).trust.last ≡ p.trust.last
+unfolding relay_after trust_after
+one_last m p none = last_same m p.trust none
 
 pub all_last : (es : List Event) (p : Relay)
     → (relay_after p (map Says es)).trust.last ≡ p.trust.last
@@ -212,7 +194,7 @@ all_last [] p = refl
 all_last (e ∷ es) p =
     ap (λ (q : Relay). q.trust.last) (after-append p (Says e ∷ []) (map Says es))
     ∙ all_last es (relay_after p (Says e ∷ []))
-    ∙ says_last e p
+    ∙ one_last (Says e) p refl
 
 -- With this mark nothing is told.
 pub silent : {D : Type 0} (IsTold : D → Event → D → Type 0) (s t : Stage D) (m : Mark)
@@ -397,23 +379,13 @@ module _ {D : Type 0} (Behind : D → Event → D → Type 0) (has_stopped : D �
 
 -- ---- marks with which nothing is told
 
-pub silent_pes : (pes : ℕ) (t : Trust) → told_with (AtPes pes) t ≡ []
-unfolding told_with
-silent_pes pes t = refl
+abbrev pub may_tell : Mark → Bool
+may_tell (Says e) = true
+may_tell (Closes left more) = true
+may_tell m = false
 
-pub silent_begins : (f : ℕ) (t : Trust) → told_with (Begins f) t ≡ []
+pub silent_with : (m : Mark) (t : Trust) → may_tell m ≡ false → told_with m t ≡ []
 unfolding told_with
-silent_begins f t = refl
-
-pub silent_at_end : (f : ℕ) (since : Option ℕ) (late : Bool) (t : Trust)
-    → told_with (AtEnd f since late) t ≡ []
-unfolding told_with
-silent_at_end f since late t = refl
-
-pub silent_back : (since : Option ℕ) (t : Trust) → told_with (GoesBack since) t ≡ []
-unfolding told_with
-silent_back since t = refl
-
-pub silent_ends : (f : ℕ) (has none : Bool) (t : Trust) → told_with (Ends f has none) t ≡ []
-unfolding told_with
-silent_ends f has none t = refl
+silent_with (Says e) t none = absurd (true≢false none)
+silent_with (Closes left more) t none = absurd (true≢false none)
+silent_with m t none = refl

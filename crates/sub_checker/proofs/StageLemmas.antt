@@ -3,27 +3,25 @@
 -- `told_err`, `told_part`; and that some was relayed, `Moves-trans` and its kin.
 use Rattle.std.proofs.Common.{◌≡◌, ℕ, ◌<◌, ◌==◌, List, [], ◌∷◌, ◌++◌, Bool, true, false, cond, map}
 use Rattle.std.proofs.lemmas.Bool.Decides.{nat_tests}
-use Rattle.std.proofs.Common.{◌&&◌, arith, not, None, Option, Result, Ok, Err, refl, sym, ap, ◌∙◌}
+use Rattle.std.proofs.Common.{◌&&◌, arith, not, None, Result, Ok, Err, refl, sym, ap, ◌∙◌}
 use Rattle.std.proofs.Common.{subst}
 use Rattle.std.proofs.Common.{append_assoc}
 use Rattle.stl_file.specs.TimeCode.{day}
 use Rattle.sub_io.specs.Telling.{Tells, TellsPrefix, TellsSome}
 use Rattle.sub_io.proofs.TellingLemmas.{Tells-none, TellsSome-none, TellsSome-trans}
 use Rattle.sub_rules.specs.Trusted.{Mark}
-use Rattle.sub_rules.specs.Trusted.Mark.{AtEnd, AtPes, Begins, Closes, Ends, GoesBack, Says}
+use Rattle.sub_rules.specs.Trusted.Mark.{AtEnd, Begins, Closes, GoesBack, Says}
 use Rattle.sub_rules.specs.declared.event.Event.{Event}
 use Rattle.sub_checker.specs.Checker.{CheckerValue, back_marks, goes_back_now}
 use Rattle.sub_checker.specs.Following.{back_stage, quiet_stage}
 use Rattle.sub_checker.specs.Relay.{Moves, RelaysMarks, at_mark}
 use Rattle.sub_checker.specs.declared.relaying.Relay.{Relay}
 use Rattle.sub_checker.specs.declared.relaying.Stage.{Stage}
-use Rattle.sub_checker.proofs.RelayLemmas.{IsRelayed, IsWhole, after-none, at_end_last}
-use Rattle.sub_checker.proofs.RelayLemmas.{back_last, begins_last, closes_last, ends_last}
-use Rattle.sub_checker.proofs.RelayLemmas.{relay_then, passed-none, relays_last, relays_prefix}
-use Rattle.sub_checker.proofs.RelayLemmas.{relays_some, relays_whole, pes_last, silent}
-use Rattle.sub_checker.proofs.RelayLemmas.{silent_at_end, silent_back, silent_begins, stop_first}
-use Rattle.sub_checker.proofs.RelayLemmas.{stop_then, whole_then}
-use Rattle.sub_checker.specs.Trust.{after_mark, told_with}
+use Rattle.sub_checker.proofs.RelayLemmas.{IsRelayed, IsWhole, after-none, begins_one, last_same}
+use Rattle.sub_checker.proofs.RelayLemmas.{may_tell, one_last, passed-none, relay_then, relays_last}
+use Rattle.sub_checker.proofs.RelayLemmas.{relays_prefix, relays_some, relays_whole, silent}
+use Rattle.sub_checker.proofs.RelayLemmas.{silent_with, stop_first, stop_then, whole_then}
+use Rattle.sub_checker.specs.Trust.{after_mark}
 
 -- ---- parts of what is relayed
 
@@ -74,9 +72,10 @@ module _ {D : Type 0} {IsTold : D → Event → D → Type 0} where
   pub whole_mark : {s t : Stage D} {m : Mark} {zs : List Mark}
       → zs ≡ m ∷ []
       → t ≡ at_mark m s
-      → told_with m s.relay.trust ≡ []
+      → may_tell m ≡ false
       → IsWhole IsTold s.device.now s.relay zs t.device.now t.relay
-  whole_mark {s} {t} {m} is at none = rw is (silent IsTold s t m at none)
+  whole_mark {s} {t} {m} is at none =
+      rw is (silent IsTold s t m at (silent_with m s.relay.trust none))
 
   -- The one part, and then the other.
   pub whole_two : {a b c : D} {p q s : Relay} {xs ys zs : List Mark}
@@ -97,7 +96,7 @@ module _ {D : Type 0} {IsTold : D → Event → D → Type 0} where
       by : (b : Bool) → t ≡ cond b (at_mark (GoesBack c.since) s) s
           → IsWhole IsTold s.device.now s.relay (cond b (GoesBack c.since ∷ []) [])
           t.device.now t.relay
-      by true at = whole_mark refl at (silent_back _ _)
+      by true at = whole_mark refl at refl
       by false at =
           subst (λ (u : Stage D). IsWhole IsTold s.device.now s.relay [] u.device.now u.relay)
           (sym at) (whole_none refl)
@@ -108,7 +107,7 @@ module _ {D : Type 0} {IsTold : D → Event → D → Type 0} where
       → IsWhole IsTold s.device.now s.relay (Begins c.frame ∷ back_marks c) t.device.now t.relay
   whole_begun s t c at =
       whole_two {xs = Begins c.frame ∷ []} refl
-      (whole_mark {s = s} {t = at_mark (Begins c.frame) s} refl refl (silent_begins _ _))
+      (whole_mark {s = s} {t = at_mark (Begins c.frame) s} refl refl refl)
       (whole_back (at_mark (Begins c.frame) s) t c refl at)
 
   pub whole_quiet : (s t : Stage D) (c : CheckerValue) {zs : List Mark}
@@ -132,9 +131,9 @@ module _ {D : Type 0} {IsTold : D → Event → D → Type 0} where
           (sym at) (whole_none refl)
       by true false at =
           whole_two {xs = GoesBack c.since ∷ []} refl
-          (whole_mark {s = s} {t = at_mark (GoesBack c.since) s} refl refl (silent_back _ _))
-          (whole_mark refl at (silent_at_end _ _ _ _))
-      by false false at = whole_mark refl at (silent_at_end _ _ _ _)
+          (whole_mark {s = s} {t = at_mark (GoesBack c.since) s} refl refl refl)
+          (whole_mark refl at refl)
+      by false false at = whole_mark refl at refl
 
   pub relays_two : {X E : Type 0} {a b c : D} {p q s : Relay} {xs ys zs : List Mark}
       {r : Result X E}
@@ -180,33 +179,46 @@ quiet_is s b t v c same some back at =
     let not_each : (c.within == 0) ≡ false = grind (arith, nat_tests) in
     rw (at, back, same, not_each) refl
 
+-- Since which frame the page is not whole, where that is told: the device is the same.
+pub back_fine : {D : Type 0} (has_stopped : D → Bool) (a b : Stage D) (c : CheckerValue)
+    → b ≡ back_stage c a
+    → has_stopped a.device.now ≡ false
+    → has_stopped b.device.now ≡ false
+unfolding back_stage
+back_fine {D} has_stopped a b c is fine = by (goes_back_now c) is
+  where
+    by : (z : Bool) → b ≡ cond z (at_mark (GoesBack c.since) a) a
+        → has_stopped b.device.now ≡ false
+    by true at = ap (λ (s : Stage D). has_stopped s.device.now) at ∙ fine
+    by false at = ap (λ (s : Stage D). has_stopped s.device.now) at ∙ fine
+
 -- ---- events that a stage was told
 
-module _ {D : Type 0} (IsTold : D → Event → D → Type 0) (has_stopped : D → Bool) where
-  pub told_ok : (s t : Stage D) (es : List Event) {zs : List Mark}
+module _ {D : Type 0} {IsTold : D → Event → D → Type 0} {has_stopped : D → Bool} where
+  pub told_ok : {s t : Stage D} {es : List Event} {zs : List Mark}
       → zs ≡ map Says es
-      → has_stopped t.device.now ≡ false
       → Tells (IsRelayed IsTold has_stopped) s t es
+      → has_stopped t.device.now ≡ false
       → IsWhole IsTold s.device.now s.relay zs t.device.now t.relay
-  told_ok s t es is fine told = rw is (relays_whole IsTold has_stopped s t es fine told)
+  told_ok {s} {t} {es} is told fine = rw is (relays_whole IsTold has_stopped s t es fine told)
 
   -- A part of them, where the device said stop.
-  pub told_err : {X E : Type 0} {e : E} (s t : Stage D) (es : List Event) {zs : List Mark}
+  pub told_err : {X E : Type 0} {e : E} {s t : Stage D} {es : List Event} {zs : List Mark}
       → zs ≡ map Says es
       → TellsPrefix (IsRelayed IsTold has_stopped) s t es
       → RelaysMarks IsTold s.device.now s.relay zs t.device.now t.relay
       (let o : Result X E = Err e in o)
-  told_err s t es is told =
+  told_err {s} {t} {es} is told =
       rw is (record { told = relays_prefix IsTold has_stopped s t es told; kept = tt })
 
   -- And others would have followed.
-  pub told_part : {X E : Type 0} {e : E} (s t : Stage D) (es : List Event) (ys : List Mark)
+  pub told_part : {X E : Type 0} {e : E} {s t : Stage D} {es : List Event} (ys : List Mark)
       {zs : List Mark}
       → zs ≡ map Says es ++ ys
       → TellsPrefix (IsRelayed IsTold has_stopped) s t es
       → RelaysMarks IsTold s.device.now s.relay zs t.device.now t.relay
       (let o : Result X E = Err e in o)
-  told_part s t es ys is told =
+  told_part {s} {t} {es} ys is told =
       rw is (record {
         told =
             stop_first IsTold s.device.now t.device.now s.relay (map Says es) ys
@@ -214,34 +226,33 @@ module _ {D : Type 0} (IsTold : D → Event → D → Type 0) (has_stopped : D �
         kept = tt;
       })
 
--- ---- that some was relayed
+  -- ---- that some was relayed
 
-module _ {D : Type 0} (IsTold : D → Event → D → Type 0) (has_stopped : D → Bool) where
   -- One step, and then another.
-  pub Moves-trans : (a b c : Stage D)
+  pub Moves-trans : {a b c : Stage D}
       → Moves IsTold has_stopped a b
       → has_stopped b.device.now ≡ false
       → Moves IsTold has_stopped b c
       → Moves IsTold has_stopped a c
-  Moves-trans a b c first fine second = record {
+  Moves-trans first fine second = record {
     same = second.same ∙ first.same;
     some = TellsSome-trans _ _ _ first.some second.some;
     in_day = λ still before. second.in_day still (first.in_day fine before);
   }
 
   -- None.
-  pub Moves-none : (a : Stage D) → Moves IsTold has_stopped a a
-  Moves-none a = record {
+  pub Moves-none : {a : Stage D} → Moves IsTold has_stopped a a
+  Moves-none = record {
     same = refl;
     some = TellsSome-none _;
     in_day = λ still before. before;
   }
 
   -- Events that the device was told.
-  pub Moves-told : (a b : Stage D)
+  pub Moves-told : {a b : Stage D}
       → TellsSome (IsRelayed IsTold has_stopped) a b
       → Moves IsTold has_stopped a b
-  Moves-told a b some =
+  Moves-told {a} {b} some =
       let both = relays_some IsTold has_stopped a b some in
       record {
         same = both.0;
@@ -251,10 +262,10 @@ module _ {D : Type 0} (IsTold : D → Event → D → Type 0) (has_stopped : D �
             (sym (relays_last IsTold has_stopped a b some still)) before;
       }
 
-  pub Moves-tells : (a b : Stage D) {es : List Event}
+  pub Moves-tells : {a b : Stage D} {es : List Event}
       → Tells (IsRelayed IsTold has_stopped) a b es
       → Moves IsTold has_stopped a b
-  Moves-tells a b {es} told = Moves-told a b (record { items = es; told = told })
+  Moves-tells {a} {b} {es} told = Moves-told {a = a} {b = b} (record { items = es; told = told })
 
   -- A mark with which nothing is told.
   mark_moves : (a b : Stage D) (m : Mark)
@@ -267,94 +278,60 @@ module _ {D : Type 0} (IsTold : D → Event → D → Type 0) (has_stopped : D �
     in_day = λ still before. keeps before;
   })
 
-  pub Moves-pes : (a b : Stage D) (pes : ℕ) → b ≡ at_mark (AtPes pes) a
+  pub Moves-mark : (m : Mark) {a b : Stage D} → b ≡ at_mark m a → begins_one m ≡ false
       → Moves IsTold has_stopped a b
-  Moves-pes a b pes is = mark_moves a b (AtPes pes) is (λ l. rw (pes_last pes _) l)
+  Moves-mark m {a} {b} is none = mark_moves a b m is (λ l. rw (last_same m _ none) l)
 
-  pub Moves-begins : (a b : Stage D) (f : ℕ) → b ≡ at_mark (Begins f) a → f < day
-      → Moves IsTold has_stopped a b
-  Moves-begins a b f is here = mark_moves a b (Begins f) is (λ l. rw (begins_last f _) here)
-
-  pub Moves-at_end : (a b : Stage D) (f : ℕ) (since : Option ℕ) (late : Bool)
-      → b ≡ at_mark (AtEnd f since late) a
-      → Moves IsTold has_stopped a b
-  Moves-at_end a b f since late is =
-      mark_moves a b (AtEnd f since late) is (λ l. rw (at_end_last f since late _) l)
-
-  -- Since which frame the page is not whole, where that is told: the device is the same.
-  back_same : (a b : Stage D) (c : CheckerValue) → b ≡ back_stage c a
-      → b.device.now ≡ a.device.now
-  unfolding back_stage
-  back_same a b c is = by (goes_back_now c) is
-    where
-      by : (z : Bool) → b ≡ cond z (at_mark (GoesBack c.since) a) a
-          → b.device.now ≡ a.device.now
-      by true at = ap (λ (s : Stage D). s.device.now) at
-      by false at = ap (λ (s : Stage D). s.device.now) at
-
-  pub Moves-back : (a b : Stage D) (c : CheckerValue) → b ≡ back_stage c a
-      → Moves IsTold has_stopped a b
-  unfolding back_stage
-  Moves-back a b c is = by (goes_back_now c) is
-    where
-      by : (z : Bool) → b ≡ cond z (at_mark (GoesBack c.since) a) a
-          → Moves IsTold has_stopped a b
-      by true at = mark_moves a b (GoesBack c.since) at (λ l. rw (back_last c.since _) l)
-      by false at = subst (λ (s : Stage D). Moves IsTold has_stopped a s) (sym at) (Moves-none a)
-
-  pub back_fine : (a b : Stage D) (c : CheckerValue) → b ≡ back_stage c a
-      → has_stopped a.device.now ≡ false
-      → has_stopped b.device.now ≡ false
-  back_fine a b c is fine = ap has_stopped (back_same a b c is) ∙ fine
-
-  -- It, and then another step.
-  pub Moves-backed : (a b d : Stage D) (c : CheckerValue)
+  -- Since which frame the page is not whole, where that is told, and then another step.
+  pub Moves-backed : (c : CheckerValue) {a b d : Stage D}
       → b ≡ back_stage c a
       → has_stopped a.device.now ≡ false
       → Moves IsTold has_stopped b d
       → Moves IsTold has_stopped a d
-  Moves-backed a b d c is fine next =
-      Moves-trans a b d (Moves-back a b c is) (back_fine a b c is fine) next
+  unfolding back_stage
+  Moves-backed c {a} {b} {d} is fine next =
+      Moves-trans (by (goes_back_now c) is) (back_fine has_stopped a b c is fine) next
+    where
+      by : (z : Bool) → b ≡ cond z (at_mark (GoesBack c.since) a) a
+          → Moves IsTold has_stopped a b
+      by true at = Moves-mark (GoesBack c.since) at refl
+      by false at = subst (λ (s : Stage D). Moves IsTold has_stopped a s) (sym at) Moves-none
 
-  pub Moves-quiet : (a b : Stage D) (c : CheckerValue) → has_stopped a.device.now ≡ false
+  pub Moves-quiet : (c : CheckerValue) {a b : Stage D} → has_stopped a.device.now ≡ false
       → b ≡ quiet_stage c a
       → Moves IsTold has_stopped a b
-  Moves-quiet a b c fine is = by (c.within == 0) is
+  Moves-quiet c {a} {b} fine is = by (c.within == 0) is
     where
       by : (z : Bool) → b ≡ cond z a (at_mark (AtEnd c.frame None false) (back_stage c a))
           → Moves IsTold has_stopped a b
-      by true at = subst (λ (s : Stage D). Moves IsTold has_stopped a s) (sym at) (Moves-none a)
+      by true at = subst (λ (s : Stage D). Moves IsTold has_stopped a s) (sym at) Moves-none
       by false at =
-          Moves-backed a (back_stage c a) b c refl fine
-          (Moves-at_end (back_stage c a) b c.frame None false at)
+          Moves-backed c {b = back_stage c a} refl fine
+          (Moves-mark (AtEnd c.frame None false) at refl)
 
   -- The mark of a frame before it, and then another step.
-  pub Moves-begun : (a b d : Stage D) (c : CheckerValue)
+  pub Moves-begun : (c : CheckerValue) {a b d : Stage D}
       → b ≡ back_stage c (at_mark (Begins c.frame) a)
       → c.frame < day
       → has_stopped a.device.now ≡ false
       → Moves IsTold has_stopped b d
       → Moves IsTold has_stopped a d
-  Moves-begun a b d c is here fine next =
+  unfolding after_mark
+  Moves-begun c {a} {b} {d} is here fine next =
       let begun = at_mark (Begins c.frame) a in
-      Moves-trans a begun d (Moves-begins a begun c.frame refl here) fine
-      (Moves-backed begun b d c is fine next)
-
-  pub Moves-ends : (a b : Stage D) (f : ℕ) (has none : Bool)
-      → b ≡ at_mark (Ends f has none) a
-      → Moves IsTold has_stopped a b
-  Moves-ends a b f has none is =
-      mark_moves a b (Ends f has none) is (λ l. rw (ends_last f has none _) l)
+      Moves-trans (mark_moves a begun (Begins c.frame) refl (λ l. here)) fine
+      (Moves-backed c {a = begun} is fine next)
 
   -- A mark with which nothing is told, and then another step.
-  pub Moves-marked : (m : Mark) (a b c : Stage D)
+  pub Moves-marked : (m : Mark) {a b c : Stage D}
       → b ≡ at_mark m a
-      → Moves IsTold has_stopped a b
+      → begins_one m ≡ false
       → has_stopped a.device.now ≡ false
       → Moves IsTold has_stopped b c
       → Moves IsTold has_stopped a c
-  Moves-marked m a b c is first fine second =
-      Moves-trans a b c first (ap (λ (s : Stage D). has_stopped s.device.now) is ∙ fine) second
+  Moves-marked m {a} {b} {c} is none fine second =
+      Moves-trans (Moves-mark m is none)
+      (ap (λ (s : Stage D). has_stopped s.device.now) is ∙ fine) second
 
   -- The end of the file.
   pub Moves-closes : (a b : Stage D) {X E : Type 0} {x : X} {left more : Bool}
@@ -367,5 +344,6 @@ module _ {D : Type 0} (IsTold : D → Event → D → Type 0) (has_stopped : D �
     some = record { items = _; told = on.told };
     in_day = λ fine before.
         subst (λ (n : ℕ). n < day)
-        (sym (ap (λ (q : Relay). q.trust.last) on.kept ∙ closes_last left more a.relay)) before;
+        (sym (ap (λ (q : Relay). q.trust.last) on.kept
+        ∙ one_last (Closes left more) a.relay refl)) before;
   }

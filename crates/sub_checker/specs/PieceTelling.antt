@@ -5,7 +5,6 @@ use Rattle.sub_io.specs.Telling.{Tells, TellsPrefix}
 use Rattle.ttx_pes.specs.Reading.{most_packets}
 use Rattle.ttx_pes.specs.declared.fault.PesFault.TheVariants.{Read}
 use Rattle.sub_plan.specs.FrameTime.{Clock}
-use Rattle.sub_rules.specs.Fault.{fault_at_pes}
 use Rattle.sub_rules.specs.FrameRules.{Task}
 use Rattle.sub_rules.specs.PieceEvents.{all_of_pieces, ended_run, events_of_pieces, sent_by_pieces}
 use Rattle.sub_rules.specs.Pieces.{Piece, frames_of}
@@ -46,13 +45,6 @@ TellsPieces g clock bytes pieces IsTold old new (Err f) =
     × (f ≡ fault.Pes n Read)
     × Tells IsTold old new (events_of_pieces g (take n pieces))
 
--- ---- private functions alone cite what follows
-
--- The fault that ended reading, if one did, told of PES packet `pes`.
-abbrev pub ending_at : ℕ → Option CheckFault → Option CheckFault
-ending_at pes None = None
-ending_at pes (Some f) = Some (fault_at_pes pes f)
-
--- What is told with marks, and then up to which piece a run goes.
+-- What is told with marks, and then up to which piece a run goes. Private functions alone cite it.
 abbrev pub finished : Relay → List Mark → List Event
 finished p marks = relayed p marks ++ ended_run (as_run (relay_after p marks).run)

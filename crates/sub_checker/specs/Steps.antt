@@ -1,5 +1,5 @@
 -- What the checker's steps answer. Private functions alone cite this.
-use Rattle.std.specs.Prelude.{◌≡◌, ℕ, zero, suc, ◌+◌, ◌<◌, ◌||◌, Bool, List, [], ◌∷◌}
+use Rattle.std.specs.Prelude.{◌≡◌, ℕ, zero, suc, ◌+◌, ◌<◌, ◌||◌, Bool, List, [], ◌∷◌, ◌++◌}
 use Rattle.std.specs.Prelude.{Option, Some, None, if◌then◌else◌}
 use Rattle.stl_rows.specs.Programme.{last_out}
 use Rattle.sub_io.specs.Telling.{Tells, TellsPrefix}
@@ -7,28 +7,35 @@ use Rattle.sub_checker.specs.Checker.{CheckerValue, is_pending_now}
 use Rattle.sub_checker.specs.declared.telling.Accepted.{Accepted}
 use Rattle.sub_rules.specs.declared.event.Event.{Event}
 use Rattle.sub_rules.specs.declared.event.Event.TheVariants.{Told}
-use Rattle.sub_rules.specs.Events.{is_short, unread_fault}
+use Rattle.sub_rules.specs.Events.{endings, is_short, unread_fault}
 use Rattle.sub_rules.specs.FrameRules.{Unread}
 use Rattle.sub_rules.specs.declared.fault.CheckFault.{CheckFault}
 use Rattle.sub_rules.specs.declared.fault.CheckFault.TheVariants as fault
 
--- What is told last, after frames, of which the last is this one: the fault that ended reading;
--- else that there is none, or that the last TCO is after that frame or the page not whole there.
-abbrev pub last_fault_after : Option CheckFault → ℕ → Bool → ℕ → Option CheckFault
-last_fault_after (Some f) frames late frame = Some f
-last_fault_after None zero late frame = Some fault.Empty
-last_fault_after None (suc n) late frame = if late then Some (fault.Late frame) else None
+-- What is told last, after frames, of which the last is this one, and after pieces: the fault that
+-- ended reading; else that there is no piece, or that the last TCO is after that frame or the page
+-- not whole there.
+abbrev pub last_fault_after : Option CheckFault → ℕ → ℕ → Bool → ℕ → Option CheckFault
+last_fault_after (Some f) frames pes late frame = Some f
+last_fault_after None zero zero late frame = Some fault.Empty
+last_fault_after None zero (suc pes) late frame = None
+last_fault_after None (suc n) pes late frame = if late then Some (fault.Late frame) else None
 
 -- It, by what the checker keeps.
-abbrev pub last_fault : Option CheckFault → CheckerValue → Option CheckFault
-last_fault given c =
-    last_fault_after given c.counts.frames
+abbrev pub last_fault : ℕ → Option CheckFault → CheckerValue → Option CheckFault
+last_fault pes given c =
+    last_fault_after given c.counts.frames pes
     (is_short (last_out c.programme.records) c.last || is_pending_now c) c.last
 
 -- It is told.
 abbrev pub fault_events : Option CheckFault → List Event
 fault_events None = []
 fault_events (Some f) = Told f ∷ []
+
+-- What is told after the last end, by what the checker keeps: what stands broken has ended there,
+-- and then that.
+abbrev pub closing_now : ℕ → Option CheckFault → CheckerValue → List Event
+closing_now pes given c = endings c.standing c.last ++ fault_events (last_fault pes given c)
 
 -- The fault that ended reading, of what the list is read up to.
 abbrev pub ending_fault : ℕ → Option Unread → Option CheckFault

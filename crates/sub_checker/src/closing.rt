@@ -1,13 +1,10 @@
 //! What is told after the last frame.
-ghost use Rattle.std.specs.Prelude.{◌≡◌, ℕ, List, false, is_err, length, not};
+ghost use Rattle.std.specs.Prelude.{◌≡◌, false, is_err, not};
 ghost use Rattle.sub_io.specs.Telling.{TellsSome, TellsUntilStopped};
-ghost use Rattle.sub_rules.specs.Events.{closing_events, is_short};
-ghost use Rattle.sub_rules.specs.FrameRules.{Task};
-ghost use Rattle.sub_rules.specs.Transmission.{Transmission};
+ghost use Rattle.sub_rules.specs.Events.{is_short};
 ghost use Rattle.sub_rules.specs.Trusted.{tells_none};
 ghost use Rattle.sub_checker.specs.Checker.{is_pending_now};
-ghost use Rattle.sub_checker.specs.Following.{Follows};
-ghost use Rattle.sub_checker.specs.Steps.{ending_fault, fault_events, last_fault};
+ghost use Rattle.sub_checker.specs.Steps.{closing_now, fault_events, last_fault};
 
 use crate::checker::Checker;
 use crate::standing::tell_change;
@@ -15,8 +12,8 @@ use sub_io::{Audience, Stopped};
 use sub_rules::{CheckFault, Event, Standing};
 
 impl<'a> Checker<'a> {
-    /// What is told after the end of the last frame, where this fault ended reading, if one did:
-    /// what stands broken has ended, and then the last fault.
+    /// What is told after the end of the last frame and so many pieces, where this fault ended
+    /// reading, if one did: what stands broken has ended, and then the last fault.
     ///
     /// # Errors
     ///
@@ -24,47 +21,40 @@ impl<'a> Checker<'a> {
     #[tactic(auto, using(sub_io::proofs::TellingLemmas::some))]
     pub fn close<A: Audience<Event>>(
         &self,
+        pes: u32,
         fault: Option<CheckFault>,
         audience: &mut A,
     ) -> Result<(), Stopped>
         requires goes_on { A.has_stopped audience.old ≡ false }
         ensures stopped { A.has_stopped audience.new ≡ is_err result }
         ensures some { TellsSome A.is_told audience.old audience.new }
-        ensures told { (g : Task) (frames : Transmission) (last : List (List ℕ))
-            → Follows g frames (length frames) last self.now
-            → fault ≡ ending_fault (length frames) g.unread
-            → TellsUntilStopped A.is_told audience.old audience.new
-            (closing_events g frames (length frames)) result }
+        ensures told { TellsUntilStopped A.is_told audience.old audience.new
+            (closing_now pes fault self.now) result }
     {
-        let last = self.last_fault(fault);
-        if self.counts.frames == 0 {
-            return tell_fault(last, audience);
-        }
         let none = Standing::none();
         tell_change(&self.standing, self.last, &none, self.last, audience)?;
-        tell_fault(last, audience)
+        tell_fault(self.last_fault(pes, fault), audience)
     }
 
-    /// Whether anything is told after the end of the last frame, where this fault ended reading, if
-    /// one did.
-    pub fn tells_last(&self, fault: Option<CheckFault>) -> bool
-        ensures { (g : Task) (frames : Transmission) (last : List (List ℕ))
-            → Follows g frames (length frames) last self.now
-            → fault ≡ ending_fault (length frames) g.unread
-            → result ≡ not (tells_none (closing_events g frames (length frames))) }
+    /// Whether anything is told then.
+    pub fn tells_last(&self, pes: u32, fault: Option<CheckFault>) -> bool
+        ensures { result ≡ not (tells_none (closing_now pes fault self.now)) }
     {
-        let is_told = self.last_fault(fault).is_some();
+        let is_told = self.last_fault(pes, fault).is_some();
         is_told || !self.standing.has_none()
     }
 
-    // The fault that is told last, where this one ended reading, if one did.
-    fn last_fault(&self, fault: Option<CheckFault>) -> Option<CheckFault>
-        ensures { result ≡ last_fault fault self.now }
+    // The fault that is told last, after so many pieces, where this one ended reading, if one did.
+    fn last_fault(&self, pes: u32, fault: Option<CheckFault>) -> Option<CheckFault>
+        ensures { result ≡ last_fault pes fault self.now }
     {
         if fault.is_some() {
             return fault;
         }
         if self.counts.frames == 0 {
+            if pes > 0 {
+                return None;
+            }
             return Some(CheckFault::Empty);
         }
         if is_short(self.programme.last_out(), self.last) || self.is_pending() {
@@ -83,12 +73,8 @@ impl<'a> Checker<'a> {
     }
 }
 
-/// Tells a fault, if there is one.
-///
-/// # Errors
-///
-/// `Stopped` where the audience said stop.
-pub(crate) fn tell_fault<A: Audience<Event>>(
+// Tells a fault, if there is one.
+fn tell_fault<A: Audience<Event>>(
     fault: Option<CheckFault>,
     audience: &mut A,
 ) -> Result<(), Stopped>

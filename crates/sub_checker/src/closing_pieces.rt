@@ -4,17 +4,16 @@ ghost use Rattle.std.specs.Prelude.{◌||◌};
 ghost use Rattle.sub_io.specs.Telling.{TellsSome, TellsUntilStopped};
 ghost use Rattle.stl_file.specs.TimeCode.{day};
 ghost use Rattle.sub_rules.specs.FrameRules.{Task};
-ghost use Rattle.sub_rules.specs.PieceEvents.{closing_of_pieces, marks_of_closing};
+ghost use Rattle.sub_rules.specs.PieceEvents.{marks_of_closing};
 ghost use Rattle.sub_rules.specs.Transmission.{Transmission};
 ghost use Rattle.sub_rules.specs.Trusted.{tells_none};
 ghost use Rattle.sub_checker.specs.Following.{Follows, Keeps, last_marks};
 ghost use Rattle.sub_checker.specs.Relay.{Moves, StageRelays};
-ghost use Rattle.sub_checker.specs.PieceTelling.{ending_at, finished};
-ghost use Rattle.sub_checker.specs.Steps.{FinishesTelling, ending_fault};
+ghost use Rattle.sub_checker.specs.PieceTelling.{finished};
+ghost use Rattle.sub_checker.specs.Steps.{FinishesTelling, closing_now, ending_fault};
 ghost use Rattle.sub_checker.specs.Telling.{CountsRead};
 
 use crate::checker::Checker;
-use crate::closing::tell_fault;
 use crate::relaying::{Stage, tell_some};
 use crate::telling::Accepted;
 use sub_io::{Audience, Stopped};
@@ -112,68 +111,14 @@ fn close<A: Audience<Event>>(
     stage.go_to(pes);
     let more = tells_trusted(checker, pes, fault);
     stage.close(fault.is_some(), more)?;
-    tell_rest(checker, pes, fault, stage)
+    checker.close(pes, fault, stage)
 }
 
 // Whether what is trusted is told whatever came before: beside what is refused of the subtitle
 // file, or since anything is told after the last piece.
 fn tells_trusted(checker: &Checker<'_>, pes: u32, fault: Option<CheckFault>) -> bool
-    ensures { (g : Task) (list : Transmission) (last : List (List ℕ))
-        → Follows g list (length list) last checker.now
-        → fault ≡ ending_fault pes g.unread
-        → result
-        ≡ (g.beside || not (tells_none (closing_of_pieces g list pes (length list)))) }
+    ensures { result
+        ≡ (checker.now.beside || not (tells_none (closing_now pes fault checker.now))) }
 {
-    if checker.is_beside {
-        return true;
-    }
-    tells_more(checker, pes, fault)
-}
-
-// Whether anything is told after the last piece.
-fn tells_more(checker: &Checker<'_>, pes: u32, fault: Option<CheckFault>) -> bool
-    ensures { (g : Task) (list : Transmission) (last : List (List ℕ))
-        → Follows g list (length list) last checker.now
-        → fault ≡ ending_fault pes g.unread
-        → result ≡ not (tells_none (closing_of_pieces g list pes (length list))) }
-{
-    let frames = checker.counts.frames;
-    if frames == 0 && pes > 0 {
-        return fault.is_some();
-    }
-    checker.tells_last(ending_at(frames, fault))
-}
-
-// Tells it: where there are pieces and none is sent, the fault alone.
-#[tactic(auto, using(sub_io::proofs::TellingLemmas::some))]
-fn tell_rest<A: Audience<Event>>(
-    checker: &Checker<'_>,
-    pes: u32,
-    fault: Option<CheckFault>,
-    audience: &mut A,
-) -> Result<(), Stopped>
-    requires goes_on { A.has_stopped audience.old ≡ false }
-    ensures stopped { A.has_stopped audience.new ≡ is_err result }
-    ensures some { TellsSome A.is_told audience.old audience.new }
-    ensures told { (g : Task) (list : Transmission) (last : List (List ℕ))
-        → Follows g list (length list) last checker.now
-        → fault ≡ ending_fault pes g.unread
-        → TellsUntilStopped A.is_told audience.old audience.new
-        (closing_of_pieces g list pes (length list)) result }
-{
-    let frames = checker.counts.frames;
-    if frames == 0 && pes > 0 {
-        return tell_fault(fault, audience);
-    }
-    checker.close(ending_at(frames, fault), audience)
-}
-
-// The fault that ended reading, if one did, after so many PES packets.
-fn ending_at(pes: u32, fault: Option<CheckFault>) -> Option<CheckFault>
-    ensures { result ≡ ending_at pes fault }
-{
-    match fault {
-        Some(fault) => Some(fault.at_pes(pes)),
-        None => None,
-    }
+    checker.is_beside || checker.tells_last(pes, fault)
 }

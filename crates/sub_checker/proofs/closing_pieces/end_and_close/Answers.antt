@@ -17,9 +17,8 @@ returns-in_err-end_waiting-clause-told g c = λ task list last keeps is.
 
 pub returns-clause-moves : goal.returns-clause-moves
 returns-clause-moves g c =
-    Moves-trans g.A.Audience.is_told g.A.Audience.has_stopped c.args.stage.now
-    c.end_waiting.new.stage c.close.new.stage c.in_ok-end_waiting.ensures.moves
-    c.in_ok-end_waiting.ensures.stopped c.close.ensures.moves
+    Moves-trans c.in_ok-end_waiting.ensures.moves c.in_ok-end_waiting.ensures.stopped
+    c.close.ensures.moves
 
 pub returns-clause-told : goal.returns-clause-told
 returns-clause-told g c = λ task list last keeps is.

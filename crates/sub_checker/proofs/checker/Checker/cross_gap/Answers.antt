@@ -16,7 +16,7 @@ use Rattle.sub_checker.proofs.checker.Checker.cross_gap.Goals as goal
 pub loop-f-init : goal.loop-f-init
 loop-f-init g c = record {
   goes_on = c.requires.goes_on;
-  moves = Moves-none _ _ _;
+  moves = Moves-none;
   counts = grind arith;
   latest_is = grind arith;
   later = grind arith;
@@ -34,7 +34,7 @@ loop-f-preserved g c =
     let i = c.loop-f.invariant in
     record {
       goes_on = c.in_ok-end_of_frame.ensures.stopped;
-      moves = Moves-trans _ _ _ _ _ i.moves i.goes_on c.in_ok-end_of_frame.ensures.moves;
+      moves = Moves-trans i.moves i.goes_on c.in_ok-end_of_frame.ensures.moves;
       counts = grind arith;
       latest_is = grind arith;
       later = let l = i.later in omega arith;
@@ -64,7 +64,7 @@ loop-f-preserved g c =
 pub returns-in_err-end_of_frame-clause-moves : goal.returns-in_err-end_of_frame-clause-moves
 returns-in_err-end_of_frame-clause-moves g c =
     let i = c.loop-f.invariant in
-    Moves-trans _ _ _ _ _ i.moves i.goes_on c.in_err-end_of_frame.ensures.moves
+    Moves-trans i.moves i.goes_on c.in_err-end_of_frame.ensures.moves
 
 pub returns-in_err-end_of_frame-clause-told : goal.returns-in_err-end_of_frame-clause-told
 returns-in_err-end_of_frame-clause-told g c = λ task frames n last follows some is.

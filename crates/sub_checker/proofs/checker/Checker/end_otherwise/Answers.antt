@@ -6,8 +6,7 @@ use Rattle.sub_checker.proofs.checker.Checker.end_otherwise.Goals as goal
 
 pub returns-then-is_quiet-clause-moves : goal.returns-then-is_quiet-clause-moves
 returns-then-is_quiet-clause-moves g c =
-    Moves-quiet g.A.Audience.is_told g.A.Audience.has_stopped c.args.stage.now
-    c.end_quietly.new.stage c.args.self.now c.requires.goes_on c.end_quietly.ensures.stage
+    Moves-quiet c.args.self.now c.requires.goes_on c.end_quietly.ensures.stage
 
 pub returns-then-is_quiet-clause-told : goal.returns-then-is_quiet-clause-told
 returns-then-is_quiet-clause-told g c = λ heard knows.

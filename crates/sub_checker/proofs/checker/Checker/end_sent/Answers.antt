@@ -9,8 +9,7 @@ use Rattle.sub_checker.specs.Checker.{CheckerValue}
 use Rattle.sub_checker.specs.Following.{Follows, Heard}
 use Rattle.sub_checker.specs.Relay.{at_mark}
 use Rattle.sub_checker.proofs.HearingLemmas.{end_mark, ending_marks, first_told, follows_then}
-use Rattle.sub_checker.proofs.RelayLemmas.{silent_ends}
-use Rattle.sub_checker.proofs.StageLemmas.{Moves-ends, Moves-tells, Moves-trans, ok_whole}
+use Rattle.sub_checker.proofs.StageLemmas.{Moves-mark, Moves-tells, Moves-trans, ok_whole}
 use Rattle.sub_checker.proofs.StageLemmas.{relays_same, stops_two, told_ok, told_part, whole_mark}
 use Rattle.sub_checker.proofs.StageLemmas.{whole_ok, whole_two}
 use Rattle.sub_checker.proofs.TakingLemmas.{ending_part, ending_rest}
@@ -18,28 +17,18 @@ use Rattle.sub_checker.proofs.checker.Checker.end_sent.Goals as goal
 
 pub returns-in_err-tell_if-clause-moves : goal.returns-in_err-tell_if-clause-moves
 returns-in_err-tell_if-clause-moves g c =
-    Moves-tells g.A.Audience.is_told g.A.Audience.has_stopped c.args.stage.now
-    c.tell_if.new.audience c.in_err-tell_if.ensures.told.2
+    Moves-tells c.in_err-tell_if.ensures.told.2
 
 pub returns-in_err-end_of_frame-clause-moves : goal.returns-in_err-end_of_frame-clause-moves
 returns-in_err-end_of_frame-clause-moves g c =
-    Moves-trans g.A.Audience.is_told g.A.Audience.has_stopped c.args.stage.now
-    c.tell_if.new.audience c.end_of_frame.new.stage
-    (Moves-tells g.A.Audience.is_told g.A.Audience.has_stopped c.args.stage.now
-    c.tell_if.new.audience c.in_ok-tell_if.ensures.told) c.in_ok-tell_if.ensures.stopped
+    Moves-trans (Moves-tells c.in_ok-tell_if.ensures.told) c.in_ok-tell_if.ensures.stopped
     c.in_err-end_of_frame.ensures.moves
 
 pub returns-clause-moves : goal.returns-clause-moves
 returns-clause-moves g c =
-    Moves-trans g.A.Audience.is_told g.A.Audience.has_stopped c.args.stage.now
-    c.end_of_frame.new.stage c.end_frame.new.self
-    (Moves-trans g.A.Audience.is_told g.A.Audience.has_stopped c.args.stage.now
-    c.tell_if.new.audience c.end_of_frame.new.stage
-    (Moves-tells g.A.Audience.is_told g.A.Audience.has_stopped c.args.stage.now
-    c.tell_if.new.audience c.in_ok-tell_if.ensures.told) c.in_ok-tell_if.ensures.stopped
-    c.in_ok-end_of_frame.ensures.moves) c.in_ok-end_of_frame.ensures.stopped
-    (Moves-ends g.A.Audience.is_told g.A.Audience.has_stopped c.end_of_frame.new.stage
-    c.end_frame.new.self _ _ _ c.end_frame.ensures)
+    Moves-trans (Moves-trans (Moves-tells c.in_ok-tell_if.ensures.told)
+    c.in_ok-tell_if.ensures.stopped c.in_ok-end_of_frame.ensures.moves)
+    c.in_ok-end_of_frame.ensures.stopped (Moves-mark _ c.end_frame.ensures refl)
 
 pub returns-in_err-tell_if-clause-told : goal.returns-in_err-tell_if-clause-told
 returns-in_err-tell_if-clause-told g c = λ task frames n last heard there has.
@@ -47,8 +36,7 @@ returns-in_err-tell_if-clause-told g c = λ task frames n last heard there has.
     let here = subst (Heard task frames n last) (sym c.self.view_is) heard in
     let first = first_told task frames n last _ here _ _ has c.lacks_first-is_told.ensures in
     rw p.1 (
-      told_part g.A.Audience.is_told g.A.Audience.has_stopped c.args.stage.now
-          c.tell_if.new.audience _ (ending_rest task frames n)
+      told_part (ending_rest task frames n)
           (ending_part task frames n
           ∙ ap (λ (es : List Event). map Says es ++ ending_rest task frames n) first)
           c.in_err-tell_if.ensures.told,
@@ -66,10 +54,8 @@ returns-in_err-end_of_frame-clause-told g c = λ task frames n last heard there 
     c.in_err-end_of_frame.ensures.told (packets_before frames (suc n)) heard.known.knows.knows in
     rw p.1 (
       stops_two _ refl
-          (told_ok g.A.Audience.is_told g.A.Audience.has_stopped c.args.stage.now
-          c.tell_if.new.audience _ (ap (map Says) first) c.in_ok-tell_if.ensures.stopped
-          c.in_ok-tell_if.ensures.told)
-          (relays_same (sym marks) told),
+          (told_ok (ap (map Says) first) c.in_ok-tell_if.ensures.told
+          c.in_ok-tell_if.ensures.stopped) (relays_same (sym marks) told),
       tt,
     )
 
@@ -89,13 +75,10 @@ returns-clause-told g c = λ task frames n last heard there has.
       ok_whole refl
           (whole_two refl
           (whole_two refl
-          (told_ok g.A.Audience.is_told g.A.Audience.has_stopped c.args.stage.now
-          c.tell_if.new.audience _ (ap (map Says) first) c.in_ok-tell_if.ensures.stopped
-          c.in_ok-tell_if.ensures.told)
-          (whole_ok (sym marks) told))
-          (whole_mark refl
+          (told_ok (ap (map Says) first) c.in_ok-tell_if.ensures.told
+          c.in_ok-tell_if.ensures.stopped) (whole_ok (sym marks) told)) (whole_mark refl
           (c.end_frame.ensures ∙ ap (λ (m : Mark). at_mark m c.end_of_frame.new.stage) mark)
-          (silent_ends _ _ _ _))),
+          refl)),
       subst (Follows task frames (suc n) last) (sym ended)
           (follows_then task frames n last _ heard due),
     )

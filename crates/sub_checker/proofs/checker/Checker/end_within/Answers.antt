@@ -3,37 +3,22 @@ use Rattle.std.proofs.Common.{ap, refl}
 use Rattle.std.proofs.lemmas.Result.{err_from_is_err_and}
 use Rattle.sub_checker.specs.Checker.{back_marks}
 use Rattle.sub_checker.proofs.EndingLemmas.{within_after, within_marks}
-use Rattle.sub_checker.proofs.RelayLemmas.{silent_at_end}
-use Rattle.sub_checker.proofs.StageLemmas.{Moves-at_end, Moves-backed, Moves-marked}
+use Rattle.sub_checker.proofs.StageLemmas.{Moves-backed, Moves-marked}
 use Rattle.sub_checker.proofs.StageLemmas.{Moves-tells, back_fine, ok_whole, relays_two, told_err}
 use Rattle.sub_checker.proofs.StageLemmas.{told_ok, whole_back, whole_mark, whole_two}
 use Rattle.sub_checker.proofs.checker.Checker.end_within.Goals as goal
 
 pub returns-in_err-tell_change-clause-moves : goal.returns-in_err-tell_change-clause-moves
 returns-in_err-tell_change-clause-moves g c =
-    Moves-backed g.A.Audience.is_told g.A.Audience.has_stopped c.args.stage.now
-    c.go_back.new.stage c.tell_change.new.audience _ c.go_back.ensures.back c.requires.goes_on
-    (Moves-marked g.A.Audience.is_told g.A.Audience.has_stopped _ c.go_back.new.stage
-    c.at_end.new.self c.tell_change.new.audience c.at_end.ensures
-    (Moves-at_end g.A.Audience.is_told g.A.Audience.has_stopped c.go_back.new.stage
-    c.at_end.new.self _ _ _ c.at_end.ensures)
-    (back_fine g.A.Audience.is_told g.A.Audience.has_stopped c.args.stage.now
-    c.go_back.new.stage _ c.go_back.ensures.back c.requires.goes_on)
-    (Moves-tells g.A.Audience.is_told g.A.Audience.has_stopped c.at_end.new.self
-    c.tell_change.new.audience c.in_err-tell_change.ensures.told.2))
+    Moves-backed _ c.go_back.ensures.back c.requires.goes_on (Moves-marked _ c.at_end.ensures refl
+    (back_fine g.A.Audience.has_stopped _ _ _ c.go_back.ensures.back c.requires.goes_on)
+    (Moves-tells c.in_err-tell_change.ensures.told.2))
 
 pub returns-clause-moves : goal.returns-clause-moves
 returns-clause-moves g c =
-    Moves-backed g.A.Audience.is_told g.A.Audience.has_stopped c.args.stage.now
-    c.go_back.new.stage c.tell_change.new.audience _ c.go_back.ensures.back c.requires.goes_on
-    (Moves-marked g.A.Audience.is_told g.A.Audience.has_stopped _ c.go_back.new.stage
-    c.at_end.new.self c.tell_change.new.audience c.at_end.ensures
-    (Moves-at_end g.A.Audience.is_told g.A.Audience.has_stopped c.go_back.new.stage
-    c.at_end.new.self _ _ _ c.at_end.ensures)
-    (back_fine g.A.Audience.is_told g.A.Audience.has_stopped c.args.stage.now
-    c.go_back.new.stage _ c.go_back.ensures.back c.requires.goes_on)
-    (Moves-tells g.A.Audience.is_told g.A.Audience.has_stopped c.at_end.new.self
-    c.tell_change.new.audience c.in_ok-tell_change.ensures.told))
+    Moves-backed _ c.go_back.ensures.back c.requires.goes_on (Moves-marked _ c.at_end.ensures refl
+    (back_fine g.A.Audience.has_stopped _ _ _ c.go_back.ensures.back c.requires.goes_on)
+    (Moves-tells c.in_ok-tell_change.ensures.told))
 
 pub returns-in_err-tell_change-clause-told : goal.returns-in_err-tell_change-clause-told
 returns-in_err-tell_change-clause-told g c = λ heard knows.
@@ -44,9 +29,8 @@ returns-in_err-tell_change-clause-told g c = λ heard knows.
     (within_marks heard _ c.args.self.now _ _ _ c.self.view_is c.requires.within
     (end.standing heard knows) (end.since heard knows) (end.late heard knows))
     (whole_two refl (whole_back _ _ _ (ap back_marks c.self.view_is) c.go_back.ensures.back)
-    (whole_mark refl c.at_end.ensures (silent_at_end _ _ _ _)))
-    (told_err g.A.Audience.is_told g.A.Audience.has_stopped c.at_end.new.self
-    c.tell_change.new.audience _ refl c.in_err-tell_change.ensures.told))
+    (whole_mark refl c.at_end.ensures refl))
+    (told_err refl c.in_err-tell_change.ensures.told))
 
 pub returns-clause-told : goal.returns-clause-told
 returns-clause-told g c = λ heard knows.
@@ -56,10 +40,8 @@ returns-clause-told g c = λ heard knows.
     (within_marks heard _ c.args.self.now _ _ _ c.self.view_is c.requires.within
     (end.standing heard knows) (end.since heard knows) (end.late heard knows))
     (whole_two refl (whole_back _ _ _ (ap back_marks c.self.view_is) c.go_back.ensures.back)
-    (whole_mark refl c.at_end.ensures (silent_at_end _ _ _ _)))
-    (told_ok g.A.Audience.is_told g.A.Audience.has_stopped c.at_end.new.self
-    c.tell_change.new.audience _ refl c.in_ok-tell_change.ensures.stopped
-    c.in_ok-tell_change.ensures.told))
+    (whole_mark refl c.at_end.ensures refl))
+    (told_ok refl c.in_ok-tell_change.ensures.told c.in_ok-tell_change.ensures.stopped))
 
 pub returns-clause-ended : goal.returns-clause-ended
 returns-clause-ended g c = λ heard knows.

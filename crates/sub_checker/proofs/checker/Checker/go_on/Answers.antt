@@ -8,18 +8,15 @@ use Rattle.sub_rules.proofs.JoinedLemmas.{sent_after-other, sent_after-same}
 use Rattle.sub_checker.specs.Checker.{sent_as}
 use Rattle.sub_checker.specs.Following.{Keeps}
 use Rattle.sub_checker.proofs.FollowingLemmas.{Follows-prefix}
-use Rattle.sub_checker.proofs.RelayLemmas.{silent_pes}
-use Rattle.sub_checker.proofs.StageLemmas.{Moves-marked, Moves-pes, Moves-trans, relays_two}
+use Rattle.sub_checker.proofs.StageLemmas.{Moves-marked, Moves-trans, relays_two}
 use Rattle.sub_checker.proofs.StageLemmas.{stops_one, whole_mark, whole_ok}
 use Rattle.sub_checker.proofs.TakingLemmas.{goes_on_is, is_sent, more_is, next_is, one_longer}
 use Rattle.sub_checker.proofs.checker.Checker.go_on.Goals as goal
 
 pub returns-then-goes_on-clause-moves : goal.returns-then-goes_on-clause-moves
 returns-then-goes_on-clause-moves g c =
-    Moves-marked g.A.Audience.is_told g.A.Audience.has_stopped _ c.args.stage.now
-    c.go_to.new.self c.take_more.new.stage c.go_to.ensures
-    (Moves-pes g.A.Audience.is_told g.A.Audience.has_stopped c.args.stage.now c.go_to.new.self
-    c.args.pes c.go_to.ensures) c.requires.goes_on c.take_more.ensures.moves
+    Moves-marked _ c.go_to.ensures refl c.requires.goes_on
+    c.take_more.ensures.moves
 
 pub returns-then-goes_on-clause-told : goal.returns-then-goes_on-clause-told
 returns-then-goes_on-clause-told g c = λ task sent last keeps again.
@@ -29,7 +26,7 @@ returns-then-goes_on-clause-told g c = λ task sent last keeps again.
     ∙ c.if-goes_on.true in
     let more = c.take_more.ensures.told task sent last keeps again in (
       relays_two (more_is task sent c.args.pes s same)
-          (whole_mark refl c.go_to.ensures (silent_pes c.args.pes _)) more.0,
+          (whole_mark refl c.go_to.ensures refl) more.0,
       subst (λ (l : Transmission). OnOk c.take_more.result (Keeps task l
           (packets_of_units c.args.units.now) c.take_more.new.self))
           (sym (sent_after-same task.within sent s same)) more.1,
@@ -51,13 +48,8 @@ take_next-requires-clause-room g c =
 
 pub returns-clause-moves : goal.returns-clause-moves
 returns-clause-moves g c =
-    Moves-trans g.A.Audience.is_told g.A.Audience.has_stopped c.args.stage.now
-    c.end_waiting.new.stage c.take_next.new.stage c.in_ok-end_waiting.ensures.moves
-    c.in_ok-end_waiting.ensures.stopped
-    (Moves-marked g.A.Audience.is_told g.A.Audience.has_stopped _ c.end_waiting.new.stage
-    c.go_to-2.new.self c.take_next.new.stage c.go_to-2.ensures
-    (Moves-pes g.A.Audience.is_told g.A.Audience.has_stopped c.end_waiting.new.stage
-    c.go_to-2.new.self c.args.pes c.go_to-2.ensures) c.in_ok-end_waiting.ensures.stopped
+    Moves-trans c.in_ok-end_waiting.ensures.moves c.in_ok-end_waiting.ensures.stopped (Moves-marked _
+    c.go_to-2.ensures refl c.in_ok-end_waiting.ensures.stopped
     c.take_next.ensures.moves)
 
 pub returns-clause-told : goal.returns-clause-told
@@ -72,7 +64,7 @@ returns-clause-told g c = λ task sent last keeps again.
     (Follows-prefix task sent (s ∷ []) last c.end_waiting.new.self end.1) (one_longer sent s)
     (is_sent sent s) again in (
       relays_two (next_is task sent c.args.pes s other) (whole_ok refl end.0)
-          (relays_two refl (whole_mark refl c.go_to-2.ensures (silent_pes c.args.pes _)) next.0),
+          (relays_two refl (whole_mark refl c.go_to-2.ensures refl) next.0),
       subst (λ (l : Transmission). OnOk c.take_next.result (Keeps task l
           (packets_of_units c.args.units.now) c.take_next.new.self))
           (sym (sent_after-other task.within sent s other)) next.1,

@@ -13,23 +13,16 @@ use Rattle.sub_checker.proofs.checker.Checker.go_to.Goals as goal
 
 pub returns-in_err-tell_if-clause-moves : goal.returns-in_err-tell_if-clause-moves
 returns-in_err-tell_if-clause-moves g c =
-    Moves-tells g.A.Audience.is_told g.A.Audience.has_stopped c.args.stage.now
-    c.tell_if.new.audience c.in_err-tell_if.ensures.told.2
+    Moves-tells c.in_err-tell_if.ensures.told.2
 
 pub returns-in_err-cross_gap-clause-moves : goal.returns-in_err-cross_gap-clause-moves
 returns-in_err-cross_gap-clause-moves g c =
-    Moves-trans g.A.Audience.is_told g.A.Audience.has_stopped c.args.stage.now
-    c.tell_if.new.audience c.cross_gap.new.stage
-    (Moves-tells g.A.Audience.is_told g.A.Audience.has_stopped c.args.stage.now
-    c.tell_if.new.audience c.in_ok-tell_if.ensures.told) c.in_ok-tell_if.ensures.stopped
+    Moves-trans (Moves-tells c.in_ok-tell_if.ensures.told) c.in_ok-tell_if.ensures.stopped
     c.in_err-cross_gap.ensures.moves
 
 pub returns-clause-moves : goal.returns-clause-moves
 returns-clause-moves g c =
-    Moves-trans g.A.Audience.is_told g.A.Audience.has_stopped c.args.stage.now
-    c.tell_if.new.audience c.cross_gap.new.stage
-    (Moves-tells g.A.Audience.is_told g.A.Audience.has_stopped c.args.stage.now
-    c.tell_if.new.audience c.in_ok-tell_if.ensures.told) c.in_ok-tell_if.ensures.stopped
+    Moves-trans (Moves-tells c.in_ok-tell_if.ensures.told) c.in_ok-tell_if.ensures.stopped
     c.in_ok-cross_gap.ensures.moves
 
 pub returns-in_err-tell_if-clause-told : goal.returns-in_err-tell_if-clause-told
@@ -39,8 +32,7 @@ returns-in_err-tell_if-clause-told g c = λ task frames n last follows some is.
     let order =
     order_are task frames n c.args.frame _ _ _ some is (here.last_is some) here.number refl in
     rw p.1 (
-      told_part g.A.Audience.is_told g.A.Audience.has_stopped c.args.stage.now
-          c.tell_if.new.audience _ (marks_of_gap task frames n (gap_length frames n))
+      told_part (marks_of_gap task frames n (gap_length frames n))
           (ap (λ (es : List Event). map Says es ++ marks_of_gap task frames n
           (gap_length frames n)) order)
           c.in_err-tell_if.ensures.told,
@@ -57,10 +49,8 @@ returns-in_err-cross_gap-clause-told g c = λ task frames n last follows some is
     let gap = c.in_err-cross_gap.ensures.told task frames n last follows some is in
     rw p.1 (
       relays_two refl
-          (told_ok g.A.Audience.is_told g.A.Audience.has_stopped c.args.stage.now
-          c.tell_if.new.audience _ (ap (map Says) order) c.in_ok-tell_if.ensures.stopped
-          c.in_ok-tell_if.ensures.told)
-          (relays_err refl gap.0),
+          (told_ok (ap (map Says) order) c.in_ok-tell_if.ensures.told
+          c.in_ok-tell_if.ensures.stopped) (relays_err refl gap.0),
       tt,
     )
 
@@ -71,10 +61,8 @@ returns-clause-told g c = λ task frames n last follows some is.
     order_are task frames n c.args.frame _ _ _ some is (here.last_is some) here.number refl in
     let gap = c.in_ok-cross_gap.ensures.told task frames n last follows some is in (
       relays_two refl
-          (told_ok g.A.Audience.is_told g.A.Audience.has_stopped c.args.stage.now
-          c.tell_if.new.audience _ (ap (map Says) order) c.in_ok-tell_if.ensures.stopped
-          c.in_ok-tell_if.ensures.told)
-          (relays_ok refl gap.0),
+          (told_ok (ap (map Says) order) c.in_ok-tell_if.ensures.told
+          c.in_ok-tell_if.ensures.stopped) (relays_ok refl gap.0),
       subst (Arrives task frames n last) (sym c.arrive.ensures)
           (arrives_next task frames n c.args.frame last _ gap.1 is
           (c.in_ok-cross_gap.ensures.latest ∙ follows.latest_is some)),

@@ -11,13 +11,11 @@ use Rattle.sub_checker.proofs.checker.Checker.hear.Goals as goal
 
 pub returns-in_err-headers-clause-moves : goal.returns-in_err-headers-clause-moves
 returns-in_err-headers-clause-moves g c =
-    Moves-told g.A.Audience.is_told g.A.Audience.has_stopped c.args.stage.now
-    c.hear_sending.new.audience c.in_err-headers.ensures.some
+    Moves-told c.in_err-headers.ensures.some
 
 pub returns-clause-moves : goal.returns-clause-moves
 returns-clause-moves g c =
-    Moves-told g.A.Audience.is_told g.A.Audience.has_stopped c.args.stage.now
-    c.hear_sending.new.audience c.in_ok-headers.ensures.some
+    Moves-told c.in_ok-headers.ensures.some
 
 pub returns-in_err-headers-clause-told : goal.returns-in_err-headers-clause-told
 returns-in_err-headers-clause-told g c = λ heard last knows again.
@@ -26,8 +24,7 @@ returns-in_err-headers-clause-told g c = λ heard last knows again.
     let here = subst (λ (v : CheckerValue). KnowsLast heard last v.listener) (sym c.self.view_is)
     knows in
     rw p.1 (
-      told_err g.A.Audience.is_told g.A.Audience.has_stopped c.args.stage.now
-          c.hear_sending.new.audience _
+      told_err
           (ap (λ (v : CheckerValue). map Says (packets_told v.listener.watched v.frame c.args.from
           heard ps (length ps))) (sym c.self.view_is))
           (c.in_err-headers.ensures.knows heard last here again),
@@ -43,10 +40,9 @@ returns-clause-told g c = λ heard last knows again.
     let count =
     hears.1 ∙ ap (λ (v : CheckerValue). header_count v.listener.watched.page ps) c.self.view_is in (
       ok_whole refl
-          (told_ok g.A.Audience.is_told g.A.Audience.has_stopped c.args.stage.now
-          c.hear_sending.new.audience _
-          (ap (λ (v : CheckerValue). map Says (packets_told v.listener.watched v.frame c.args.from
-          heard ps (length ps))) (sym c.self.view_is)) c.in_ok-headers.ensures.stopped hears.3),
+          (told_ok (ap (λ (v : CheckerValue). map Says (packets_told v.listener.watched v.frame
+          c.args.from heard ps (length ps))) (sym c.self.view_is)) hears.3
+          c.in_ok-headers.ensures.stopped),
       (
         record {
           listener = c.hear_sending.new.self;

@@ -28,12 +28,9 @@ returns-in_err-reach-clause-told g c = λ task frames n last follows long sent a
 
 pub returns-in_err-headers-clause-moves : goal.returns-in_err-headers-clause-moves
 returns-in_err-headers-clause-moves g c =
-    Moves-trans g.A.Audience.is_told g.A.Audience.has_stopped c.args.stage.now
-    c.reach.new.stage c.hear.new.stage c.in_ok-reach.ensures.moves c.in_ok-reach.ensures.stopped
-    (Moves-begun g.A.Audience.is_told g.A.Audience.has_stopped c.reach.new.stage
-    c.begin_frame.new.stage c.hear.new.stage _ c.begin_frame.ensures.begun
-    (rw c.in_ok-reach.ensures.frame c.requires.day) c.in_ok-reach.ensures.stopped
-    c.in_err-headers.ensures.moves)
+    Moves-trans c.in_ok-reach.ensures.moves c.in_ok-reach.ensures.stopped (Moves-begun _
+    c.begin_frame.ensures.begun (rw c.in_ok-reach.ensures.frame c.requires.day)
+    c.in_ok-reach.ensures.stopped c.in_err-headers.ensures.moves)
 
 pub returns-in_err-headers-clause-told : goal.returns-in_err-headers-clause-told
 returns-in_err-headers-clause-told g c = λ task frames n last follows long sent again.
@@ -54,14 +51,9 @@ returns-in_err-headers-clause-told g c = λ task frames n last follows long sent
 
 pub returns-then-self-eq0-clause-moves : goal.returns-then-self-eq0-clause-moves
 returns-then-self-eq0-clause-moves g c =
-    Moves-trans g.A.Audience.is_told g.A.Audience.has_stopped c.args.stage.now
-    c.reach.new.stage c.end_sent.new.stage c.in_ok-reach.ensures.moves
-    c.in_ok-reach.ensures.stopped
-    (Moves-begun g.A.Audience.is_told g.A.Audience.has_stopped c.reach.new.stage
-    c.begin_frame.new.stage c.end_sent.new.stage _ c.begin_frame.ensures.begun
-    (rw c.in_ok-reach.ensures.frame c.requires.day) c.in_ok-reach.ensures.stopped
-    (Moves-trans g.A.Audience.is_told g.A.Audience.has_stopped c.begin_frame.new.stage
-    c.hear.new.stage c.end_sent.new.stage c.in_ok-headers.ensures.moves
+    Moves-trans c.in_ok-reach.ensures.moves c.in_ok-reach.ensures.stopped (Moves-begun _
+    c.begin_frame.ensures.begun (rw c.in_ok-reach.ensures.frame c.requires.day)
+    c.in_ok-reach.ensures.stopped (Moves-trans c.in_ok-headers.ensures.moves
     c.in_ok-headers.ensures.stopped c.end_sent.ensures.moves))
 
 pub returns-then-self-eq0-clause-told : goal.returns-then-self-eq0-clause-told
@@ -109,12 +101,9 @@ returns-then-self-eq0-clause-told g c = λ task frames n last follows long sent 
 
 pub returns-clause-moves : goal.returns-clause-moves
 returns-clause-moves g c =
-    Moves-trans g.A.Audience.is_told g.A.Audience.has_stopped c.args.stage.now
-    c.reach.new.stage c.hear.new.stage c.in_ok-reach.ensures.moves c.in_ok-reach.ensures.stopped
-    (Moves-begun g.A.Audience.is_told g.A.Audience.has_stopped c.reach.new.stage
-    c.begin_frame.new.stage c.hear.new.stage _ c.begin_frame.ensures.begun
-    (rw c.in_ok-reach.ensures.frame c.requires.day) c.in_ok-reach.ensures.stopped
-    c.in_ok-headers.ensures.moves)
+    Moves-trans c.in_ok-reach.ensures.moves c.in_ok-reach.ensures.stopped (Moves-begun _
+    c.begin_frame.ensures.begun (rw c.in_ok-reach.ensures.frame c.requires.day)
+    c.in_ok-reach.ensures.stopped c.in_ok-headers.ensures.moves)
 
 pub returns-clause-told : goal.returns-clause-told
 returns-clause-told g c = λ task frames n last follows long sent again.
