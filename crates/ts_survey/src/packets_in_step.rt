@@ -113,11 +113,11 @@ impl PacketsInStep {
         used
     }
 
-    // Skips a byte, and those up to the next sync byte or to where no packet has room. Answers the
+    // Skips a byte, and those up to where the next packet may begin or none has room. Answers the
     // place behind them.
     #[inline(never)]
     fn skip(&mut self, bytes: &[u8], place: usize, multiplex: &mut Multiplex) -> usize {
-        let next = next_sync(bytes, place.saturating_add(1));
+        let next = next_start(bytes, place.saturating_add(1), self.distance);
         let count = next.saturating_sub(place) as u64;
         let hole = HOLE * self.distance.min(204) as u64;
         let run = self.run.saturating_add(count);
@@ -131,17 +131,30 @@ impl PacketsInStep {
     }
 }
 
-// The place of the first sync byte from a place on, as far as a packet has room; the place itself
-// where that is behind.
-fn next_sync(bytes: &[u8], place: usize) -> usize {
+// The first place from one on at which a packet may begin out of step, as far as one has room; the
+// place itself where that is behind.
+fn next_start(bytes: &[u8], place: usize, distance: usize) -> usize {
     let limit = bytes.len().saturating_sub(PACKET - 1);
     if place >= limit {
         return place;
     }
     let (front, _) = bytes.split_at(limit);
     let (_, ahead) = front.split_at(place);
-    match ahead.iter().position(|byte| *byte == SYNC_BYTE) {
-        Some(count) => place.saturating_add(count),
-        None => limit,
+    for (count, byte) in ahead.iter().enumerate() {
+        if *byte == SYNC_BYTE {
+            let start = place.saturating_add(count);
+            if is_followed(bytes, start, distance) {
+                return start;
+            }
+        }
+    }
+    limit
+}
+
+// Whether the byte that tells whether a packet begins at a place is a sync byte, or has not come.
+fn is_followed(bytes: &[u8], place: usize, distance: usize) -> bool {
+    match bytes.get(place.saturating_add(distance)) {
+        Some(byte) => *byte == SYNC_BYTE,
+        None => true,
     }
 }

@@ -98,7 +98,10 @@ impl Recording {
         match &mut self.kind {
             Kind::Pes(file) => file.take(bytes, is_end, text),
             Kind::Stream(packets, multiplex) => packets.take(bytes, is_end, multiplex, text),
-            _ => bytes.len(),
+            _ => {
+                self.skipped = self.skipped.saturating_add(bytes.len() as u64);
+                bytes.len()
+            }
         }
     }
 
@@ -143,8 +146,7 @@ impl Recording {
         if is_end || seen > MOST_LOOKED_AT {
             text.put(b"nothing\n");
             self.kind = Kind::Nothing;
-            self.skipped = seen;
-            return bytes.len();
+            return 0;
         }
         self.skipped = self.skipped.saturating_add(used as u64);
         used

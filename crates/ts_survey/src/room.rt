@@ -2,14 +2,16 @@
 ghost use Rattle.std.specs.Prelude.{◌≡◌, ◌≤◌, ◌+◌, length, vec_len, slice_range, take, IfOk, false};
 ghost use Rattle.sub_io.specs.Device.{CanFail, CountsFailure};
 
+use crate::text::Text;
 use std::alloc::Global;
 use sub_io::{Failed, Source};
 
-/// Room for the longest PES packet of a file, and for what is read at once.
-const ROOM: usize = 131_072;
+/// Room for the longest PES packet of a file, 65,541 bytes, and for what is read at once.
+const ROOM: usize = 135_168;
 
-/// Bytes that are read at once: fewer come of a feed.
-const AT_ONCE: usize = 32_768;
+/// Bytes that are read at once: fewer come of a feed. A source that reads ahead as many, or fewer,
+/// puts them here straight from its device.
+const AT_ONCE: usize = 65_536;
 
 /// What has come.
 #[derive(Clone, Copy)]
@@ -38,13 +40,14 @@ impl Room {
         }
     }
 
-    /// Reads on, once.
+    /// Reads on, once: all lines were handed on, also those of the text.
     ///
     /// # Errors
     ///
     /// `Failed` where the source failed.
-    pub fn pull<S: Source>(&mut self, source: &mut S) -> Result<Came, Failed>
-        requires { CanFail (S.failure_count source.old) }
+    pub fn pull<S: Source>(&mut self, source: &mut S, _text: &Text) -> Result<Came, Failed>
+        requires count { CanFail (S.failure_count source.old) }
+        requires none { length _text.now.bytes.items ≡ 0 }
         ensures count { CountsFailure (S.failure_count source.old) result
             (S.failure_count source.new) }
     {

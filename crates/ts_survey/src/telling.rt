@@ -1,5 +1,5 @@
 //! `survey`: a recording is read once, and a line told for each fact.
-ghost use Rattle.std.specs.Prelude.{◌≡◌, IfErr};
+ghost use Rattle.std.specs.Prelude.{◌≡◌, IfErr, OnOk, false, length};
 ghost use Rattle.sub_io.specs.Device.{CanFail, CountsIf, failed};
 ghost use Rattle.ts_survey.specs.Survey.{Grows, is_survey_read, is_survey_write};
 
@@ -22,8 +22,8 @@ pub enum SurveyFault {
 
 /// Reads a recording to its end, and puts a line for each fact (own; `docs/manual/survey.md`).
 ///
-/// Lines are handed on where the recording has less to give than is asked for. Memory does not grow
-/// with the recording.
+/// What is told is handed on before the recording is asked for more. Memory does not grow with the
+/// recording.
 ///
 /// # Errors
 ///
@@ -42,6 +42,11 @@ pub fn survey<S: Source, K: Flush>(
     ensures source_count { CountsIf S.failure_count source.old (failed is_survey_read result)
         source.new }
     ensures out_count { CountsIf K.failure_count out.old (failed is_survey_write result) out.new }
+    // Where the source may have to ask its device, all that was told before is handed on: each
+    // such call may fail.
+    ensures followed { K.held out.old ≡ 0
+        → failed is_survey_write result ≡ false
+        → K.held out.new ≡ 0 }
 {
     let Some(mut room) = Room::new(alloc) else {
         return Err(SurveyFault::Memory);
@@ -49,7 +54,7 @@ pub fn survey<S: Source, K: Flush>(
     let mut text = Text::new(alloc);
     let mut recording = Recording::new(alloc, options);
     'reads: for _ in 0..u64::MAX {
-        let Ok(came) = room.pull(source) else {
+        let Ok(came) = room.pull(source, &text) else {
             return Err(SurveyFault::Read);
         };
         let used = recording.take(room.held(), came.is_end, &mut text);
@@ -62,7 +67,7 @@ pub fn survey<S: Source, K: Flush>(
         if text.is_lost() || recording.is_short() {
             return Err(SurveyFault::Memory);
         }
-        hand_on(&mut text, came.is_short, out)?;
+        hand_on(&mut text, out)?;
         if came.is_end {
             return Ok(());
         }
@@ -70,10 +75,14 @@ pub fn survey<S: Source, K: Flush>(
     Ok(())
 }
 
-// Puts the lines, and has them handed on where nothing more is there for now.
-fn hand_on<K: Flush>(text: &mut Text, is_feed: bool, out: &mut K) -> Result<(), SurveyFault>
+// Puts all lines, and has them handed on.
+fn hand_on<K: Flush>(text: &mut Text, out: &mut K) -> Result<(), SurveyFault>
     requires { CanFail (K.failure_count out.old) }
     ensures grows { Grows (K.contents out.old) (K.contents out.new) }
+    ensures all { OnOk result (length text.new.bytes.items ≡ 0) }
+    ensures holds { K.held out.old ≡ 0
+        → failed is_survey_write result ≡ false
+        → K.held out.new ≡ 0 }
     ensures own { IfErr result (λ fault. fault ≡ SurveyFault.Write) }
     ensures count { CountsIf K.failure_count out.old (failed is_survey_write result) out.new }
 {
@@ -84,9 +93,6 @@ fn hand_on<K: Flush>(text: &mut Text, is_feed: bool, out: &mut K) -> Result<(), 
         return Err(SurveyFault::Write);
     }
     text.clear();
-    if !is_feed {
-        return Ok(());
-    }
     match out.flush() {
         Ok(()) => Ok(()),
         Err(_) => Err(SurveyFault::Write),

@@ -1,5 +1,5 @@
 //! The lines that are made and not yet handed on.
-ghost use Rattle.std.specs.Prelude.{◌≡◌, ◌≤◌, ◌<◌, ◌++◌, [], ◌∷◌, codes, decimal, false, length};
+ghost use Rattle.std.specs.Prelude.{◌≡◌, ◌≤◌, ◌<◌, ◌++◌, ◌∷◌, codes, decimal, false, length, true};
 ghost use Rattle.ts_survey.specs.Text.{Adds, hex_word, page_word, ticks_word, time_word};
 
 use arrayvec::ArrayVec;
@@ -21,7 +21,7 @@ pub struct Text {
 impl Text {
     /// None.
     pub fn new(alloc: Global) -> Text
-        ensures empty { result.bytes.items ≡ [] }
+        ensures empty { length result.bytes.items ≡ 0 }
         ensures whole { result.is_lost ≡ false }
     {
         Text {
@@ -36,7 +36,9 @@ impl Text {
     }
 
     /// Whether there is none.
-    pub fn is_empty(&self) -> bool {
+    pub fn is_empty(&self) -> bool
+        ensures { result ≡ true → length self.now.bytes.items ≡ 0 }
+    {
         self.bytes.is_empty()
     }
 
@@ -47,7 +49,7 @@ impl Text {
 
     /// Forgets them: they were handed on.
     pub fn clear(&mut self)
-        ensures empty { self.new.bytes.items ≡ [] }
+        ensures empty { length self.new.bytes.items ≡ 0 }
         ensures same { self.new.is_lost ≡ self.old.is_lost }
     {
         self.bytes.clear();

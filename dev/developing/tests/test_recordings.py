@@ -1,7 +1,12 @@
-"""Transport streams that are written, read again; languages of subtitle files."""
+"""Transport streams that are written, read again, and told as a feed; languages of subtitle
+files."""
 from __future__ import annotations
 
+import os
 import random
+import select
+import subprocess
+import time
 
 from developing.pes import pes_packet
 from subtitles.core.times import CLOCK, TICKS
@@ -11,7 +16,7 @@ from subtitles.reading.languages import names_of
 from subtitles.reading.packets import Mark, Packets, Run
 from developing.multiplex import Multiplex
 from subtitles.reading.survey import Survey, survey
-from .bench import Case, packets
+from .bench import SECONDS, Case, packets
 from .judged import Heard
 from .parts import HEADER, row
 
@@ -84,3 +89,43 @@ class Written(Case):
                 ("1E", "nor nob nno"), ("22", "ron rum"), ("26", "slv"), ("29", "tur"),
                 ("7f", ""), ("00", ""), ("x", ""), ("", "")):
             self.must(code, names_of(code) == wanted.split(), names_of(code))
+
+
+class Fed(Case):
+    """A stream that comes through a pipe, block by block."""
+
+    def sent(self) -> bytes:
+        """Of one PES packet a frame, in each second another row."""
+        multiplex = Multiplex(PID, b"ger", (1, 0x50))
+        for number in range(300):
+            pts = (CLOCK + TICKS * (number - 20)) % CLOCK
+            multiplex.put(pes_packet(pts, [HEADER, row(20, b"%d" % (number // 25))]), pts)
+        return multiplex.taken()
+
+    def packets_in(self, data: bytes) -> int:
+        """The PES packets that a file of these bytes has."""
+        _, lines = self.program("survey", self.write("front.ts", data))
+        [count] = [int(line.split()[2]) for line in lines if line.startswith("end ")]
+        return count
+
+    def test_is_told_at_once(self) -> None:
+        """After each block the lines tell each PES packet that has come, also where a block is half
+        as long as what is asked for at once."""
+        data = self.sent()
+        for size in (1000, 16_384, 32_768, 60_000):
+            with subprocess.Popen([self.bench.program, "survey", "/dev/stdin"],
+                                  stdin=subprocess.PIPE, stdout=subprocess.PIPE) as process:
+                assert process.stdin and process.stdout
+                out, told = b"", -1
+                for end in range(size, 3 * size + 1, size):
+                    process.stdin.write(data[end - size:end])
+                    process.stdin.flush()
+                    wanted, last = self.packets_in(data[:end]), time.monotonic() + SECONDS / 10
+                    while told != wanted and (left := last - time.monotonic()) > 0:
+                        if select.select([process.stdout], [], [], left)[0]:
+                            out += os.read(process.stdout.fileno(), 1 << 16)
+                        runs = [line.split() for line in out[:out.rfind(b"\n") + 1].splitlines()
+                                if line.startswith(b"pes ")]
+                        told = int(runs[-1][2]) + int(runs[-1][3]) if runs else 0
+                    self.must(f"{end} in blocks of {size}", told == wanted, (told, wanted))
+                process.stdin.close()

@@ -16,4 +16,6 @@ reads-preserved g c = record {
   source = search rules;
   out = search rules;
   grows = grows-more _ _ _ c.reads.invariant.grows c.hand_on.ensures.grows;
+  none = search rules;
+  holds = search rules;
 }

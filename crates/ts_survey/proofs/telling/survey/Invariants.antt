@@ -1,5 +1,5 @@
--- Nothing has failed, and what was told stands in the sink.
-use Rattle.std.proofs.Common.{◌≡◌}
+-- Nothing has failed, what was told stands in the sink, and is handed on.
+use Rattle.std.proofs.Common.{◌≡◌, length}
 use Rattle.ts_survey.specs.Survey.{Grows}
 use Rattle.ts_survey.proofs.telling.survey.Given as goal
 
@@ -8,4 +8,6 @@ invariant-reads g l = record {
   source : g.S.Source.failure_count l.source ≡ g.S.Source.failure_count l.fn.source;
   out : g.K.Sink.failure_count l.out ≡ g.K.Sink.failure_count l.fn.out;
   grows : Grows (g.K.Sink.contents l.fn.out) (g.K.Sink.contents l.out);
+  none : length l.text.bytes.items ≡ 0;
+  holds : g.K.Flush.held l.fn.out ≡ 0 → g.K.Flush.held l.out ≡ 0;
 }
