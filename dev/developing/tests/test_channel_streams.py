@@ -82,10 +82,11 @@ def without(sent: Sequence[Sent], frame: int, count: int) -> list[Sent]:
 class Streams(Case):
     """Feeds of a programme."""
 
-    def channel(self, data: bytes, *more: str, names: Sequence[str] = ("one",)) -> tuple[
-            int, list[str], list[dict[str, Any]]]:
-        """The status, what is said, and the objects, of programmes in a feed."""
-        self.write("list", "".join(f"{name}.stl\n" for name in names).encode())
+    def channel(self, data: bytes, *more: str, names: Sequence[str] = ("one",), line: str = ""
+                ) -> tuple[int, list[str], list[dict[str, Any]]]:
+        """The status, what is said, and the objects, of programmes in a feed, whose lines have the
+        same options."""
+        self.write("list", "".join(f"{name}.stl {line}\n" for name in names).encode())
         done = self.tool("qc", "--channel", "list", "-", "-o", "out", "-p", self.bench.program,
                          *more, data=data)
         self.must("nothing on standard error", not done.told, done.told)
@@ -104,11 +105,13 @@ class Streams(Case):
         was. A channel says what `qc` says of the recording, also behind 17 MiB of something else.
         """
         sent = Feed(self).stream()
-        for count, word in ((0, "accepted"), (16, "lost"), (17, "refused"), (32, "refused"),
-                            (96, "refused"), (160, "refused")):
+        for count, word, line in ((0, "accepted", ""), (16, "lost", "--pace=none"),
+                                  (16, "refused", ""), (17, "refused", ""), (32, "refused", ""),
+                                  (96, "refused", ""), (160, "refused", "")):
             data = bytes_of(without(sent, 55, count))
-            status, lines, [known] = self.channel((MUCH if count in (0, 16) else b"") + data)
-            _, pair, _ = self.pair(data)
+            status, lines, [known] = self.channel((MUCH if count in (0, 16) else b"") + data,
+                                                  line=line)
+            _, pair, _ = self.pair(data, *line.split())
             self.must(f"{count}: verdict", (known["verdict"], known["status"], status) == (
                 word, int(word != "accepted"), int(word != "accepted")), known["line"])
             self.must(f"{count}: as of the recording", [known[name] for name in (
@@ -119,6 +122,23 @@ class Streams(Case):
             if count:
                 self.must(f"{count}: what", f"{count / 25:.2f} s are missing, by the PCR" in
                           lines[0] or lines[0].startswith("1 TS packet lost"), lines)
+
+    def test_pace(self) -> None:
+        """A hole of 16 packets of the PID alone is 79 by the pace that is measured, and by one that
+        is asked for all or on a line of the list; by none it is accepted."""
+        sent = Feed(self).stream()
+        own = {*[at for at, one in enumerate(sent) if one.pid == TELETEXT_PID][
+            BEFORE * FRAMES_A_SECOND + 55:][:16]}
+        data = bytes_of([one for at, one in enumerate(sent) if at not in own])
+        for more, line, word, pace in (
+                ((), "", "refused", 16), ((), "--pace none", "accepted", None),
+                (("--pace", "none"), "--pace 9", "refused", 9), (("--pace", "17"), "", "accepted", 17)):
+            status, lines, [known] = self.channel(data, *more, line=line)
+            self.must(f"{more} {line}", (known["verdict"], status, known["parts"][0]["pace"]) == (
+                word, int(word == "refused"), pace) and known["asked"]["pace"] == (
+                    None if pace == 16 else str(pace or "none")), known)
+            self.must(f"{more} {line}: told", (known["line"].startswith("refused 79 Silent frame "))
+                      == (word == "refused"), lines)
 
     def test_five_minutes(self) -> None:
         """They are told, and no frame of them is trusted, whatever the counter says."""

@@ -147,7 +147,8 @@ class Holes(Case):
             self.must(f"{ticks}: a loss", len(missing) <= (ticks > 0) and not jumps, places)
 
     def test_is_judged(self) -> None:
-        """A hole of 0.64 s is told, and a jump; a PID without a PCR is, where holes may be."""
+        """A hole of 0.64 s is told, and a jump; a PID without a PCR is, where holes may be, since
+        no pace is asked for."""
         pes = self.programme()
         made = sent_of(pes, Shape())
         words = [self.path("story.stl"), self.path("one.ts"), "--origin", "0"]
@@ -156,11 +157,14 @@ class Holes(Case):
         hole = "s are missing, by the PCR and the counters of other PIDs"
         for name, sent, word, more, line in (
                 ("whole", made, "accepted", "--pid=0x101", ""),
-                ("a hole", without(made, 27, 16), "lost", "--page=888", hole),
-                ("allowed", without(made, 27, 16), "accepted", "--allow-lost", hole),
+                ("a hole", without(made, 27, 16), "lost", "--pace=none", hole),
+                ("and the pace", without(made, 27, 16), "refused", "--page=888", hole),
+                ("allowed", without(made, 27, 16), "waived", "--allow-lost", hole),
                 ("a jump", jumped, "accepted", "--page=888", "the clock jumps by 2:24:01 at "
                  "10:00:02:08: an encoder that was started anew? --breaks 1"),
-                ("alone", own, "accepted", "--pid=0x101", "there is no PCR of the programme of ")):
+                ("alone", own, "accepted", "--pid=0x101", ""),
+                ("not asked", own, "accepted", "--pace=none",
+                 "there is no PCR of the programme of ")):
             self.write("one.ts", b"".join(one.data for one in sent))
             found = judged(self, *words, more)
             told = [one for one in found.told if one.startswith("warning: the clock") or

@@ -29,7 +29,7 @@ VALUES = {"--page": "801", "--every": "25", "--within": "1", "--option": "german
           "--start": "tcp", "--breaks": "1", "--pes": "2-9", "--pid": "0x101", "--severity": "file",
           "-o": "out", "--json": "x", "--csv": "x", "--junit": "x", "--stall": "5", "-p": "none",
           "--jobs": "2", "--settled": "1", "--patience": "9", "--from": "00:00:01:00",
-          "--to": "00:00:02:00", "--layout": "fit"}
+          "--to": "00:00:02:00", "--layout": "fit", "--pace": "9"}
 MANUAL = os.path.join(TOP, "docs", "manual", "qc.md")
 HIDDEN = {"--name", "--fitted", "--cut"}  # of calls that other ones make
 ASKING = {"--batch", "--watch", "--channel", "--collect", "--help", "-h", "--version"}

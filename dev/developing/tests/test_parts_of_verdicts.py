@@ -280,7 +280,7 @@ class Severities(Case):
 
     def test_sets_of_numbers(self) -> None:
         """Of what comes of more frames, and where pages are moved."""
-        self.must("whatever N is", FIXED == STL_FAULTS | {*range(30, 41), 44, 45, 60})
+        self.must("whatever N is", FIXED == STL_FAULTS | {*range(30, 41), 44, 45, 60, 79})
         self.must("of packets, of frames", (OF_PACKETS, OF_FRAMES, OF_ENDS) == (
             {63, 64, 65, 66, 67, 68, 69, 70, 71, 73}, {61, 62}, {72, 77}))
         self.must("pages are moved", MOVED == {30, 31, 32, 44, 45, 60, 62, 63, 71, 72, 74, 77})

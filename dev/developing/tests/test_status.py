@@ -13,7 +13,7 @@ from subtitles.qc.status import (
     Seen, decide, is_of_call, of_all, word_of)
 
 ERROR, WARNING, NUMBER = 72, 67, 38  # of faults: the file below names the second a warning
-ENDS_READING, LOST_PACKETS = (30, 31, 32, 44), 45
+ENDS_READING, LOST_PACKETS, SILENT = (30, 31, 32, 44), 45, 79
 RIGHT = {
     "accepted": Said(0, is_accepted=True),
     "refused": Said(1, faults=3, counted=3, numbers=(WARNING, ERROR)),
@@ -147,7 +147,12 @@ class Decided(unittest.TestCase):
             (["others warning", f"{ERROR} error"], False,
              {ERROR: 1, WARNING: 0, LOST_PACKETS: 1}),
             ([f"{LOST_PACKETS} warning"], False, {ERROR: 1, LOST_PACKETS: 0}),
-            ([], True, {ERROR: 1, WARNING: 1, LOST_PACKETS: 0}),
+            ([], True, {ERROR: 1, WARNING: 1, LOST_PACKETS: 0, SILENT: 0}),
+            ([], False, {SILENT: 1}), ([f"{LOST_PACKETS} warning"], False, {SILENT: 0}),
+            ([f"{LOST_PACKETS} warning", f"{SILENT} error"], False, {SILENT: 1}),
+            ([f"{SILENT} error"], True, {SILENT: 1}),
+            ([f"{SILENT} warning"], False, {SILENT: 0, LOST_PACKETS: 1}),
+            (["others warning"], False, {SILENT: 0}),
             ([f"{LOST_PACKETS} error"], True, {LOST_PACKETS: 0}),
             ([f"{number} warning" for number in ENDS_READING], True, {WARNING: 1})]
         for lines, is_allowed, wanted in rows:

@@ -44,7 +44,7 @@ def part_words(part: Part, is_kept: bool) -> dict[str, Value]:
             "verdict": answer.verdict, "line": answer.line,
             "frames": answer.frames, "transmissions": answer.transmissions,
             "faults": answer.count, "pid": pid, "packet_size": packet_size,
-            "pes": part.pes_name, "judged": judged,
+            "pes": part.pes_name, "pace": part.asked and part.asked.pace, "judged": judged,
             "clock": part.clock and part.clock._asdict()}
 
 

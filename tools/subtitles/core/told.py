@@ -34,6 +34,8 @@ PASSED_OVER = {*range(33, 41), 45, 61}  # of PES packets that can't be read, or 
 # Where reading a recording ended: nobody saw what comes after that.
 ENDS_READING = {30, 31, 32, 44}
 LOST_PACKETS = 45  # TS packets are lost within what is judged: nobody saw what was sent there
+SILENT = 79  # no PES packet has come for as long as the pace allows: these may be lost
+LOSSES = {LOST_PACKETS, SILENT}
 REFUSED, ENDED, FAULT, USAGE = "refused", "ended", "fault", "usage"
 CONTENT, CHARACTER, LETTERS, CONTROL, CHANGED = 72, 50, (50, 51), 67, 69
 BEGIN, END = 63, 74  # what is judged begins after the first TCI, or ends before the last TCO

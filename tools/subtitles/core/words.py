@@ -17,7 +17,7 @@ from .times import CLOCK, frame_of
 HIDDEN = re.compile("[\x00-\x1f\x7f-\x9f\u061c\u200e\u200f\u2028-\u202e\u2066-\u2069"
                     "\ud800-\udfff]")
 INSTALLED = "subttx-"  # before the names of tools that are installed
-MOST_EVERY = 2_160_000  # frames of a repeat bound: a day
+MOST_EVERY = 2_160_000  # frames of a repeat bound, and of a pace: a day
 MOST_WITHIN = 50  # frames within which a page has to be whole
 MOST_DIGITS = 3  # of a number of breaks
 TCP_WORD = "tcp"  # for the time code that the GSI block has
@@ -97,13 +97,18 @@ def range_word(text: str) -> tuple[int, int]:
     return int(found[1]), int(found[2])
 
 
-def every_word(text: str) -> int:
-    """The repeat bound in frames."""
+def every_word(text: str, name: str = "repeat bound") -> int:
+    """The repeat bound in frames, or another number of them."""
     digits = text.lstrip("0")
     is_number = text.isascii() and text.isdecimal() and len(digits) <= len(str(MOST_EVERY))
     if not is_number or not 1 <= int(digits or "0") <= MOST_EVERY:
-        raise argparse.ArgumentTypeError(f"{text} is no repeat bound: 1 to {MOST_EVERY} frames")
+        raise argparse.ArgumentTypeError(f"{text} is no {name}: 1 to {MOST_EVERY} frames")
     return int(digits)
+
+
+def pace_word(text: str) -> int:
+    """The frames from a PES packet to the next one at most."""
+    return every_word(text, "pace")
 
 
 def within_word(text: str) -> int:

@@ -15,6 +15,7 @@ pes_header    the first PES header of a PID, where it is not one of Teletext
 fitting       what is found of its origin: parts with their clocks
 moved         a page that moves to another PID: what is judged on each
 missing       places at which something is missing, and of which parts
+paced         the pace by which a part is judged, or which holes may be unseen
 start         the clock by the first picture
 clock         the clock of a part, and what is said of it
 warned        what is strange of a recording

@@ -17,7 +17,7 @@ from ..core.words import (
     Stop, Words, add_page, add_within, breaks_word, every_word, origin_word, pid_word, range_word,
     start_word, within_words)
 from .options import (
-    AUTO, FROM, KEEPING, LAYOUT, OPEN, TO, add_passed_on, passed_words, words_of_pages)
+    AUTO, FROM, KEEPING, LAYOUT, NONE, OPEN, PACE, TO, add_passed_on, passed_words, words_of_pages)
 
 AUTO_OF_FEED = ("--layout auto reads all that was sent before it judges: try a recording of the "
                 "feed first, and give the TEXT that is found there")
@@ -93,13 +93,23 @@ class Asked:
         """The same, and they may."""
         return dataclasses.replace(self, passed_on={**self.passed_on, KEEPING: ""})
 
+    def paced(self, frames: int) -> Asked:
+        """The same, and PES packets come in so many frames at most."""
+        return dataclasses.replace(self, passed_on={**self.passed_on, PACE: str(frames)})
+
+    @property
+    def pace(self) -> int | None:
+        """That pace, where there is one."""
+        word = self.passed_on.get(PACE, NONE)
+        return None if word == NONE else int(word)
+
     @property
     def handed_on(self) -> dict[str, str]:
         """Those of the options that `check` gets too, with the layout that was found."""
-        if self.passed_on.get(LAYOUT) != AUTO:
-            return self.passed_on
-        others = {name: word for name, word in self.passed_on.items() if name != LAYOUT}
-        return {**others, LAYOUT: self.found_layout} if self.found_layout else others
+        found = {LAYOUT: self.found_layout or ""} if self.passed_on.get(LAYOUT) == AUTO else {}
+        words = {**self.passed_on, **found}
+        without = {LAYOUT: "", PACE: NONE}  # that `check` has no word for
+        return {name: word for name, word in words.items() if without.get(name) != word}
 
     def words_of_pages(self) -> list[str]:
         """The options that say which pages are due, of those that are handed on."""

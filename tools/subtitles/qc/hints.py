@@ -3,12 +3,13 @@ from __future__ import annotations
 
 from typing import Iterator, Sequence
 
-from ..core.times import frame_at
+from ..core.times import frame_at, time_of
 from ..core.told import (
     BEGIN, CHARACTER, CONTENT, CONTROL, DISPLAY, EMPTY_TIME, END, GAP, OFF_FRAME, OUT_OF_ORDER,
-    PASSED_OVER, Told)
+    PASSED_OVER, SILENT, Told)
 from ..core.words import MOST_EVERY, counted, pid_name
 from ..reading.gaps import why_refused
+from ..reading.pace import rows_of
 from ..reading.packets import HEADER
 from ..reading.repeat import are_usual, edges_of, longest_gap, measured
 from .asked import Asked
@@ -17,10 +18,11 @@ from .headers import header_words
 from .midnight import midnight_words
 from .off_frame import off_of
 from .option_advice import OptionAdvice
+from .options import NONE, PACE
 from .subtitle_file import SubtitleFile
 from .verdict import Part, Verdict
 
-HINTED = {EMPTY_TIME, CHARACTER, OUT_OF_ORDER, OFF_FRAME, CONTROL, GAP}
+HINTED = {EMPTY_TIME, CHARACTER, OUT_OF_ORDER, OFF_FRAME, CONTROL, GAP, SILENT}
 NAMED = {DISPLAY, CONTENT}  # for which an option is named, where one helps
 OF_HEADERS = {32, 35}  # of PES packets: their length, and that of their headers
 OF_ENDS = {BEGIN, END}  # where the page moves to another PID, or that has no more Teletext
@@ -65,6 +67,8 @@ def words_of(told: Told, part: Part, verdict: Verdict) -> str:
     if told.number == OFF_FRAME:
         off = off_of(part.pts(), part.origin)
         return off.words(part.accepted_within) if off else ""
+    if told.number == SILENT:
+        return silent_words(told, part)
     if told.number == GAP:
         times = [(one.begin, one.end) for one in part.due().subtitles]
         return gap_words((part.pts(HEADER), part.pts()[-1:]), part.origin, asked,
@@ -91,6 +95,18 @@ def open_words(subtitles: SubtitleFile) -> str:
     """What takes a file whose display standard code is that of open subtitles, or none."""
     kind = {b"0": "0, open subtitles", b" ": "a space, none"}.get(subtitles.data[DSC])
     return f"its DSC is {kind}: --open takes it" if kind else ""
+
+
+def silent_words(told: Told, part: Part) -> str:
+    """From when on, and for how long, no PES packet came; and what does not ask for one."""
+    asked, pes, origin = part.asked, part.pes, part.origin
+    if asked is None or asked.pace is None or pes is None or origin is None or told.frame is None:
+        return ""
+    before = told.frame - asked.pace
+    after = next((frame for row in rows_of(part.packets, pes, origin, asked.within)
+                  for frame in row if frame > before), None)
+    return "" if after is None else f"none for {counted(after - before - 1, 'frame')} from " \
+        f"{time_of(before + 1)} on; where nothing was sent then, {PACE} {NONE} does not ask for it"
 
 
 def gap_words(sent: tuple[Sequence[int], Sequence[int]], origin: int, asked: Asked,

@@ -7,7 +7,7 @@ from typing import Sequence
 from ..core.layout import PLAIN, layout_of
 from ..core.national import BY_WORD
 from ..core.programme import Subtitle
-from ..core.told import CONTENT, CONTROL, LOST_PACKETS, WITH_CAUSE
+from ..core.told import CONTENT, CONTROL, LOSSES, WITH_CAUSE
 from ..reading.packets import HEADER
 from . import warned
 from .asked import Asked
@@ -96,7 +96,7 @@ class Judging:
             part.delays = frames_in(not asked.within and not answer.numbers & MOVED,
                                     len(part.subtitle_file().begins), held, part.due,
                                     asked.is_complete)
-        part.is_lost = LOST_PACKETS in answer.numbers or \
+        part.is_lost = bool(LOSSES & answer.numbers) or \
             any(is_in(place, part) for place in recording.places())
         if part.is_refused and not (recording.is_feed or part.is_lost or one.piece):
             part.accepted_within = Trying(self.steps, recording, one, part.number,

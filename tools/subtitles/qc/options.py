@@ -8,7 +8,7 @@ import argparse
 from typing import Any, Callable, NamedTuple, Sequence
 
 from ..core.layout import fault_in
-from ..core.words import time_word
+from ..core.words import pace_word, time_word
 
 
 class PassedOn(NamedTuple):
@@ -42,6 +42,7 @@ def time_text(text: str) -> str:
 LAYOUT, OPEN = "--layout", "--open"
 AUTO = "auto"  # what is found takes the place of this word
 KEEPING = "--keeping"
+PACE, NONE = "--pace", "none"  # none: no pace is looked for either
 
 
 def layout_word(text: str) -> str:
@@ -57,6 +58,11 @@ def layout_or_auto(text: str) -> str:
     return text if text == AUTO else layout_word(text)
 
 
+def pace_or_none(text: str) -> str:
+    """A pace, or the word that asks for none."""
+    return text if text == NONE else str(pace_word(text))
+
+
 PASSED_ON: tuple[PassedOn, ...] = (
     PassedOn(FROM, "TIME", "only the subtitles whose TCI is at TIME or later", time_text,
              is_of_file=True),
@@ -66,6 +72,8 @@ PASSED_ON: tuple[PassedOn, ...] = (
              "them as they were sent", layout_or_auto, is_of_file=True, is_of_pages=True),
     PassedOn(OPEN, None, "take a file of open subtitles too", is_of_file=True, is_of_pages=True),
     PassedOn(KEEPING, None, "headers that repeat the page may keep it, with C4 (erase page) clear"),
+    PassedOn(PACE, "K|none", "frames from a PES packet to the next one at most; it is measured "
+             "where it is left out; none: ask for none", pace_or_none),
 )
 
 
@@ -95,6 +103,9 @@ def add_for_reports(parser: argparse.ArgumentParser) -> None:
     parser.set_defaults(passed_on={})
     parser.add_argument(LAYOUT, action=Keep, dest="passed_on", metavar="TEXT", type=layout_word,
                         default={}, help="how the house draws its subtitles")
+    parser.add_argument(PACE, action=Keep, dest="passed_on", metavar="K", default={},
+                        type=lambda text: str(pace_word(text)),
+                        help="frames from a PES packet to the next one at most")
     for name in (OPEN, KEEPING):
         one = next(one for one in PASSED_ON if one.name == name)
         parser.add_argument(name, action=Keep, dest="passed_on", nargs=0, default={},

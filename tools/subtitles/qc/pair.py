@@ -8,7 +8,7 @@ from ..core.national import BY_WORD
 from ..core.programme import Subtitle
 from ..core.times import ALL_DAY, time_of
 from ..core.told import EMPTY
-from ..core.words import Stop, counted, pid_name
+from ..core.words import Stop, counted
 from ..reading.finding import runs_line
 from ..reading.order import Span
 from ..reading.timeline import timeline_near
@@ -28,6 +28,7 @@ from .missing import gap_of, gaps_in, is_in, unsent_in
 from .moved import moves_told
 from .names import Names
 from .options import FROM, LAYOUT
+from .paced import paced
 from .recording import Recording, refuse_files
 from .speech import Speech
 from .start import NoFirst, began, refuse_outside
@@ -228,6 +229,8 @@ class Pair:
             self.recording = one.recording
             part = self.begun = judging.begin(number, one)
             assert part.pes
+            one = paced(one, part.pes, subtitles, self.verdict, self.speech)
+            part.asked = one.asked
             self.steps.check(one.recording, one, part.pes, part.answer)
             self.verdict.parts.append(part)
             judging.end(part, one)
@@ -292,10 +295,6 @@ class Pair:
         found, packets, survey = list[Warned](), recording.packets, recording.survey
         found += recording.strange()
         if recording.is_stream:
-            if survey.clock_of(packets.pid) is None:
-                self.verdict.notes.append(
-                    f"there is no PCR of the programme of {pid_name(packets.pid)}: a hole that its "
-                    "counter does not show, as one of 16 TS packets, can't be seen")
             found += [*warned.of_timing(packets, origin),
                       *warned.of_jumps(packets, origin, part.begin, part.end),
                       *warned.of_tables(survey, packets.pid, self.asked)]

@@ -2,7 +2,7 @@
 from __future__ import annotations
 
 from ..core.files import refuse_device
-from ..core.told import ENDS_READING, LOST_PACKETS
+from ..core.told import ENDS_READING, LOST_PACKETS, SILENT
 from ..core.words import Stop
 
 ERROR, WARNING = "error", "warning"
@@ -14,7 +14,8 @@ REFUSALS = {3, 4, *range(10, 26), *range(30, 41), 44, LOST_PACKETS, *range(50, 5
 
 class Severity:
     """The severity of each number: an error, but for what a file says. `is_loss_allowed` names lost
-    packets a warning; `others` in a file never does."""
+    packets a warning; `others` in a file never does. Where they are one, a silence that a file does
+    not name is one too."""
 
     def __init__(self, path: str | None, is_loss_allowed: bool = False) -> None:
         self.named: dict[int, str] = {}
@@ -47,7 +48,8 @@ class Severity:
             return ERROR
         if number == LOST_PACKETS:
             return WARNING if self.is_loss_allowed else self.named.get(number, ERROR)
-        return self.named.get(number, self.others)
+        is_loss = number == SILENT and not self.is_error(LOST_PACKETS)
+        return self.named.get(number, WARNING if is_loss else self.others)
 
     def is_error(self, number: int) -> bool:
         """Whether a number counts."""

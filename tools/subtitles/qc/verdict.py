@@ -8,7 +8,7 @@ from typing import Callable, Collection, Iterable, Sequence
 
 from ..core.national import BY_BITS, RESERVED
 from ..core.times import ALL_DAY, Between, time_of
-from ..core.told import EMPTY, LOST_PACKETS, PASSED_OVER, STL_FAULTS
+from ..core.told import EMPTY, LOSSES, PASSED_OVER, STL_FAULTS
 from ..reading.gaps import Place
 from ..reading.packets import PES, Packets, Range
 from ..reading.receiver import national_option
@@ -211,7 +211,7 @@ class Verdict:
     def is_lost_alone(self) -> bool:
         """Whether nothing but that is refused."""
         numbers = {number for part in self.parts for number in part.answer.numbers}
-        return self.word == LOST or self.word == REFUSED and numbers == {LOST_PACKETS}
+        return self.word == LOST or self.word == REFUSED and numbers <= LOSSES
 
     def warn(self, found: Iterable[Warned]) -> None:
         """Takes warnings that are not known yet."""

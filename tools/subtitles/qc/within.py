@@ -2,7 +2,7 @@
 asked for, and 5 at most."""
 from __future__ import annotations
 
-from ..core.told import LOST_PACKETS, accepted_of, told_of
+from ..core.told import LOSSES, accepted_of, told_of
 from ..reading.cutting import Cut
 from .asked import MOST_TRIED
 from .causes import EARLY, IN_PART, LATE, NOT_ERASED, UNKNOWN, Cause
@@ -13,7 +13,7 @@ from .status import ACCEPTED, Said, word_of
 from .steps import Steps, Stretch, origin_in
 
 # Faults that stay whatever N is: of the subtitle file, of PES packets that can't be read.
-FIXED = {*range(10, 26), *range(30, 41), 44, LOST_PACKETS, *range(50, 58), 60}
+FIXED = {*range(10, 26), *range(30, 41), 44, *LOSSES, *range(50, 58), 60}
 # Faults that stay where each PES packet has a frame of its own, and others that N may take away.
 OF_PACKETS, OF_FRAMES = {*range(63, 72), 73}, {61, 62}
 OF_ENDS = {72, 77}

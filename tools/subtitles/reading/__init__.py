@@ -11,6 +11,7 @@ streams      the PES packets of a PID, for the tools that are told it
 moving       a page that moves to another PID, as the PMT says
 gaps         where something is missing, and where the clock jumps
 timing       PTS against the PCR
+pace         how far apart PES packets come, and which pace tells a loss of any length
 receiver     what a model receiver holds, and marks in its cells
 subcodes     sub-pages that alternate
 repeat       how often a page is repeated

@@ -114,7 +114,9 @@ class Packets:
             begin, end = max(run.first, first), min(run.end, last + 1)
             if run.first > last:
                 return
-            if begin < end:
+            if begin == run.first and end == run.end:  # as most are
+                yield run
+            elif begin < end:
                 yield run._replace(first=begin, length=end - begin, pts=run.pts_of(begin))
 
     def pts_at(self, number: int) -> int | None:

@@ -1,0 +1,394 @@
+"""How far apart PES packets come: which pace is told, by a table; and holes of all lengths of a PID
+that is regular, and of others."""
+from __future__ import annotations
+
+import argparse
+from typing import NamedTuple, Sequence
+
+from developing.pes import pes_packet
+from subtitles.calls.batch import words_of
+from subtitles.calls.machine import asked_words
+from subtitles.calls.main import parser_of
+from subtitles.calls.objects import found, is_current
+from subtitles.calls.pairs import pairs_at
+from subtitles.core.times import CLOCK, TICKS
+from subtitles.core.words import Stop
+from subtitles.qc.asked import asked_of
+from subtitles.qc.made_with import Program
+from subtitles.reading.pace import (
+    BY_EVERY, FEW, IRREGULAR, LEAST, PAUSED, REGULAR, TOO_FEW, Pace, Pauses, each_of, pace_of,
+    pauses_of, rows_of)
+from subtitles.reading.packets import Packets, Run
+from .bench import Case
+from .judged import Judged, Sent, in_pipe, joined, judged, programme, sendings
+from .muxed import TELETEXT_PID
+from .parts import asked_for
+from .test_holes import Sent as Packet
+from .test_holes import Shape, sent_of, without
+
+BEGIN = 900_000  # the first frame
+LONG = range(5000)  # frames, of which five may be otherwise
+FOUR = range(400)  # of which three may be
+
+
+class Row(NamedTuple):
+    """Frames of PES packets, and what they are like: the pace, where one is told."""
+
+    name: str
+    rows: Sequence[Sequence[int]]
+    kind: str
+    frames: int | None = None
+    each: int = 1
+    every: int = 250
+    pauses: Pauses = ()
+
+
+def holed(frames: Sequence[int], *holes: tuple[int, int]) -> list[int]:
+    """Frames without those behind one, so many, for each hole."""
+    gone = {frame for first, count in holes for frame in range(first + 1, first + 1 + count)}
+    return [frame for frame in frames if frame not in gone]
+
+
+def repeated(steps: Sequence[int], times: int) -> list[int]:
+    """Frames that are so far apart, over and over."""
+    found = [0]
+    for step in [*steps] * times:
+        found.append(found[-1] + step)
+    return found
+
+
+def regular(name: str, *rows: Sequence[int], frames: int = 16, each: int = 1, every: int = 250,
+            pauses: Pauses = ()) -> Row:
+    """Of which a pace is told."""
+    return Row(name, rows, REGULAR, frames, each, every, pauses)
+
+
+TABLE = [
+    Row("none", [], TOO_FEW), Row("an empty one", [[]], TOO_FEW), Row("one", [[7]], TOO_FEW),
+    Row("one too few", [range(LEAST)], TOO_FEW), regular("just enough", range(LEAST + 1)),
+    regular("as a list", list(range(LEAST + 1))), regular("late in the day", range(9000, 9500)),
+    regular("a row for each mark", *[range(50 * at, 50 * at + 40) for at in range(9)]),
+    Row("short rows", [range(50 * at, 50 * at + 9) for at in range(99)], TOO_FEW),
+    # By the TS packets of a PES packet: 17 behind it, and two PES packets at least.
+    *(regular(f"{each} TS packets", FOUR, frames=frames, each=each)
+      for each, frames in enumerate((16, 8, 5, 4, 3, 2, 2, 2, 2), 1)),
+    # By the distance.
+    regular("each fifth frame", repeated([5], 200), frames=84),
+    regular("each fifth frame, large", repeated([5], 200), frames=14, each=9),
+    regular("once a second", repeated([25], 200), frames=224, each=2),
+    Row("once a second, small", [repeated([25], 200)], BY_EVERY),
+    regular("once a second, small, and another bound", repeated([25], 200), frames=424, every=500),
+    regular("up to the bound", repeated([25], 200), frames=424, every=425),
+    Row("over the bound", [repeated([25], 200)], BY_EVERY, every=424),
+    regular("two in a frame", repeated([0, 1], 200), frames=7),
+    Row("two in a frame, large", [repeated([0, 1], 200)], IRREGULAR, each=9),
+    Row("all in one frame", [[5] * 400], IRREGULAR),
+    # Jitter of a frame, changes between repeats, bursts at changes.
+    regular("jitter", repeated([1, 1, 2, 0, 1], 100), frames=15),
+    regular("jitter, large", repeated([1, 1, 2, 1, 1], 100), frames=2, each=9),
+    Row("more jitter, large", [repeated([1, 1, 3, 1, 0], 100)], IRREGULAR, each=9),
+    regular("changes between", repeated([25, 25, 7, 25, 25, 25, 12], 50), frames=175, each=2),
+    Row("bursts", [repeated([1] * 20 + [100], 50)], IRREGULAR),
+    Row("bursts of two TS packets", [repeated([1] * 10 + [60], 50)], IRREGULAR, each=2),
+    regular("few bursts", repeated([*[25] * 300, 1, 1, 1], 1), frames=224, each=2),
+    # Holes, which are few: the first, a middle one, the last; long ones; as many as may be.
+    *(regular(f"a hole of {count} behind {first}", holed(LONG, (first, count)))
+      for first in (0, 2500, 4700) for count in (1, 15, 16, 17, 32, 160, 249)),
+    regular("a hole of half an hour", [*LONG, *range(53_000, 58_000)]),
+    regular("three of 400", holed(FOUR, (50, 20), (150, 20), (250, 20))),
+    Row("four of 400", [holed(FOUR, (50, 20), (150, 20), (250, 20), (300, 20))], IRREGULAR),
+    regular("five of 6000", holed(range(6000), *((1000 * at, 20) for at in range(5)))),
+    Row("six of 6000", [holed(range(6000), *((900 * at, 20) for at in range(6)))], IRREGULAR),
+    regular("as many as a pace allows", holed(FOUR, *((9 * at, 1) for at in range(40))), frames=16),
+    # Pauses of the programme, in which nothing is sent.
+    *(Row(f"a pause to {end}", [holed(LONG, (999, 100))], PAUSED, pauses=[(999, end)])
+      for end in (1095, 1100, 1105)),
+    *(regular(f"no pause to {end}", holed(LONG, (999, 100)), pauses=[(999, end)])
+      for end in (1094, 1106)),
+    regular("a pause that began later", holed(LONG, (999, 100)), pauses=[(1000, 1100)]),
+    Row("behind the last", [holed(LONG, (999, 100))], PAUSED, pauses=[(0, 500), (999, None)]),
+    regular("before its end", holed(LONG, (999, 100)), pauses=[(0, 500), (1000, None)]),
+    Row("before the first", [holed(LONG, (999, 100))], PAUSED, pauses=[(None, 1095), (1500, 1600)]),
+    Row("long before it", [holed(LONG, (999, 100))], PAUSED, pauses=[(None, 3000)]),
+    regular("behind the first in cue", holed(LONG, (999, 100)), pauses=[(None, 1094)]),
+    # Where another page of the PID is over, and what is left comes seldom.
+    *(Row(f"seldom at {at}", [[*range(at), *range(at, at + 500, 100), *range(at + 400, 5000)]],
+          PAUSED) for at in (1, 2500, 4599)),
+    Row("three by three", [[*range(2500), *(2600 + 100 * at + one for at in range(3)
+                                            for one in range(3))]], PAUSED),
+    Row("two, sixteen steps between", [holed(LONG, (999, 100), (1115, 100))], PAUSED),
+    regular("two, seventeen steps between", holed(LONG, (999, 100), (1116, 100))),
+    # Most of them.
+    regular("in one pause of two that are as long", holed(LONG, (999, 100)),
+            pauses=[(999, 1100), (2999, 3100)]),
+    Row("in both", [holed(LONG, (999, 100), (2999, 100))], PAUSED,
+        pauses=[(999, 1100), (2999, 3100)]),
+    Row("in the longest", [holed(LONG, (999, 100))], PAUSED, pauses=[(999, 1100), (2999, 3099)]),
+    Row("in two of three", [holed(LONG, (999, 100), (2999, 50))], PAUSED,
+        pauses=[(999, 1100), (2900, 3050), (3999, 4120)]),
+    regular("in two of four", holed(LONG, (999, 100), (2999, 50)),
+            pauses=[(999, 1100), (2900, 3050), (3999, 4120), (4500, 4700)]),
+    regular("one of two", holed(LONG, (999, 100), (2999, 100)), pauses=[(999, 1100)]),
+    Row("two of three", [holed(LONG, (999, 100), (1999, 100), (2999, 100))], PAUSED,
+        pauses=[(999, 1100), (2999, 3100)]),
+    # Pauses that a longer bound allows.
+    regular("300 frames by the usual bound", holed(LONG, (999, 299))),
+    *(Row(f"{count + 1} frames of {every}", [holed(LONG, (999, count))], PAUSED, every=every)
+      for count, every in ((299, 300), (250, 1500), (1499, 1500), (1999, 9000))),
+    *(regular(f"{count + 1} frames of {every}, which are none", holed(LONG, (999, count)),
+              every=every) for count, every in ((300, 300), (249, 1500), (1500, 1500), (16, 9000))),
+]
+
+
+class Told(Case):
+    """Functions that decide."""
+
+    def test_pace(self) -> None:
+        """The whole table."""
+        for row in TABLE:
+            pace = pace_of(row.rows, row.each, row.every, row.pauses)
+            self.must(row.name, (pace.kind, pace.frames) == (row.kind, row.frames), pace)
+        self.must("words", pace_of([holed(LONG, (9, 20))], 2, 250) == Pace(REGULAR, 1, 9) and
+                  pace_of([holed(LONG, (9, 300))], 1, 999, [(0, 9)]) == Pace(PAUSED, 301, 17))
+        self.must("few", FEW == 3 and LEAST == 100)
+
+    def test_rows(self) -> None:
+        """The frames that are heard: up to marks, PES packets that are refused or have no frame,
+        and where time goes back; also where the clock comes round."""
+        origin = CLOCK - 5 * TICKS
+        rows: list[tuple[list[tuple[int, int, float | None, int, int]], int, list[list[int]]]] = [
+            ([], 0, []), ([(0, 3, 0, 1, 0)], 0, [[0, 1, 2]]),
+            ([(0, 3, 0, 1, 0), (3, 9, 9, 1, 0)], 0, [[0, 1, 2, *range(9, 18)]]),
+            ([(0, 3, 0, 1, 0), (3, 1, None, 0, 0), (4, 2, 9, 1, 0)], 0, [[0, 1, 2], [9, 10]]),
+            ([(0, 3, 0, 1, 0), (3, 1, 3, 0, 33), (4, 2, 4, 1, 0)], 0, [[0, 1, 2], [4, 5]]),
+            ([(0, 3, 7, 1, 0), (3, 2, 2, 1, 0)], 0, [[7, 8, 9], [2, 3]]),
+            ([(0, 1, 1, 0, 0), (1, 1, 1, 0, 0), (2, 1, 2, 0, 0)], 1, [[1, 1, 2]]),
+            ([(0, 2, 0.5, 1, 0)], 0, []), ([(0, 2, 0.5, 1, 0)], 1, [[0, 1]]),
+            ([(0, 1, 0, 0, 0), (1, 1, 0.5, 0, 0), (2, 2, 1, 1, 0)], 0, [[0], [1, 2]])]
+        for runs, within, wanted in rows:
+            packets = Packets(5, [Run(first, count, None if frame is None else int(
+                origin + frame * TICKS) % CLOCK, step * TICKS, "-", "", fault=fault)
+                for first, count, frame, step, fault in runs])
+            told = [[*row] for row in rows_of(packets, (0, 99), origin, within)]
+            self.must(f"{runs}", told == wanted, told)
+        packets = Packets(5, [Run(0, 9, origin, TICKS, "-", "")])
+        self.must("some", [[*row] for row in rows_of(packets, (3, 5), origin, 0)] == [[3, 4, 5]])
+
+    def test_each(self) -> None:
+        """By all TS packets, or by the bytes of a file; more where one holds more; at most nine."""
+        for total, size, units, wanted in (
+                (100, None, 0, 1), (103, None, 3, 1), (103, None, 4, 2), (149, None, 0, 1),
+                (151, None, 0, 2), (800, None, 3, 8), (100, None, 35, 9), (5000, None, 1, 9),
+                (0, 184 * 100, 3, 1), (0, 184 * 300, 3, 3), (0, 0, 7, 2), (0, None, 0, 1)):
+            packets = Packets(5, [Run(0, 99, 0, TICKS, "-", "", 3 * (units > 3)),
+                                  Run(99, 1, 0, 0, "-", "", units)], packets=total)
+            self.must(f"{total} {size} {units}", each_of(packets, (0, 99), size) == wanted)
+        self.must("no PES packet", each_of(Packets(5, packets=3), (0, 0), None) == 1)
+
+    def test_pauses(self) -> None:
+        """Before the first subtitle, between two, behind the last."""
+        self.must("none", not pauses_of([]))
+        self.must("two", pauses_of([(5, 9), (20, 30)]) ==
+                  [(None, 5), (9, 20), (30, None)])
+
+
+# A programme of one minute: a PES packet in each frame, or a second of them at each edge and then
+# none.
+TIMES = [(BEGIN + 250 * at, BEGIN + 250 * at + 200) for at in range(6)]
+
+
+def filled(sent: Sent) -> Sent:
+    """With a PES packet without Teletext in each other frame."""
+    known = dict(sent)
+    return [(pts, known.get(pts, [])) for pts in range(sent[0][0], sent[-1][0] + 1, TICKS)]
+
+
+def in_bursts(sent: Sent) -> Sent:
+    """Each frame of a second from each edge on alone."""
+    return [(pts, some) for pts, some in sent if any(
+        edge * TICKS <= pts < (edge + 25) * TICKS for times in TIMES for edge in times)]
+
+
+def alone(made: list[Packet], first: int, count: int) -> list[Packet]:
+    """All but some TS packets of the PID, from one on."""
+    own = [at for at, one in enumerate(made) if one.pid == TELETEXT_PID][first:first + count]
+    gone = {*own}
+    return [one for at, one in enumerate(made) if at not in gone]
+
+
+UNSEEN = "a hole of 15, or of 16, 32, 48 .. TS packets of PID 0x101 alone may be unseen: "
+IRREGULAR_NOTE = UNSEEN + "its PES packets come at irregular distances"
+PACE_LINE = "a PES packet comes within 1 frame of the one before, and in 17 at best where 16 TS " \
+    "packets are lost: --pace 16"
+
+
+class Holes(Case):
+    """Holes of 1 to 48,000 TS packets of the PID alone, and of all."""
+
+    def multiplexed(self, sent: Sent, rate: int = 100) -> list[Packet]:
+        return sent_of([pes_packet(pts, some) for pts, some in sent], Shape(rate))
+
+    def judge(self, made: list[Packet], *words: str) -> Judged:
+        """What is said of a multiplex."""
+        self.write("one.ts", b"".join(one.data for one in made))
+        return judged(self, self.path("one.stl"), self.path("one.ts"), "--origin", "0", *words)
+
+    def is_told(self, name: str, told: Judged, word: str, *lines: str) -> None:
+        """Whether a verdict is one, and which faults are in its list."""
+        faults = [line for line in told.listed if line.startswith("refused")]
+        self.must(name, told.word == word and faults == [f"refused {line}" for line in lines],
+                  (told.word, told.listed, told.told))
+
+    def test_regular(self) -> None:
+        """A PES packet in each frame: what the counter does not show is 79, at its time."""
+        made = self.multiplexed(filled(sendings(self, programme(self, TIMES))))
+        whole = self.judge(made)
+        self.is_told("whole", whole, "accepted")
+        self.must("said", whole.lines("pace: ") == [PACE_LINE] and whole.parts("pace") == [(16,)]
+                  and " --complete --pace 16 --all" in whole.verdict.commands[-1] and
+                  whole.result["asked"]["pace"] is None, whole.said)
+        first, lost, silent = 660, "45 Lost pes 660", "79 Silent frame 10:00:27:00"
+        for count in (1, 14, 15, 16, 17):
+            faults = [*([lost] if count % 16 else []), *([silent] if count > 15 else [])]
+            self.is_told(f"{count}", self.judge(alone(made, first, count)), "refused", *faults)
+        for count in (1, 15, 16, 17):
+            faults = [*([lost] if count % 16 else []), *([silent] if count > 15 else [])]
+            self.is_told(f"all of {count}", self.judge(without(made, first, count)), "refused",
+                         *faults)
+        for cut, count in ((alone, 32), (alone, 160), (without, 160)):
+            told = self.judge(cut(made, first, count))
+            self.must(f"{cut.__name__} {count}", told.word == "refused" and
+                      f"refused {silent}" in told.listed and not any(
+                          line.startswith("refused 45") for line in told.listed), told.listed)
+        told = self.judge(alone(made, first, 16))
+        self.must("how long", told.verdict.sentence ==
+                  "Refused: at 10:00:27:00 no PES packet has come for as many frames as --pace "
+                  "allows: none for 16 frames from 10:00:26:10 on; where nothing was sent then, "
+                  "--pace none does not ask for it.", told.verdict.sentence)
+
+    def test_asked(self) -> None:
+        """None, one that a hole of 16 keeps, one that it does not, and where losses are allowed;
+        of a feed, and of PES packets."""
+        made = self.multiplexed(filled(sendings(self, programme(self, TIMES))))
+        holed_then, silent = alone(made, 660, 16), "79 Silent frame 10:00:27:00"
+        for words, word, pace, lines in (
+                ("--pace=none", "accepted", None, []), ("--pace=17", "accepted", 17, []),
+                ("--pace=16", "refused", 16, []), ("--allow-lost", "waived", 16, [PACE_LINE])):
+            told = self.judge(holed_then, words)
+            self.must(words, told.word == word and told.lines("pace: ") == lines and
+                      told.parts("pace") == [(pace,)], told.said)
+            self.must(f"{words}: asked", told.result["asked"]["pace"] == (
+                words[7:] if words.startswith("--pace") else None))
+        feed = in_pipe(self, b"".join(one.data for one in holed_then))
+        self.is_told("a feed", judged(self, self.path("one.stl"), feed, "--origin", "0"),
+                     "refused", silent)
+        sent = filled(sendings(self, self.path("one.stl")))
+        self.write("one.pes", joined(sent[:660] + sent[676:]))
+        self.is_told("PES packets", judged(self, self.path("one.stl"), self.path("one.pes"),
+                                           "--origin", "0"), "refused", silent)
+
+    def test_irregular(self) -> None:
+        """A second of them at each edge, then none: a hole of 16 is not seen, and that is said;
+        one that the counter shows is 45."""
+        made = self.multiplexed(in_bursts(sendings(self, programme(self, TIMES), every=1)))
+        first = 155
+        for cut, count, word in (
+                (alone, 0, "accepted"), (alone, 1, "refused"), (alone, 15, "refused"),
+                (alone, 16, "accepted"), (alone, 17, "refused"), (without, 16, "lost"),
+                (without, 17, "refused")):
+            told = self.judge(cut(made, first, count))
+            self.is_told(f"{cut.__name__} {count}", told, word,
+                         *["45 Lost pes 155"] * (word == "refused"))
+            self.must(f"{cut.__name__} {count}: said", IRREGULAR_NOTE in told.told and
+                      IRREGULAR_NOTE in told.result["notes"] and
+                      not told.lines("pace: ") and told.parts("pace") == [(None,)], told.said)
+        for words in ("--pace=none", "--pace=180"):
+            told = self.judge(alone(made, first, 16), words)
+            self.must(words, told.word == "accepted" and IRREGULAR_NOTE not in told.told)
+        self.is_told("given", self.judge(made, "--pace=100"), "refused", *(
+            f"79 Silent frame 10:00:{10 * at + 4:02}:24" for at in range(6)))
+
+    def test_by_repeats(self) -> None:
+        """Where PES packets are as rare as repeats, --every tells each hole: nothing is said."""
+        times = [(BEGIN + 1000 * at, BEGIN + 1000 * at + 500) for at in range(11)]
+        made = self.multiplexed(sendings(self, programme(self, times), every=100), 50)
+        for count, word in ((0, "accepted"), (16, "refused"), (32, "refused")):
+            told = self.judge(alone(made, 40, count))
+            self.must(f"{count}", told.word == word and bool(count) == any(
+                line.startswith("refused 73 Gap") for line in told.listed), told.listed)
+            self.must(f"{count}: said", not told.lines("pace: ") and not [
+                line for line in told.told if "unseen" in line], told.said)
+
+    def test_half_an_hour(self) -> None:
+        """48,000 TS packets of a regular PID."""
+        times = [(BEGIN + 5000 * at, BEGIN + 5000 * at + 200) for at in range(11)]
+        sent = filled(sendings(self, programme(self, times), every=125))
+        made = self.multiplexed(sent, 25)
+        for name, cut in (("alone", alone), ("all", without)):
+            told = self.judge(cut(made, 1000, 48_000))
+            self.must(name, told.word == "refused" and {
+                "refused 79 Silent frame 10:00:40:15", "refused 73 Gap frame 10:00:48:00"} <=
+                {*told.listed}, told.listed)
+
+    def test_inserters_that_pause(self) -> None:
+        """Nothing is sent in pauses of more than a minute, which --every allows: no pace is given,
+        and it is said what may be unseen."""
+        for count, note in ((4, UNSEEN + "none of its PES packets came in pauses, of up to 1701 "
+                             "frames"), (6, IRREGULAR_NOTE)):
+            times = [(BEGIN + 2000 * at, BEGIN + 2000 * at + 200) for at in range(count)]
+            sent = filled(sendings(self, programme(self, times), every=25))
+            sent = [one for one in sent if (one[0] // TICKS - BEGIN) % 2000 < 300]
+            told = self.judge(self.multiplexed(sent, 25), "--every", "1800")
+            self.is_told(f"{count}", told, "accepted")
+            self.must(f"{count}: said", note in told.told and told.parts("pace") == [(None,)],
+                      told.said)
+
+
+class Words(Case):
+    """Words of calls: of one pair, of a line of a list, of a batch that goes on."""
+
+    def setUp(self) -> None:
+        super().setUp()
+        for name in ("one.stl", "one.ts", "two.stl"):
+            self.write(name, b"")
+
+    def options(self, *words: str) -> argparse.Namespace:
+        return parser_of("").parse_args(words)
+
+    def test_words(self) -> None:
+        """What is taken, what `check` gets, and what is asked once more."""
+        for word, pace in (("none", None), ("1", 1), ("0025", 25), ("2160000", 2160000)):
+            asked = asked_for("one.stl", "one.ts", "--pace", word)
+            given = ["--pace", str(pace)] if pace else []
+            self.must(word, asked.check_words() == ["--complete", *given] and asked.pace == pace
+                      and asked_of(self.options(*words_of(asked))) == asked)
+            self.must(f"{word}: result", asked_words(asked)["pace"] == str(pace or "none"))
+        self.must("left out", asked_words(asked_for("one.stl", "one.ts"))["pace"] is None)
+        for word in ("0", "", "-1", "x", "None", "2160001", "9" * 5000, "1.5", "\u0661"):
+            with self.assertRaises(Stop, msg=word):
+                asked_for("one.stl", "one.ts", "--pace", word)
+
+    def test_lines(self) -> None:
+        """Of a list: the pace of the call, one of its own, none, and one that is wrong."""
+        line = f"{self.path('one.stl')} {self.path('one.ts')}"
+        items = pairs_at(self.write("list", f"{line}\n{line} --pace 9\n{line} --pace none\n"
+                                            f"{line} --pace 0\n".encode()),
+                         self.options("--batch", "list", "--pace", "7"))
+        self.must("lines", [item.asked and item.asked.pace for item in items] == [7, 9, None, None]
+                  and str(items[3].reason).endswith(
+                      "line 4: argument --pace: 0 is no pace: 1 to 2160000 frames"),
+                  items)
+
+    def test_goes_on(self) -> None:
+        """What was judged by another pace, or by one that was measured, is judged again."""
+        program = Program("1", "0" * 64, None)
+        asked = [asked_for(self.path("one.stl"), self.path("one.ts"), *words)
+                 for words in ((), ("--pace", "none"), ("--pace", "16"))]
+        for one in asked:
+            words = asked_words(one)
+            known = {"asked": words, "found": found(one),
+                     "program": {"sha256": program.sha256, "version": program.version}}
+            self.must(f"{one.pace}", [is_current(known, other, program) for other in asked] ==
+                      [other == one for other in asked])
+            del words["pace"]
+            self.must(f"{one.pace}: of an earlier tool", not is_current(known, one, program))

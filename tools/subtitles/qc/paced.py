@@ -1,0 +1,74 @@
+"""The pace by which a part is judged, where its PES packets are regular; else what may be unseen."""
+from __future__ import annotations
+
+import os
+from typing import Sequence
+
+from ..core.programme import Subtitle
+from ..core.words import counted, pid_name
+from ..reading.pace import (
+    BY_EVERY, IRREGULAR, PAUSED, REGULAR, Pace, each_of, pace_of, pauses_of, rows_of)
+from ..reading.packets import Range
+from .options import NONE, PACE
+from .recording import Recording
+from .speech import Speech
+from .steps import Stretch
+from .verdict import Verdict
+
+HOLES = "a hole of 15, or of 16, 32, 48 .. TS packets"  # that a counter of 4 bits may not show
+
+
+def paced(one: Stretch, pes: Range, subtitles: Sequence[Subtitle], verdict: Verdict,
+          speech: Speech) -> Stretch:
+    """A stretch with the pace of the PES packets that are judged, where they are regular and none
+    is asked for. Where holes may be unseen the verdict has a note."""
+    asked, recording = one.asked, one.recording
+    if PACE not in asked.passed_on:
+        pace = measured(one, pes, subtitles)
+        if pace.frames:
+            speech.say(regular_words(pace))
+            return one._replace(asked=asked.paced(pace.frames))
+        note = unseen_words(pace, recording)
+    else:
+        note = clock_words(recording) if asked.passed_on[PACE] == NONE else ""
+    if note and note not in verdict.notes:
+        verdict.notes.append(note)
+    return one
+
+
+def measured(one: Stretch, pes: Range, subtitles: Sequence[Subtitle]) -> Pace:
+    """How far apart the PES packets of a stretch come."""
+    packets, asked = one.recording.packets, one.asked
+    size = None if one.recording.is_file and one.recording.is_stream else \
+        os.path.getsize(one.recording.judged()[0])
+    times = [(subtitle.begin, subtitle.end) for subtitle in subtitles
+             if asked.between.has(subtitle.begin)]
+    return pace_of(rows_of(packets, pes, one.found.origin, asked.within),
+                   each_of(packets, pes, size), asked.every, pauses_of(times))
+
+
+def regular_words(pace: Pace) -> str:
+    """What PES packets are like that are regular, and the pace that comes of it."""
+    return f"pace: a PES packet comes within {counted(pace.apart, 'frame')} of the one before, " \
+        f"and in {pace.lost} at best where 16 TS packets are lost: {PACE} {pace.frames}"
+
+
+def unseen_words(pace: Pace, recording: Recording) -> str:
+    """Which holes may be unseen; nothing where `--every` tells them, or they are of a file that has
+    no TS packets, or has too few PES packets to tell."""
+    without = clock_words(recording)
+    if pace.kind == BY_EVERY or without:
+        return "" if pace.kind == BY_EVERY else without
+    why = {IRREGULAR: "its PES packets come at irregular distances",
+           PAUSED: "none of its PES packets came in pauses, of up to "
+                   f"{counted(pace.apart, 'frame')}"}.get(pace.kind)
+    return f"{HOLES} of {pid_name(recording.packets.pid)} alone may be unseen: {why}" \
+        if why and recording.is_stream else ""
+
+
+def clock_words(recording: Recording) -> str:
+    """That no PCR tells a hole, where there is none."""
+    if not recording.is_stream or recording.survey.clock_of(recording.packets.pid) is not None:
+        return ""
+    return f"there is no PCR of the programme of {pid_name(recording.packets.pid)}: a hole that " \
+        "its counter does not show, as one of 16 TS packets, can't be seen"

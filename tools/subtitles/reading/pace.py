@@ -1,0 +1,177 @@
+"""How far apart PES packets come, and which pace tells a loss of any length.
+
+The counter of a PID has four bits: where 16 TS packets are lost it is what it has to be, and of 15
+the next one looks like one that came twice. But the PES packets in them are missing; where these
+come often enough, the time between those that came tells it. So from the first of a PES packet to
+that of the next one that comes behind such a hole there are 17 TS packets at least. And as the
+length of each PES packet is known, two of them at least are missing, however long they are.
+"""
+from __future__ import annotations
+
+import collections
+import itertools
+import operator
+from typing import Iterator, NamedTuple, Optional, Sequence, Tuple
+
+from ..core.times import NO_FRAME, frames_at, wrapped
+from .packets import Packets, Range
+from .repeat import NEAR
+
+LEAST = 100  # PES packets: of fewer nothing is told
+FEW, PART = 3, 1000  # so many may be otherwise, or one in so many
+HOLE = 17  # TS packets from a PES packet to the next one that comes, where 16 are lost
+TWO_LOST = 3  # distances between PES packets, where two are missing
+UNITS = 4  # that a TS packet holds: the header of a PES packet has the place of one
+PAYLOAD = 184  # bytes of a TS packet
+USUAL_EVERY = 250  # frames without a header that are accepted where nothing else is asked for
+MOST_EACH = 9  # TS packets of a PES packet
+REGULAR, IRREGULAR, PAUSED, BY_EVERY, TOO_FEW = \
+    "regular", "irregular", "paused", "by --every", "too few"
+Pauses = Sequence[Tuple[Optional[int], Optional[int]]]
+
+
+class Silence(NamedTuple):
+    """The frames of two PES packets between which none came for long, and whether another such
+    place is near."""
+
+    first: int
+    last: int
+    is_near_another: bool
+
+
+class Pace(NamedTuple):
+    """What PES packets are like: how many frames they are apart at most, nearly everywhere, and how
+    many where 16 TS packets are lost; with pauses the longest of them. Where they are regular a
+    pace of one frame less tells each such loss, and refuses nothing that is nearer."""
+
+    kind: str
+    apart: int = 0
+    lost: int = 0
+
+    @property
+    def frames(self) -> int | None:
+        """The pace, where they are regular."""
+        return self.lost - 1 if self.kind == REGULAR else None
+
+
+def pace_of(rows: Sequence[Sequence[int]], each: int, every: int, pauses: Pauses = ()) -> Pace:
+    """What PES packets are like, by the frames of those that came one after another, nothing of
+    which anybody knows missing between them. Each takes so many TS packets at most; a header of the
+    page comes in so many frames; and the programme has these pauses, from an out cue to the next in
+    cue; the first one ends it, and the last one begins it.
+
+    Neither a hole nor a burst counts, which are few: so damage can't make a pace longer. A hole is
+    where PES packets are as far apart as 16 lost TS packets have them; where most such places are
+    how the inserter works no pace is told.
+    """
+    steps = max(TWO_LOST, -(-HOLE // each))
+    near, far = distances(rows, 1), distances(rows, steps)
+    count = sum(near.values())
+    few = max(FEW, count // PART)
+    if count < LEAST or sum(far.values()) <= few:
+        return Pace(TOO_FEW)
+    apart, lost = at_rank(near, few, True), at_rank(far, few, False)
+    if lost > every:
+        return Pace(BY_EVERY, apart, lost)
+    if max(apart, 1) >= lost:
+        return Pace(IRREGULAR, apart, lost)
+    silences = [one for row in rows for one in silences_in(row, lost, steps)]
+    idle = idle_of(silences, every, pauses)
+    if 2 * len(idle) > len(silences):
+        return Pace(PAUSED, max(one.last - one.first for one in idle), lost)
+    return Pace(REGULAR, apart, lost)
+
+
+def idle_of(silences: Sequence[Silence], every: int, pauses: Pauses) -> list[Silence]:
+    """The silences in which nothing had to come. One behind another is how seldom PES packets come
+    then, as where another page of the PID is over; one is longer than is usual, and `--every`
+    allows that; one lies outside of the programme. Or it lies in a pause, up to its end, and so
+    does one in most other pauses that are as long."""
+    inside = [(one, end - begin) for begin, end in pauses if begin is not None and end is not None
+              for one in silences if begin <= one.first and abs(end - one.last) <= NEAR]
+    shortest = min((length for _, length in inside), default=0)
+    longer = sum(begin is not None and end is not None and end - begin >= shortest
+                 for begin, end in pauses)
+    usual = [one for one, _ in inside] if 2 * len(inside) > longer else []
+    return [one for one in silences if one.is_near_another or one in usual
+            or USUAL_EVERY < one.last - one.first <= every
+            or any(is_outside(one, *pause) for pause in pauses)]
+
+
+def is_outside(silence: Silence, begin: int | None, end: int | None) -> bool:
+    """Whether a silence lies before the first in cue, or behind the last out cue."""
+    if begin is None:
+        return end is not None and silence.last <= end + NEAR
+    return end is None and begin <= silence.first
+
+
+def distances(rows: Sequence[Sequence[int]], steps: int) -> collections.Counter[int]:
+    """How many frames it is from a PES packet to the next one, or one that comes so many steps
+    later, and how often."""
+    found: collections.Counter[int] = collections.Counter()
+    for row in rows:
+        if isinstance(row, range):
+            found[steps * row.step] += max(len(row) - steps, 0)
+        else:
+            found.update(map(operator.sub, itertools.islice(row, steps, None), row))
+    return found
+
+
+def at_rank(counts: collections.Counter[int], rank: int, is_from_above: bool) -> int:
+    """The number with so many before it, the least or the greatest first."""
+    for number in sorted(counts, reverse=is_from_above):
+        rank -= counts[number]
+        if rank < 0:
+            return number
+    raise ValueError("there are fewer")
+
+
+def silences_in(row: Sequence[int], lost: int, steps: int) -> Iterator[Silence]:
+    """Where PES packets are so many frames apart or more; those are near each other between which
+    fewer steps lie."""
+    places = [] if isinstance(row, range) else [
+        at for at, (first, last) in enumerate(zip(row, row[1:])) if last - first >= lost]
+    for before, at, after in zip([-steps, *places], places, [*places[1:], len(row) + steps]):
+        yield Silence(row[at], row[at + 1], min(at - before, after - at) < steps)
+
+
+# ---- of a recording
+
+def rows_of(packets: Packets, inside: Range, origin: int, within: int) -> list[Sequence[int]]:
+    """The frames of those of some PES packets that `check` hears: a row up to each mark, each one
+    that is refused or has no frame, and wherever frames go back."""
+    found, pts = [], list[int]()
+    for run in itertools.chain(packets.inside(*inside), [None]):
+        if run is not None and run.pts is not None and not run.fault:
+            pts += [run.pts] if run.length == 1 else [
+                wrapped(run.pts + run.step * at) for at in range(run.length)]
+        elif pts:
+            found += rising(frames_at(pts, origin, within))
+            pts = []
+    return found
+
+
+def rising(frames: Sequence[int]) -> list[Sequence[int]]:
+    """Frames as rows in which none is before the one before it, without those that are none."""
+    if isinstance(frames, range):
+        return [frames]
+    breaks = [0, *(at for at, (one, other) in enumerate(zip(frames, frames[1:]), 1)
+                   if other < one or NO_FRAME in (one, other)), len(frames)]
+    return [row for begin, end in zip(breaks, breaks[1:])
+            if (row := frames[begin:end]) and row[0] != NO_FRAME]
+
+
+def each_of(packets: Packets, inside: Range, size: int | None) -> int:
+    """How many TS packets a PES packet takes at most: as many as most do, by the TS packets of the
+    PID, or by the bytes of a file of PES packets; and more where one holds more."""
+    total = packets.packets if size is None else size // PAYLOAD
+    usual = round(total / packets.count) if packets.count else 0
+    units = max((run.units for run in packets.inside(*inside)), default=0)
+    return min(max(usual, -(-(units + 1) // UNITS), 1), MOST_EACH)
+
+
+def pauses_of(times: Sequence[tuple[int, int]]) -> Pauses:
+    """The frames from an out cue to the next in cue, by those of the subtitles; what is before the
+    first of them, and what is behind the last."""
+    begins, ends = [begin for begin, _ in times], [end for _, end in times]
+    return [*zip([None, *ends], begins), *((end, None) for end in ends[-1:])]
