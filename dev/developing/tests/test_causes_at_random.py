@@ -12,7 +12,7 @@ from types import SimpleNamespace
 from typing import Any
 
 from subtitles.core.programme import Subtitle
-from subtitles.core.spans import Spans
+from subtitles.core.spans import Span, Spans
 from subtitles.core.times import time_of
 from subtitles.core.told import told_of
 from subtitles.qc.delays import frames_of
@@ -20,7 +20,6 @@ from subtitles.qc.due_pages import DuePages
 from subtitles.qc.naming import Causes
 from subtitles.reading.packets import Packets
 from subtitles.reading.receiver import BLANK_PAGE, Rows
-from subtitles.reading.order import Span
 from subtitles.reading.timeline import Timeline
 from .. import DEV
 from .parts import PAGE

@@ -125,7 +125,7 @@ class Pages(Case):
                 call.hand(b"".join(sent[2001:]))
                 call.hand(b"")
                 while not call.has_ended:
-                    collections.deque(call.lines(), 0)
+                    collections.deque(call.lines.take(), 0)
                 call.refuse("-")
             for page, letters in ((PAGE, b"%d"), ((0, 0x87), b"x%d")):
                 changes = hearing.by_page[page].changes[False]
@@ -154,7 +154,7 @@ class Pages(Case):
                 call.hand(data)
                 call.hand(b"")
                 while not call.has_ended:
-                    collections.deque(call.lines(), 0)
+                    collections.deque(call.lines.take(), 0)
                 call.refuse("-")
                 said = ""
             except (Stop, Unclear) as reason:

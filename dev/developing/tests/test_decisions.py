@@ -17,6 +17,7 @@ from subtitles.calls.objects import hint_in
 from subtitles.calls.pairs import of_folder
 from subtitles.calls.watching import Seen, Watch
 from subtitles.core.programme import Subtitle
+from subtitles.core.spans import Span
 from subtitles.core.times import TICKS, time_of
 from subtitles.core.words import Words
 from subtitles.qc.asked import add_pair_options, asked_of_line
@@ -24,7 +25,7 @@ from subtitles.qc.clock import START, Clock
 from subtitles.qc.delays import frames_until
 from subtitles.qc.fitting import Found, refuse, with_delay
 from subtitles.reading.packets import Packets
-from subtitles.reading.order import FEW, Span
+from subtitles.reading.order import FEW
 from subtitles.reading.timeline import Timeline
 from subtitles.qc.names import Names
 from subtitles.qc.options import passed_words

@@ -5,6 +5,7 @@ from typing import Sequence
 
 from developing.pes import packet, pes_packet
 from subtitles.core.programme import Subtitle
+from subtitles.core.spans import Span
 from subtitles.core.times import TICKS, time_of
 from subtitles.core.told import CONTENT, told_of
 from subtitles.qc.causes import REPEATED, Namer
@@ -15,7 +16,6 @@ from subtitles.qc.headers import REPEATS, Headed, control_words, headed, unerase
 from subtitles.qc.keeping import Kept, Left, judged_by, kept_in, left_at, left_by, rows_words
 from subtitles.reading.packets import Run
 from subtitles.reading.receiver import BLANK_PAGE, TUNED, Rows
-from subtitles.reading.order import Span
 from subtitles.reading.timeline import Timeline
 from .bench import Case
 from .judged import Judged, Sent, joined, judged, programme, sendings

@@ -16,7 +16,7 @@ OWN: dict[str, dict[str, object]] = {
     "calls.channel.channel": {"LATER": 10_800_000, "MARGIN": 10_800_000, "LATELY": 20,
                               "CAUGHT_UP": 67_108_864},
     "calls.channel.feed_clock": {"GAP": 5_400_000, "BACK": 45_000, "ANEW": 324_000_000},
-    "calls.channel.hearing": {"BOTH": 450_000, "PRUNED": 1000, "SOON": 0.001, "ENOUGH": 65_536},
+    "calls.channel.hearing": {"BOTH": 450_000, "PRUNED": 1000, "SOON": 0.001},
     "calls.channel.lacking": {"SILENT": 720_000, "NEAR_PCR": 900_000, "KEPT": 64},
     "calls.channel.planned": {"MISSING": 60.0}, "calls.channel.queue": {"AT_ONCE": 4, "LOOK": 1.0},
     "calls.channel.source": {"PART": 262_144, "PIPE": 524_288},
@@ -69,7 +69,8 @@ OWN: dict[str, dict[str, object]] = {
     "reading.moving": {"MOST_OVERLAP": 900_000, "MOST_PAUSE": 324_000_000},
     "reading.repeat": {"FEWEST": 3, "NEAR": 5},
     "reading.stretches": {"IN_A_ROW": 5, "NEW_TRACK": 4, "LACKED": 1500, "OF_TEXT": 3},
-    "reading.subcodes": {"FEWEST": 4}, "reading.survey": {"SHOWN": 12, "SUBTITLE_KINDS": (2, 5)},
+    "reading.subcodes": {"FEWEST": 4},
+    "reading.survey": {"ENOUGH": 65_536, "SHOWN": 12, "SUBTITLE_KINDS": (2, 5)},
     "reading.order": {"PAUSE": 2, "FEW": 20}, "reading.timeline": {"LEAST": 250},
     "reading.timing": {"MOST_LATE": 60}}
 NONE = ("batch", "channel", "collect", "csv", "found_layout", "json", "junit", "jobs", "name",

@@ -12,13 +12,13 @@ from unittest import mock
 
 from developing.pes import packet, pes_packet
 from subtitles.core.programme import Subtitle
+from subtitles.core.spans import Span
 from subtitles.core.times import CLOCK, TICKS
 from subtitles.core.told import told_of
 from subtitles.qc.causes import (
     ATTRIBUTE, EARLY, LATE, NEVER, NOT_ERASED, OTHER, TEXT, UNKNOWN, Cause, Faulty, Namer)
 from subtitles.qc.cells import place_of
 from subtitles.qc.due_pages import DuePages, asked_of
-from subtitles.reading.order import Span
 from subtitles.qc.hints import gap_words, hints_of
 from subtitles.qc.made_with import proved_line
 from subtitles.qc.pair import Pair

@@ -4,21 +4,26 @@ from __future__ import annotations
 import array
 import bisect
 import heapq
-from typing import Iterable, Iterator
+from typing import Iterable, Iterator, NamedTuple
 
-Span = tuple[int, int]  # the first of them and the last
+
+class Span(NamedTuple):
+    """Frames, or PES packets, by the first and the last of them."""
+
+    first: int
+    last: int
 
 
 class Spans:
     """Spans, each by its first and its last. Neighbours are one span."""
 
-    def __init__(self, spans: Iterable[Span] = ()) -> None:
+    def __init__(self, spans: Iterable[tuple[int, int]] = ()) -> None:
         self.begins, self.ends = array.array("I"), array.array("I")
         for begin, end in spans:
             self.add(begin, end)
 
     def __iter__(self) -> Iterator[Span]:
-        return zip(self.begins, self.ends)
+        return map(Span, self.begins, self.ends)
 
     def __len__(self) -> int:
         return len(self.begins)
@@ -37,11 +42,11 @@ class Spans:
     def between(self, begin: int, end: int) -> Iterator[Span]:
         """The spans that have one from `begin` to the one before `end`; these rise."""
         first, last = bisect.bisect_left(self.ends, begin), bisect.bisect_left(self.begins, end)
-        return zip(self.begins[first:last], self.ends[first:last])
+        return map(Span, self.begins[first:last], self.ends[first:last])
 
-    def without(self, others: Iterable[Span]) -> Spans:
+    def without(self, others: Iterable[tuple[int, int]]) -> Spans:
         """The same without what is in others."""
-        found = list(self)
+        found: list[tuple[int, int]] = [*self]
         for begin, end in others:
             parts = [part for first, last in found for part in (
                 (first, min(last, begin - 1)), (max(first, end + 1, begin), last))]

@@ -4,7 +4,7 @@ from __future__ import annotations
 from typing import Iterable
 
 from ..core.programme import Programme
-from ..core.spans import Span, Spans, joined
+from ..core.spans import Spans, joined
 from ..core.told import ENDS_READING, UNDECIDED, Told, told_of
 from ..qc.checking import Answer
 from ..qc.counted import End
@@ -71,7 +71,7 @@ class Faults:
         last = told_of(self.answer.last_told)
         return last if last and last.number in ENDS_READING else None
 
-    def mark(self, spans: Iterable[Span]) -> None:
+    def mark(self, spans: Iterable[tuple[int, int]]) -> None:
         """Marks the frames of faults whose lines name a PES packet."""
         self.spans = joined([self.spans, Spans(spans)])
 

@@ -1,6 +1,7 @@
 """How far the sending is that would fit where another page is held than the one that is due."""
 from __future__ import annotations
 
+from ..core.spans import Span
 from ..core.times import time_of
 from ..reading.held import Held
 from ..reading.receiver import BLANK_PAGE, Rows
@@ -23,7 +24,7 @@ class Fits:
         self.when_due = {other: due.spans_of(other) for _, other in pages.values()}
         before = due.frames[0] if due.frames else None
         if BLANK_PAGE in self.when_due and before != 0:
-            self.when_due[BLANK_PAGE].insert(0, (0, before - 1 if before else 0))
+            self.when_due[BLANK_PAGE].insert(0, Span(0, before - 1 if before else 0))
 
     def late(self, frame: int) -> int | None:
         """The frame from which on the due page is held, where that is no sending of its own."""

@@ -90,7 +90,7 @@ class Seen:
         """The frames from each PES packet before some that were passed over to the next one."""
         for before, after in map(self.around, range(len(self.passed))):
             if before is not None:
-                yield before, before if after is None else after - 1
+                yield Span(before, before if after is None else after - 1)
 
     @functools.cached_property
     def pages(self) -> dict[tuple[int, int], PageCount]:

@@ -46,11 +46,11 @@ def runs_of(frames: Iterable[int]) -> Iterator[Span]:
     for frame in frames:
         if frame - 1 != last:
             if last >= 0:
-                yield begin, last
+                yield Span(begin, last)
             begin = frame
         last = frame
     if last >= 0:
-        yield begin, last
+        yield Span(begin, last)
 
 
 class Strips:

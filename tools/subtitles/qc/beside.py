@@ -15,7 +15,7 @@ from ..core.national import BY_WORD
 from ..core.programme import Subtitle, name_of, subtitles_read
 from ..core.teletext import Page
 from ..core.times import TICKS, frame_of_code
-from ..core.told import CHARACTER, EMPTY, LETTERS, STL_FAULTS, UNDECIDED, Told
+from ..core.told import CHARACTER, EMPTY, LETTERS, STL_FAULTS, Told
 from ..core.words import counted
 from ..reading.packets import PES, Packets, Run
 from ..reading.receiver import BLANK_PAGE, Rows

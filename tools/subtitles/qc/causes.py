@@ -5,12 +5,12 @@ import functools
 from typing import NamedTuple
 
 from ..core.programme import Subtitle
+from ..core.spans import Span
 from ..core.teletext import page_name
 from ..core.times import time_of
 from ..core.words import counted
 from ..reading.receiver import BLANK_PAGE, HIT, Rows
 from ..reading.subcodes import subcode_words, turns_of
-from ..reading.order import Span
 from ..reading.timeline import LEAST, Timeline
 from .checking import Answer
 from .due_pages import DuePages

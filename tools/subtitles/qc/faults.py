@@ -17,7 +17,7 @@ from .headers import header_words
 from .hints import open_words
 from .midnight import midnight_words
 from .option_advice import OptionAdvice
-from .subtitle_file import NamedSubtitle, SubtitleFile
+from .subtitle_file import NamedSubtitle
 from .verdict import Part, Verdict
 
 

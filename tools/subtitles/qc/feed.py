@@ -18,7 +18,7 @@ from ..core.files import STANDARD
 from ..core.words import counted, stream_words
 from ..reading.moving import joined, stages_of
 from ..reading.packets import PES, Mark, Packets
-from ..reading.survey import Survey, survey, words_of
+from ..reading.survey import Lines, Survey, survey, words_of
 from .asked import Asked
 from .ending import Ending
 from .speech import Speech
@@ -163,18 +163,13 @@ class Feed:
     def heard(self) -> Iterator[bool]:
         """Takes the lines that come; each time whether for a while none did."""
         assert self.process.stdout
-        out, rest = self.process.stdout.fileno(), b""
-        while True:
-            if not select.select([out], [], [], PATIENCE)[0]:
-                yield True
-                continue
-            data = os.read(out, 1 << 16)
-            *lines, rest = (rest + data).split(b"\n")
-            for line in lines:
-                self.survey.take(line.decode("ascii", "replace"))
-            if not data:
-                return
-            yield False
+        lines = Lines(self.process.stdout, self.survey)
+        while not lines.has_ended:
+            is_ready = bool(select.select([lines.out], [], [], PATIENCE)[0])
+            if is_ready:
+                collections.deque(lines.take(), 0)
+            if not lines.has_ended:
+                yield not is_ready
 
     def listen(self) -> None:
         """Begins to keep the PES packets that are known by now."""

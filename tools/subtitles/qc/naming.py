@@ -4,8 +4,8 @@ from __future__ import annotations
 import collections
 from typing import Iterable
 
+from ..core.spans import Span
 from ..core.told import BEGIN, CONTENT, END
-from ..reading.order import Span
 from ..reading.timeline import Timeline
 from .causes import EARLY, NAMES, NEVER, Cause, Faulty, Namer
 from .checking import Answer

@@ -6,11 +6,11 @@ from typing import Callable, NamedTuple, Sequence
 from ..core.layout import text_of
 from ..core.national import BY_WORD
 from ..core.programme import Subtitle
+from ..core.spans import Span
 from ..core.times import ALL_DAY, time_of
 from ..core.told import EMPTY
 from ..core.words import Stop, counted
 from ..reading.finding import runs_line
-from ..reading.order import Span
 from ..reading.timeline import timeline_near
 from . import warned
 from .as_sent import BY_LAYOUT, sent_in, told_of, why_none

@@ -14,7 +14,7 @@ from ..core.words import PACKET_SIZES, Stop, counted, shown, stream_words
 from ..reading.gaps import TOLD, Place, line_of, places_of, why_refused
 from ..reading.moving import Stage, joined, stages_of
 from ..reading.packets import PES, Packets
-from ..reading.survey import Survey, survey, words_of
+from ..reading.survey import Survey, survey
 from ..reading.timing import reach_of
 from .asked import Asked
 from .ending import Ending
@@ -105,19 +105,16 @@ class Recording:
     def read_file(self, is_summed: bool) -> None:
         """Takes all that is told of a file."""
         files = Files([self.name]) if is_summed else None
-        words = words_of(self.typed.program_path, self.names.as_program(self.name),
-                         self.asked.page, self.asked.pid)
-        with subprocess.Popen(words, stdout=subprocess.PIPE, encoding="ascii",
-                              errors="replace") as process:
-            assert process.stdout
-            for line in process.stdout:
-                self.survey.take(line.rstrip("\n"))
-                if self.speech.progress.is_due():
-                    self.speech.show(self.name)
-        self.survey.refuse(process.returncode)
+        self.survey = survey(self.typed.program_path, self.names.as_program(self.name),
+                             self.asked.page, self.asked.pid, look=self.show)
         refuse(self.survey, self.name)
         self.packets = self.chosen()
         self.file = files.all()[0] if files else None
+
+    def show(self) -> None:
+        """What is read, on a terminal."""
+        if self.speech.progress.is_due():
+            self.speech.show(self.name)
 
     def read_feed(self, is_summed: bool, ending: Ending) -> None:
         """Takes what comes through a pipe, as long as more is needed, and keeps the PES packets."""

@@ -7,8 +7,8 @@ from __future__ import annotations
 
 import bisect
 
+from ..core.spans import Span
 from ..reading.receiver import BLANK_PAGE
-from ..reading.order import Span
 from ..reading.timeline import LEAST, Timeline
 from .due_pages import DuePages
 from .lettering import is_part

@@ -3,9 +3,9 @@ from __future__ import annotations
 
 from typing import Iterator, Sequence
 
+from ..core.spans import Span
 from ..core.times import FRAMES_OF_A_DAY, TICKS, frame_in, pts_of, ticks_between
 from ..reading.gaps import Place
-from ..reading.order import Span
 from ..reading.timeline import timeline_near
 from .asked import Asked
 from .cause_words import Wording

@@ -79,7 +79,7 @@ class Held:
 
     def spans_of(self, page: Rows) -> list[Span]:
         """When a page is held."""
-        return [(frame, self.frames[at] - 1 if at < len(self.frames) else FRAMES_OF_A_DAY - 1)
+        return [Span(frame, self.frames[at] - 1 if at < len(self.frames) else FRAMES_OF_A_DAY - 1)
                 for frame in self.when.get(page, ())
                 for at in [bisect.bisect_right(self.frames, frame)]]
 

@@ -4,18 +4,12 @@ from __future__ import annotations
 import bisect
 from typing import Iterator, NamedTuple, Sequence
 
+from ..core.spans import Span
 from ..core.times import NO_FRAME
 from .packets import Run
 
 PAUSE = 2  # frames in a row without a PES packet: more are a pause of what sends one in each frame
 FEW = 20  # PES packets at least for each pause, of one that does
-
-
-class Span(NamedTuple):
-    """Frames, by the first and the last of them."""
-
-    first: int
-    last: int
 
 
 class Heard(NamedTuple):

@@ -6,8 +6,9 @@ on the listing in the manual says what each line is; those of a later program ar
 from __future__ import annotations
 
 import dataclasses
+import os
 import subprocess
-from typing import Iterable, NamedTuple
+from typing import IO, Callable, Iterable, Iterator, NamedTuple
 
 from ..core.teletext import Page, page_name, page_of
 from ..core.words import Stop, pid_name, shown, stream_words
@@ -18,6 +19,7 @@ SHOWN = 12  # pages of a line
 SUBTITLE_KINDS = (2, 5)
 KINDS = {1: "initial page", 2: "subtitles", 3: "additional information", 4: "programme schedule",
          5: "subtitles for the hard of hearing"}
+ENOUGH = 1 << 16  # bytes of lines that are taken at a time
 HIT = b"\xa0"  # a space whose byte had even parity
 NO_LETTERS = bytes(range(0x21))
 
@@ -244,8 +246,8 @@ def words_of(program: str, name: str, page: Page, pid: int | None = None,
 
 
 def survey(program: str, name: str, page: Page, pid: int | None = None,
-           packet_size: int | None = None) -> Survey:
-    """A recording that is a file, or standard input."""
+           packet_size: int | None = None, look: Callable[[], None] = lambda: None) -> Survey:
+    """A recording that is a file, or standard input; after each line there is a look around."""
     found = Survey()
     words = words_of(program, name, page, pid, packet_size)
     with subprocess.Popen(words, stdout=subprocess.PIPE, encoding="ascii",
@@ -253,7 +255,27 @@ def survey(program: str, name: str, page: Page, pid: int | None = None,
         assert process.stdout
         for line in process.stdout:
             found.take(line.rstrip("\n"))
+            look()
     found.refuse(process.returncode)
     return found
+
+
+class Lines:
+    """The lines that a call of `survey` prints of a feed, taken as they come; `has_ended` once no
+    more do."""
+
+    def __init__(self, out: IO[bytes], found: Survey) -> None:
+        self.out, self.found = out, found
+        self.rest, self.has_ended = b"", False
+
+    def take(self) -> Iterator[str]:
+        """Takes those that have come, each before it is given."""
+        data = os.read(self.out.fileno(), ENOUGH)
+        *lines, self.rest = (self.rest + data).split(b"\n")
+        self.has_ended = not data
+        for line in lines:
+            text = line.decode("ascii", "replace")
+            self.found.take(text)
+            yield text
 
 

@@ -9,11 +9,12 @@ from __future__ import annotations
 import array
 from typing import Iterator, Sequence
 
+from ..core.spans import Span
 from ..core.teletext import Page
 from ..core.times import FRAMES_OF_A_DAY, NO_FRAME, frames_at, wrapped
 from .cutting import cut_of
 from .held import Held, Stored, cleared
-from .order import Heard, Order, Span
+from .order import Heard, Order
 from .packets import CLOSED, ERASE, HEADER, OPEN, STRAY, Packets, Range, Run, Texts
 from .receiver import BLANK_PAGE, OLD_PAGE, TUNED, Rows, State
 

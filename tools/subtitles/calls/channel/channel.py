@@ -89,7 +89,7 @@ class Channel(Results):
                                         PATIENCE if is_ready else SOON)
             told = [call for call in calls if call in ready]
             for call in told:
-                for _ in call.lines():
+                for _ in call.lines.take():
                     self.take()
             if source in ready and not told:
                 self.hand(source.read(min(call.room for call in calls)))

@@ -3,7 +3,6 @@ from __future__ import annotations
 
 import collections
 import contextlib
-import os
 import select
 import subprocess
 from typing import BinaryIO, Callable, Iterable, Iterator
@@ -16,7 +15,7 @@ from ...qc.recording import refuse
 from ...reading.gaps import Place, hole_of, why_refused
 from ...reading import moving
 from ...reading.packets import HEADER, PES, Packets, Run
-from ...reading.survey import Survey, words_of
+from ...reading.survey import Lines, Survey, words_of
 from .awaited import Changes
 from .feed_clock import MINUTE, SECOND, FeedClock, jump_of, times_of
 from .lacking import KEPT, Losses, Silence
@@ -26,7 +25,6 @@ STANDARD_INPUT = "/dev/stdin"  # as the program opens it
 BOTH = 5 * SECOND  # within which a second PID that sends the page is no later one
 PRUNED = 1000  # lines after which what is told is looked through for what is old
 SOON = 0.001  # seconds after which it is looked again whether a part was taken
-ENOUGH = 1 << 16  # bytes of lines that are taken at a time
 
 
 class Heard(Survey):
@@ -231,19 +229,22 @@ class Listening:
     """A call of `survey` that hears a feed: its lines go to what is heard of a page."""
 
     def __init__(self, program: str, heard: Heard) -> None:
-        self.heard, self.rest = heard, b""
+        self.heard = heard
         words = words_of(program, STANDARD_INPUT, heard.page, heard.asked_pid)
         self.process = subprocess.Popen(words, stdin=subprocess.PIPE, stdout=subprocess.PIPE,
                                         bufsize=0, start_new_session=True)
         assert self.process.stdin and self.process.stdout
         self.into: BinaryIO = self.process.stdin  # type: ignore[assignment]
-        self.out = self.process.stdout
+        self.lines = Lines(self.process.stdout, heard)
         self.room = room_of(self.into)
-        self.has_ended = False
 
     def fileno(self) -> int:
         """What can be waited for."""
-        return self.out.fileno()
+        return self.lines.out.fileno()
+
+    @property
+    def has_ended(self) -> bool:
+        return self.lines.has_ended
 
     def hand(self, data: bytes) -> None:
         """Hands bytes of the feed on, as long as they are wanted; none at its end."""
@@ -264,18 +265,8 @@ class Listening:
             self.hand(data[at:at + self.room])
             while not self.is_ready():
                 if select.select([self], [], [], SOON)[0]:
-                    collections.deque(self.lines(), 0)
+                    collections.deque(self.lines.take(), 0)
         self.heard.said.clear()
-
-    def lines(self) -> Iterator[str]:
-        """The lines that have come, each taken."""
-        data = os.read(self.fileno(), ENOUGH)
-        *lines, self.rest = (self.rest + data).split(b"\n")
-        self.has_ended = not data
-        for line in lines:
-            text = line.decode("ascii", "replace")
-            self.heard.take(text)
-            yield text
 
     def refuse(self, name: str) -> None:
         """`Stop` or `Unclear` where the feed has ended since it could not be read on."""
@@ -290,7 +281,7 @@ class Listening:
         """Ends it."""
         self.process.kill()
         self.process.wait()
-        self.out.close()
+        self.lines.out.close()
         with contextlib.suppress(OSError):
             self.into.close()
 
