@@ -7,7 +7,7 @@ use fixtures::{file_of_hi, schedule_of_hi};
 use std::alloc::Global;
 use std::process::Abort;
 use sub_answer::{Status, open_and_answer};
-use sub_files::{Found, open};
+use sub_files::{FileSystem, Found, MemFile, MemFiles, open};
 use sub_io::{BufferedSink, MemSink};
 use sub_request::Request;
 use sub_words::ParseWords;
@@ -122,20 +122,18 @@ fn creates_no_file_over_the_recording(rt: HostRuntime) {
 }
 
 // Whether words are answered over files, and what is printed.
-fn answers<'a, 'f>(
+fn answers<'a, D: FileSystem>(
     alloc: Global,
     words: &'a [&'a str],
-    entries: &'f [Entry<'f>],
-    room: &'f mut [u8],
+    files: &mut D,
     text: &mut [u8],
 ) -> bool {
     let mut held = [0; 20];
-    let mut files = FilesInMemory::new(entries, room);
     let mut out = BufferedSink::new(MemSink::new(text), &mut held);
     let Ok(request) = Request::parse(alloc, words) else {
         return false;
     };
-    match open_and_answer(alloc, &mut files, &request, &mut out) {
+    match open_and_answer(alloc, files, &request, &mut out) {
         Ok(status) => status == Status::Done,
         Err(_) => false,
     }
@@ -149,8 +147,18 @@ fn assert_answers<'a, 'f>(
     room: &'f mut [u8],
     want: &str,
 ) {
+    assert_answers_over(rt, words, &mut FilesInMemory::new(entries, room), want);
+}
+
+// The same over any files.
+fn assert_answers_over<'a, D: FileSystem>(
+    rt: &(impl Abort + Alloc<A = Global>),
+    words: &'a [&'a str],
+    files: &mut D,
+    want: &str,
+) {
     let mut text = [0; 128];
-    let is_done = answers(rt.alloc(), words, entries, room, &mut text);
+    let is_done = answers(rt.alloc(), words, files, &mut text);
     let len = want.len().min(128);
     assert!(rt; is_done && &text[..len] == want.as_bytes(), "{words:?}");
 }
@@ -208,7 +216,9 @@ fn assert_refuses_unread<'a>(
         ..INPUT
     };
     let mut text = [0; 64];
-    let is_done = answers(rt.alloc(), words, &[subtitles, failing], &mut [], &mut text);
+    let there = [subtitles, failing];
+    let mut files = FilesInMemory::new(&there, &mut []);
+    let is_done = answers(rt.alloc(), words, &mut files, &mut text);
     let len = want.len().min(64);
     assert!(rt; !is_done && &text[..len] == want.as_bytes(), "{words:?}");
 }
@@ -256,4 +266,26 @@ fn writes_into_the_file_that_is_created(rt: HostRuntime) {
     let written = "written 1 subtitles\n";
     assert_answers(&rt, &NORMAL, &[input, NOTHING], &mut normal, written);
     assert_starts(&rt, &normal, &normal_form());
+}
+
+#[test]
+fn answers_over_files_that_tell_their_bytes(rt: HostRuntime) {
+    let (stl, pes) = (file_of_hi(), schedule_of_hi());
+    let (subtitles, sent) = (
+        MemFile {
+            name: "a",
+            bytes: &stl,
+        },
+        MemFile {
+            name: "b",
+            bytes: &pes,
+        },
+    );
+    let mut none = MemFiles::new(subtitles, sent, &mut []);
+    assert_answers_over(&rt, &CHECK, &mut none, ACCEPTED);
+    let mut room = [0xFF; 369];
+    let schedule = ["subttx", "schedule", "a", "c"];
+    let mut files = MemFiles::new(subtitles, sent, &mut room);
+    assert_answers_over(&rt, &schedule, &mut files, "written 2 transmissions\n");
+    assert_starts(&rt, &room, &pes);
 }

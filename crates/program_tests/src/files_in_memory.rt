@@ -108,6 +108,10 @@ impl<'a> FileSystem for FilesInMemory<'a> {
         }
         Some(IntoFile::new(MemoryFile::Created(room, 0)))
     }
+
+    fn let_go_input(&mut self, _file: FromRead<MemoryFile<'a>>) {}
+
+    fn let_go_output(&mut self, _file: IntoFile<MemoryFile<'a>>) {}
 }
 
 impl Read for MemoryFile<'_> {

@@ -31,6 +31,7 @@ use Rattle.sub_checker.specs.declared.telling.Accepted.{Accepted}
 use Rattle.sub_rules.specs.declared.event.Event.{Event}
 use Rattle.sub_rules.specs.declared.fault.CheckFault.{CheckFault}
 use Rattle.sub_rules.specs.declared.fault.CheckFault.TheVariants as fault
+use Rattle.sub_listing.specs.FirstPacket.{FirstNumber}
 use Rattle.sub_listing.specs.DeviceCall.{Counts, SinkCall, SourceCall}
 use Rattle.sub_answer.specs.EveryFault.{AnswersAll, AreListed, PrintsMemoryLast, TellsBoth}
 use Rattle.sub_answer.specs.FaultListing.{all_listing, last_listing}
@@ -205,7 +206,7 @@ done-exactly drawing options file bytes pes first events (Ok (Some a)) Means kno
 
 -- The sink failed while events were told. For `print_every_fault`.
 pub answers_cut :
-    (drawing : Drawing) (options : OptionsValue) (stl pes : SourceCall) (first : Option ℕ)
+    (drawing : Drawing) (options : OptionsValue) (stl pes : SourceCall) (first : FirstNumber)
     (Untouched : Type 0) (old new : PrinterValue) (given : Result (Option Accepted) CheckFault)
     → TellsBoth drawing options stl pes first Untouched old new given
     → new.failed ≡ true
@@ -235,7 +236,7 @@ answers_cut drawing options stl pes first Untouched old new given t failing = re
 
 -- All events were told, and the last line was printed or cut. For `print_every_fault`.
 pub answers_end :
-    (drawing : Drawing) (options : OptionsValue) (stl pes : SourceCall) (first : Option ℕ)
+    (drawing : Drawing) (options : OptionsValue) (stl pes : SourceCall) (first : FirstNumber)
     (Untouched : Type 0) (old new : PrinterValue) (given : Result (Option Accepted) CheckFault)
     (end : Option (List ℕ)) (end_count : ℕ) (status : Status)
     → LawOfLoading
@@ -309,7 +310,7 @@ answers_end
 -- What is answered of a sink is answered of one with the same contents and count. For
 -- `print_every_fault`.
 pub answers_at :
-    (drawing : Drawing) (options : OptionsValue) (stl pes : SourceCall) (first : Option ℕ)
+    (drawing : Drawing) (options : OptionsValue) (stl pes : SourceCall) (first : FirstNumber)
     (Untouched : Type 0) (old mid new : Option (List ℕ)) (m n p : ℕ) (status : Status)
     → AnswersAll drawing options stl pes first Untouched (sink old m mid n) status
     → new ≡ mid
@@ -339,7 +340,7 @@ fault-status is_one fails first events (Err f) is = ap (λ b. status_of (kind_by
 
 -- The source of either file fails once at most, and not where the status is another than `Fault`.
 pub counts : (drawing : Drawing) (options : OptionsValue) (stl pes : SourceCall)
-    (first : Option ℕ) (Untouched : Type 0) (out : SinkCall) (status : Status)
+    (first : FirstNumber) (Untouched : Type 0) (out : SinkCall) (status : Status)
     → AnswersAll drawing options stl pes first Untouched out status
     → Counts stl.old_count status stl.new_count × Counts pes.old_count status pes.new_count
 counts drawing options stl pes first Untouched out status a =

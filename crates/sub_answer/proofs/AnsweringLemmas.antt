@@ -1,6 +1,6 @@
 -- The answer of a check by the contract of `check_files`: as_answered; where the files are
 -- accepted, `done-exactly`.
-use Rattle.std.proofs.Common.{◌≡◌, ◌≢◌, ◌↔◌, ℕ, List, Option, Some, Result, Ok, Err, true, false}
+use Rattle.std.proofs.Common.{◌≡◌, ◌≢◌, ◌↔◌, ℕ, List, Some, Result, Ok, Err, true, false}
 use Rattle.std.proofs.Common.{ap, arith, refl, sym, subst, ◌∙◌, Bool}
 use Rattle.std.proofs.lemmas.Bool.{true≢false}
 use Rattle.std.specs.Io.KnownBytes.{Appends}
@@ -32,7 +32,7 @@ use Rattle.sub_listing.specs.Faults.{kind_by}
 use Rattle.sub_listing.specs.FaultLine.{status_of}
 use Rattle.sub_listing.proofs.PrintingLemmas.{printed-status}
 use Rattle.sub_answer.proofs.AllAnswerLemmas.{counted_by}
-use Rattle.sub_listing.specs.FirstPacket.{StartsAt}
+use Rattle.sub_listing.specs.FirstPacket.{FirstNumber, StartsAt}
 use Rattle.sub_listing.specs.Listing.{PrintsOrFails}
 use Rattle.sub_listing.specs.declared.status.Status.{Status}
 use Rattle.sub_listing.specs.declared.status.Status.TheVariants.{Done, Fault}
@@ -113,7 +113,7 @@ answer-fails first (Err f) is = told-fails (is_failure f) is
 
 -- What `check_files` tells of both files, and the line that is printed. For `print_verdict`.
 pub as_answered :
-    (drawing : Drawing) (options : OptionsValue) (stl pes : SourceCall) (first : Option ℕ)
+    (drawing : Drawing) (options : OptionsValue) (stl pes : SourceCall) (first : FirstNumber)
     (Untouched : Type 0) (out : SinkCall) (status : Status) (number : ℕ)
     (answer : Result Accepted CheckFault)
     → LawOfLoading

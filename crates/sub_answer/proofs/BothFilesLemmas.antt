@@ -2,7 +2,7 @@
 -- status-told, exactly-accepted, exactly-accepted_within, exactly-accepted_by.
 use Rattle.std.proofs.Common.{◌≡◌, ◌≢◌, ◌↔◌, ◌∙◌, ap, arith, refl, sym, subst, ℕ, List, Bool, true}
 use Rattle.std.proofs.Common.{false, Result, Ok, Err}
-use Rattle.std.specs.Prelude.{⊤, IsFalse, IsOk}
+use Rattle.std.specs.Prelude.{IsFalse, IsOk}
 use Rattle.std.proofs.lemmas.Bool.{true≢false}
 use Rattle.std.proofs.lemmas.Bool.Decides.{nat_tests}
 use Rattle.std.specs.Io.KnownBytes.{Appends}
@@ -199,17 +199,18 @@ status-told drawing options stl pes out listing status answer PrintsMemory print
           memory wanted.0 wanted.1 whole.0;
     }
 
--- What an answer tells of the sources of both files, without whether that of the PES file was
--- touched. For EndingLemmas.
-pub sources-touched :
-    {Counts : Type 0} (AtBlock AtPes : ℕ → Type 0) (Untouched : Type 0) (is : Bool)
+-- What an answer tells of the sources of both files, by another word for that no byte of the PES
+-- file was read. For EndingLemmas.
+pub sources-untouched :
+    {Counts : Type 0} (AtBlock AtPes : ℕ → Type 0) (Untouched Other : Type 0) (is : Bool)
     (stl pes : SourceCall) (answer : Result Counts CheckFault)
+    → (Untouched → Other)
     → TellsSources AtBlock AtPes Untouched is stl pes answer
-    → TellsSources AtBlock AtPes ⊤ is stl pes answer
-sources-touched AtBlock AtPes Untouched is stl pes answer tells = record {
+    → TellsSources AtBlock AtPes Other is stl pes answer
+sources-untouched AtBlock AtPes Untouched Other is stl pes answer other tells = record {
   stl_count = tells.stl_count;
   pes_count = tells.pes_count;
   stl_read = tells.stl_read;
   pes_read = tells.pes_read;
-  before = λ refused. tt;
+  before = λ refused. other (tells.before refused);
 }

@@ -30,6 +30,7 @@ use Rattle.sub_checker.specs.declared.telling.Accepted.{Accepted}
 use Rattle.sub_rules.specs.declared.event.Event.{Event}
 use Rattle.sub_rules.specs.declared.fault.CheckFault.{CheckFault}
 use Rattle.sub_rules.specs.declared.fault.CheckFault.TheVariants as fault
+use Rattle.sub_listing.specs.FirstPacket.{FirstNumber}
 use Rattle.sub_listing.specs.DeviceCall.{SourceCall}
 use Rattle.sub_answer.specs.EveryFault.{AreListedBefore, AreListedOfPes, FailsAtBlock, IsAnswer}
 use Rattle.sub_answer.specs.EveryFault.{IsListedOf, TellsBoth, TellsPes, read_answer}
@@ -56,7 +57,7 @@ named f g is = cc
 module _ {D : Type 0} (IsTold : D → LoadFault → D → Type 0) (value : D → PrinterValue)
     (one : (s t : D) (x : LoadFault) → IsTold s x t
     → PrintsEvent (value s) (subtitle_event x) (value t))
-    (drawing : Drawing) (options : OptionsValue) (stl pes : SourceCall) (first : Option ℕ)
+    (drawing : Drawing) (options : OptionsValue) (stl pes : SourceCall) (first : FirstNumber)
     (Untouched : Type 0) (old new : D)
     (goes : (value old).failed ≡ false) (few : (value old).refused ≤ most_counted)
     (untouched : Untouched) (pes_count : RisesIf pes.old_count false pes.new_count) where
@@ -303,7 +304,7 @@ when_err (Err e) is holds = holds
 
 -- ---- both files
 
-module _ (drawing : Drawing) (options : OptionsValue) (stl pes : SourceCall) (first : Option ℕ)
+module _ (drawing : Drawing) (options : OptionsValue) (stl pes : SourceCall) (first : FirstNumber)
     (Untouched : Type 0) (old mid new : PrinterValue) (judged : JudgedValue)
     (fs : List LoadFault)
     (goes : mid.failed ≡ false)

@@ -21,6 +21,7 @@ use Rattle.sub_checker.specs.declared.telling.Accepted.{Accepted}
 use Rattle.sub_rules.specs.declared.event.Event.{Event}
 use Rattle.sub_rules.specs.declared.fault.CheckFault.{CheckFault}
 use Rattle.sub_rules.specs.declared.fault.CheckFault.TheVariants as fault
+use Rattle.sub_listing.specs.FirstPacket.{FirstNumber}
 use Rattle.sub_listing.specs.DeviceCall.{SourceCall}
 use Rattle.sub_listing.specs.Faults.{check_line}
 use Rattle.sub_listing.specs.LastLine.{HoldsLastLine, PutsLine}
@@ -75,7 +76,7 @@ ok_keeps (Err f) old new ok same risen = absurd (true≢false (sym ok))
 
 -- Then the printer has not failed.
 pub cut_reads : {drawing : Drawing} {options : OptionsValue} {stl pes : SourceCall}
-    {first : Option ℕ} {Untouched : Type 0} {old new : PrinterValue}
+    {first : FirstNumber} {Untouched : Type 0} {old new : PrinterValue}
     {given : Result (Option Accepted) CheckFault}
     → TellsBoth drawing options stl pes first Untouched old new given
     → new.failed ≡ true

@@ -11,6 +11,7 @@ use Rattle.std.specs.Io.KnownBytes.{Keeps}
 use Rattle.ttx_pes.specs.declared.fault.PesFault.TheVariants.{Read}
 use Rattle.sub_rules.specs.declared.fault.CheckFault.TheVariants as check
 use Rattle.sub_listen.specs.declared.listening.ListenFault.TheVariants as fault
+use Rattle.sub_listing.specs.FirstPacket.{FirstNumber}
 use Rattle.sub_listing.specs.Faults.{check_line}
 use Rattle.sub_listing.specs.Listing.{PrintsOrFails, fault_listing}
 use Rattle.sub_listing.specs.FaultLine.{counted_from}
@@ -54,7 +55,7 @@ listens_from
     }
 
 -- What is answered by what a receiver leaves in a cell whose byte has even parity. For `answer`.
-pub answers_as : (leaves left : ℕ → ℕ) (l : Listening) (pes : SourceCall) (first : Option ℕ)
+pub answers_as : (leaves left : ℕ → ℕ) (l : Listening) (pes : SourceCall) (first : FirstNumber)
     → (out : SinkCall) (status : Status)
     → leaves ≡ left
     → AnswersListen left l pes first out status

@@ -1,6 +1,6 @@
 -- What the status of `check` tells of files in memory: law_of_files_in_memory.
 use Rattle.std.proofs.Common.{◌≡◌, ◌≢◌, ◌↔◌, ◌∙◌, ap, sym, subst, ℕ, true, false, List, [], ◌∷◌}
-use Rattle.std.proofs.Common.{Option, Some, None, inl, inr}
+use Rattle.std.proofs.Common.{◌++◌, Option, Some, None, inl, inr}
 use Rattle.std.specs.Prelude.{⊤}
 use Rattle.sub_io.specs.Memory.{Written}
 use Rattle.stl_rows.specs.Layout.{drawing_within}
@@ -8,7 +8,7 @@ use Rattle.sub_request.specs.declared.files.FileNames.TheVariants as names
 use Rattle.sub_request.specs.declared.request.Request.{Request}
 use Rattle.sub_request.specs.declared.request.Request.TheVariants as ask
 use Rattle.sub_files.specs.FileCalls.{CallsInTurn, FileCall}
-use Rattle.sub_files.specs.FileCalls.FileCall.{Create, LookUp, Open}
+use Rattle.sub_files.specs.FileCalls.FileCall.{Create, LetGoInput, LetGoOutput, LookUp, Open}
 use Rattle.sub_files.specs.MemoryFiles.{IsMemoryCall, MemFilesValue, bytes_at}
 use Rattle.sub_files.specs.Opening.{Opens}
 use Rattle.sub_files.specs.declared.opening.Opened.{Opened}
@@ -17,8 +17,8 @@ use Rattle.sub_check.specs.CheckedFiles.{IsAcceptedBy}
 use Rattle.sub_listing.specs.declared.status.Status.{Status}
 use Rattle.sub_listing.specs.declared.status.Status.TheVariants.{Done, Fault}
 use Rattle.sub_answer.specs.Answering.{InputCall}
-use Rattle.sub_answer.specs.Ending.{EndsOver, EndsWith, HandsOnHeldLines, IsEmptyFile, IsReadFrom}
-use Rattle.sub_answer.specs.Ending.{Lines, devices_of}
+use Rattle.sub_answer.specs.Ending.{EndsOver, EndsWith, FilesLeft, HandsOnHeldLines, IsSourceOf}
+use Rattle.sub_answer.specs.Ending.{Lines, devices_of, let_go}
 use Rattle.sub_answer.specs.FilesInMemory.{LawOfFilesInMemory, told_of_memory}
 use Rattle.sub_answer.specs.Part.{part_asked, through_range, through_stream, whole_file}
 use Rattle.sub_answer.specs.declared.part.Part.{Part}
@@ -34,34 +34,48 @@ record BothOpened
   pub second_is : bytes_at pes files ≡ Some second
 
 both_opened :
-    (stl pes : List ℕ) (before after : MemFilesValue) (calls : List (FileCall (List ℕ) Written))
+    (stl pes : List ℕ) (before after : MemFilesValue)
+    (calls more : List (FileCall (List ℕ) Written))
     (opened : Opened (List ℕ) Written)
-    → CallsInTurn IsMemoryCall before after calls
+    → CallsInTurn IsMemoryCall before after (calls ++ more)
     → Opens (names.ReadBoth stl pes) calls (Some opened)
     → BothOpened stl pes before opened
-both_opened stl pes before after [] opened made opens = absurd opens
-both_opened stl pes before after (LookUp name found ∷ more) opened made opens = absurd opens
-both_opened stl pes before after (Create name file ∷ more) opened made opens = absurd opens
-both_opened stl pes before after (Open name None ∷ []) opened made opens =
+both_opened stl pes before after [] more opened made opens = absurd opens
+both_opened stl pes before after (LookUp name found ∷ calls) more opened made opens = absurd opens
+both_opened stl pes before after (Create name file ∷ calls) more opened made opens = absurd opens
+both_opened stl pes before after (LetGoInput file ∷ calls) more opened made opens = absurd opens
+both_opened stl pes before after (LetGoOutput file ∷ calls) more opened made opens = absurd opens
+both_opened stl pes before after (Open name None ∷ []) more opened made opens =
     absurd (let none = opens.1 in cc)
-both_opened stl pes before after (Open name None ∷ (call ∷ more)) opened made opens = absurd opens
-both_opened stl pes before after (Open name (Some first) ∷ []) opened made opens = absurd opens
-both_opened
-    stl pes before after (Open name (Some first) ∷ (LookUp other found ∷ more)) opened made opens =
+both_opened stl pes before after (Open name None ∷ (call ∷ calls)) more opened made opens =
     absurd opens
+both_opened stl pes before after (Open name (Some first) ∷ []) more opened made opens = absurd opens
 both_opened
-    stl pes before after (Open name (Some first) ∷ (Create other file ∷ more)) opened made opens =
-    absurd opens
-both_opened
-    stl pes before after (Open name (Some first) ∷ (Open other file ∷ (call ∷ more))) opened made
+    stl pes before after (Open name (Some first) ∷ (LookUp other found ∷ calls)) more opened made
     opens =
     absurd opens
 both_opened
-    stl pes before after (Open name (Some first) ∷ (Open other None ∷ [])) opened made
+    stl pes before after (Open name (Some first) ∷ (Create other file ∷ calls)) more opened made
+    opens =
+    absurd opens
+both_opened
+    stl pes before after (Open name (Some first) ∷ (LetGoInput file ∷ calls)) more opened made
+    opens =
+    absurd opens
+both_opened
+    stl pes before after (Open name (Some first) ∷ (LetGoOutput file ∷ calls)) more opened made
+    opens =
+    absurd opens
+both_opened
+    stl pes before after (Open name (Some first) ∷ (Open other file ∷ (call ∷ calls))) more opened
+    made opens =
+    absurd opens
+both_opened
+    stl pes before after (Open name (Some first) ∷ (Open other None ∷ [])) more opened made
     (name_is, other_is, none) =
     absurd cc
 both_opened
-    stl pes before after (Open name (Some first) ∷ (Open other (Some second) ∷ [])) opened
+    stl pes before after (Open name (Some first) ∷ (Open other (Some second) ∷ [])) more opened
     (mid, (same, first_is), (last, (kept, second_is), end)) (name_is, other_is, opened_is) =
     record {
       first = first;
@@ -72,9 +86,12 @@ both_opened
           sym (second_is ∙ ap (bytes_at other) same ∙ ap (λ n. bytes_at n before) other_is);
     }
 
--- All of a file in memory, or a part of it, in the calls of an answer.
-abbrev IsReadInMemory : Part → List ℕ → InputCall → Type 0
-IsReadInMemory part file = IsReadFrom part told_of_memory.remaining told_of_memory.reads_failed file
+-- What is told of all of a file in memory, or of a part of it, in the calls of an answer.
+read_told : (part : Part) (file : List ℕ) (left : Option (List ℕ)) (input : InputCall)
+    → IsSourceOf told_of_memory part (Some file) left input
+    → input.call.told ≡ through_range part.range (through_stream part.stream (Some file))
+read_told part file None input is = absurd is
+read_told part file (Some left) input is = is.is_part.told
 
 -- A run that does not end as a failure ends as the answer did.
 same_status :
@@ -96,53 +113,57 @@ Tells (ask.Check stl pes options national layout scope all) file bytes status =
 Tells _ file bytes status = ⊤
 
 tells :
-    (request : Request) (file bytes : List ℕ) (old new : Lines) (result : Status)
-    → EndsWith request (IsReadInMemory whole_file file) (IsReadInMemory (part_asked request) bytes)
-    ⊤ IsEmptyFile old new result
+    (request : Request) (file bytes : List ℕ) (stl_left pes_left : Option (List ℕ))
+    (Untouched : Type 0) (IsFile : SinkCall → Type 0) (old new : Lines) (result : Status)
+    → EndsWith request (IsSourceOf told_of_memory whole_file (Some file) stl_left)
+    (IsSourceOf told_of_memory (part_asked request) (Some bytes) pes_left) Untouched IsFile old new
+    result
     → result ≢ Fault
     → Tells request file bytes result
-tells (ask.Check stl pes options national layout scope true) file bytes old new result e runs =
-    λ read read_is.
-    let same = same_status e.printed new e.status result e.handed_on runs in
-    subst
-    (λ s. (s ≡ Done) ↔ IsAcceptedBy (drawing_within national layout scope) options file read)
-    (sym same)
-    (e.answers.ends.done_by file e.first_is.is_part.told read
-    (e.second_is.is_part.told ∙ read_is) (λ fails. runs (same ∙ fails)))
-tells (ask.Check stl pes options national layout scope false) file bytes old new result e runs =
-    λ read read_is.
-    let same = same_status e.printed new e.status result e.handed_on runs in
-    subst
-    (λ s. (s ≡ Done) ↔ IsAcceptedBy (drawing_within national layout scope) options file read)
-    (sym same)
-    (e.answers.ends.done_by file e.first_is.is_part.told read
-    (e.second_is.is_part.told ∙ read_is) (λ fails. runs (same ∙ fails)))
-tells ask.Help file bytes old new result e runs = tt
-tells (ask.Packet packet) file bytes old new result e runs = tt
-tells (ask.Packets pes) file bytes old new result e runs = tt
-tells (ask.Show stl) file bytes old new result e runs = tt
-tells (ask.Normal input output) file bytes old new result e runs = tt
 tells
-    (ask.Schedule stl pes options serial national layout scope) file bytes old new result e runs =
-    tt
-tells (ask.Listen pes listening) file bytes old new result e runs = tt
-tells (ask.Extract recording pes stream) file bytes old new result e runs = tt
-tells (ask.Survey recording options) file bytes old new result e runs = tt
+    (ask.Check stl pes options national layout scope true) file bytes stl_left pes_left Untouched
+    IsFile old new result e runs =
+    λ read read_is.
+    let same = same_status e.printed new e.status result e.handed_on runs in
+    subst
+    (λ s. (s ≡ Done) ↔ IsAcceptedBy (drawing_within national layout scope) options file read)
+    (sym same)
+    (e.answers.ends.done_by file (read_told whole_file file stl_left e.first e.first_is) read
+    (read_told _ bytes pes_left e.second e.second_is ∙ read_is) (λ fails. runs (same ∙ fails)))
+tells
+    (ask.Check stl pes options national layout scope false) file bytes stl_left pes_left Untouched
+    IsFile old new result e runs =
+    λ read read_is.
+    let same = same_status e.printed new e.status result e.handed_on runs in
+    subst
+    (λ s. (s ≡ Done) ↔ IsAcceptedBy (drawing_within national layout scope) options file read)
+    (sym same)
+    (e.answers.ends.done_by file (read_told whole_file file stl_left e.first e.first_is) read
+    (read_told _ bytes pes_left e.second e.second_is ∙ read_is) (λ fails. runs (same ∙ fails)))
+tells ask.Help _ _ _ _ _ _ _ _ _ _ _ = tt
+tells (ask.Packet packet) _ _ _ _ _ _ _ _ _ _ _ = tt
+tells (ask.Packets pes) _ _ _ _ _ _ _ _ _ _ _ = tt
+tells (ask.Show stl) _ _ _ _ _ _ _ _ _ _ _ = tt
+tells (ask.Normal input output) _ _ _ _ _ _ _ _ _ _ _ = tt
+tells (ask.Schedule stl pes options serial national layout scope) _ _ _ _ _ _ _ _ _ _ _ = tt
+tells (ask.Listen pes listening) _ _ _ _ _ _ _ _ _ _ _ = tt
+tells (ask.Extract recording pes stream) _ _ _ _ _ _ _ _ _ _ _ = tt
+tells (ask.Survey recording options) _ _ _ _ _ _ _ _ _ _ _ = tt
 
 -- Two files that were opened are read.
 over_both :
     (request : Request) (opened : Opened (List ℕ) Written) (first second : List ℕ)
-    (old new : Lines) (result : Status)
+    (left : FilesLeft (List ℕ) Written) (old new : Lines) (result : Status)
     → opened ≡ ReadBoth first second
     → EndsOver told_of_memory (λ was is. is ≡ was) request (devices_of (part_asked request) opened)
-    old new result
-    → EndsWith request (IsReadInMemory whole_file first)
-    (IsReadInMemory (part_asked request) second) ⊤ IsEmptyFile old new result
-over_both request opened first second old new result opened_is ends =
+    left old new result
+    → EndsOver told_of_memory (λ was is. is ≡ was) request
+    (devices_of (part_asked request) (ReadBoth first second)) left old new result
+over_both request opened first second left old new result opened_is ends =
     subst
     (λ (o : Opened (List ℕ) Written).
-    EndsOver told_of_memory (λ was is. is ≡ was) request (devices_of (part_asked request) o) old new
-    result)
+    EndsOver told_of_memory (λ was is. is ≡ was) request (devices_of (part_asked request) o) left
+    old new result)
     opened_is ends
 
 -- What is there once is the same.
@@ -154,14 +175,15 @@ pub law_of_files_in_memory : LawOfFilesInMemory
 law_of_files_in_memory
     (ask.Check stl pes options national layout scope all) before after old new status h runs =
     λ file bytes read file_is bytes_is read_is.
-    let o = both_opened stl.now pes.name.now before after h.opened.calls h.files h.opened.are_made
-    h.opened.opens in
+    let o = both_opened stl.now pes.name.now before after h.opened.calls (let_go h.left) h.files
+    h.opened.are_made h.opened.opens in
     subst
     (λ f. (status ≡ Done) ↔ IsAcceptedBy (drawing_within national layout scope) options f read)
     (same_bytes _ o.first file o.first_is file_is)
-    (tells (ask.Check stl pes options national layout scope all) o.first o.second old new status
-    (over_both (ask.Check stl pes options national layout scope all) h.files o.first o.second old
-    new status o.opened_is h.ends)
+    (tells (ask.Check stl pes options national layout scope all) o.first o.second h.left.first
+    h.left.second _ _ old new status
+    (over_both (ask.Check stl pes options national layout scope all) h.files o.first o.second h.left
+    old new status o.opened_is h.ends)
     runs read
     (ap (λ b. through_range pes.range (through_stream pes.stream (Some b)))
     (same_bytes _ o.second bytes o.second_is bytes_is)

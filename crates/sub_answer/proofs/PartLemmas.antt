@@ -16,13 +16,12 @@ module _ {D : Type 0} (remaining : D → Option (List ℕ)) (failure_count : D �
   -- Of this stream and this range, where one of them is given.
   given_part : (p : Part)
       → input.call.told ≡ through_range p.range (through_stream p.stream (remaining old))
-      → input.number ≡ number_in p.range (through_stream p.stream (remaining old))
+      → input.number.told ≡ number_in p.range (through_stream p.stream (remaining old))
       → input.call.old_count ≡ failure_count old
       → input.call.new_count ≡ failure_count left
       → (p ≡ whole_file → ⊥)
-      → IsPartOf p remaining failure_count old input
+      → IsPartOf p remaining failure_count old left input
   given_part p told number old_count new_count other = record {
-    left = left;
     told = told;
     number = number;
     old_count = old_count;
@@ -34,13 +33,13 @@ module _ {D : Type 0} (remaining : D → Option (List ℕ)) (failure_count : D �
   pub all_of_source : (p : Part)
       → p.stream ≡ None
       → p.range ≡ None
-      → input ≡ input_call remaining failure_count (λ s. Some 0) old left
-      → IsPartOf p remaining failure_count old input
+      → input ≡ input_call remaining failure_count (λ s. Some 0) (λ s. 0) old left
+      → IsPartOf p remaining failure_count old left input
   all_of_source p stream range is =
       let same : whole_file ≡ p =
       ap (λ s. let q : Part = record { stream = s; range = None } in q) (sym stream)
       ∙ ap (λ r. let q : Part = record { stream = p.stream; range = r } in q) (sym range) in
-      subst (λ (q : Part). IsPartOf q remaining failure_count old input) same
+      subst (λ (q : Part). IsPartOf q remaining failure_count old left input) same
       (whole_source remaining failure_count old left input is)
 
   -- A range of it.
@@ -48,10 +47,10 @@ module _ {D : Type 0} (remaining : D → Option (List ℕ)) (failure_count : D �
       → p.stream ≡ None
       → p.range ≡ Some r
       → input.call.told ≡ option_map (in_range r) (remaining old)
-      → input.number ≡ option_map (first_index r) (remaining old)
+      → input.number.told ≡ option_map (first_index r) (remaining old)
       → input.call.old_count ≡ failure_count old
       → input.call.new_count ≡ failure_count left
-      → IsPartOf p remaining failure_count old input
+      → IsPartOf p remaining failure_count old left input
   range_of_source p r stream range told number old_count new_count =
       given_part p (rw (stream, range) told) (rw (stream, range) number) old_count new_count
       (λ whole. let none = ap (λ (q : Part). q.range) whole in cc)
@@ -61,10 +60,10 @@ module _ {D : Type 0} (remaining : D → Option (List ℕ)) (failure_count : D �
       → p.stream ≡ Some s
       → p.range ≡ None
       → input.call.told ≡ option_map (carried s.pid (bytes_of s.packet_size)) (remaining old)
-      → input.number ≡ Some 0
+      → input.number.told ≡ Some 0
       → input.call.old_count ≡ failure_count old
       → input.call.new_count ≡ failure_count left
-      → IsPartOf p remaining failure_count old input
+      → IsPartOf p remaining failure_count old left input
   stream_of_source p s stream range told number old_count new_count =
       given_part p (rw (stream, range) told) (rw (stream, range) number) old_count new_count
       (λ whole. let none = ap (λ (q : Part). q.stream) whole in cc)
@@ -76,12 +75,12 @@ module _ {D : Type 0} (remaining : D → Option (List ℕ)) (failure_count : D �
       → input.call.told
       ≡ option_map (in_range r)
       (option_map (carried s.pid (bytes_of s.packet_size)) (remaining old))
-      → input.number
+      → input.number.told
       ≡ option_map (first_index r)
       (option_map (carried s.pid (bytes_of s.packet_size)) (remaining old))
       → input.call.old_count ≡ failure_count old
       → input.call.new_count ≡ failure_count left
-      → IsPartOf p remaining failure_count old input
+      → IsPartOf p remaining failure_count old left input
   both_of_source p s r stream range told number old_count new_count =
       given_part p (rw (stream, range) told) (rw (stream, range) number) old_count new_count
       (λ whole. let none = ap (λ (q : Part). q.stream) whole in cc)

@@ -31,7 +31,7 @@ use Rattle.sub_rules.specs.declared.event.Event.{Event}
 use Rattle.sub_rules.specs.declared.fault.CheckFault.{CheckFault}
 use Rattle.sub_rules.specs.declared.fault.CheckFault.TheVariants as fault
 use Rattle.sub_listing.specs.DeviceCall.{SourceCall}
-use Rattle.sub_listing.specs.FirstPacket.{StartsAt}
+use Rattle.sub_listing.specs.FirstPacket.{FirstNumber, StartsAt}
 use Rattle.sub_answer.specs.EveryFault.{IsAnswer}
 use Rattle.sub_answer.specs.EveryFault.{TellsPes}
 use Rattle.sub_listing.specs.EventLines.{most_counted}
@@ -134,7 +134,7 @@ events_known judged programme options bytes is =
 
 module _ {D : Type 0} (IsTold : D → Event → D → Type 0) (value : D → PrinterValue)
     (one : (s t : D) (x : Event) → IsTold s x t → PrintsEvent (value s) x (value t))
-    (judged : JudgedValue) (options : OptionsValue) (pes : SourceCall) (first : Option ℕ)
+    (judged : JudgedValue) (options : OptionsValue) (pes : SourceCall) (first : FirstNumber)
     (old new : D)
     (goes : (value old).failed ≡ false) (few : (value old).refused ≤ most_counted)
     (starts : StartsAt first pes (value old).first) where
@@ -316,7 +316,7 @@ module _ {D : Type 0} (IsTold : D → Event → D → Type 0) (value : D → Pri
 
 -- What is told with another first number before is told. For `tell_transmission`.
 pub with_first : (judged : JudgedValue) (options : OptionsValue) (pes : SourceCall)
-    (first : Option ℕ) (old new : PrinterValue) (number : ℕ)
+    (first : FirstNumber) (old new : PrinterValue) (number : ℕ)
     (given : Result (Option Accepted) CheckFault)
     → TellsPes judged options pes first (record old { first = number }) new given
     → TellsPes judged options pes first old new given

@@ -22,7 +22,7 @@ use Rattle.sub_request.specs.declared.listening.Listening.{Listening}
 use Rattle.sub_listen.specs.declared.listening.ListenFault.{ListenFault}
 use Rattle.sub_listing.specs.DeviceCall.{SinkCall, SourceCall, source_call}
 use Rattle.sub_listing.specs.Extracting.{EndsExtract}
-use Rattle.sub_listing.specs.FirstPacket.{PrintsFrom, StartsAt}
+use Rattle.sub_listing.specs.FirstPacket.{FirstNumber, PrintsFrom, StartsAt, first_number}
 use Rattle.sub_answer.specs.BothFiles.{TellsSources, TellsStatus}
 use Rattle.sub_answer.specs.EveryFault.{AnswersAll}
 use Rattle.sub_answer.specs.FaultListing.{accepted_line}
@@ -58,10 +58,10 @@ verdict first (Ok a) = done (accepted_line a)
 verdict first (Err f) = fault_listing (counted_from first (check_line f))
 
 -- `check` has one answer, which the bytes of both files decide, and prints it. `first` is the
--- number that the first PES packet has in its file, where that is told; `Untouched` says that no
--- byte of the PES file was read.
+-- number that the first PES packet has in its file; `Untouched` says that no byte of the PES file
+-- was read.
 pub record AnswersCheck
-    (drawing : Drawing) (options : OptionsValue) (stl pes : SourceCall) (first : Option ℕ)
+    (drawing : Drawing) (options : OptionsValue) (stl pes : SourceCall) (first : FirstNumber)
     (Untouched : Type 0) (out : SinkCall) (status : Status)
     : Type 0 where
   pub answer : Result Accepted CheckFault
@@ -109,29 +109,29 @@ pub record PrintsHeard
       × FailsListening listening pes.told pes.left f
       × PrintsOrFails out (fault_listing (counted_from first (listen_line f))) status
 
--- `listen` prints that. `first` is the number that the first PES packet has in its file, where that
--- is told.
+-- `listen` prints that. `first` is the number that the first PES packet has in its file.
 pub record AnswersListen
-    (leaves : ℕ → ℕ) (listening : Listening) (pes : SourceCall) (first : Option ℕ) (out : SinkCall)
-    (status : Status)
+    (leaves : ℕ → ℕ) (listening : Listening) (pes : SourceCall) (first : FirstNumber)
+    (out : SinkCall) (status : Status)
     : Type 0 where
   -- A PES packet is told by its number in the file.
   pub number : ℕ
   pub starts : StartsAt first pes number
   pub heard : PrintsHeard leaves listening number pes out status
 
--- An input in a call: and the number that the first PES packet which it gives has in its file,
--- where that is told.
+-- An input in a call, and the number that the first PES packet which it gives has in its file.
 pub record InputCall : Type 0 where
   pub call : SourceCall
-  pub number : Option ℕ
+  pub number : FirstNumber
 
--- An input in a call, by what is left in it and how often it has failed, and by that number.
+-- An input in a call, by what is left in it and how often it has failed, by that number and how
+-- many PES packets of the file it has passed over.
 abbrev pub input_call :
-    {S : Type 0} → (S → Option (List ℕ)) → (S → ℕ) → (S → Option ℕ) → S → S → InputCall
-input_call remaining failure_count number old new = record {
+    {S : Type 0}
+    → (S → Option (List ℕ)) → (S → ℕ) → (S → Option ℕ) → (S → ℕ) → S → S → InputCall
+input_call remaining failure_count number passed old new = record {
   call = source_call remaining failure_count old new;
-  number = number old;
+  number = first_number number passed old new;
 }
 
 -- What is answered to a request: what is printed and written, and the status. `Untouched` says that

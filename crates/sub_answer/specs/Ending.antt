@@ -1,12 +1,13 @@
 -- How a run ends that answers a request over its files: what was answered, what was handed on, and
 -- the status.
-use Rattle.std.specs.Prelude.{◌≡◌, ◌⊎◌, ⊤, ℕ, ◌+◌, List, [], Option, Some, None, false}
+use Rattle.std.specs.Prelude.{◌≡◌, ◌⊎◌, ℕ, ◌+◌, List, [], ◌∷◌, ◌++◌, Option, Some, None, false}
 use Rattle.std.specs.Io.KnownBytes.{Keeps, append_known, prepend_known}
 use Rattle.sub_io.specs.Buffered.{HeldBack, ReadAhead, failures_and_refused}
 use Rattle.sub_request.specs.Files.{files_of}
 use Rattle.sub_request.specs.declared.request.Request.{Request}
 use Rattle.sub_request.specs.declared.request.UsageFault.{UsageFault}
 use Rattle.sub_files.specs.FileCalls.{FileCall}
+use Rattle.sub_files.specs.FileCalls.FileCall.{LetGoInput, LetGoOutput}
 use Rattle.sub_files.specs.Opening.{OpensBy}
 use Rattle.sub_files.specs.declared.opening.Opened.{Opened}
 use Rattle.sub_files.specs.declared.opening.Opened.TheVariants.{Extract, Nothing, ReadBoth}
@@ -115,25 +116,30 @@ pub record IsClosedAfter
   pub call_is : call ≡ buffered_call contents failure_count old left
   pub closed : IsClose left.device new.device
 
--- A file of which this part is read, in the calls of an answer, by what is told of it and how often
--- it has failed: there is a buffer before it, which held nothing, and no other device.
+-- A file of which this part is read, in the calls of an answer, which leave it so, by what is told
+-- of it and how often it has failed: there is a buffer before it, which held nothing, and no other
+-- device.
 pub record IsReadFrom
-    {I : Type 0} (part : Part) (remaining : I → Option (List ℕ)) (failure_count : I → ℕ) (file : I)
-    (input : InputCall)
+    {I : Type 0} (part : Part) (remaining : I → Option (List ℕ)) (failure_count : I → ℕ)
+    (file left : I) (input : InputCall)
     : Type 0 where
   pub room : ℕ
+  pub new : ReadAhead I
+  pub left_is : left ≡ new.device
   pub is_part :
       IsPartOf part (λ s. prepend_known s.held (remaining s.device)) (λ s. failure_count s.device)
-      (let buffer : ReadAhead I = record { device = file; held = []; room = room } in buffer) input
+      (let buffer : ReadAhead I = record { device = file; held = []; room = room } in buffer) new
+      input
 
--- A file that is written, in the calls of an answer, which was closed as they left it: there is a
--- buffer before it, which held nothing, and no other device.
+-- A file that is written, in the calls of an answer, and was closed as they left it; so it is then:
+-- there is a buffer before it, which held nothing, and no other device.
 pub record IsWrittenTo
     {O : Type 0} (contents : O → Option (List ℕ)) (failure_count : O → ℕ) (IsClose : O → O → Type 0)
-    (file : O) (call : SinkCall)
+    (file left : O) (call : SinkCall)
     : Type 0 where
   pub room : ℕ
   pub new : HeldBack O
+  pub left_is : left ≡ new.device
   pub closed :
       IsClosedAfter contents failure_count IsClose
       (record { device = file; held = []; room = room; failed = false; refused = 0 }) new call
@@ -157,16 +163,23 @@ told_of_files remaining reads_failed contents writes_failed = record {
   writes_failed = writes_failed;
 }
 
--- A source is this part of this file, or an empty one where none was opened for it.
-abbrev pub IsSourceOf : {I O : Type 0} → ToldOfFiles I O → Part → Option I → InputCall → Type 0
-IsSourceOf told part (Some file) = IsReadFrom part told.remaining told.reads_failed file
-IsSourceOf told part None = IsEmptySource
+-- A source is this part of this file, which is left so, or an empty one where none was opened for
+-- it.
+abbrev pub IsSourceOf :
+    {I O : Type 0} → ToldOfFiles I O → Part → (opened left : Option I) → InputCall → Type 0
+IsSourceOf told part (Some file) (Some left) =
+    IsReadFrom part told.remaining told.reads_failed file left
+IsSourceOf told part None None = IsEmptySource
+IsSourceOf told part opened left = λ input. ⊥
 
--- A file is the one that was created, or an empty one where none was.
+-- A file is the one that was created, which is left so, or an empty one where none was.
 abbrev pub IsSinkOf :
-    {I O : Type 0} → ToldOfFiles I O → (O → O → Type 0) → Option O → SinkCall → Type 0
-IsSinkOf told IsClose (Some file) = IsWrittenTo told.contents told.writes_failed IsClose file
-IsSinkOf told IsClose None = IsEmptyFile
+    {I O : Type 0}
+    → ToldOfFiles I O → (O → O → Type 0) → (created left : Option O) → SinkCall → Type 0
+IsSinkOf told IsClose (Some file) (Some left) =
+    IsWrittenTo told.contents told.writes_failed IsClose file left
+IsSinkOf told IsClose None None = IsEmptyFile
+IsSinkOf told IsClose created left = λ call. ⊥
 
 -- The sources of a request and its file, of those that were opened and created, and which part of
 -- its first source is read.
@@ -195,26 +208,63 @@ devices_of part (ReadBoth stl pes) = sources whole_file (Some stl) (Some pes)
 devices_of part (Write stl output) = source_and_file whole_file stl output
 devices_of part (Extract recording output) = source_and_file part recording output
 
--- A request was answered over devices, by what is told of these and by which closes of a file go
--- so; and then the lines were handed on. A second source is the PES file, of which the request
--- reads a part.
+-- The files of a request as its answer left them.
+pub record FilesLeft (I O : Type 0) : Type 0 where
+  pub first : Option I
+  pub second : Option I
+  pub file : Option O
+
+-- A file that was read is let go, if there is one, and then what follows.
+abbrev pub input_before :
+    {I O : Type 0} → Option I → List (FileCall I O) → List (FileCall I O)
+input_before (Some file) calls = LetGoInput file ∷ calls
+input_before None calls = calls
+
+-- A file that was written is, if there is one.
+abbrev pub output_alone : {I O : Type 0} → Option O → List (FileCall I O)
+output_alone (Some file) = LetGoOutput file ∷ []
+output_alone None = []
+
+-- Each is let go once, as it was left.
+abbrev pub let_go : {I O : Type 0} → FilesLeft I O → List (FileCall I O)
+let_go left = input_before left.first (input_before left.second (output_alone left.file))
+
+-- A request was answered over devices, which are left so, by what is told of these and by which
+-- closes of a file go so; and then the lines were handed on. A second source is the PES file, of
+-- which the request reads a part; where no byte of it was read, it is left as it was opened.
 abbrev pub EndsOver :
     {I O : Type 0}
-    → ToldOfFiles I O → (O → O → Type 0) → Request → Devices I O → Lines → Lines → Status → Type 0
-EndsOver told IsClose request devices old new result =
-    EndsWith request (IsSourceOf told devices.part devices.first)
-    (IsSourceOf told (part_asked request) devices.second) ⊤
-    (IsSinkOf told IsClose devices.file) old new result
+    → ToldOfFiles I O → (O → O → Type 0) → Request → Devices I O → FilesLeft I O → Lines → Lines
+    → Status → Type 0
+EndsOver told IsClose request devices left old new result =
+    EndsWith request (IsSourceOf told devices.part devices.first left.first)
+    (IsSourceOf told (part_asked request) devices.second left.second)
+    (left.second ≡ devices.second)
+    (IsSinkOf told IsClose devices.file left.file) old new result
 
--- The files that a request names were opened, by the calls that were made, and it was answered over
--- them; and then the lines were handed on.
+-- A request was answered over devices, and then the files were let go as that left them, by the
+-- calls that were made.
+pub record EndsAndLetsGo
+    {I O : Type 0} (AreMade : List (FileCall I O) → Type 0) (told : ToldOfFiles I O)
+    (IsClose : O → O → Type 0) (request : Request) (devices : Devices I O) (old new : Lines)
+    (result : Status)
+    : Type 0 where
+  pub left : FilesLeft I O
+  pub are_let_go : AreMade (let_go left)
+  pub ends : EndsOver told IsClose request devices left old new result
+
+-- The files that a request names were opened, it was answered over them, and the lines were handed
+-- on; then the files were let go as they were left. These are all the calls that were made.
 pub record Ends
     {I O : Type 0} (AreMade : List (FileCall I O) → Type 0) (told : ToldOfFiles I O)
     (IsClose : O → O → Type 0) (request : Request) (old new : Lines) (result : Status)
     : Type 0 where
   pub files : Opened I O
-  pub opened : OpensBy AreMade (files_of request) (Some files)
-  pub ends : EndsOver told IsClose request (devices_of (part_asked request) files) old new result
+  pub left : FilesLeft I O
+  pub opened :
+      OpensBy (λ calls. AreMade (calls ++ let_go left)) (files_of request) (Some files)
+  pub ends :
+      EndsOver told IsClose request (devices_of (part_asked request) files) left old new result
 
 -- The line of a fault was printed, and then handed on.
 pub record Says (fault : UsageFault) (old new : Lines) (result : Status) : Type 0 where

@@ -31,7 +31,7 @@ use Rattle.sub_answer.specs.BothFiles.{TellsSources, TellsStatus}
 use Rattle.sub_answer.specs.FaultListing.{all_listing}
 use Rattle.sub_listing.specs.EventLines.{event_lines, refusals, subtitle_events}
 use Rattle.sub_listing.specs.Faults.{load_line}
-use Rattle.sub_listing.specs.FirstPacket.{StartsAt}
+use Rattle.sub_listing.specs.FirstPacket.{FirstNumber, StartsAt}
 use Rattle.sub_listing.specs.Listing.{PrintsOrFails}
 use Rattle.sub_listing.specs.Printer.{PrinterValue, PrintsEvents}
 use Rattle.sub_listing.specs.FaultLine.{line_of}
@@ -140,7 +140,7 @@ read_answer (Err n) = Err (Pes n Read)
 -- What a printer was told of the PES file, and the answer, which is the one that was given where
 -- its sink has not failed.
 pub record TellsPes
-    (judged : JudgedValue) (options : OptionsValue) (pes : SourceCall) (first : Option ℕ)
+    (judged : JudgedValue) (options : OptionsValue) (pes : SourceCall) (first : FirstNumber)
     (old new : PrinterValue) (given : Result (Option Accepted) CheckFault)
     : Type 0 where
   pub events : List Event
@@ -174,7 +174,7 @@ TellsBothSources stl pes Untouched answer =
 -- What a printer was told of the events of both files, and the answer, which is the one that was
 -- given where its sink has not failed.
 pub record TellsBoth
-    (drawing : Drawing) (options : OptionsValue) (stl pes : SourceCall) (first : Option ℕ)
+    (drawing : Drawing) (options : OptionsValue) (stl pes : SourceCall) (first : FirstNumber)
     (Untouched : Type 0) (old new : PrinterValue) (given : Result (Option Accepted) CheckFault)
     : Type 0 where
   pub events : List Event
@@ -198,10 +198,10 @@ pub record TellsBoth
       IfTold stl.told (λ file. AreListed drawing options file pes.told events answer)
 
 -- `check --all` tells events, and has one answer; the bytes of both files decide them. `first` is
--- the number that the first PES packet has in its file, where that is told; `Untouched` says that
--- no byte of the PES file was read.
+-- the number that the first PES packet has in its file; `Untouched` says that no byte of the PES
+-- file was read.
 pub record AnswersAll
-    (drawing : Drawing) (options : OptionsValue) (stl pes : SourceCall) (first : Option ℕ)
+    (drawing : Drawing) (options : OptionsValue) (stl pes : SourceCall) (first : FirstNumber)
     (Untouched : Type 0) (out : SinkCall) (status : Status)
     : Type 0 where
   pub events : List Event

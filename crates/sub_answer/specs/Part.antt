@@ -38,17 +38,18 @@ abbrev pub number_in : Option PieceRangeValue → Option (List ℕ) → Option �
 number_in None told = Some 0
 number_in (Some r) told = option_map (first_index r) told
 
--- A source of this part of what another one gives, in a call, by what is told of that one and how
--- often it has failed.
+-- A source of this part of what another one gives, in a call which leaves that so, by what is told
+-- of that one and how often it has failed.
 pub record IsPartOf
     {D : Type 0} (part : Part) (remaining : D → Option (List ℕ)) (failure_count : D → ℕ)
-    (whole : D) (input : InputCall)
+    (whole left : D) (input : InputCall)
     : Type 0 where
-  pub left : D
   pub told :
       input.call.told
       ≡ through_range part.range (through_stream part.stream (remaining whole))
-  pub number : input.number ≡ number_in part.range (through_stream part.stream (remaining whole))
+  pub number :
+      input.number.told
+      ≡ number_in part.range (through_stream part.stream (remaining whole))
   pub old_count : input.call.old_count ≡ failure_count whole
   pub new_count : input.call.new_count ≡ failure_count left
   -- Where that is all, the same is left of both.

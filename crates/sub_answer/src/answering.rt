@@ -51,8 +51,8 @@ pub fn answer<N: FirstPacket<S>, M: FirstPacket<T>, S: Source, T: Source, F: Flu
 
     // What is printed and written of what the devices tell, command by command.
     ensures answers { Answers request.now
-        (input_call S.remaining S.failure_count N.number first.old first.new)
-        (input_call T.remaining T.failure_count M.number second.old second.new)
+        (input_call S.remaining S.failure_count N.number N.passed first.old first.new)
+        (input_call T.remaining T.failure_count M.number M.passed second.old second.new)
         (second.new ≡ second.old)
         (sink_call F.contents F.failure_count file.old file.new)
         (sink_call K.contents K.failure_count out.old out.new) result }

@@ -26,7 +26,8 @@ pub fn answer_from<N: FirstPacket<S>, S: Source, K: Sink>(
     requires first { CanFail (S.failure_count first.old) }
     requires out { failures_and_refused (K.failure_count out.old.device) out.old.refused ≡ 0 }
     ensures { EndsWith request.now
-        (λ input. input ≡ input_call S.remaining S.failure_count N.number first.old first.new)
+        (λ input. input
+        ≡ input_call S.remaining S.failure_count N.number N.passed first.old first.new)
         IsEmptySource ⊤ IsEmptyFile
         (lines_of K.contents K.failure_count out.old)
         (lines_of K.contents K.failure_count out.new) result }
@@ -47,8 +48,10 @@ pub fn answer_pair<N: FirstPacket<S>, M: FirstPacket<T>, S: Source, T: Source, K
     requires second { CanFail (T.failure_count second.old) }
     requires out { failures_and_refused (K.failure_count out.old.device) out.old.refused ≡ 0 }
     ensures { EndsWith request.now
-        (λ input. input ≡ input_call S.remaining S.failure_count N.number first.old first.new)
-        (λ input. input ≡ input_call T.remaining T.failure_count M.number second.old second.new)
+        (λ input. input
+        ≡ input_call S.remaining S.failure_count N.number N.passed first.old first.new)
+        (λ input. input
+        ≡ input_call T.remaining T.failure_count M.number M.passed second.old second.new)
         (second.new ≡ second.old) IsEmptyFile
         (lines_of K.contents K.failure_count out.old)
         (lines_of K.contents K.failure_count out.new) result }
@@ -75,7 +78,8 @@ pub fn answer_with_file<N: FirstPacket<S>, S: Source, F: Close, O: HandOn<F>>(
     ensures closed { F.is_closed file.new.device ≡ true }
     ensures after { HandsOnBeside O.is_handed_on file.new out.new result }
     ensures ends { EndsWith request.now
-        (λ input. input ≡ input_call S.remaining S.failure_count N.number first.old first.new)
+        (λ input. input
+        ≡ input_call S.remaining S.failure_count N.number N.passed first.old first.new)
         IsEmptySource ⊤
         (IsClosedAfter F.contents F.failure_count F.is_close file.old file.new)
         (lines_in O.contents O.held_back O.failure_count out.old)
@@ -120,8 +124,10 @@ fn answer_and_hand_on<
         × (file.old.held ≡ []) }
     requires out { O.failure_count out.old ≡ 0 }
     ensures ends { EndsWith request.now
-        (λ input. input ≡ input_call S.remaining S.failure_count N.number first.old first.new)
-        (λ input. input ≡ input_call T.remaining T.failure_count M.number second.old second.new)
+        (λ input. input
+        ≡ input_call S.remaining S.failure_count N.number N.passed first.old first.new)
+        (λ input. input
+        ≡ input_call T.remaining T.failure_count M.number M.passed second.old second.new)
         (second.new ≡ second.old)
         (IsClosedAfter F.contents F.failure_count F.is_close file.old file.new)
         (lines_in O.contents O.held_back O.failure_count out.old)

@@ -18,7 +18,8 @@ use sub_listing::{PartOfFile, Status, WholeFile};
 use sub_request::Request;
 use ttx_pes::RangeSource;
 
-/// Answers a request that reads a part of one source, and may write a file.
+/// Answers a request that reads a part of one source, and may write a file; gives the source back
+/// as that left it.
 pub fn answer_part<S: Source + Drop, F: Close, O: HandOn<F>>(
     alloc: Global,
     request: &Request<'_>,
@@ -26,43 +27,52 @@ pub fn answer_part<S: Source + Drop, F: Close, O: HandOn<F>>(
     whole: S,
     file: &mut BufferedSink<'_, F>,
     out: &mut O,
-) -> Status
+) -> (Status, S)
     requires first { CanFail (S.failure_count whole) }
     requires file { (failures_and_refused (F.failure_count file.old.device) file.old.refused ≡ 0)
         × (file.old.held ≡ []) }
     requires out { O.failure_count out.old ≡ 0 }
-    ensures { EndsWith request.now (IsPartOf part S.remaining S.failure_count whole)
+    ensures { EndsWith request.now (IsPartOf part S.remaining S.failure_count whole result.1)
         IsEmptySource ⊤
         (IsClosedAfter F.contents F.failure_count F.is_close file.old file.new)
         (lines_in O.contents O.held_back O.failure_count out.old)
-        (lines_in O.contents O.held_back O.failure_count out.new) result }
+        (lines_in O.contents O.held_back O.failure_count out.new) result.0 }
 {
     match (part.stream, part.range) {
         (None, None) => {
             let mut first = whole;
-            answer_with_file::<WholeFile, S, F, O>(alloc, request, &mut first, file, out)
+            let status =
+                answer_with_file::<WholeFile, S, F, O>(alloc, request, &mut first, file, out);
+            (status, first)
         }
         (Some(stream), None) => {
             let mut first = PesSource::new(whole, stream.pid, stream.packet_size);
-            answer_with_file::<WholeFile, PesSource<S>, F, O>(alloc, request, &mut first, file, out)
+            let status = answer_with_file::<WholeFile, PesSource<S>, F, O>(
+                alloc, request, &mut first, file, out,
+            );
+            (status, first.into_inner())
         }
         (None, Some(range)) => {
             let mut first = RangeSource::new(whole, range);
-            answer_with_file::<PartOfFile, RangeSource<S>, F, O>(
+            let status = answer_with_file::<PartOfFile, RangeSource<S>, F, O>(
                 alloc, request, &mut first, file, out,
-            )
+            );
+            (status, first.into_inner())
         }
         (Some(stream), Some(range)) => {
             let carried = PesSource::new(whole, stream.pid, stream.packet_size);
             let mut first = RangeSource::new(carried, range);
-            answer_with_file::<PartOfFile, RangeSource<PesSource<S>>, F, O>(
+            let status = answer_with_file::<PartOfFile, RangeSource<PesSource<S>>, F, O>(
                 alloc, request, &mut first, file, out,
-            )
+            );
+            let inside = first.into_inner();
+            (status, inside.into_inner())
         }
     }
 }
 
-/// Answers a request that reads a source and a part of another one.
+/// Answers a request that reads a source and a part of another one; gives that one back as it was
+/// left.
 pub fn answer_second_part<S: Source, T: Source + Drop, K: Sink>(
     alloc: Global,
     request: &Request<'_>,
@@ -70,52 +80,63 @@ pub fn answer_second_part<S: Source, T: Source + Drop, K: Sink>(
     part: Part,
     whole: T,
     out: &mut BufferedSink<'_, K>,
-) -> Status
+) -> (Status, T)
     requires first { CanFail (S.failure_count first.old) }
     requires second { CanFail (T.failure_count whole) }
     requires out { failures_and_refused (K.failure_count out.old.device) out.old.refused ≡ 0 }
     ensures { EndsWith request.now
         (λ input. input
-        ≡ input_call S.remaining S.failure_count (λ s. Some 0) first.old first.new)
-        (IsPartOf part T.remaining T.failure_count whole) ⊤ IsEmptyFile
+        ≡ input_call S.remaining S.failure_count (λ s. Some 0) (λ s. 0) first.old first.new)
+        (IsPartOf part T.remaining T.failure_count whole result.1) (result.1 ≡ whole) IsEmptyFile
         (lines_of K.contents K.failure_count out.old)
-        (lines_of K.contents K.failure_count out.new) result }
+        (lines_of K.contents K.failure_count out.new) result.0 }
 {
     match (part.stream, part.range) {
         (None, None) => {
             let mut second = whole;
-            answer_pair::<WholeFile, WholeFile, S, T, K>(alloc, request, first, &mut second, out)
+            let status = answer_pair::<WholeFile, WholeFile, S, T, K>(
+                alloc,
+                request,
+                first,
+                &mut second,
+                out,
+            );
+            (status, second)
         }
         (Some(stream), None) => {
             let mut second = PesSource::new(whole, stream.pid, stream.packet_size);
-            answer_pair::<WholeFile, WholeFile, S, PesSource<T>, K>(
+            let status = answer_pair::<WholeFile, WholeFile, S, PesSource<T>, K>(
                 alloc,
                 request,
                 first,
                 &mut second,
                 out,
-            )
+            );
+            (status, second.into_inner())
         }
         (None, Some(range)) => {
             let mut second = RangeSource::new(whole, range);
-            answer_pair::<WholeFile, PartOfFile, S, RangeSource<T>, K>(
+            let status = answer_pair::<WholeFile, PartOfFile, S, RangeSource<T>, K>(
                 alloc,
                 request,
                 first,
                 &mut second,
                 out,
-            )
+            );
+            (status, second.into_inner())
         }
         (Some(stream), Some(range)) => {
             let carried = PesSource::new(whole, stream.pid, stream.packet_size);
             let mut second = RangeSource::new(carried, range);
-            answer_pair::<WholeFile, PartOfFile, S, RangeSource<PesSource<T>>, K>(
+            let status = answer_pair::<WholeFile, PartOfFile, S, RangeSource<PesSource<T>>, K>(
                 alloc,
                 request,
                 first,
                 &mut second,
                 out,
-            )
+            );
+            let inside = second.into_inner();
+            (status, inside.into_inner())
         }
     }
 }

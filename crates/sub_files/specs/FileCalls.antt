@@ -12,6 +12,10 @@ pub data FileCall (I O : Type 0) : Type 0 where
   Open : (name : List ℕ) → Option I → FileCall I O
   -- A file is created by its name, to be written; none where it can't be.
   Create : (name : List ℕ) → Option O → FileCall I O
+  -- A file that was read is let go, as it then is.
+  LetGoInput : I → FileCall I O
+  -- A file that was written is let go, as it then is.
+  LetGoOutput : O → FileCall I O
 
 -- Any state before, any call, any state after.
 abbrev pub any_file_call : {I O D : Type 0} → D → FileCall I O → D → Type 0

@@ -3,7 +3,7 @@ use Rattle.std.specs.Prelude.{◌≡◌, ℕ, List, [], Option, Some, None, opti
 use Rattle.std.specs.Prelude.{bytes_eq, if◌then◌else◌}
 use Rattle.sub_io.specs.Memory.{Written}
 use Rattle.sub_files.specs.FileCalls.{FileCall}
-use Rattle.sub_files.specs.FileCalls.FileCall.{Create, LookUp, Open}
+use Rattle.sub_files.specs.FileCalls.FileCall.{Create, LetGoInput, LetGoOutput, LookUp, Open}
 use Rattle.sub_files.specs.declared.apart.Found.{Found}
 use Rattle.sub_files.specs.declared.apart.Found.TheVariants.{At, Nothing}
 use Rattle.sub_files.specs.declared.memory.MemFile.{MemFile}
@@ -39,3 +39,5 @@ IsMemoryCall old (LookUp name found) new = (new ≡ old) × (found ≡ found_whe
 IsMemoryCall old (Open name file) new = (new ≡ old) × (file ≡ bytes_at name old)
 IsMemoryCall old (Create name file) new =
     (new ≡ record old { room = None }) × (file ≡ option_map created_with old.room)
+IsMemoryCall old (LetGoInput file) new = new ≡ old
+IsMemoryCall old (LetGoOutput file) new = new ≡ old

@@ -14,7 +14,7 @@ use sub_io::{Close, FromRead, IntoFile, Sink, Source};
 
 /// A device that is asked for files by their names.
 pub trait FileSystem {
-    /// A file that it has opened, to be read. It is closed where its value ends.
+    /// A file that it has opened, to be read. It is closed where it is let go, or its value ends.
     type Input: Source + Drop;
 
     /// A file that it has created, to be written. It is closed before its value ends, or there.
@@ -38,6 +38,14 @@ pub trait FileSystem {
     fn create(&mut self, name: &str) -> Option<Self::Output>
         ensures call { is_call self.old (FileCall.Create name.now result) self.new }
         ensures unused { IfSome result (λ file. Self.Output.failure_count file ≡ 0) };
+
+    /// Takes back a file that it opened, which ends it. So the call tells how that was left.
+    fn let_go_input(&mut self, file: Self::Input)
+        ensures { is_call self.old (FileCall.LetGoInput file) self.new };
+
+    /// Takes back a file that it created, which ends it.
+    fn let_go_output(&mut self, file: Self::Output)
+        ensures { is_call self.old (FileCall.LetGoOutput file) self.new };
 }
 
 /// The files of the system. No contract says what it answers, so each call is one of `std::fs`
@@ -76,6 +84,10 @@ impl<R: Files> FileSystem for SystemFiles<'_, R> {
             Err(_) => None,
         }
     }
+
+    fn let_go_input(&mut self, _file: FromRead<R::File>) {}
+
+    fn let_go_output(&mut self, _file: IntoFile<R::File>) {}
 }
 
 // What is at a name that was looked up so. One that can't be looked up is never taken for one at

@@ -101,4 +101,8 @@ impl<'a> FileSystem for MemFiles<'a> {
             None => None,
         }
     }
+
+    fn let_go_input(&mut self, _file: MemSource<'a>) {}
+
+    fn let_go_output(&mut self, _file: MemSink<'a>) {}
 }

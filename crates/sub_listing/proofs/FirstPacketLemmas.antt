@@ -13,7 +13,7 @@ use Rattle.sub_rules.specs.Pieces.{FailsAtPiece}
 use Rattle.sub_rules.specs.declared.fault.CheckFault.TheVariants.{Pes}
 use Rattle.sub_listing.specs.DeviceCall.{SinkCall, SourceCall}
 use Rattle.sub_listing.specs.Faults.{check_line}
-use Rattle.sub_listing.specs.FirstPacket.{PrintsFrom}
+use Rattle.sub_listing.specs.FirstPacket.{FirstNumber, PrintsFrom}
 use Rattle.sub_listing.specs.Listing.{PrintsListing, PrintsOrFails, fault_listing}
 use Rattle.sub_listing.specs.PacketsListing.{ListsPackets, pes_listing}
 use Rattle.sub_listing.specs.FaultLine.{counted_from}
@@ -170,9 +170,9 @@ reads_kept failed old mid (gives v more) left kept reads =
     (reads.0, packet_kept old mid reads.0 v kept reads.1, reads.2)
 
 -- PES packets were listed once the first was found. For `list_packets`.
-pub prints_found : (first : Option ℕ) (number : ℕ) (old mid left : Option (List ℕ))
+pub prints_found : (first : FirstNumber) (number : ℕ) (old mid left : Option (List ℕ))
     (old_count mid_count new_count : ℕ) (out : SinkCall) (status : Status)
-    → ((n : ℕ) → first ≡ Some n → number ≡ n)
+    → ((n : ℕ) → first.told ≡ Some n → number ≡ n)
     → Keeps old mid
     → mid_count ≡ old_count
     → PrintsListing (ListsPackets number)
@@ -202,16 +202,18 @@ prints_found
     }
 
 -- The source failed before. For `list_packets`.
-pub prints_failed : (first : Option ℕ) (number : ℕ) (source : SourceCall) (out : SinkCall)
+pub prints_failed : (first : FirstNumber) (number : ℕ) (source : SourceCall) (out : SinkCall)
     (status : Status)
-    → ((n : ℕ) → first ≡ Some n → number ≤ n)
+    → ((n : ℕ) → first.told ≡ Some n → number ≤ n)
+    → number ≡ first.passed
+    → ((n : ℕ) → first.told ≡ Some n → first.left ≡ Some n)
     → Keeps source.told source.left
     → source.new_count ≡ source.old_count + 1
     → PrintsOrFails out (fault_listing (counted_from number (check_line (Pes 0 Read)))) status
     → PrintsFrom ListsPackets first source out status
-prints_failed first number source out status before kept risen printed = record {
+prints_failed first number source out status before passed same kept risen printed = record {
   number = number;
-  starts = λ n is. inr (before n is, (risen, kept));
+  starts = λ n is. inr (before n is, passed, same n is, (risen, kept));
   prints = record {
     ending = Some Fault;
     listing = pes_listing number 0 (fails Read);

@@ -12,6 +12,9 @@ pub trait FirstPacket<S: Source> {
     // Its number in the file, counted from 0, where the source tells that.
     ghost number: { S → Option ℕ };
 
+    // How many PES packets of the file it has passed over before it.
+    ghost passed: { S → ℕ };
+
     /// Reads up to that PES packet, and answers its number. Nothing of what the source gives is
     /// taken.
     ///
@@ -23,6 +26,10 @@ pub trait FirstPacket<S: Source> {
         ensures kept { Keeps (S.remaining source.old) (S.remaining source.new) }
         ensures first { (n : ℕ) → number source.old ≡ Some n → IfOk result (λ found. found ≡ n) }
         ensures before { (n : ℕ) → number source.old ≡ Some n → IfErr result (λ at. at.pes ≤ n) }
+        // It fails at the PES packet behind those that it has passed over, and the number is kept.
+        ensures failed { IfErr result (λ at. at.pes ≡ passed source.new) }
+        ensures left { (n : ℕ) → number source.old ≡ Some n
+            → IfErr result (λ _. number source.new ≡ Some n) }
         ensures count { CountsFailure (S.failure_count source.old) result
             (S.failure_count source.new) };
 }
@@ -32,6 +39,8 @@ pub struct WholeFile;
 
 impl<S: Source> FirstPacket<S> for WholeFile {
     ghost number = { λ s. Some 0 };
+
+    ghost passed = { λ s. 0 };
 
     /// 0.
     fn find(_source: &mut S) -> Result<u64, FailedAt> {
@@ -44,6 +53,8 @@ pub struct PartOfFile;
 
 impl<S: Numbered> FirstPacket<S> for PartOfFile {
     ghost number = { λ s. S.first s };
+
+    ghost passed = { λ s. S.passed s };
 
     /// What the source finds.
     ///

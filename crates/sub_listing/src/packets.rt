@@ -10,7 +10,7 @@ ghost use Rattle.ttx_pes.specs.Reader.{TellsPacket, given_frame, progress_after}
 ghost use Rattle.ttx_pes.specs.Outcome.{ReadsPackets, outcome_after};
 ghost use Rattle.ttx_pes.specs.Reading.{most_packets};
 ghost use Rattle.ttx_pes.specs.declared.progress.Progress.TheVariants.{Reading};
-ghost use Rattle.sub_listing.specs.FirstPacket.{PrintsFrom};
+ghost use Rattle.sub_listing.specs.FirstPacket.{PrintsFrom, first_number};
 ghost use Rattle.sub_listing.specs.Lines.{number_in_file, unit_line};
 ghost use Rattle.sub_listing.specs.DeviceCall.{CountsFault, sink_call, source_call};
 ghost use Rattle.sub_listing.specs.LastLine.{HoldsLastLine};
@@ -36,7 +36,8 @@ use ttx_pes::{Compared, ComparingReader, MOST_UNITS, PesFault, Unit, hand_on_fir
 pub fn list_packets<N: FirstPacket<S>, S: Source, K: Flush>(source: &mut S, out: &mut K) -> Status
     requires source { CanFail (S.failure_count source.old) }
     requires out { CanFail (K.failure_count out.old) }
-    ensures listing { PrintsFrom ListsPackets (N.number source.old)
+    ensures listing { PrintsFrom ListsPackets
+        (first_number N.number N.passed source.old source.new)
         (source_call S.remaining S.failure_count source.old source.new)
         (sink_call K.contents K.failure_count out.old out.new) result }
     ensures source_count { CountsFault S.failure_count source.old result source.new }

@@ -15,7 +15,7 @@ use Rattle.sub_listing.specs.declared.status.Status.{Status}
 use Rattle.sub_answer.specs.Ending.{Ends, Lines, Says, ToldOfFiles, lines_of}
 
 -- The words that the system gave asked for a request, and it was answered so, over the files that
--- were opened by the calls that were made.
+-- were opened, and let go as they were left, by the calls that were made.
 pub record Answered
     {I O : Type 0} (AreMade : List (FileCall I O) → Type 0) (told : ToldOfFiles I O)
     (IsClose : O → O → Type 0) (given : Result (List Text) UsageFault) (old new : Lines)

@@ -13,7 +13,7 @@ ghost use Rattle.sub_rules.specs.Fault.{is_pes_read, is_stl_read, is_subtitle_fa
 ghost use Rattle.sub_answer.specs.Answering.{AnswersCheck, verdict};
 ghost use Rattle.sub_listing.specs.DeviceCall.{CanFail, CountsFault, sink_call, source_call};
 ghost use Rattle.sub_answer.specs.FaultListing.{accepted_line};
-ghost use Rattle.sub_listing.specs.FirstPacket.{StartsAt};
+ghost use Rattle.sub_listing.specs.FirstPacket.{StartsAt, first_number};
 ghost use Rattle.sub_listing.specs.Listing.{PrintsOrFails, done};
 
 use std::alloc::Global;
@@ -46,7 +46,8 @@ pub fn print_verdict<N: FirstPacket<T>, S: Source, T: Source, K: Sink>(
     requires out { CanFail (K.failure_count out.old) }
     ensures check { AnswersCheck drawing options.now
         (source_call S.remaining S.failure_count stl.old stl.new)
-        (source_call T.remaining T.failure_count pes.old pes.new) (N.number pes.old)
+        (source_call T.remaining T.failure_count pes.old pes.new)
+        (first_number N.number N.passed pes.old pes.new)
         (pes.new ≡ pes.old)
         (sink_call K.contents K.failure_count out.old out.new) result }
     ensures stl_count { CountsFault S.failure_count stl.old result stl.new }
@@ -82,8 +83,8 @@ fn check_files<N: FirstPacket<T>, S: Source, T: Source>(
         AreChecked (drawing_within national layout scope) options.now file (T.remaining pes.old)
         result.result) }
     ensures starts { failed is_subtitle_fault result.result ≡ false
-        → StartsAt (N.number pes.old) (source_call T.remaining T.failure_count pes.old pes.new)
-        result.first }
+        → StartsAt (first_number N.number N.passed pes.old pes.new)
+        (source_call T.remaining T.failure_count pes.old pes.new) result.first }
     ensures stl_read { (fault : LoadFault)
         → result.result ≡ Err (CheckFault.Subtitles fault)
         → is_load_read fault ≡ true
@@ -122,7 +123,7 @@ fn check_from<N: FirstPacket<T>, T: Source>(
         IsCheckedWithin programme.now options.now bytes result.result) }
     ensures checked_by { IfTold (T.remaining pes.old) (λ bytes.
         IsCheckedBy programme.now options.now bytes result.result) }
-    ensures starts { StartsAt (N.number pes.old)
+    ensures starts { StartsAt (first_number N.number N.passed pes.old pes.new)
         (source_call T.remaining T.failure_count pes.old pes.new) result.first }
     ensures read { (index : ℕ)
         → result.result ≡ Err (CheckFault.Pes index PesFault.Read)

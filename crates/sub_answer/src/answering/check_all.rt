@@ -12,6 +12,7 @@ ghost use Rattle.sub_listing.specs.LastLine.{HoldsLastLine, PutsLine};
 ghost use Rattle.sub_listing.specs.Listing.{PrintsOrFails};
 ghost use Rattle.sub_listing.specs.Printer.{printer_value};
 ghost use Rattle.sub_listing.specs.FaultLine.{line_of, counted_from};
+ghost use Rattle.sub_listing.specs.FirstPacket.{first_number};
 
 use crate::answering::check::print_accepted;
 use std::alloc::Global;
@@ -45,7 +46,8 @@ pub fn print_every_fault<N: FirstPacket<T>, S: Source, T: Source, K: Flush>(
     requires out { CanFail (K.failure_count out.old) }
     ensures all { AnswersAll drawing options.now
         (source_call S.remaining S.failure_count stl.old stl.new)
-        (source_call T.remaining T.failure_count pes.old pes.new) (N.number pes.old)
+        (source_call T.remaining T.failure_count pes.old pes.new)
+        (first_number N.number N.passed pes.old pes.new)
         (pes.new ≡ pes.old)
         (sink_call K.contents K.failure_count out.old out.new) result }
     ensures stl_count { CountsFault S.failure_count stl.old result stl.new }
@@ -99,7 +101,8 @@ fn tell_every_fault<N: FirstPacket<T>, S: Source, T: Source, K: Flush>(
     ensures same { printer.new.out.ghost_name ≡ printer.old.out.ghost_name }
     ensures told { TellsBoth drawing options.now
         (source_call S.remaining S.failure_count stl.old stl.new)
-        (source_call T.remaining T.failure_count pes.old pes.new) (N.number pes.old)
+        (source_call T.remaining T.failure_count pes.old pes.new)
+        (first_number N.number N.passed pes.old pes.new)
         (pes.new ≡ pes.old)
         (printer_value (K.contents printer.old.out.now) (K.failure_count printer.old.out.now)
         printer.old.refused printer.old.failed printer.old.first)
@@ -153,7 +156,8 @@ fn tell_transmission<N: FirstPacket<T>, T: Source, K: Flush>(
     requires few { printer.old.refused ≤ most_counted }
     ensures same { printer.new.out.ghost_name ≡ printer.old.out.ghost_name }
     ensures told { TellsPes judging.now options.now
-        (source_call T.remaining T.failure_count pes.old pes.new) (N.number pes.old)
+        (source_call T.remaining T.failure_count pes.old pes.new)
+        (first_number N.number N.passed pes.old pes.new)
         (printer_value (K.contents printer.old.out.now) (K.failure_count printer.old.out.now)
         printer.old.refused printer.old.failed printer.old.first)
         (printer_value (K.contents printer.new.out.now) (K.failure_count printer.new.out.now)

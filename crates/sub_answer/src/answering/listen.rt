@@ -2,6 +2,7 @@
 ghost use Rattle.std.specs.Prelude.{◌≡◌, ℕ, ◌+◌, ◌<◌, slice_index};
 ghost use Rattle.ttx_page.specs.Page.{AreCodes};
 ghost use Rattle.sub_answer.specs.Answering.{AnswersListen, PrintsHeard};
+ghost use Rattle.sub_listing.specs.FirstPacket.{first_number};
 ghost use Rattle.sub_listing.specs.DeviceCall.{CanFail, CountsFault, sink_call, source_call};
 ghost use Rattle.sub_answer.specs.ListenListing.{IsOldPage, listen_line};
 ghost use Rattle.sub_listen.specs.Reception.{left_by};
@@ -34,7 +35,8 @@ pub fn print_listening<N: FirstPacket<S>, S: Source, K: Sink>(
     // printed is the state of a receiver that heard what it gets of them, or the refusal. A source
     // that fails is told at the PES packet within which it failed, after what was heard.
     ensures exact { AnswersListen (left_by listening.now.receiver) listening.now
-        (source_call S.remaining S.failure_count pes.old pes.new) (N.number pes.old)
+        (source_call S.remaining S.failure_count pes.old pes.new)
+        (first_number N.number N.passed pes.old pes.new)
         (sink_call K.contents K.failure_count out.old out.new) result }
     ensures first_count { CountsFault S.failure_count pes.old result pes.new }
     ensures out_count { CountsFault K.failure_count out.old result out.new }
@@ -63,7 +65,8 @@ fn print_state_of<N: FirstPacket<S>, R: Receiver + Drop, S: Source, K: Sink>(
     requires first { CanFail (S.failure_count pes.old) }
     requires out { CanFail (K.failure_count out.old) }
     ensures exact { AnswersListen R.leaves listening.now
-        (source_call S.remaining S.failure_count pes.old pes.new) (N.number pes.old)
+        (source_call S.remaining S.failure_count pes.old pes.new)
+        (first_number N.number N.passed pes.old pes.new)
         (sink_call K.contents K.failure_count out.old out.new) result }
     ensures first_count { CountsFault S.failure_count pes.old result pes.new }
     ensures out_count { CountsFault K.failure_count out.old result out.new }

@@ -4,6 +4,6 @@ use Rattle.sub_answer.proofs.ending.answer_pair.Goals as goal
 
 pub returns : goal.returns
 returns g c =
-    ends_weaker _ _ _ _ _ _ _ _ _ _ _ c.answer_and_hand_on.ensures.ends
-    (λ call is. is) (λ call is. is)
+    ends_weaker _ _ _ _ _ _ _ _ _ _ _ _ c.answer_and_hand_on.ensures.ends
+    (λ call is. is) (λ call is. is) (λ is. is)
     (λ call is. rw is.call_is (rw (c.new-file.ensures, c.new.ensures) refl))

@@ -1,16 +1,33 @@
+-- The files were let go as the answer left them.
+use Rattle.std.proofs.Common.{None, Some, refl}
 use Rattle.sub_answer.proofs.EndingLemmas.{ends_weaker}
 use Rattle.sub_answer.proofs.over_files.read_and_extract.Goals as goal
 
 pub returns : goal.returns
-returns g c =
-    ends_weaker _ _ _ _ _ _ _ _ _ _ _ c.answer_part.ensures
-    (λ input is. record {
-      room = _;
-      is_part = rw (c.part_asked.ensures, c.new-first.ensures, c.into_file.ensures) at is;
-    })
-    (λ input is. is)
-    (λ call is. record {
-      room = _;
-      new = _;
-      closed = rw (c.new-file.ensures, c.into_file-2.ensures) at is;
-    })
+returns g c = record {
+  left = record {
+    first = Some c.into_inner.result;
+    second = None;
+    file = Some c.into_inner-2.result;
+  };
+  are_let_go = (
+    c.let_go_input.new.self,
+    c.let_go_input.ensures,
+    (c.let_go_output.new.self, c.let_go_output.ensures, refl),
+  );
+  ends =
+      ends_weaker _ _ _ _ _ _ _ _ _ _ _ _ c.answer_part-status.ensures
+      (λ input is. record {
+        room = _;
+        new = _;
+        left_is = c.into_inner.ensures;
+        is_part = rw (c.part_asked.ensures, c.new-first.ensures, c.into_file.ensures) at is;
+      })
+      (λ input is. is) (λ is. refl)
+      (λ call is. record {
+        room = _;
+        new = _;
+        left_is = c.into_inner-2.ensures;
+        closed = rw (c.new-file.ensures, c.into_file-2.ensures) at is;
+      });
+}

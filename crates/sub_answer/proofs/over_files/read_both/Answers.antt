@@ -1,20 +1,41 @@
+-- The files were let go as the answer left them.
+use Rattle.std.proofs.Common.{None, Some, ap, refl}
 use Rattle.std.specs.Io.KnownBytes.{prepend_known}
 use Rattle.sub_answer.proofs.EndingLemmas.{ends_weaker, whole_source}
 use Rattle.sub_answer.proofs.over_files.read_both.Goals as goal
 
 pub returns : goal.returns
-returns g c =
-    ends_weaker _ _ _ _ _ _ _ _ _ _ _ c.answer_second_part.ensures
-    (λ input is. record {
-      room = _;
-      is_part =
-          rw (c.new-first.ensures, c.into_file.ensures) at
-          (whole_source (λ s. prepend_known s.held (g.I.Source.remaining s.device))
-          (λ s. g.I.Source.failure_count s.device) c.new-first.result
-          c.answer_second_part.new.first input is);
-    })
-    (λ input is. record {
-      room = _;
-      is_part = rw (c.part_asked.ensures, c.new-second.ensures, c.into_file-2.ensures) at is;
-    })
-    (λ call is. is)
+returns g c = record {
+  left = record {
+    first = Some c.into_inner.result;
+    second = Some c.into_inner-2.result;
+    file = None;
+  };
+  are_let_go = (
+    c.let_go_input.new.self,
+    c.let_go_input.ensures,
+    (c.let_go_input-2.new.self, c.let_go_input-2.ensures, refl),
+  );
+  ends =
+      ends_weaker _ _ _ _ _ _ _ _ _ _ _ _ c.answer_second_part-status.ensures
+      (λ input is. record {
+        room = _;
+        new = _;
+        left_is = c.into_inner.ensures;
+        is_part =
+            rw (c.new-first.ensures, c.into_file.ensures) at
+            (whole_source
+            (λ s. prepend_known s.held (g.D.Input.Source.remaining s.device))
+            (λ s. g.D.Input.Source.failure_count s.device) c.new-first.result
+            c.answer_second_part-status.new.first input is);
+      })
+      (λ input is. record {
+        room = _;
+        new = _;
+        left_is = c.into_inner-2.ensures;
+        is_part = rw (c.part_asked.ensures, c.new-second.ensures, c.into_file-2.ensures) at is;
+      })
+      (λ is.
+      ap Some (rw (c.into_inner-2.ensures, is, c.new-second.ensures, c.into_file-2.ensures) refl))
+      (λ call is. is);
+}

@@ -13,8 +13,8 @@ use Rattle.sub_answer.proofs.parts.answer_part.Goals as goal
 told_is : {a b : InputCall} → a ≡ b → a.call.told ≡ b.call.told
 told_is e = ap (λ (i : InputCall). i.call.told) e
 
-number_is : {a b : InputCall} → a ≡ b → a.number ≡ b.number
-number_is e = ap (λ (i : InputCall). i.number) e
+number_is : {a b : InputCall} → a ≡ b → a.number.told ≡ b.number.told
+number_is e = ap (λ (i : InputCall). i.number.told) e
 
 old_is : {a b : InputCall} → a ≡ b → a.call.old_count ≡ b.call.old_count
 old_is e = ap (λ (i : InputCall). i.call.old_count) e
@@ -24,46 +24,50 @@ new_is e = ap (λ (i : InputCall). i.call.new_count) e
 
 pub returns-in-None-None : goal.returns-in-None-None
 returns-in-None-None g c =
-    ends_weaker _ _ _ _ _ _ _ _ _ _ _ c.answer_with_file.ensures.ends
+    ends_weaker _ _ _ _ _ _ _ _ _ _ _ _ c.answer_with_file-status.ensures.ends
     (λ input is.
     all_of_source g.S.Source.remaining g.S.Source.failure_count c.args.whole
-    c.answer_with_file.new.first input c.args.part
+    c.answer_with_file-status.new.first input c.args.part
     c.in-None-None.is-0 c.in-None-None.is-1 is)
-    (λ input is. is) (λ call is. is)
+    (λ input is. is) (λ is. is) (λ call is. is)
 
 pub returns-in-None-Some : goal.returns-in-None-Some
 returns-in-None-Some g c =
-    ends_weaker _ _ _ _ _ _ _ _ _ _ _ c.answer_with_file-in-None-Some.ensures.ends
+    ends_weaker _ _ _ _ _ _ _ _ _ _ _ _ c.answer_with_file-status-in-None-Some.ensures.ends
     (λ input is.
+    rw c.into_inner.ensures (
     range_of_source g.S.Source.remaining g.S.Source.failure_count c.args.whole
-    c.answer_with_file-in-None-Some.new.first.inner input
+    c.answer_with_file-status-in-None-Some.new.first.inner input
     c.args.part c.in-None-Some.range c.in-None-Some.is-0 c.in-None-Some.is-1
     (told_is is ∙ c.new-first.ensures.remaining) (number_is is ∙ c.new-first.ensures.first)
-    (old_is is ∙ c.new-first.ensures.count) (new_is is))
-    (λ input is. is) (λ call is. is)
+    (old_is is ∙ c.new-first.ensures.count) (new_is is)))
+    (λ input is. is) (λ is. is) (λ call is. is)
 
 pub returns-in-Some-None : goal.returns-in-Some-None
 returns-in-Some-None g c =
-    ends_weaker _ _ _ _ _ _ _ _ _ _ _ c.answer_with_file-in-Some-None.ensures.ends
+    ends_weaker _ _ _ _ _ _ _ _ _ _ _ _ c.answer_with_file-status-in-Some-None.ensures.ends
     (λ input is.
+    rw c.into_inner-in-Some-None.ensures (
     stream_of_source g.S.Source.remaining g.S.Source.failure_count c.args.whole
-    c.answer_with_file-in-Some-None.new.first.device input
-    c.args.part c.in-Some-None.stream c.in-Some-None.is-0 c.in-Some-None.is-1
+    c.answer_with_file-status-in-Some-None.new.first.device input
+    c.args.part c.in-Some-None.stream
+    c.in-Some-None.is-0 c.in-Some-None.is-1
     (told_is is ∙ c.new-first-in-Some-None.ensures.carried) (number_is is)
     (old_is is
     ∙ ap (λ (v : SourceValue g.row.S.Denot). g.S.Source.failure_count v.device)
     c.new-first-in-Some-None.ensures.start)
-    (new_is is))
-    (λ input is. is) (λ call is. is)
+    (new_is is)))
+    (λ input is. is) (λ is. is) (λ call is. is)
 
 pub returns-in-Some-Some : goal.returns-in-Some-Some
 returns-in-Some-Some g c =
-    ends_weaker _ _ _ _ _ _ _ _ _ _ _ c.answer_with_file-in-Some-Some.ensures.ends
+    ends_weaker _ _ _ _ _ _ _ _ _ _ _ _ c.answer_with_file-status-in-Some-Some.ensures.ends
     (λ input is.
+    rw (c.into_inner-in-Some-Some.ensures, c.into_inner-inside.ensures) (
     both_of_source g.S.Source.remaining g.S.Source.failure_count c.args.whole
-    c.answer_with_file-in-Some-Some.new.first.inner.device
-    input c.args.part c.in-Some-Some.stream c.in-Some-Some.range c.in-Some-Some.is-0
-    c.in-Some-Some.is-1
+    c.answer_with_file-status-in-Some-Some.new.first.inner.device
+    input c.args.part c.in-Some-Some.stream c.in-Some-Some.range
+    c.in-Some-Some.is-0 c.in-Some-Some.is-1
     (told_is is ∙ c.new-first-in-Some-Some.ensures.remaining
     ∙ ap (option_map (in_range c.in-Some-Some.range)) c.new-carried.ensures.carried)
     (number_is is ∙ c.new-first-in-Some-Some.ensures.first
@@ -71,5 +75,5 @@ returns-in-Some-Some g c =
     (old_is is ∙ c.new-first-in-Some-Some.ensures.count
     ∙ ap (λ (v : SourceValue g.row.S.Denot). g.S.Source.failure_count v.device)
     c.new-carried.ensures.start)
-    (new_is is))
-    (λ input is. is) (λ call is. is)
+    (new_is is)))
+    (λ input is. is) (λ is. is) (λ call is. is)

@@ -1,11 +1,11 @@
 -- A source of a part, by how it was made: all_of_source, range_of_source, stream_of_source,
 -- both_of_source.
-use Rattle.std.proofs.Common.{◌≡◌, ◌∙◌, ap}
+use Rattle.std.proofs.Common.{◌≡◌, ◌∙◌, ap, refl}
 use Rattle.std.specs.Prelude.{option_map}
 use Rattle.ttx_pes.specs.PieceRange.{first_index, in_range}
 use Rattle.mpeg_ts.specs.Stream.{SourceValue}
 use Rattle.sub_answer.specs.Answering.{InputCall}
-use Rattle.sub_answer.proofs.EndingLemmas.{ends_touched, ends_weaker}
+use Rattle.sub_answer.proofs.EndingLemmas.{ends_weaker}
 use Rattle.sub_answer.proofs.PartLemmas.{all_of_source, both_of_source, range_of_source}
 use Rattle.sub_answer.proofs.PartLemmas.{stream_of_source}
 use Rattle.sub_answer.proofs.parts.answer_second_part.Goals as goal
@@ -13,8 +13,8 @@ use Rattle.sub_answer.proofs.parts.answer_second_part.Goals as goal
 told_is : {a b : InputCall} → a ≡ b → a.call.told ≡ b.call.told
 told_is e = ap (λ (i : InputCall). i.call.told) e
 
-number_is : {a b : InputCall} → a ≡ b → a.number ≡ b.number
-number_is e = ap (λ (i : InputCall). i.number) e
+number_is : {a b : InputCall} → a ≡ b → a.number.told ≡ b.number.told
+number_is e = ap (λ (i : InputCall). i.number.told) e
 
 old_is : {a b : InputCall} → a ≡ b → a.call.old_count ≡ b.call.old_count
 old_is e = ap (λ (i : InputCall). i.call.old_count) e
@@ -24,54 +24,56 @@ new_is e = ap (λ (i : InputCall). i.call.new_count) e
 
 pub returns-in-None-None : goal.returns-in-None-None
 returns-in-None-None g c =
-    ends_weaker _ _ _ _ _ _ _ _ _ _ _
-    (ends_touched _ _ _ _ _ _ _ _ c.answer_pair.ensures)
+    ends_weaker _ _ _ _ _ _ _ _ _ _ _ _ c.answer_pair-status.ensures
     (λ input is. is)
     (λ input is.
     all_of_source g.T.Source.remaining g.T.Source.failure_count c.args.whole
-    c.answer_pair.new.second input c.args.part
+    c.answer_pair-status.new.second input c.args.part
     c.in-None-None.is-0 c.in-None-None.is-1 is)
-    (λ call is. is)
+    (λ is. is) (λ call is. is)
 
 pub returns-in-None-Some : goal.returns-in-None-Some
 returns-in-None-Some g c =
-    ends_weaker _ _ _ _ _ _ _ _ _ _ _
-    (ends_touched _ _ _ _ _ _ _ _ c.answer_pair-in-None-Some.ensures)
+    ends_weaker _ _ _ _ _ _ _ _ _ _ _ _ c.answer_pair-status-in-None-Some.ensures
     (λ input is. is)
     (λ input is.
+    rw c.into_inner.ensures (
     range_of_source g.T.Source.remaining g.T.Source.failure_count c.args.whole
-    c.answer_pair-in-None-Some.new.second.inner input
+    c.answer_pair-status-in-None-Some.new.second.inner input
     c.args.part c.in-None-Some.range c.in-None-Some.is-0 c.in-None-Some.is-1
     (told_is is ∙ c.new-second.ensures.remaining) (number_is is ∙ c.new-second.ensures.first)
-    (old_is is ∙ c.new-second.ensures.count) (new_is is))
+    (old_is is ∙ c.new-second.ensures.count) (new_is is)))
+    (λ is. rw (c.into_inner.ensures, is, c.new-second.ensures.inner) refl)
     (λ call is. is)
 
 pub returns-in-Some-None : goal.returns-in-Some-None
 returns-in-Some-None g c =
-    ends_weaker _ _ _ _ _ _ _ _ _ _ _
-    (ends_touched _ _ _ _ _ _ _ _ c.answer_pair-in-Some-None.ensures)
+    ends_weaker _ _ _ _ _ _ _ _ _ _ _ _ c.answer_pair-status-in-Some-None.ensures
     (λ input is. is)
     (λ input is.
+    rw c.into_inner-in-Some-None.ensures (
     stream_of_source g.T.Source.remaining g.T.Source.failure_count c.args.whole
-    c.answer_pair-in-Some-None.new.second.device input
-    c.args.part c.in-Some-None.stream c.in-Some-None.is-0 c.in-Some-None.is-1
+    c.answer_pair-status-in-Some-None.new.second.device input
+    c.args.part c.in-Some-None.stream
+    c.in-Some-None.is-0 c.in-Some-None.is-1
     (told_is is ∙ c.new-second-in-Some-None.ensures.carried) (number_is is)
     (old_is is
     ∙ ap (λ (v : SourceValue g.row.T.Denot). g.T.Source.failure_count v.device)
     c.new-second-in-Some-None.ensures.start)
-    (new_is is))
+    (new_is is)))
+    (λ is. rw (c.into_inner-in-Some-None.ensures, is, c.new-second-in-Some-None.ensures.start) refl)
     (λ call is. is)
 
 pub returns-in-Some-Some : goal.returns-in-Some-Some
 returns-in-Some-Some g c =
-    ends_weaker _ _ _ _ _ _ _ _ _ _ _
-    (ends_touched _ _ _ _ _ _ _ _ c.answer_pair-in-Some-Some.ensures)
+    ends_weaker _ _ _ _ _ _ _ _ _ _ _ _ c.answer_pair-status-in-Some-Some.ensures
     (λ input is. is)
     (λ input is.
+    rw (c.into_inner-in-Some-Some.ensures, c.into_inner-inside.ensures) (
     both_of_source g.T.Source.remaining g.T.Source.failure_count c.args.whole
-    c.answer_pair-in-Some-Some.new.second.inner.device
-    input c.args.part c.in-Some-Some.stream c.in-Some-Some.range c.in-Some-Some.is-0
-    c.in-Some-Some.is-1
+    c.answer_pair-status-in-Some-Some.new.second.inner.device
+    input c.args.part c.in-Some-Some.stream c.in-Some-Some.range
+    c.in-Some-Some.is-0 c.in-Some-Some.is-1
     (told_is is ∙ c.new-second-in-Some-Some.ensures.remaining
     ∙ ap (option_map (in_range c.in-Some-Some.range)) c.new-carried.ensures.carried)
     (number_is is ∙ c.new-second-in-Some-Some.ensures.first
@@ -79,5 +81,8 @@ returns-in-Some-Some g c =
     (old_is is ∙ c.new-second-in-Some-Some.ensures.count
     ∙ ap (λ (v : SourceValue g.row.T.Denot). g.T.Source.failure_count v.device)
     c.new-carried.ensures.start)
-    (new_is is))
+    (new_is is)))
+    (λ is. rw (
+    c.into_inner-in-Some-Some.ensures, c.into_inner-inside.ensures, is,
+    c.new-second-in-Some-Some.ensures.inner, c.new-carried.ensures.start) refl)
     (λ call is. is)

@@ -22,5 +22,6 @@ returns-in-Err-clause-listing g c =
     prints_failed _ c.in-Err.at.pes
     (source_call g.S.Source.remaining g.S.Source.failure_count c.args.source.now
     c.find.new.source)
-    _ _ (λ n is. c.in-Err.ensures.before n is) c.in-Err.ensures.kept risen
+    _ _ (λ n is. c.in-Err.ensures.before n is) c.in-Err.ensures.failed
+    (λ n is. c.in-Err.ensures.left n is) c.in-Err.ensures.kept risen
     (rw c.line_of_failed_read.ensures at c.print_fault_line.ensures.printed)

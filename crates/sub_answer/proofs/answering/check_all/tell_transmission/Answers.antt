@@ -6,6 +6,7 @@ use Rattle.sub_rules.specs.declared.fault.CheckFault.TheVariants as fault
 use Rattle.sub_listing.proofs.FirstPacketLemmas.{fails_first_piece, fails_piece_kept, told_kept}
 use Rattle.sub_rules.specs.declared.event.Event.{Event}
 use Rattle.sub_listing.specs.DeviceCall.{source_call}
+use Rattle.sub_listing.specs.FirstPacket.{first_number}
 use Rattle.sub_listing.specs.Printer.{PrinterValue, PrintsEvent, printer_value}
 use Rattle.std.proofs.Common.{Option}
 use Rattle.sub_listing.specs.declared.printer.Printer.{Printer}
@@ -46,7 +47,9 @@ returns-in-Ok-clause-told g c =
     (value_of g.K.Sink.contents g.K.Sink.failure_count) (λ s t x h. h.1)
     c.args.judging.now c.args.options.now
     (source_call g.T.Source.remaining g.T.Source.failure_count c.args.pes.now
-    c.check_all.new.source) (g.N.FirstPacket.number c.args.pes.now)
+    c.check_all.new.source)
+    (first_number g.N.FirstPacket.number g.N.FirstPacket.passed c.args.pes.now
+    c.check_all.new.source)
     start c.check_all.new.audience c.requires.goes_on c.requires.few
     (λ k is. inl (found.first k is))
     c.check_all.result _ (has_stopped _ _)
@@ -79,8 +82,9 @@ returns-in-Err-clause-told g c =
     (value_of g.K.Sink.contents g.K.Sink.failure_count) (λ s t x h. h.1)
     c.args.judging.now c.args.options.now
     (source_call g.T.Source.remaining g.T.Source.failure_count c.args.pes.now c.find.new.source)
-    (g.N.FirstPacket.number c.args.pes.now) start start c.requires.goes_on c.requires.few
-    (λ k is. inr (found.before k is, (risen, found.kept)))
+    (first_number g.N.FirstPacket.number g.N.FirstPacket.passed c.args.pes.now c.find.new.source)
+    start start c.requires.goes_on c.requires.few
+    (λ k is. inr (found.before k is, found.failed, found.left k is, (risen, found.kept)))
     (Err (fault.Pes 0 Read)) false
     (λ fails. absurd (true≢false (sym fails ∙ c.requires.goes_on)))
     (λ holds quiet. refl)

@@ -1,0 +1,14 @@
+-- No file is let go where none is named.
+use Rattle.std.proofs.Common.{None, refl}
+use Rattle.sub_answer.proofs.EndingLemmas.{ends_weaker}
+use Rattle.sub_answer.proofs.over_files.answer_opened.Goals as goal
+
+pub returns-in-Nothing : goal.returns-in-Nothing
+returns-in-Nothing g c =
+    rw c.in-Nothing.is (record {
+      left = record { first = None; second = None; file = None };
+      are_let_go = refl;
+      ends =
+          ends_weaker _ _ _ _ _ _ _ _ _ _ _ _ c.read_nothing.ensures
+          (λ call is. is) (λ call is. is) (λ is. refl) (λ call is. is);
+    })

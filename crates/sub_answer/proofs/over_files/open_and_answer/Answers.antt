@@ -1,0 +1,22 @@
+-- The files were opened, and then let go: calls_go_on.
+use Rattle.sub_answer.specs.Ending.{let_go}
+use Rattle.sub_answer.proofs.EndingLemmas.{calls_go_on}
+use Rattle.sub_answer.proofs.over_files.open_and_answer.Goals as goal
+
+pub returns-in-Some-open-clause-ends : goal.returns-in-Some-open-clause-ends
+returns-in-Some-open-clause-ends g c =
+    let opened = rw (c.in-Some-open.is, c.files-names.ensures) at c.open.ensures.calls in
+    let answered = c.answer_opened.ensures in
+    record {
+      files = c.in-Some-open.opened;
+      left = answered.left;
+      opened = record {
+        calls = opened.calls;
+        are_made =
+            calls_go_on g.D.FileSystem.is_call c.args.files.now c.open.new.files
+            c.answer_opened.new.files opened.calls (let_go answered.left) opened.are_made
+            answered.are_let_go;
+        opens = opened.opens;
+      };
+      ends = answered.ends;
+    }
