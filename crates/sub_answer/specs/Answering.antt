@@ -167,10 +167,12 @@ Answers (ask.Extract recording pes stream) first second Untouched file out statu
 Answers (ask.Survey recording options) first second Untouched file out status =
     PrintsSurvey out status
 
--- A request whose answer is followed while its PES file is sent: where the source of that failed,
--- this is so. It is the first source of `packets`, and the second of `check --all`.
+-- A request whose answer is followed while its PES file or recording is sent: where the source of
+-- that failed, this is so. It is the first source of `packets` and `survey`, and the second of
+-- `check --all`.
 abbrev pub HandsOnBefore : Request → Type 0 → Type 0 → Type 0 → Type 0
 HandsOnBefore (ask.Packets pes) FirstFails SecondFails IsAlone = FirstFails → IsAlone
+HandsOnBefore (ask.Survey recording options) FirstFails SecondFails IsAlone = FirstFails → IsAlone
 HandsOnBefore
     (ask.Check stl pes options national layout scope true) FirstFails SecondFails IsAlone =
     SecondFails → IsAlone

@@ -1,6 +1,7 @@
 //! `survey RECORDING`: tells what there is in a recording.
-ghost use Rattle.std.specs.Prelude.{◌≡◌};
+ghost use Rattle.std.specs.Prelude.{◌≡◌, ◌<◌};
 ghost use Rattle.sub_listing.specs.DeviceCall.{CanFail, CountsFault, sink_call};
+ghost use Rattle.sub_listing.specs.LastLine.{HoldsLastLine};
 ghost use Rattle.sub_listing.specs.SurveyListing.{PrintsSurvey};
 
 use crate::faults::{line_of_failed_read, line_of_usage};
@@ -27,6 +28,11 @@ pub fn print_survey<S: Source, K: Flush>(
     ensures printed { PrintsSurvey (sink_call K.contents K.failure_count out.old out.new) result }
     ensures source_count { CountsFault S.failure_count source.old result source.new }
     ensures out_count { CountsFault K.failure_count out.old result out.new }
+    // Where the source may have to ask its device, all that was printed before is handed on: each
+    // such call may fail, and where one did the line of its failure alone may be held back.
+    ensures followed { K.held out.old ≡ 0
+        → S.failure_count source.old < S.failure_count source.new
+        → HoldsLastLine K.contents K.held K.is_push out.new }
 {
     match survey(alloc, options, source, out) {
         Ok(()) => Status::Done,

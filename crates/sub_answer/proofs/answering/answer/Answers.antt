@@ -26,6 +26,9 @@ returns-in-Survey-clause-answers g c = rw c.in-Survey.is c.print_survey.ensures.
 pub returns-in-Packets-clause-followed : goal.returns-in-Packets-clause-followed
 returns-in-Packets-clause-followed g c = rw c.in-Packets.is c.list_packets.ensures.followed
 
+pub returns-in-Survey-clause-followed : goal.returns-in-Survey-clause-followed
+returns-in-Survey-clause-followed g c = rw c.in-Survey.is c.print_survey.ensures.followed
+
 pub returns-then-all-clause-followed : goal.returns-then-all-clause-followed
 returns-then-all-clause-followed g c =
     rw (c.in-Check.is, c.if-all.true) c.print_every_fault.ensures.followed
