@@ -14,6 +14,7 @@ use Rattle.sub_files.specs.Opening.{Opens}
 use Rattle.sub_files.specs.declared.opening.Opened.{Opened}
 use Rattle.sub_files.specs.declared.opening.Opened.TheVariants.{ReadBoth}
 use Rattle.sub_check.specs.CheckedFiles.{IsAcceptedBy}
+use Rattle.sub_listing.specs.DeviceCall.{SinkCall}
 use Rattle.sub_listing.specs.declared.status.Status.{Status}
 use Rattle.sub_listing.specs.declared.status.Status.TheVariants.{Done, Fault}
 use Rattle.sub_answer.specs.Answering.{InputCall}

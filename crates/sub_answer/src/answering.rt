@@ -74,8 +74,8 @@ pub fn answer<N: FirstPacket<S>, M: FirstPacket<T>, S: Source, T: Source, F: Flu
         → F.held file.new ≡ 0 }
 
     // Where the source of the PES file or recording may have to ask its device, all that was told
-    // before is with the device of `out`: each such call may fail, and where one did the line of its
-    // failure alone may be held back.
+    // before is with the device of `out`: each such call may fail, and where one did the line of
+    // its failure alone may be held back.
     ensures followed { K.held out.old ≡ 0 → HandsOnBefore request.now
         (S.failure_count first.old < S.failure_count first.new)
         (T.failure_count second.old < T.failure_count second.new)

@@ -164,8 +164,14 @@ fn read_both<D: FileSystem, K: Sink>(
     let (room, other) = rooms.split_at_mut(half);
     let mut first = BufferedSource::new(stl.into_file(), room);
     let second = BufferedSource::new(pes.into_file(), other);
-    let (status, second) =
-        answer_second_part(alloc, request, &mut first, part_asked(request), second, out);
+    let (status, second) = answer_second_part(
+        alloc,
+        request,
+        &mut first,
+        part_asked(request),
+        second,
+        out,
+    );
     files.let_go_input(first.into_inner());
     files.let_go_input(second.into_inner());
     status
@@ -195,10 +201,12 @@ fn read_and_write<D: FileSystem, K: Sink>(
     let (room, other) = rooms.split_at_mut(half);
     let mut first = BufferedSource::new(stl.into_file(), room);
     let mut file = BufferedSink::new(output.into_file(), other);
-    let status =
-        answer_with_file::<WholeFile, BufferedSource<'_, D::Input>, D::Output, BufferedSink<'_, K>>(
-            alloc, request, &mut first, &mut file, out,
-        );
+    let status = answer_with_file::<
+        WholeFile,
+        BufferedSource<'_, D::Input>,
+        D::Output,
+        BufferedSink<'_, K>,
+    >(alloc, request, &mut first, &mut file, out);
     files.let_go_input(first.into_inner());
     files.let_go_output(file.into_inner());
     status

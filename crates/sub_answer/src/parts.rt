@@ -41,8 +41,9 @@ pub fn answer_part<S: Source + Drop, F: Close, O: HandOn<F>>(
     match (part.stream, part.range) {
         (None, None) => {
             let mut first = whole;
-            let status =
-                answer_with_file::<WholeFile, S, F, O>(alloc, request, &mut first, file, out);
+            let status = answer_with_file::<WholeFile, S, F, O>(
+                alloc, request, &mut first, file, out,
+            );
             (status, first)
         }
         (Some(stream), None) => {

@@ -83,6 +83,10 @@ returns-in-Some-Some g c =
     c.new-carried.ensures.start)
     (new_is is)))
     (λ is. rw (
-    c.into_inner-in-Some-Some.ensures, c.into_inner-inside.ensures, is,
-    c.new-second-in-Some-Some.ensures.inner, c.new-carried.ensures.start) refl)
+      c.into_inner-in-Some-Some.ensures,
+      c.into_inner-inside.ensures,
+      is,
+      c.new-second-in-Some-Some.ensures.inner,
+      c.new-carried.ensures.start,
+    ) refl)
     (λ call is. is)

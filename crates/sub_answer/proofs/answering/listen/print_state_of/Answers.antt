@@ -26,8 +26,12 @@ returns-in-Err-clause-exact g c =
     record {
       number = c.in-Err.at.pes;
       starts = λ n is.
-          inr (c.in-Err.ensures.before n is, c.in-Err.ensures.failed, c.in-Err.ensures.left n is,
-          (risen, c.in-Err.ensures.kept));
+          inr (
+            c.in-Err.ensures.before n is,
+            c.in-Err.ensures.failed,
+            c.in-Err.ensures.left n is,
+            (risen, c.in-Err.ensures.kept),
+          );
       heard =
           none_heard _ _ c.in-Err.at.pes
           (source_call g.S.Source.remaining g.S.Source.failure_count c.args.pes.now
