@@ -8,6 +8,7 @@ crates        the crates, and what each stands on
 prover        how one is proved
 sizes         how many lines they have of what
 definitions   the definitions of specs/, and what a name or a clause rests on
+sources       what a file of specs/, proofs/ or src/ defines
 signs         the signs of antt, with their meaning
 promises      the index of clauses in ASSURANCE
 cited         names that documents cite
@@ -22,6 +23,8 @@ stl           blocks of subtitle files, written
 mending       a pair mended by what is told
 multiplex     a transport stream that is written
 trial         a run in which something fails, and what has to happen
+trial_inputs  the commands that are run so, and what they read
+trial_memory  runs in which memory is short
 every_place   the second implementation; on purpose it shares no more than codes, times and layouts
 tests         the tests of check-tools, of unittest: a module for a tool or an idea
 
