@@ -94,49 +94,33 @@ pub fn answer_second_part<S: Source, T: Source + Drop, K: Sink>(
 {
     match (part.stream, part.range) {
         (None, None) => {
-            let mut second = whole;
+            let mut input = whole;
             let status = answer_pair::<WholeFile, WholeFile, S, T, K>(
-                alloc,
-                request,
-                first,
-                &mut second,
-                out,
+                alloc, request, first, &mut input, out,
             );
-            (status, second)
+            (status, input)
         }
         (Some(stream), None) => {
-            let mut second = PesSource::new(whole, stream.pid, stream.packet_size);
+            let mut input = PesSource::new(whole, stream.pid, stream.packet_size);
             let status = answer_pair::<WholeFile, WholeFile, S, PesSource<T>, K>(
-                alloc,
-                request,
-                first,
-                &mut second,
-                out,
+                alloc, request, first, &mut input, out,
             );
-            (status, second.into_inner())
+            (status, input.into_inner())
         }
         (None, Some(range)) => {
-            let mut second = RangeSource::new(whole, range);
+            let mut input = RangeSource::new(whole, range);
             let status = answer_pair::<WholeFile, PartOfFile, S, RangeSource<T>, K>(
-                alloc,
-                request,
-                first,
-                &mut second,
-                out,
+                alloc, request, first, &mut input, out,
             );
-            (status, second.into_inner())
+            (status, input.into_inner())
         }
         (Some(stream), Some(range)) => {
             let carried = PesSource::new(whole, stream.pid, stream.packet_size);
-            let mut second = RangeSource::new(carried, range);
+            let mut input = RangeSource::new(carried, range);
             let status = answer_pair::<WholeFile, PartOfFile, S, RangeSource<PesSource<T>>, K>(
-                alloc,
-                request,
-                first,
-                &mut second,
-                out,
+                alloc, request, first, &mut input, out,
             );
-            let inside = second.into_inner();
+            let inside = input.into_inner();
             (status, inside.into_inner())
         }
     }

@@ -58,15 +58,15 @@ pub record Reaches
   pub least_is : least ≡ least_frame l.options.within frames n
 
 -- The number of a PES packet's first packet in its frame, by what is kept of the one before it.
-first_number_is :
+first_packet_number_is :
     (within : ℕ) (frames : Transmission) (n sent least frame : ℕ)
     → sent ≡ sent_in_frame within frames n
     → least ≡ least_frame within frames n
     → frame_at frames n ≡ frame
     → cond (not (within == 0) && (frame == least)) sent 0 ≡ first_in_frame within frames n
-first_number_is within frames zero sent least frame sent_is least_is frame_is =
+first_packet_number_is within frames zero sent least frame sent_is least_is frame_is =
     grind (arith, nat_tests)
-first_number_is within frames (suc n) sent least frame sent_is least_is frame_is =
+first_packet_number_is within frames (suc n) sent least frame sent_is least_is frame_is =
     grind (arith, nat_tests)
 
 -- How many packets of the frame are sent, one PES packet on.
@@ -185,7 +185,7 @@ module _
                 → before ≡ first_in_frame l.options.within frames n
             first_is before is =
                 is
-                ∙ first_number_is l.options.within frames n sent least frame reached.sent_is
+                ∙ first_packet_number_is l.options.within frames n sent least frame reached.sent_is
                 reached.least_is next.sent.frame_is
 
             -- A page header of it is lost.

@@ -65,15 +65,15 @@ first_in_frame within frames i =
     if is_of_same_frame within frames i then sent_in_frame within frames i else 0
 
 -- The number of the first packet of frame i of the list, counted over the whole file.
-abbrev pub first_number : Transmission → ℕ → ℕ
-first_number frames i = length (packets_before frames i)
+abbrev pub first_packet_number : Transmission → ℕ → ℕ
+first_packet_number frames i = length (packets_before frames i)
 
 -- The first packet of PES packet i of the list that is lost and may not be, by its number in its
 -- frame.
 abbrev pub lost_header : Listening → Transmission → ℕ → Option ℕ
 lost_header l frames i =
     option_map (λ place. first_in_frame l.options.within frames i + place)
-    (first_lost_header (reception_of l) (first_number frames i) (packets_of_frame frames i))
+    (first_lost_header (reception_of l) (first_packet_number frames i) (packets_of_frame frames i))
 
 -- Frame i of the list is heard: it is after the one before, or within frames not before it, not
 -- after TIME, and no page header of it is lost.
@@ -82,7 +82,8 @@ pub record IsHeard (l : Listening) (frames : Transmission) (i : ℕ) : Type 0 wh
   pub rises : least_frame l.options.within frames i ≤ frame_at frames i
   pub in_time : frame_at frames i ≤ l.at
   pub whole :
-      first_lost_header (reception_of l) (first_number frames i) (packets_of_frame frames i) ≡ None
+      first_lost_header (reception_of l) (first_packet_number frames i) (packets_of_frame frames i)
+      ≡ None
 
 -- The first n frames of the list are heard.
 abbrev pub AreHeard : Listening → Transmission → ℕ → Type 0

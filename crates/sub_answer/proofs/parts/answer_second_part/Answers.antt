@@ -41,9 +41,9 @@ returns-in-None-Some g c =
     range_of_source g.T.Source.remaining g.T.Source.failure_count c.args.whole
     c.answer_pair-status-in-None-Some.new.second.inner input
     c.args.part c.in-None-Some.range c.in-None-Some.is-0 c.in-None-Some.is-1
-    (told_is is ∙ c.new-second.ensures.remaining) (number_is is ∙ c.new-second.ensures.first)
-    (old_is is ∙ c.new-second.ensures.count) (new_is is)))
-    (λ is. rw (c.into_inner.ensures, is, c.new-second.ensures.inner) refl)
+    (told_is is ∙ c.new-input.ensures.remaining) (number_is is ∙ c.new-input.ensures.first)
+    (old_is is ∙ c.new-input.ensures.count) (new_is is)))
+    (λ is. rw (c.into_inner.ensures, is, c.new-input.ensures.inner) refl)
     (λ call is. is)
 
 pub returns-in-Some-None : goal.returns-in-Some-None
@@ -56,12 +56,12 @@ returns-in-Some-None g c =
     c.answer_pair-status-in-Some-None.new.second.device input
     c.args.part c.in-Some-None.stream
     c.in-Some-None.is-0 c.in-Some-None.is-1
-    (told_is is ∙ c.new-second-in-Some-None.ensures.carried) (number_is is)
+    (told_is is ∙ c.new-input-in-Some-None.ensures.carried) (number_is is)
     (old_is is
     ∙ ap (λ (v : SourceValue g.row.T.Denot). g.T.Source.failure_count v.device)
-    c.new-second-in-Some-None.ensures.start)
+    c.new-input-in-Some-None.ensures.start)
     (new_is is)))
-    (λ is. rw (c.into_inner-in-Some-None.ensures, is, c.new-second-in-Some-None.ensures.start) refl)
+    (λ is. rw (c.into_inner-in-Some-None.ensures, is, c.new-input-in-Some-None.ensures.start) refl)
     (λ call is. is)
 
 pub returns-in-Some-Some : goal.returns-in-Some-Some
@@ -74,11 +74,11 @@ returns-in-Some-Some g c =
     c.answer_pair-status-in-Some-Some.new.second.inner.device
     input c.args.part c.in-Some-Some.stream c.in-Some-Some.range
     c.in-Some-Some.is-0 c.in-Some-Some.is-1
-    (told_is is ∙ c.new-second-in-Some-Some.ensures.remaining
+    (told_is is ∙ c.new-input-in-Some-Some.ensures.remaining
     ∙ ap (option_map (in_range c.in-Some-Some.range)) c.new-carried.ensures.carried)
-    (number_is is ∙ c.new-second-in-Some-Some.ensures.first
+    (number_is is ∙ c.new-input-in-Some-Some.ensures.first
     ∙ ap (option_map (first_index c.in-Some-Some.range)) c.new-carried.ensures.carried)
-    (old_is is ∙ c.new-second-in-Some-Some.ensures.count
+    (old_is is ∙ c.new-input-in-Some-Some.ensures.count
     ∙ ap (λ (v : SourceValue g.row.T.Denot). g.T.Source.failure_count v.device)
     c.new-carried.ensures.start)
     (new_is is)))
@@ -86,7 +86,7 @@ returns-in-Some-Some g c =
       c.into_inner-in-Some-Some.ensures,
       c.into_inner-inside.ensures,
       is,
-      c.new-second-in-Some-Some.ensures.inner,
+      c.new-input-in-Some-Some.ensures.inner,
       c.new-carried.ensures.start,
     ) refl)
     (λ call is. is)
