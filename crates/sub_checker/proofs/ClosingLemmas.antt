@@ -1,7 +1,7 @@
 -- What is told after the last piece, by what is kept: `closing_are`, `relays_alike`, `closes_are`,
 -- `tells_closing`, `closing_parts`.
 use Rattle.std.proofs.lemmas.Bool.Decides.{nat_tests}
-use Rattle.std.proofs.Common.{◌≡◌, ℕ, zero, suc, ◌+◌, ◌<◌, Bool, true, false, ◌&&◌, ◌||◌, not}
+use Rattle.std.proofs.Common.{◌≡◌, ℕ, zero, suc, ◌<◌, Bool, true, false, ◌&&◌, ◌||◌, not}
 use Rattle.std.proofs.Common.{cond, is_some, List, [], ◌∷◌, ◌++◌, length, Option, Some, None, refl}
 use Rattle.std.proofs.Common.{sym, subst, ap, ap₂, ◌∙◌, arith, flat_map, ◌==◌, map, Result}
 use Rattle.std.specs.List.{list_any}
@@ -19,7 +19,6 @@ use Rattle.sub_rules.specs.Events.{is_late, is_overdue, is_pending, is_short, la
 use Rattle.sub_rules.specs.Events.{nothing_stands, rest_events, rule_events, standing_at}
 use Rattle.sub_rules.specs.Events.{unfinished_since, unread_fault}
 use Rattle.sub_rules.specs.FrameRules.{Task, Unread, end_frame, frame_at}
-use Rattle.sub_rules.specs.FrameRules.Unread.{BadPacket, NoFrame}
 use Rattle.sub_rules.specs.PieceEvents.{closing_of_pieces}
 use Rattle.sub_rules.specs.Transmission.{Transmission}
 use Rattle.sub_rules.specs.Trusted.{at_pes, stands_none, tells_none}
@@ -42,12 +41,7 @@ pending_by : (w : ℕ) (s t : Option ℕ) (a b : Bool)
     → (0 < w → s ≡ t)
     → (0 < w → a ≡ b)
     → (not (w == 0) && is_some s && not a) ≡ (is_some t && not (w == 0 || b))
-pending_by zero s t a b same late = grind (arith, nat_tests)
-pending_by (suc w) s t a b same late =
-    let e = same (omega arith) in
-    let l = late (omega arith) in
-    let not_each : (suc w == 0) ≡ false = grind (arith, nat_tests) in
-    rw (e, l, not_each) refl
+pending_by w s t a b same late = grind (arith, nat_tests)
 
 module _ (g : Task) (frames : Transmission) (n : ℕ) (last : List (List ℕ)) (c : CheckerValue)
     (all : length frames ≡ suc n) (follows : Follows g frames (suc n) last c)
@@ -145,35 +139,17 @@ module _ (k n : ℕ) (u : Unread) where
   told_with_last : (es : List Event) (t : Trust)
       → told_by t (map Says (with_last es k)) ≡ told_by t (map Says (with_last es n))
   unfolding told_by told_with doubted at_pes
-  told_with_last [] t = one u
-    where
-      one : (v : Unread)
-          → told_by t (Says (Told (unread_fault k (Some v))) ∷ [])
-          ≡ told_by t (Says (Told (unread_fault n (Some v))) ∷ [])
-      one (BadPacket f) = refl
-      one NoFrame = refl
-  told_with_last (e ∷ es) t =
-      ap (λ (l : List Event). told_with (Says e) t ++ l)
-      (told_with_last es (after_mark (Says e) t))
+  told_with_last [] t = grind (arith, nat_tests)
+  told_with_last (e ∷ es) t = grind (arith, nat_tests, (told_with_last es (after_mark (Says e) t)))
 
   kept_with_last : (es : List Event) (t : Trust)
       → trust_after t (map Says (with_last es k)) ≡ trust_after t (map Says (with_last es n))
   unfolding trust_after after_mark doubted is_order
-  kept_with_last [] t = one u
-    where
-      one : (v : Unread)
-          → trust_after t (Says (Told (unread_fault k (Some v))) ∷ [])
-          ≡ trust_after t (Says (Told (unread_fault n (Some v))) ∷ [])
-      one (BadPacket f) = refl
-      one NoFrame = refl
-  kept_with_last (e ∷ es) t = kept_with_last es (after_mark (Says e) t)
+  kept_with_last [] t = grind (arith, nat_tests)
+  kept_with_last (e ∷ es) t = grind (arith, nat_tests, (kept_with_last es))
 
   unread_alike : (es : List Event) → AreAlike (with_last es k) (with_last es n)
-  unread_alike es = record {
-    none_are = none_with es;
-    told_are = told_with_last es;
-    kept_are = kept_with_last es;
-  }
+  unread_alike es = grind (arith, nat_tests, none_with, told_with_last, kept_with_last)
 
 none_ended : (f : ℕ) → endings nothing_stands f ≡ []
 unfolding end_events end_rules
@@ -271,20 +247,7 @@ tells_end s f = go end_rules
 pub tells_closing : (pes : ℕ) (given : Option CheckFault) (c : CheckerValue)
     → (is_some (last_fault pes given c) || not (stands_none c.standing))
     ≡ not (tells_none (closing_now pes given c))
-tells_closing pes given c = by (last_fault pes given c)
-  where
-    one : (told : Option CheckFault) → tells_none (fault_events told) ≡ not (is_some told)
-    one None = refl
-    one (Some f) = refl
-
-    by : (told : Option CheckFault)
-        → (is_some told || not (stands_none c.standing))
-        ≡ not (tells_none (endings c.standing c.last ++ fault_events told))
-    by told =
-        let parts = tells_none-two (endings c.standing c.last) (fault_events told) in
-        let end = tells_end c.standing c.last in
-        let rest = one told in
-        grind (arith, nat_tests)
+tells_closing pes given c = grind (arith, nat_tests, tells_none-two, tells_end)
 
 -- Bytes are left where a fault ended reading, and more is told.
 pub closes_are :

@@ -67,11 +67,7 @@ pub IsJudged-later :
     → IsJudged j p beside first within frame edge known_from
     → frame ≤ f
     → IsJudged j p beside first within f edge known_from
-IsJudged-later j p beside first within frame edge known_from f is low = record {
-  programme_is = is.programme_is;
-  beside_is = is.beside_is;
-  known_is = λ e later small before. is.known_is e (omega (arith, low, later)) small before;
-}
+IsJudged-later j p beside first within frame edge known_from f is low = grind (arith, nat_tests)
 
 -- What is kept as due is due at this frame. For `move_to`.
 pub at_frame-stays :

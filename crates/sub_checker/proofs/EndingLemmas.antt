@@ -2,17 +2,16 @@
 -- `stands_are`, `since_are`; since which frame the page is not whole, `gap_on`, `frame_on`; and
 -- where nothing stands, `quiet_marks`, `quiet_after`.
 use Rattle.std.proofs.lemmas.Bool.Decides.{nat_tests}
-use Rattle.std.proofs.Common.{◌≡◌, ℕ, zero, suc, ◌+◌, ◌-◌, ◌<◌, ◌≤◌, Bool, true, false, ◌&&◌, ◌||◌}
-use Rattle.std.proofs.Common.{cond, not, List, [], ◌∷◌, ◌++◌, map, Option, Some, None, refl, sym}
+use Rattle.std.proofs.Common.{◌≡◌, ℕ, zero, suc, ◌+◌, ◌-◌, ◌<◌, ◌≤◌, Bool, false, ◌&&◌, ◌||◌}
+use Rattle.std.proofs.Common.{cond, List, [], ◌∷◌, ◌++◌, map, Option, Some, None, refl, sym}
 use Rattle.std.proofs.Common.{ap, ap₂, ◌∙◌, arith, ◌==◌}
-use Rattle.std.proofs.lemmas.Bool.{true≢false}
 use Rattle.std.proofs.lemmas.List.{append-nil}
 use Rattle.ttx_page.specs.Page.{Rows}
 use Rattle.ttx_page.specs.PacketKind.{kind}
 use Rattle.ttx_page.specs.Span.{is_open_after}
 use Rattle.sub_plan.specs.Schedule.{due_in}
 use Rattle.sub_checker.specs.Checker.{CheckerValue, after_end, back_marks, differs_now, end_marks}
-use Rattle.sub_checker.specs.Checker.{goes_back_now, is_overdue_at, is_undecided_by}
+use Rattle.sub_checker.specs.Checker.{is_overdue_at, is_undecided_by}
 use Rattle.sub_checker.specs.Checker.{is_unfinished_now, late_now, quiet_end, since_now, stands}
 use Rattle.sub_checker.specs.Checker.{undecided_now, undue_now}
 use Rattle.sub_checker.specs.Following.{HasBegun, Remembers}
@@ -23,10 +22,10 @@ use Rattle.sub_rules.specs.Events.{since_in_gap, standing_at, standing_before, u
 use Rattle.sub_rules.specs.Events.{undue_cell, unfinished_from, unfinished_since, wrong_after}
 use Rattle.sub_rules.specs.Events.{wrong_cell}
 use Rattle.sub_rules.specs.FrameRules.{Task, frame_at, packets_before}
-use Rattle.sub_rules.specs.PieceEvents.{goes_back, marks_at_end, marks_before}
+use Rattle.sub_rules.specs.PieceEvents.{marks_at_end, marks_before}
 use Rattle.sub_rules.specs.Transmission.{Transmission}
 use Rattle.sub_rules.specs.Trusted.{Mark}
-use Rattle.sub_rules.specs.Trusted.Mark.{AtEnd, GoesBack, Says}
+use Rattle.sub_rules.specs.Trusted.Mark.{AtEnd, Says}
 use Rattle.sub_rules.specs.declared.event.Event.{Event}
 use Rattle.sub_rules.proofs.EndRuleLemmas.{end_from_none}
 use Rattle.sub_rules.specs.declared.standing.Standing.{Standing}
@@ -41,15 +40,7 @@ pub gap_on :
     → unfinished_since g frames n f
     ≡ unfinished_from (since_before g frames n f) (is_unfinished g frames n f) f
 unfolding unfinished_since since_before since_in_gap
-gap_on g frames zero f some later = absurd (omega arith)
-gap_on g frames (suc m) f some later =
-    let l = latest frames (suc m) in
-    let parts : f ≡ l + suc (f - 1 - l) = omega (arith, later) in
-    let size : f - l ≡ suc (f - 1 - l) = omega (arith, later) in
-    ap (since_in_gap g frames (suc m) (since_frames g frames (suc m))) size
-    ∙ ap (λ (d : ℕ). unfinished_from
-    (since_in_gap g frames (suc m) (since_frames g frames (suc m)) (f - 1 - l))
-    (is_unfinished g frames (suc m) d) d) (sym parts)
+gap_on g frames n f some later = grind (arith, nat_tests)
 
 -- At the end of the last of the first frames.
 pub since_last : (g : Task) (frames : Transmission) (n : ℕ)
@@ -73,20 +64,14 @@ pub frame_on : (g : Task) (frames : Transmission) (n : ℕ)
     ≡ unfinished_from (since_before g frames n (frame_at frames n))
     (is_unfinished g frames (suc n) (frame_at frames n)) (frame_at frames n)
 unfolding since_frames
-frame_on g frames n =
-    since_last g frames n
-    ∙ ap (λ (s : Option ℕ). unfinished_from s (is_unfinished g frames (suc n) (frame_at frames n))
-    (frame_at frames n)) (before_last g frames n)
+frame_on g frames n = grind (arith, nat_tests, since_last, before_last)
 
 -- The end before, where no frame of the day lies between.
 pub since_low : (g : Task) (frames : Transmission) (n f : ℕ)
     → f ≤ latest frames n + 1
     → since_before g frames n f ≡ since_frames g frames n
 unfolding since_before unfinished_since since_in_gap since_frames
-since_low g frames zero f low = refl
-since_low g frames (suc n) f low =
-    let none : f - 1 - latest frames (suc n) ≡ 0 = omega (arith, low) in
-    ap (since_in_gap g frames (suc n) (since_frames g frames (suc n))) none
+since_low g frames n f low = grind (arith, nat_tests)
 
 -- And where one does.
 pub since_high : (g : Task) (frames : Transmission) (n f e : ℕ)
@@ -145,28 +130,11 @@ pub back_are :
     → Remembers g frames n last c
     → (0 < g.within → c.since ≡ since_before g frames i f)
     → back_marks c ≡ marks_before g (since_before g frames i f)
-back_are g frames i n f last c known since =
-    ap (λ (b : Bool). cond b (GoesBack c.since ∷ []) []) going ∙ by (goes_back g) refl
-  where
-    going : goes_back_now c ≡ goes_back g
-    going = ap (λ (t : Task). goes_back t) (sym known.task_is)
-
-    some : (b : Bool) (w : ℕ) → (b && not (w == 0)) ≡ true → 0 < w
-    some b w is = grind (arith, nat_tests)
-
-    by : (b : Bool) → goes_back g ≡ b
-        → cond b (GoesBack c.since ∷ []) []
-        ≡ cond b (GoesBack (since_before g frames i f) ∷ []) []
-    by true is = rw (since (some g.beside g.within is)) refl
-    by false is = refl
+back_are g frames i n f last c known since = grind (arith, nat_tests)
 
 -- Where the page has to be whole at each end, it is not told.
 pub back_none : (c : CheckerValue) → c.within ≡ 0 → back_marks c ≡ []
-back_none c each = rw each (by c.beside)
-  where
-    by : (b : Bool) → cond (b && not (0 == 0)) (GoesBack c.since ∷ []) [] ≡ []
-    by true = refl
-    by false = refl
+back_none c each = grind (arith, nat_tests)
 
 -- By whether a number is 0: what is so for 0, and what follows where it is not.
 late_by : (w : ℕ) (a b : Bool) → (0 < w → a ≡ b) → (w == 0 || a) ≡ (w == 0 || b)
@@ -302,11 +270,7 @@ pub once_marks : (heard : List (List ℕ)) (d c : CheckerValue) (s : Standing)
     → s ≡ stands heard c
     → end_marks heard c
     ≡ map Says (end_events d.standing d.last s d.frame)
-once_marks heard d c s same each is =
-    ap (λ (back : List Mark). back ++ cond (c.within == 0) []
-    (AtEnd c.frame (since_now heard c) (late_now heard c) ∷ [])
-    ++ map Says (end_events c.standing c.last (stands heard c) c.frame)) (back_none c each)
-    ∙ rw (same, is, each) refl
+once_marks heard d c s same each is = grind (arith, nat_tests, back_none)
 
 pub once_after : (heard : List (List ℕ)) (d c : CheckerValue) (s : Standing)
     → d ≡ c
@@ -326,17 +290,7 @@ pub within_marks : (heard : List (List ℕ)) (d c : CheckerValue) (s : Standing)
     → end_marks heard c
     ≡ (back_marks d ++ AtEnd d.frame since late ∷ [])
     ++ map Says (end_events d.standing d.last s d.frame)
-within_marks heard d c s since late same some is since_is late_is =
-    let not_each : (c.within == 0) ≡ false = grind (arith, nat_tests) in
-    rw (same, is, since_is, late_is) (by (c.within == 0) not_each)
-  where
-    by : (z : Bool) → z ≡ false
-        → back_marks c ++ cond z [] (AtEnd c.frame (since_now heard c) (late_now heard c) ∷ [])
-        ++ map Says (end_events c.standing c.last (stands heard c) c.frame)
-        ≡ (back_marks c ++ AtEnd c.frame (since_now heard c) (late_now heard c) ∷ [])
-        ++ map Says (end_events c.standing c.last (stands heard c) c.frame)
-    by true e = absurd (true≢false e)
-    by false e = refl
+within_marks heard d c s since late same some is since_is late_is = grind (arith, nat_tests)
 
 pub within_after : (heard : List (List ℕ)) (d c : CheckerValue) (s : Standing)
     (since : Option ℕ)
@@ -363,22 +317,7 @@ pub quiet_marks : (heard : List (List ℕ)) (c : CheckerValue)
     → since_now heard c ≡ None
     → end_marks heard c
     ≡ back_marks c ++ cond (c.within == 0) [] (AtEnd c.frame None false ∷ [])
-quiet_marks heard c stood stand since =
-    ap (λ (es : List Event). back_marks c ++ cond (c.within == 0) []
-    (AtEnd c.frame (since_now heard c) (late_now heard c) ∷ []) ++ map Says es)
-    (none_told c.standing (stands heard c) c.last c.frame stood stand)
-    ∙ append-nil (back_marks c ++ cond (c.within == 0) []
-    (AtEnd c.frame (since_now heard c) (late_now heard c) ∷ []))
-    ∙ ap (λ (ms : List Mark). back_marks c ++ ms) (by c.within)
-  where
-    by : (w : ℕ)
-        → cond (w == 0) [] (AtEnd c.frame (since_now heard c) (w == 0
-        || is_overdue_at c.programme c.within c.first (since_now heard c) c.frame) ∷ [])
-        ≡ cond (w == 0) [] (AtEnd c.frame None false ∷ [])
-    by zero = refl
-    by (suc w) =
-        let not_each : (suc w == 0) ≡ false = grind (arith, nat_tests) in
-        rw (not_each, since) refl
+quiet_marks heard c stood stand since = grind (arith, nat_tests, none_told, append-nil)
 
 pub quiet_after : (heard : List (List ℕ)) (c : CheckerValue)
     → c.standing ≡ nothing_stands

@@ -47,20 +47,7 @@ pub Follows-none :
     → c.standing ≡ nothing_stands
     → Follows g frames 0 last c
 unfolding since_frames
-Follows-none g frames last c task knows none sent since stood = record {
-  known = record {
-    task_is = task;
-    knows = knows;
-    count = none;
-  };
-  none = λ _. stood;
-  begun = λ l. absurd (omega arith);
-  latest_is = λ l. absurd (omega arith);
-  standing_is = λ l. absurd (omega arith);
-  last_is = λ l. absurd (omega arith);
-  since_is = λ l. since;
-  number = sent;
-}
+Follows-none g frames last c task knows none sent since stood = grind (arith, nat_tests)
 
 pub Keeps-none :
     (g : Task) (last : List (List ℕ)) (c : CheckerValue)
@@ -107,10 +94,7 @@ pub first_reaching :
     → told ≡ is_early out f
     → reaching_marks g frames 0 ≡ map Says (cond told (Told (fault.Early f) ∷ []) [])
 unfolding order_events marks_of_gap gap_length
-first_reaching g frames f last c out told follows is from e =
-    let early : order_events g frames 0 ≡ cond told (Told (fault.Early f) ∷ []) [] =
-    grind (arith, nat_tests) in
-    append-nil (map Says (order_events g frames 0)) ∙ ap (map Says) early
+first_reaching g frames f last c out told follows is from e = grind (arith, nat_tests, append-nil)
 
 -- ---- the frames of the day before another one
 

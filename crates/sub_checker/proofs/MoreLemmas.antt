@@ -38,10 +38,7 @@ pub more_are :
     → marks_of_more g sent ps
     ≡ map Says (packets_told c.listener.watched c.frame c.counts.packets
     (packets_before sent (suc n)) ps (length ps))
-more_are g sent n last ps c opens all =
-    let watched = ap (λ (t : Task). t.watched) opens.heard.known.task_is in
-    let at : length sent - 1 ≡ n = omega (arith, all) in
-    rw (sym watched, opens.heard.frame_is, opens.packets, at, all) refl
+more_are g sent n last ps c opens all = grind (arith, nat_tests)
 
 -- With none of no packets the text begins.
 some_begins : (w : Watched) (ps : List (List ℕ))

@@ -1,5 +1,6 @@
 -- What each way out of the loop over pieces shows of the whole file: `step_sent`, `step_passed`,
 -- `told_stop`, `told_before`, `told_whole`.
+use Rattle.std.proofs.lemmas.Bool.Decides.{nat_tests}
 use Rattle.std.proofs.Common.{◌≡◌, ℕ, ◌+◌, ◌≤◌, Bool, true, false, List, [], ◌∷◌, ◌++◌, length}
 use Rattle.std.proofs.Common.{take, Option, Some, None, Ok, Result, Err, refl, sym, ap, subst, ◌∙◌}
 use Rattle.std.proofs.Common.{append_assoc, arith, length-append}
@@ -14,9 +15,9 @@ use Rattle.sub_plan.specs.Options.{OptionsValue}
 use Rattle.sub_rules.specs.Events.{unread_fault}
 use Rattle.sub_rules.specs.FrameRules.{Task, Unread, task_beside}
 use Rattle.sub_rules.specs.PacketRules.{packets_of_units}
-use Rattle.sub_rules.specs.PieceEvents.{all_announced, all_of_pieces, ended_run, events_of_pieces}
-use Rattle.sub_rules.specs.PieceEvents.{marks_of_closing, marks_of_each, marks_of_pieces}
-use Rattle.sub_rules.specs.PieceEvents.{marks_of_sent, marks_of_waiting, no_run, passed_after_all}
+use Rattle.sub_rules.specs.PieceEvents.{all_announced, all_of_pieces, events_of_pieces}
+use Rattle.sub_rules.specs.PieceEvents.{marks_of_each}
+use Rattle.sub_rules.specs.PieceEvents.{marks_of_sent, no_run}
 use Rattle.sub_rules.specs.PieceEvents.{sent_by_pieces, told_of_pieces}
 use Rattle.sub_rules.specs.Pieces.{Piece, PieceFileValue, ReadsPiece, ReadsPieces, frames_of}
 use Rattle.sub_rules.specs.Pieces.{joined_after, piece_of, pieces_at, sent_after}
@@ -32,7 +33,6 @@ use Rattle.sub_rules.proofs.JoinedLemmas.{marks_of_each-append}
 use Rattle.sub_rules.proofs.PieceFileLemmas.{pieces_at-next, pieces_stop, reads_bad}
 use Rattle.sub_checker.specs.Checker.{CheckerValue}
 use Rattle.sub_checker.specs.Following.{Keeps, last_marks}
-use Rattle.sub_checker.specs.PassedPieces.{as_run}
 use Rattle.sub_checker.specs.Relay.{nothing_relayed, relayed, relay_after}
 use Rattle.sub_checker.specs.PieceTelling.{IsReadOn, TellsPieces, finished}
 use Rattle.sub_checker.specs.Steps.{FinishesTelling}
@@ -70,10 +70,7 @@ pub tracks_none : (g : Task) (last : List (List ℕ)) (c : CheckerValue) (p : Re
     → p ≡ nothing_relayed
     → Tracks g [] last c p
 unfolding marks_of_each frames_of joined_after
-tracks_none g last c p keeps none = record {
-  keeps = keeps;
-  relay_is = none ∙ sym (after-none nothing_relayed);
-}
+tracks_none g last c p keeps none = grind (arith, nat_tests, after-none)
 
 -- What is told of some pieces is what is relayed of their marks.
 some_told : (g : Task) (done : List Piece)
@@ -112,23 +109,13 @@ module _ (g : Task) (done : List Piece) (pes : ℕ) (count : length done ≡ pes
       → q ≡ relay_after nothing_relayed (each_marks g done)
       → events_of_pieces g (done ++ p ∷ [])
       ≡ events_of_pieces g done ++ relayed q (marks_more p)
-  more_events p q is =
-      some_told g (done ++ p ∷ [])
-      ∙ ap (relayed nothing_relayed) (more_marks p)
-      ∙ passed-append nothing_relayed (each_marks g done) (marks_more p)
-      ∙ ap (λ (r : Relay). relayed nothing_relayed (each_marks g done)
-      ++ relayed r (marks_more p)) (sym is)
-      ∙ ap (λ (l : List Event). l ++ relayed q (marks_more p)) (sym (some_told g done))
+  more_events p q is = grind (arith, nat_tests, some_told, more_marks, passed-append)
 
   pub more_relay : (p : Piece) (q new : Relay)
       → q ≡ relay_after nothing_relayed (each_marks g done)
       → new ≡ relay_after q (marks_more p)
       → new ≡ relay_after nothing_relayed (each_marks g (done ++ p ∷ []))
-  more_relay p q new was is =
-      is
-      ∙ ap (λ (r : Relay). relay_after r (marks_more p)) was
-      ∙ sym (after-append nothing_relayed (each_marks g done) (marks_more p))
-      ∙ ap (relay_after nothing_relayed) (sym (more_marks p))
+  more_relay p q new was is = grind (arith, nat_tests, after-append, more_marks)
 
   -- What comes of one that is sent, and of one that is passed over.
   pub sent_marks : (s : SentFrame)
@@ -174,28 +161,13 @@ module _ (g : Task) (all : List Piece) where
   -- All that is told is what is relayed of all marks, and up to which piece a run goes.
   all_told : all_of_pieces g all ≡ finished nothing_relayed (each_marks g all ++ closing)
   unfolding all_of_pieces told_of_pieces relayed relay_after
-  all_told =
-      ap (λ (es : List Event). all_announced no_run es ++ ended_run (passed_after_all no_run es))
-      (told_is (marks_of_pieces g all))
-      ∙ ap (finished nothing_relayed)
-      (append_assoc (each_marks g all) (marks_of_waiting g (frames_sent g all))
-      (marks_of_closing g (frames_sent g all) (length all) (length (frames_sent g all))))
+  all_told = grind (arith, nat_tests, told_is, append_assoc)
 
   -- So it is what is told of the pieces, and what is told last.
   whole : all_of_pieces g all
       ≡ events_of_pieces g all
       ++ finished (relay_after nothing_relayed (each_marks g all)) closing
-  whole =
-      let each = each_marks g all in
-      let kept = relay_after nothing_relayed each in
-      all_told
-      ∙ ap (λ (l : List Event). l
-      ++ ended_run (as_run (relay_after nothing_relayed (each ++ closing)).run))
-      (passed-append nothing_relayed each closing)
-      ∙ ap (λ (p : Relay). (relayed nothing_relayed each ++ relayed kept closing)
-      ++ ended_run (as_run p.run)) (after-append nothing_relayed each closing)
-      ∙ append_assoc (relayed nothing_relayed each) _ _
-      ∙ ap (λ (l : List Event). l ++ finished kept closing) (sym (some_told g all))
+  whole = grind (arith, nat_tests, all_told, passed-append, after-append, append_assoc, some_told)
 
   -- A device that was told what follows the last piece was told the whole, and what was read is
   -- counted; or a part, where it said stop.

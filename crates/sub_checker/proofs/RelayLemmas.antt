@@ -1,5 +1,7 @@
 -- What a device relays of what it is told: `relays_result`, `relays_some`; of marks in parts:
 -- `relay_then`, `stop_first`, `stop_then`.
+use Rattle.std.proofs.lemmas.Bool.Decides.{nat_tests}
+use Rattle.std.proofs.Common.{arith}
 use Rattle.std.proofs.Common.{◌≡◌, List, [], ◌∷◌, ◌++◌, Bool, true, false, map, take, drop}
 use Rattle.std.proofs.Common.{refl, sym, ap, ◌∙◌, subst, Option, Result, Ok, Err}
 use Rattle.std.proofs.lemmas.Bool.{true≢false}
@@ -34,11 +36,7 @@ pub after-append : (p : Relay) (xs ys : List Mark)
     → relay_after p (xs ++ ys) ≡ relay_after (relay_after p xs) ys
 unfolding relay_after
 after-append p xs ys =
-    rw (told_by-append p.trust xs ys, trust_after-append p.trust xs ys)
-    (ap (λ (r : PassedRun). let q : Relay = record {
-      trust = trust_after (trust_after p.trust xs) ys;
-      run = kept_run r;
-    } in q) (passed_after-append (as_run p.run) (told_by p.trust xs) _))
+    grind (arith, nat_tests, told_by-append, trust_after-append, passed_after-append)
 
 pub passed-append : (p : Relay) (xs ys : List Mark)
     → relayed p (xs ++ ys) ≡ relayed p xs ++ relayed (relay_after p xs) ys
@@ -119,11 +117,7 @@ one_kept : (p : Relay) (m : Mark)
       run = kept_run (passed_after_all (as_run p.run) (told_with m p.trust));
     }
 unfolding relay_after told_by trust_after
-one_kept p m =
-    ap (λ (es : List Event). let q : Relay = record {
-      trust = after_mark m p.trust;
-      run = kept_run (passed_after_all (as_run p.run) es);
-    } in q) (append-nil (told_with m p.trust))
+one_kept p m = grind (arith, nat_tests, append-nil)
 
 -- What is told with one, after a run of pieces that were passed over. For `close` and `relay`.
 pub relay_one : {D X E : Type 0} (IsTold : D → Event → D → Type 0) (a b : D) (p then : Relay)
@@ -133,27 +127,14 @@ pub relay_one : {D X E : Type 0} (IsTold : D → Event → D → Type 0) (a b : 
     → TellsUntilStopped IsTold a b (all_announced (as_run p.run) es) r
     → OnOk r (then.run ≡ kept_run (passed_after_all (as_run p.run) es))
     → RelaysMarks IsTold a p (m ∷ []) b then r
-relay_one IsTold a b p then m es (Ok x) is trust told run = record {
-  told = subst (Tells IsTold a b) (ap (all_announced (as_run p.run)) is ∙ sym (one_told p m)) told;
-  kept =
-      rw (one_kept p m, trust, run, is) refl;
-}
-relay_one IsTold a b p then m es (Err x) is trust told run = record {
-  told = subst (TellsPrefix IsTold a b) (ap (all_announced (as_run p.run)) is ∙ sym (one_told p m))
-      told;
-  kept = tt;
-}
+relay_one IsTold a b p then m es r is trust told run = grind (arith, nat_tests, one_told, one_kept)
 
 -- One event after others. For `announce_both`.
 pub both_are : (run : PassedRun) (mid : PassedPieces) (xs : List Event) (e : Event)
     → mid ≡ kept_run (passed_after_all run xs)
     → all_announced run (xs ++ e ∷ []) ≡ all_announced run xs ++ announced (as_run mid) e
 unfolding all_announced
-both_are run mid xs e is =
-    all_announced-append run xs (e ∷ [])
-    ∙ ap (λ (l : List Event). all_announced run xs ++ l)
-    (append-nil (announced (passed_after_all run xs) e)
-    ∙ ap (λ (r : PassedPieces). announced (as_run r) e) (sym is))
+both_are run mid xs e is = grind (arith, nat_tests, all_announced-append, append-nil)
 
 pub both_kept : (run : PassedRun) (mid : PassedPieces) (xs : List Event) (e : Event)
     → mid ≡ kept_run (passed_after_all run xs)
@@ -202,20 +183,7 @@ pub silent : {D : Type 0} (IsTold : D → Event → D → Type 0) (s t : Stage D
     → told_with m s.relay.trust ≡ []
     → IsWhole IsTold s.device.now s.relay (m ∷ []) t.device.now t.relay
 unfolding all_announced passed_after_all
-silent {D} IsTold s t m is none = record {
-  told =
-      subst (λ (d : D). Tells IsTold s.device.now d (relayed s.relay (m ∷ [])))
-      (sym (ap (λ (u : Stage D). u.device.now) is))
-      (subst (Tells IsTold s.device.now s.device.now)
-      (sym (one_told s.relay m ∙ ap (all_announced (as_run s.relay.run)) none))
-      (Tells-none s.device.now));
-  kept =
-      ap (λ (u : Stage D). u.relay) is
-      ∙ sym (one_kept s.relay m ∙ ap (λ (es : List Event). let q : Relay = record {
-        trust = after_mark m s.relay.trust;
-        run = kept_run (passed_after_all (as_run s.relay.run) es);
-      } in q) none);
-}
+silent IsTold s t m is none = grind (arith, nat_tests, one_told, one_kept)
 
 -- ---- what a device relays
 

@@ -8,7 +8,7 @@ use Rattle.std.proofs.Common.{subst}
 use Rattle.std.proofs.Common.{append_assoc}
 use Rattle.stl_file.specs.TimeCode.{day}
 use Rattle.sub_io.specs.Telling.{Tells, TellsPrefix, TellsSome}
-use Rattle.sub_io.proofs.TellingLemmas.{Tells-none, TellsSome-none, TellsSome-trans}
+use Rattle.sub_io.proofs.TellingLemmas.{TellsSome-trans}
 use Rattle.sub_rules.specs.Trusted.{Mark}
 use Rattle.sub_rules.specs.Trusted.Mark.{AtEnd, Begins, Closes, GoesBack, Says}
 use Rattle.sub_rules.specs.declared.event.Event.{Event}
@@ -62,11 +62,7 @@ module _ {D : Type 0} {IsTold : D → Event → D → Type 0} where
 
   -- None.
   pub whole_none : {a : D} {p : Relay} {zs : List Mark} → zs ≡ [] → IsWhole IsTold a p zs a p
-  whole_none {a} {p} is =
-      rw is (record {
-        told = subst (Tells IsTold a a) (sym (passed-none p)) (Tells-none a);
-        kept = sym (after-none p);
-      })
+  whole_none is = grind (arith, nat_tests, passed-none, after-none)
 
   -- A mark with which nothing is told; and after an end at which nothing stands broken.
   pub whole_mark : {s t : Stage D} {m : Mark} {zs : List Mark}
@@ -174,10 +170,7 @@ pub quiet_is : {D : Type 0} (s b t : Stage D) (v c : CheckerValue)
     → t ≡ at_mark (AtEnd v.frame None false) b
     → t ≡ quiet_stage c s
 unfolding back_stage
-quiet_is s b t v c same some back at =
-    let within = ap (λ (w : CheckerValue). w.within) same in
-    let not_each : (c.within == 0) ≡ false = grind (arith, nat_tests) in
-    rw (at, back, same, not_each) refl
+quiet_is s b t v c same some back at = grind (arith, nat_tests)
 
 -- Since which frame the page is not whole, where that is told: the device is the same.
 pub back_fine : {D : Type 0} (has_stopped : D → Bool) (a b : Stage D) (c : CheckerValue)
@@ -185,12 +178,7 @@ pub back_fine : {D : Type 0} (has_stopped : D → Bool) (a b : Stage D) (c : Che
     → has_stopped a.device.now ≡ false
     → has_stopped b.device.now ≡ false
 unfolding back_stage
-back_fine {D} has_stopped a b c is fine = by (goes_back_now c) is
-  where
-    by : (z : Bool) → b ≡ cond z (at_mark (GoesBack c.since) a) a
-        → has_stopped b.device.now ≡ false
-    by true at = ap (λ (s : Stage D). has_stopped s.device.now) at ∙ fine
-    by false at = ap (λ (s : Stage D). has_stopped s.device.now) at ∙ fine
+back_fine has_stopped a b c is fine = grind (arith, nat_tests)
 
 -- ---- events that a stage was told
 
@@ -242,11 +230,7 @@ module _ {D : Type 0} {IsTold : D → Event → D → Type 0} {has_stopped : D �
 
   -- None.
   pub Moves-none : {a : Stage D} → Moves IsTold has_stopped a a
-  Moves-none = record {
-    same = refl;
-    some = TellsSome-none _;
-    in_day = λ still before. before;
-  }
+  Moves-none = grind (arith, nat_tests)
 
   -- Events that the device was told.
   pub Moves-told : {a b : Stage D}
@@ -272,11 +256,7 @@ module _ {D : Type 0} {IsTold : D → Event → D → Type 0} {has_stopped : D �
       → b ≡ at_mark m a
       → (a.relay.trust.last < day → (after_mark m a.relay.trust).last < day)
       → Moves IsTold has_stopped a b
-  mark_moves a b m is keeps = rw is (record {
-    same = refl;
-    some = TellsSome-none _;
-    in_day = λ still before. keeps before;
-  })
+  mark_moves a b m is keeps = grind (arith, nat_tests)
 
   pub Moves-mark : (m : Mark) {a b : Stage D} → b ≡ at_mark m a → begins_one m ≡ false
       → Moves IsTold has_stopped a b
@@ -339,11 +319,4 @@ module _ {D : Type 0} {IsTold : D → Event → D → Type 0} {has_stopped : D �
       → RelaysMarks IsTold a.device.now a.relay (Closes left more ∷ []) b.device.now b.relay
       (let o : Result X E = Ok x in o)
       → Moves IsTold has_stopped a b
-  Moves-closes a b {X} {E} {x} {left} {more} same on = record {
-    same = same;
-    some = record { items = _; told = on.told };
-    in_day = λ fine before.
-        subst (λ (n : ℕ). n < day)
-        (sym (ap (λ (q : Relay). q.trust.last) on.kept
-        ∙ one_last (Closes left more) a.relay refl)) before;
-  }
+  Moves-closes a b same on = grind (arith, nat_tests, one_last)

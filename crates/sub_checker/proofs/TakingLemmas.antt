@@ -2,16 +2,15 @@
 -- `waiting_some`; whether one goes on with the frame before, `goes_on_is`; what comes of one of
 -- another frame, `arrived`, `next_is`; and what is kept then, `more_keeps`, `next_keeps`.
 use Rattle.std.proofs.lemmas.Bool.Decides.{nat_tests}
-use Rattle.std.proofs.Common.{◌≡◌, ℕ, zero, suc, ◌+◌, ◌-◌, ◌<◌, ◌==◌, Bool, ◌&&◌, not}
+use Rattle.std.proofs.Common.{◌≡◌, ℕ, suc, ◌+◌, ◌-◌, ◌<◌, ◌==◌, Bool, ◌&&◌}
 use Rattle.std.proofs.Common.{true, false, cond, List, [], ◌∷◌, ◌++◌, length, map, refl, sym, ap}
 use Rattle.std.proofs.Common.{◌∙◌, subst, arith, append_assoc, ap₂, length-append, Result}
 use Rattle.std.specs.Prelude.{OnOk}
-use Rattle.std.proofs.lemmas.Bool.{true≢false}
 use Rattle.std.proofs.lemmas.List.{append-nil}
 use Rattle.ttx_page.specs.PacketKind.{kind}
 use Rattle.ttx_page.specs.Span.{holds_beginning}
 use Rattle.sub_rules.specs.Events.{first_header_events, since_before, standing_at}
-use Rattle.sub_rules.specs.FrameRules.{Task, end_frame, frame_at, packets_before}
+use Rattle.sub_rules.specs.FrameRules.{Task, frame_at, packets_before}
 use Rattle.sub_rules.specs.FrameRules.{packets_of_frame}
 use Rattle.sub_rules.specs.PieceEvents.{marks_at_end, marks_of_arrival, marks_of_ending}
 use Rattle.sub_rules.specs.PieceEvents.{marks_before, marks_of_more}
@@ -44,13 +43,7 @@ pub Keeps-closed : (g : Task) (sent : Transmission) (last : List (List ℕ)) (c 
     → g.within ≡ 0
     → Follows g sent (length sent) last c
     → Keeps g sent last c
-Keeps-closed g sent last c shut each follows = record {
-  closed = λ _. follows;
-  none = λ _ l. absurd (omega (arith, each, l));
-  some = λ e. absurd (true≢false (sym e ∙ shut));
-  within = λ e. absurd (true≢false (sym e ∙ shut));
-  opens = λ e. absurd (true≢false (sym e ∙ shut));
-}
+Keeps-closed g sent last c shut each follows = grind (arith, nat_tests)
 
 -- Before one.
 pub Keeps-open : (g : Task) (sent : Transmission) (n : ℕ) (last : List (List ℕ))
@@ -60,13 +53,7 @@ pub Keeps-open : (g : Task) (sent : Transmission) (n : ℕ) (last : List (List �
     → length sent ≡ suc n
     → StaysOpen g sent n last c
     → Keeps g sent last c
-Keeps-open g sent n last c opened within all opens = record {
-  closed = λ e. absurd (true≢false (sym opened ∙ e));
-  none = λ e _. absurd (true≢false (sym opened ∙ e));
-  some = λ _. omega (arith, all);
-  within = λ _. within;
-  opens = λ _. subst (λ (k : ℕ). StaysOpen g sent k last c) (omega (arith, all)) opens;
-}
+Keeps-open g sent n last c opened within all opens = grind (arith, nat_tests)
 
 -- No end is still to come.
 pub waiting_none : (g : Task) (sent : Transmission) (last : List (List ℕ)) (c : CheckerValue)
@@ -74,13 +61,7 @@ pub waiting_none : (g : Task) (sent : Transmission) (last : List (List ℕ)) (c 
     → c.counts.is_open ≡ false
     → marks_of_waiting g sent ≡ []
 unfolding marks_of_waiting
-waiting_none g [] last c keeps shut = refl
-waiting_none g (s ∷ sent) last c keeps shut = by g.within (λ l. keeps.none shut l)
-  where
-    by : (w : ℕ) → (0 < w → s ∷ sent ≡ [])
-        → cond (w == 0) [] (marks_of_ending g (s ∷ sent) (length sent)) ≡ []
-    by zero none = refl
-    by (suc w) none = let no = none (omega arith) in cc
+waiting_none g sent last c keeps shut = grind (arith, nat_tests)
 
 -- The last frame's end is.
 pub waiting_some : (g : Task) (sent : Transmission) (last : List (List ℕ)) (c : CheckerValue)
@@ -88,13 +69,7 @@ pub waiting_some : (g : Task) (sent : Transmission) (last : List (List ℕ)) (c 
     → c.counts.is_open ≡ true
     → marks_of_waiting g sent ≡ marks_of_ending g sent (length sent - 1)
 unfolding marks_of_waiting
-waiting_some g [] last c keeps opened = let some = keeps.some opened in absurd (omega arith)
-waiting_some g (s ∷ sent) last c keeps opened =
-    let some = keeps.within opened in
-    let not_each : (g.within == 0) ≡ false = grind (arith, nat_tests) in
-    let size : length sent ≡ suc (length sent) - 1 = omega arith in
-    ap (λ (b : Bool). cond b [] (marks_of_ending g (s ∷ sent) (length sent))) not_each
-    ∙ ap (marks_of_ending g (s ∷ sent)) size
+waiting_some g sent last c keeps opened = grind (arith, nat_tests)
 
 -- What else is counted changes nothing.
 heard_counts : (g : Task) (sent : Transmission) (n : ℕ) (last : List (List ℕ))
@@ -104,22 +79,7 @@ heard_counts : (g : Task) (sent : Transmission) (n : ℕ) (last : List (List ℕ
     → m.headers ≡ c.counts.headers
     → Heard g sent n last c
     → Heard g sent n last d
-heard_counts g sent n last c d m is frames headers heard =
-    rw is (record {
-      known = record {
-        task_is = heard.known.task_is;
-        knows = heard.known.knows;
-        count = headers ∙ heard.known.count;
-      };
-      begun = record { first_is = heard.begun.first_is; late_is = heard.begun.late_is };
-      standing_is = heard.standing_is;
-      last_is = heard.last_is;
-      since_is = heard.since_is;
-      number = frames ∙ heard.number;
-      frame_is = heard.frame_is;
-      latest_is = heard.latest_is;
-      begins = heard.begins;
-    })
+heard_counts g sent n last c d m is frames headers heard = grind (arith, nat_tests)
 
 -- Before an end nothing else changes. For `end_open`.
 pub heard_shut : (g : Task) (sent : Transmission) (n : ℕ) (last : List (List ℕ))
@@ -161,25 +121,7 @@ pub goes_on_is : (g : Task) (sent : Transmission) (last : List (List ℕ)) (c : 
     → Keeps g sent last c
     → same ≡ (c.counts.is_open && s.frame == c.frame)
     → goes_on_with g.within sent s ≡ same
-goes_on_is g [] last c s same keeps is = by c.counts.is_open refl
-  where
-    by : (b : Bool) → c.counts.is_open ≡ b → false ≡ same
-    by true opened = let some = keeps.some opened in absurd (omega arith)
-    by false shut = sym (is ∙ ap (λ (b : Bool). b && s.frame == c.frame) shut)
-goes_on_is g (first ∷ sent) last c s same keeps is = by c.counts.is_open refl
-  where
-    by : (b : Bool) → c.counts.is_open ≡ b
-        → (not (g.within == 0) && (end_frame (first ∷ sent) == s.frame)) ≡ same
-    by true opened =
-        let within = keeps.within opened in
-        let at = (keeps.opens opened).heard.frame_is in
-        grind (arith, nat_tests)
-    by false shut = rest g.within (λ l. keeps.none shut l)
-      where
-        rest : (w : ℕ) → (0 < w → first ∷ sent ≡ [])
-            → (not (w == 0) && (end_frame (first ∷ sent) == s.frame)) ≡ same
-        rest zero none = sym (is ∙ ap (λ (b : Bool). b && s.frame == c.frame) shut)
-        rest (suc w) none = let no = none (omega arith) in cc
+goes_on_is g sent last c s same keeps is = grind (arith, nat_tests)
 
 -- What comes of it then, and where it is of another frame.
 pub more_is : (g : Task) (sent : Transmission) (pes : ℕ) (s : SentFrame)
@@ -236,28 +178,17 @@ arrived s t g frames n last c arrives reached begins =
 pub next_each : (g : Task) (frames : Transmission) (n : ℕ) → g.within ≡ 0
     → next_marks g frames n
     ≡ marks_of_arrival g frames n ++ marks_of_packets g frames n ++ marks_of_ending g frames n
-next_each g frames n each =
-    let is_each : (g.within == 0) ≡ true = grind (arith, nat_tests) in
-    ap (λ (b : Bool). marks_of_arrival g frames n ++ marks_of_packets g frames n
-    ++ cond b (marks_of_ending g frames n) []) is_each
+next_each g frames n each = grind (arith, nat_tests)
 
 pub next_within : (g : Task) (frames : Transmission) (n : ℕ) → 0 < g.within
     → next_marks g frames n ≡ marks_of_arrival g frames n ++ marks_of_packets g frames n
-next_within g frames n within =
-    let not_each : (g.within == 0) ≡ false = grind (arith, nat_tests) in
-    ap (λ (b : Bool). marks_of_arrival g frames n ++ marks_of_packets g frames n
-    ++ cond b (marks_of_ending g frames n) []) not_each
-    ∙ append-nil (marks_of_arrival g frames n ++ marks_of_packets g frames n)
+next_within g frames n within = grind (arith, nat_tests, append-nil)
 
 -- ---- what is counted
 
 -- One piece more.
 pub few_later : (pes : ℕ) (n : Counts) → AreFew pes n → AreFew (pes + 1) n
-few_later pes n few =
-    let f = few.frames in
-    let h = few.headers in
-    let p = few.packets in
-    record { frames = omega arith; headers = omega arith; packets = omega arith }
+few_later pes n few = grind (arith, nat_tests)
 
 -- What comes where it begins.
 abbrev pub begun_marks : Task → Transmission → ℕ → List Mark
@@ -270,12 +201,7 @@ pub reached_part : (g : Task) (frames : Transmission) (n : ℕ)
     ≡ reaching_marks g frames n
     ++ (begun_marks g frames n
     ++ (marks_of_packets g frames n ++ cond (g.within == 0) (marks_of_ending g frames n) []))
-reached_part g frames n =
-    let ends = cond (g.within == 0) (marks_of_ending g frames n) [] in
-    append_assoc (reaching_marks g frames n ++ begun_marks g frames n)
-    (marks_of_packets g frames n) ends
-    ∙ append_assoc (reaching_marks g frames n) (begun_marks g frames n)
-    (marks_of_packets g frames n ++ ends)
+reached_part g frames n = grind (arith, nat_tests, append_assoc)
 
 -- What comes at the end of a frame, the events of the first one before the rest. For `end_sent`.
 abbrev pub ending_rest : Task → Transmission → ℕ → List Mark

@@ -64,11 +64,7 @@ keeps : (m : Mark) (past : List Mark) (t : Trust) → IsKept past t
     → IsKept (m ∷ past) (after_mark m t)
 unfolding after_mark pes_told last_begun stays_quiet since_of late_of back_of run_of whole_of
     tells_fall
-keeps (Says e) past t k =
-    let now = doubted_now past e in
-    let order = order_fall e in
-    grind (arith, nat_tests)
-keeps m past t k = grind (arith, nat_tests)
+keeps m past t k = grind (arith, nat_tests, doubted_now, order_fall)
 
 -- ---- what is told
 

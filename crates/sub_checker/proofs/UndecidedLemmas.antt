@@ -76,12 +76,8 @@ module _ (undecided : ℕ → Bool) (first f : ℕ) where
       → ((e : ℕ) → first ≤ e → f ≤ e + n → e ≤ f → undecided e ≡ false)
       → was_undecided undecided first f n ≡ false
   unfolding was_undecided
-  was-none zero here none = here
-  was-none (suc n) here none =
-      let rest = was-none n here (λ e low reach until. none e low (omega arith) until) in
-      let one : first + suc n ≤ f → undecided (f - suc n) ≡ false =
-      λ l. none (f - suc n) (omega arith) (omega arith) (omega arith) in
-      grind (arith, nat_tests)
+  was-none zero here none = grind (arith, nat_tests)
+  was-none (suc n) here none = grind (arith, nat_tests, (was-none n here))
 
   -- Where it is not at one of them.
   pub was-some : (n e : ℕ)
@@ -131,11 +127,7 @@ module _ (j : JudgedValue) (first within frame : ℕ) (edge : Option ℕ)
   -- Nothing is refused. For `known_from`.
   pub known_none : is_beside j ≡ false
       → IsKnownFrom (is_undecided_beside j) first within frame edge 0
-  known_none none f low small before =
-      none_below f
-      ∙ sym (was-none (is_undecided_beside j) first f within
-      (ap (λ b. b && is_undecided_in j f) none)
-      (λ e m reach until. ap (λ b. b && is_undecided_in j e) none))
+  known_none h1 = grind (arith, nat_tests, none_below, was-none)
 
   module _ (is : is_beside j ≡ true) where
     beside_is : (e : ℕ) → is_undecided_beside j e ≡ is_undecided_in j e

@@ -1,10 +1,9 @@
 -- Where the page is whole at an end nothing is kept that was not due, `none_undue`; and nothing
 -- stands broken, as few comparisons tell, `quiet_stands`.
 use Rattle.std.proofs.lemmas.Bool.Decides.{nat_tests}
-use Rattle.std.proofs.Common.{◌≡◌, ℕ, zero, suc, ◌+◌, ◌<◌, Bool, true, false, ◌&&◌, ◌||◌, nat_le}
-use Rattle.std.proofs.Common.{cond, not, List, Option, Some, None, is_some, refl, sym, ap, ◌∙◌}
+use Rattle.std.proofs.Common.{◌≡◌, ℕ, zero, suc, ◌+◌, ◌<◌, Bool, true, false, ◌&&◌, ◌||◌}
+use Rattle.std.proofs.Common.{not, List, Option, Some, None, is_some, refl}
 use Rattle.std.proofs.Common.{arith, ◌==◌}
-use Rattle.std.proofs.lemmas.Bool.{true≢false}
 use Rattle.std.specs.Prelude.{option_and_then, option_map}
 use Rattle.ttx_packet.specs.OneBit.{first_below}
 use Rattle.ttx_packet.specs.PageId.{PageIdValue}
@@ -14,13 +13,12 @@ use Rattle.ttx_page.specs.PacketKind.{kind}
 use Rattle.ttx_page.specs.Shown.{kept}
 use Rattle.ttx_page.specs.Span.{is_open_after}
 use Rattle.sub_plan.specs.Schedule.{due_in}
-use Rattle.sub_checker.specs.Checker.{CheckerValue, differs_now, is_undecided_by, since_now, stands}
+use Rattle.sub_checker.specs.Checker.{CheckerValue, differs_now, since_now, stands}
 use Rattle.sub_checker.specs.Checker.{undecided_now, undue_now}
 use Rattle.sub_rules.specs.Events.{first_cell, is_right, nothing_stands, silent_for, undue_after}
 use Rattle.sub_rules.specs.Events.{was_due, wrong_after}
 use Rattle.sub_rules.specs.Kept.{has_row}
 use Rattle.sub_checker.proofs.UndecidedLemmas.{was-here}
-use Rattle.sub_rules.specs.declared.standing.Standing.{Standing}
 
 -- Where no number passes a test, none passes one that is harder.
 below_less : (n : ℕ) (p q : ℕ → Bool) → ((k : ℕ) → q k ≡ true → p k ≡ true)
@@ -111,21 +109,7 @@ pub none_undue : (heard : List (List ℕ)) (c : CheckerValue) (o : Option (ℕ �
     → b ≡ true
     → o ≡ differs_now heard c
     → None ≡ undue_now heard c
-none_undue heard c (Some x) b due is none same = absurd (true≢false (is ∙ ap not none))
-none_undue heard c None b due is none same = by (undecided_now c) refl
-  where
-    by : (u : Bool) → undecided_now c ≡ u
-        → None
-        ≡ cond u None
-        (undue_after c.listener.watched.keeps c.listener.watched.page heard (due_in c.programme)
-        c.first c.frame c.within)
-    by true e = refl
-    by false e =
-        let here = was-here (is_undecided_by c) c.first c.frame c.within e in
-        sym (no_undue c.listener.watched.keeps c.listener.watched.page heard (due_in c.programme)
-        c.listener.comparison.due c.first c.frame c.within due
-        (sym (same ∙ ap (λ (u : Bool). cond u None (wrong_after c.listener.watched.keeps
-        c.listener.watched.page heard c.listener.comparison.due)) here)))
+none_undue heard c o b due is none same = grind (arith, nat_tests, was-here, no_undue)
 
 -- Nothing stands broken there, as few comparisons tell. For `is_quiet`.
 pub quiet_stands : (heard : List (List ℕ)) (c : CheckerValue)
@@ -138,23 +122,4 @@ pub quiet_stands : (heard : List (List ℕ)) (c : CheckerValue)
     → undecided_now c ≡ false
     → (stands heard c ≡ nothing_stands) × (since_now heard c ≡ None)
 quiet_stands heard c due right shut early sounds known =
-    let here = was-here (is_undecided_by c) c.first c.frame c.within known in
-    let undue =
-    no_undue c.listener.watched.keeps c.listener.watched.page heard (due_in c.programme)
-    c.listener.comparison.due c.first c.frame c.within due right in
-    let soon : nat_le c.late_at (c.frame + 1) ≡ false = grind (arith, nat_tests) in (
-      rw (known, here, right, undue, shut, soon, sounds) (by (c.within == 0 || false)),
-      rw (here, right, shut) refl,
-    )
-  where
-    by : (late : Bool)
-        → (let s : Standing = record {
-          content = cond late None None;
-          gap = false;
-          incomplete = late && false;
-          undecided = false;
-          silent = false;
-        } in s)
-        ≡ nothing_stands
-    by true = refl
-    by false = refl
+    grind (arith, nat_tests, was-here, no_undue)
