@@ -3,19 +3,17 @@
 -- first of a row in the long span, `first_of_row-push`; and that a code that is no space came in a
 -- row, `row_of_code`.
 use Rattle.std.proofs.Common.{◌≡◌, ℕ, Bool, true, false, not, ◌&&◌, ◌||◌, ◌==◌, cond, List, [], ◌∷◌}
-use Rattle.std.proofs.Common.{◌++◌, Some, None, find, option_map, unwrap_or, refl, sym, ap}
-use Rattle.std.proofs.Common.{◌∙◌, arith}
+use Rattle.std.proofs.Common.{◌++◌, Some, None, find, option_map, unwrap_or, refl, ap}
+use Rattle.std.proofs.Common.{arith}
 use Rattle.std.specs.List.{list_any}
 use Rattle.std.specs.Option.{option_or}
 use Rattle.std.proofs.lemmas.Bool.Decides.{nat_tests}
 use Rattle.std.proofs.lemmas.List.Folds.{find-append, list_any-append}
 use Rattle.ttx_packet.specs.PageId.{PageIdValue}
-use Rattle.ttx_packet.specs.Parity.{code_of}
-use Rattle.ttx_packet.specs.RowPacket.{text_byte}
 use Rattle.ttx_page.specs.Page.{space}
 use Rattle.ttx_page.specs.PacketKind.{begins_text, ends_page, is_row, is_this_page, kind}
 use Rattle.ttx_page.specs.Shown.{kept}
-use Rattle.ttx_page.specs.Span.{from_beginning, holds_beginning, is_open_after, span, text_span}
+use Rattle.ttx_page.specs.Span.{from_beginning, holds_beginning, is_open_after, text_span}
 use Rattle.ttx_page.specs.Span.{while_open}
 use Rattle.ttx_page.specs.declared.packet_kind.PacketKind.{PacketKind}
 use Rattle.ttx_page.proofs.RepeatLaws.{kept_shown}
@@ -24,7 +22,6 @@ use Rattle.ttx_page.proofs.TextSpan.{text_span-push}
 use Rattle.sub_rules.specs.Kept.{has_row, header_of_page, last_header}
 use Rattle.sub_rules.specs.PacketTests.{first_of_row}
 use Rattle.sub_rules.specs.declared.packet_rule.Watched.{Watched}
-use Rattle.sub_rules.proofs.PacketLists as lists
 
 -- ---- the last header of the page
 
@@ -32,11 +29,8 @@ use Rattle.sub_rules.proofs.PacketLists as lists
 pub last_header-append :
     (page : PageIdValue) (xs ys : List (List ℕ))
     → last_header page (xs ++ ys) ≡ option_or (last_header page ys) (last_header page xs)
-last_header-append page [] ys = sym (lists.or-none (last_header page ys))
-last_header-append page (x ∷ xs) ys =
-    ap (λ o. option_or o (header_of_page (kind page x))) (last_header-append page xs ys)
-    ∙ sym
-    (lists.or_assoc (last_header page ys) (last_header page xs) (header_of_page (kind page x)))
+last_header-append page [] ys = grind (arith, nat_tests)
+last_header-append page (x ∷ xs) ys = grind (arith, nat_tests, (last_header-append page xs ys))
 
 -- One packet on.
 pub last_header-push :
@@ -84,11 +78,7 @@ pub first_of_row-push :
     (cond (is_open_after (kind page) heard && is_row row (kind page p))
     (option_or (first_of_row page (text_span keeps (kind page) heard) row) (Some p))
     (first_of_row page (text_span keeps (kind page) heard) row))
-first_of_row-push keeps page heard p row =
-    ap (λ (ps : List (List ℕ)). find (λ q. is_row row (kind page q)) ps)
-    (text_span-push (kind page) keeps heard p)
-    ∙ find-push keeps (kind page p) row (is_open_after (kind page) heard)
-    (text_span keeps (kind page) heard) p (λ q. is_row row (kind page q)) refl
+first_of_row-push keeps page heard p row = grind (arith, nat_tests, text_span-push, find-push)
 
 -- ---- where the text begins
 
@@ -140,8 +130,4 @@ pub row_of_code :
     → keeps ≡ false
     → (kept keeps page heard row column == space) ≡ false
     → has_row page heard row ≡ true
-row_of_code true page heard row column none e = grind (arith, nat_tests)
-row_of_code false page heard row column none e =
-    any_found (λ p. is_row row (kind page p)) (span (kind page) heard)
-    (λ p. code_of (text_byte p column))
-    (ap (λ code. code == space) (sym (kept_shown page heard row column)) ∙ e)
+row_of_code keeps page heard row column none e = grind (arith, nat_tests, any_found, kept_shown)

@@ -97,20 +97,8 @@ module _ (heard : List (List ℕ)) (p : List ℕ) (s : Listener) (read : Option 
         subcode = Some h.subcode;
         again = replicate 24 false;
       })
-  knows_repeat h is keeps = record {
-    serial_is = serial_more;
-    open_is = sym (open-this (kind s.watched.page) heard p (ap is_this_page is));
-    subcode_is = subcode_this h is;
-    sent_is = λ row low high.
-        let before = known.sent_is row low high in
-        let more = first_of_row-push s.watched.keeps s.watched.page heard p row in
-        grind (arith, nat_tests);
-    page_is = λ row low high.
-        let before = known.page_is row low high in
-        let more = first_of_row-push s.watched.keeps s.watched.page heard p row in
-        grind (arith, nat_tests);
-    again_is = none_again h is;
-  }
+  knows_repeat h is keeps =
+      grind (arith, nat_tests, serial_more, open-this, subcode_this, first_of_row-push, none_again)
 
   module _ (other : is_this_page (kind s.watched.page p) ≡ false) where
     -- Then the last header stays.

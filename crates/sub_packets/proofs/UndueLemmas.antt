@@ -1,11 +1,10 @@
 -- The frames at which the same page is due, `due_same`; what was due within the last frames,
 -- `left_first`, `left_more` and `left_all`; and the first cell that is left, `undue_is`.
 use Rattle.std.proofs.lemmas.Bool.Decides.{nat_tests}
-use Rattle.std.proofs.lemmas.Bool.{cases_lt}
 use Rattle.std.proofs.lemmas.List.{get_or-replicate}
 use Rattle.std.proofs.Common.{◌≡◌, ℕ, zero, suc, ◌+◌, ◌-◌, ◌<◌, ◌≤◌}
 use Rattle.std.proofs.Common.{List, Option, None, MatchOption}
-use Rattle.std.proofs.Common.{refl, sym, ◌∙◌, subst, arith, inl, inr}
+use Rattle.std.proofs.Common.{sym, ◌∙◌, subst, arith}
 use Rattle.stl_rows.specs.DuePage.{IsEdge}
 use Rattle.stl_rows.specs.Programme.{ProgrammeValue}
 use Rattle.stl_rows.proofs.DuePageLemmas.{due_back}
@@ -51,16 +50,9 @@ module _ (page : ℕ → Rows) (first f : ℕ) where
       → n ≤ m
       → ((j : ℕ) → n ≤ j → j < m → first + suc j ≤ f → page (f - suc j) ≡ page (f - j))
       → was_due page first f m row column code ≡ was_due page first f n row column code
-  was_due-same n zero row column code low same =
-      let here : n ≡ 0 = omega arith in rw here refl
+  was_due-same n zero row column code low same = grind (arith, nat_tests)
   was_due-same n (suc m) row column code low same =
-      elim (cases_lt n (suc m)) [
-        | inl less ↦
-            was_due-one m row column code (same m (omega (arith, less)) (omega arith))
-            ∙ was_due-same n m row column code (omega (arith, less))
-            (λ j after before. same j after (omega arith))
-        | inr here ↦ let all : n ≡ suc m = omega (arith, here) in rw all refl
-      ]
+      grind (arith, nat_tests, was_due-one, (was_due-same n m row column code))
 
   -- The codes that are due at the frame itself are left out. For `left_of`.
   pub left_first : (shown left : Rows)
@@ -104,13 +96,7 @@ module _ (page : ℕ → Rows) (first f : ℕ) where
       → ((g : ℕ) → first ≤ g → f ≤ g + n → g ≤ at → page g ≡ page at)
       → IsLeft page first f (f - at) shown left
       → IsLeft page first f n shown left
-  left_all at n shown left until reach same old row column is =
-      let alike =
-      was_due-same (f - at) n row column (cell shown row column) (omega arith)
-      (λ j after earlier counts.
-      same (f - suc j) (omega arith) (omega arith) (omega arith)
-      ∙ sym (same (f - j) (omega arith) (omega arith) (omega arith))) in
-      rw alike (old row column is)
+  left_all at n shown left h1 h2 h3 h4 = grind (arith, nat_tests, was_due-same)
 
 -- ---- the first cell that is left
 

@@ -3,7 +3,7 @@
 use Rattle.std.proofs.lemmas.Bool.Decides.{nat_tests}
 use Rattle.std.proofs.Common.{◌≡◌, ℕ, ◌+◌, ◌-◌, ◌<◌, ◌≤◌, ◌⊎◌, ◌||◌, ◌==◌, Bool, true, false, not}
 use Rattle.std.proofs.Common.{List, [], Option, None, Some, MatchOption, option_map, unwrap_or}
-use Rattle.std.proofs.Common.{is_some, get_or, cond, replicate, refl, sym, ap, ◌∙◌, subst, inl, inr}
+use Rattle.std.proofs.Common.{is_some, get_or, cond, replicate, refl, sym, ap, ◌∙◌}
 use Rattle.std.proofs.Common.{arith}
 use Rattle.std.proofs.lemmas.List.{get_or-drop, get_or-replicate}
 use Rattle.ttx_packet.specs.OneBit.{first_below}
@@ -17,7 +17,7 @@ use Rattle.sub_rules.specs.Events.{first_cell, is_right, wrong_after}
 use Rattle.sub_rules.specs.Kept.{has_row}
 use Rattle.sub_packets.proofs.KeptLemmas.{row_of_code}
 use Rattle.sub_packets.specs.Listener.{Knows, held}
-use Rattle.sub_packets.specs.Missing.{earlier, is_not_after}
+use Rattle.sub_packets.specs.Missing.{earlier}
 use Rattle.sub_packets.specs.declared.listener.Listener.{Listener}
 
 -- ---- what is kept is what the packets say
@@ -125,22 +125,7 @@ differing_found :
     ((row column : ℕ) → IsCell row column → cell a row column ≡ cell b row column)
     (λ place. DiffersFirst a b place.0 place.1)
     → FindsFirst test o
-differing_found test a b None is same =
-    λ row column at.
-    let here = is row column at in let equal = same row column at in grind (arith, nat_tests)
-differing_found test a b (Some place) is d = record {
-  is_cell = d.is_cell;
-  passes =
-      let here = is place.0 place.1 d.is_cell in
-      let differ = d.differ in grind (arith, nat_tests);
-  rows_above = λ r c at less.
-      let here = is r c at in
-      let above = ap (λ xs. get_or xs c 0) (d.rows_above r at.0 less) in grind (arith, nat_tests);
-  cells_before = λ c less.
-      let cell_is = d.is_cell in
-      let here = is place.0 c (cell_is.0, cell_is.1, omega (arith, less, cell_is.2)) in
-      let before = d.cells_before c less in grind (arith, nat_tests);
-}
+differing_found test a b o is same = grind (arith, nat_tests)
 
 -- For `wrong_is` and `undue_is`.
 pub first_difference :
@@ -164,14 +149,7 @@ module _ (ta tb test : ℕ → ℕ → Bool) (one : (r c : ℕ) → ta r c ≡ t
       → PassesFirst ta row column
       → ((r c : ℕ) → IsCell r c → tb r c ≡ false)
       → PassesFirst test row column
-  first_alone row column a fails = record {
-    is_cell = a.is_cell;
-    passes = one row column a.passes;
-    rows_above = λ r c at less. none r c (a.rows_above r c at less) (fails r c at);
-    cells_before = λ c less.
-        none row c (a.cells_before c less)
-        (fails row c (a.is_cell.0, a.is_cell.1, omega (arith, less, a.is_cell.2)));
-  }
+  first_alone row column a fails = grind (arith, nat_tests)
 
   -- And where it is not after the cell that passes the other first.
   first_of : (row column y x : ℕ)
@@ -179,56 +157,14 @@ module _ (ta tb test : ℕ → ℕ → Bool) (one : (r c : ℕ) → ta r c ≡ t
       → PassesFirst tb y x
       → (row < y) ⊎ ((row ≡ y) × (column ≤ x))
       → PassesFirst test row column
-  first_of row column y x a b before = record {
-    is_cell = a.is_cell;
-    passes = one row column a.passes;
-    rows_above = λ r c at less.
-        none r c (a.rows_above r c at less) (b.rows_above r c at (above r less before));
-    cells_before = λ c less.
-        none row c (a.cells_before c less) (left c less before);
-  }
-    where
-      above : (r : ℕ) → r < row → (row < y) ⊎ ((row ≡ y) × (column ≤ x)) → r < y
-      above r less (inl before) = omega (arith, less, before)
-      above r less (inr same) = omega (arith, less, same.0)
-
-      left : (c : ℕ) → c < column → (row < y) ⊎ ((row ≡ y) × (column ≤ x)) → tb row c ≡ false
-      left c less (inl before) =
-          b.rows_above row c (a.is_cell.0, a.is_cell.1, omega (arith, less, a.is_cell.2)) before
-      left c less (inr same) =
-          subst (λ (r : ℕ). tb r c ≡ false) (sym same.0)
-          (b.cells_before c (omega (arith, less, same.1)))
+  first_of row column y x a b before = grind (arith, nat_tests)
 
 -- The earlier of two cells passes either test first.
 earlier_found : (ta tb : ℕ → ℕ → Bool) (a b : Option (ℕ × ℕ))
     → FindsFirst ta a
     → FindsFirst tb b
     → FindsFirst (λ row column. ta row column || tb row column) (earlier a b)
-earlier_found ta tb None None na nb =
-    λ row column is.
-    let one = na row column is in let other = nb row column is in grind (arith, nat_tests)
-earlier_found ta tb None (Some q) na b =
-    first_alone tb ta (λ row column. ta row column || tb row column)
-    (λ r c passes. grind (arith, nat_tests)) (λ r c one other. grind (arith, nat_tests))
-    q.0 q.1 b na
-earlier_found ta tb (Some p) None a nb =
-    first_alone ta tb (λ row column. ta row column || tb row column)
-    (λ r c passes. grind (arith, nat_tests)) (λ r c one other. grind (arith, nat_tests))
-    p.0 p.1 a nb
-earlier_found ta tb (Some p) (Some q) a b = go (is_not_after p q) refl
-  where
-    go : (before : Bool)
-        → is_not_after p q ≡ before
-        → FindsFirst (λ row column. ta row column || tb row column)
-        (cond before (Some p) (Some q))
-    go true e =
-        first_of ta tb (λ row column. ta row column || tb row column)
-        (λ r c passes. grind (arith, nat_tests)) (λ r c one other. grind (arith, nat_tests))
-        p.0 p.1 q.0 q.1 a b (grind (arith, nat_tests))
-    go false e =
-        first_of tb ta (λ row column. ta row column || tb row column)
-        (λ r c passes. grind (arith, nat_tests)) (λ r c one other. grind (arith, nat_tests))
-        q.0 q.1 p.0 p.1 b a (grind (arith, nat_tests))
+earlier_found ta tb a b na nb = grind (arith, nat_tests, first_alone, first_of)
 
 -- ---- the first cell that is not right
 
@@ -296,13 +232,7 @@ module _ (heard : List (List ℕ)) (s : Listener) (known : Knows heard s) where
       → MatchOption o (missing ≡ blank) (λ place. DiffersFirst missing blank place.0 place.1)
       → FindsFirst lacks o
   lacks_found missing o cells found =
-      differing_found lacks missing blank o
-      (λ row column is.
-      let here = cells row column is in
-      let blank_is = cell-blank row column is in
-      let again = known.again_is row is.0 is.1 in
-      grind (arith, nat_tests))
-      (by_cells missing blank o (λ place. DiffersFirst missing blank place.0 place.1) found)
+      grind (arith, nat_tests, differing_found, cell-blank, by_cells)
 
   -- Where repeats may keep, the earlier of both. For `first_wrong`.
   pub wrong_keeping : (missing : Rows) (a b : Option (ℕ × ℕ))
