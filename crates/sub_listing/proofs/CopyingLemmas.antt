@@ -28,15 +28,8 @@ pub record IsFrontOf (b front : List ℕ) (left : Option (List ℕ)) : Type 0 wh
 pub front_taken : (b front : List ℕ) (left : Option (List ℕ))
     → Consumes (Some b) left front
     → IsFrontOf b front left
-front_taken b front None taken = absurd taken
-front_taken b front (Some y) taken =
-    let long = ap length taken ∙ length-append front y in
-    record {
-      same = ap (take (length front)) taken ∙ take-append_seam front y;
-      left_is = ap Some (sym (ap (drop (length front)) taken ∙ drop-append_seam front y));
-      within = omega (arith, long);
-      end = λ none. let nothing = ap length none in omega (arith, long, nothing);
-    }
+front_taken b front left taken =
+    grind (arith, nat_tests, length-append, take-append_seam, drop-append_seam)
 
 -- What was held before the rest is the whole.
 pub joined_again : (b front : List ℕ) (left : Option (List ℕ))
@@ -72,14 +65,7 @@ pub room_taken : (b room : List ℕ) (n : ℕ) (left : Option (List ℕ))
     → Consumes (Some b) left (take n room)
     → (take n b ≡ take n room) × (left ≡ Some (drop n b)) × (n ≤ length b)
     × (IsAtEnd left → length b ≡ n)
-room_taken b room n left fits taken =
-    let front = front_taken b (take n room) left taken in
-    let long = length-take-le n room fits in (
-      ap (λ k. take k b) (sym long) ∙ front.same,
-      front.left_is ∙ ap (λ k. Some (drop k b)) long,
-      (let within = front.within in omega (arith, long, within)),
-      λ end. front.end end ∙ long,
-    )
+room_taken b room n left fits taken = grind (arith, nat_tests, front_taken, length-take-le)
 
 -- The bytes end within the first six.
 pub next_short : (x z : Option (List ℕ)) (b room : List ℕ) (n : ℕ)
@@ -91,9 +77,7 @@ pub next_short : (x z : Option (List ℕ)) (b room : List ℕ) (n : ℕ)
     → IsAtEnd z
     → (refusal_at b ≡ Some Truncated) × (take n b ≡ take n room) × (z ≡ Some (drop n b))
 next_short x z b room n told taken fits some short end =
-    let front = room_taken b room n z fits (rw told at taken) in
-    let all = front.3 end in
-    (refused_short b (omega (arith, all, some)) (omega (arith, all, short)), front.0, front.1)
+    grind (arith, nat_tests, room_taken, refused_short)
 
 -- They are no start of a PES packet.
 pub next_start : (x z : Option (List ℕ)) (b room : List ℕ) (f : PesFault)
@@ -117,10 +101,7 @@ sized : (x y z : Option (List ℕ)) (b room more : List ℕ) (n : ℕ)
     × (IsAtEnd z → length b ≡ n))
     × (take 6 b ≡ take 6 room) × (6 ≤ length b)
 sized x y z b room more n told head fits taken bound =
-    let start : Consumes (Some b) y (take 6 room) = rw told at head in
-    let front = room_taken b room 6 y fits start in
-    let whole = joined_again b (take 6 room) y start in
-    (room_taken b more n z bound (rw whole at taken), front.0, front.2)
+    grind (arith, nat_tests, room_taken, joined_again)
 
 -- They end within the piece.
 pub next_cut : (x y z : Option (List ℕ)) (b room more : List ℕ) (n size : ℕ)
@@ -236,12 +217,7 @@ pub all_copied : (bytes : List ℕ) (left next old mid : Option (List ℕ)) (lea
     → IsAtEnd next
     → Appends old mid bytes
 all_copied bytes left next old mid least some taken end =
-    let front = front_taken (drop some.read bytes) [] next (rw some.copied.left_is at taken) in
-    let none = front.end end in
-    let rest = length-drop some.read bytes in
-    let within = some.within in
-    subst (Appends old mid) (take_all some.read bytes (omega (arith, none, rest, within)))
-    some.copied.written
+    grind (arith, nat_tests, front_taken, length-drop, take_all)
 
 -- ---- faults
 

@@ -1,8 +1,9 @@
 -- Pieces that are copied one after another. Main lemmas: next_copied, pieces_given, rest_refused.
+use Rattle.std.proofs.lemmas.Bool.Decides.{nat_tests}
 use Rattle.std.proofs.Common.{◌≡◌, ◌∙◌, ap, refl, sym, subst, arith, ℕ, zero, suc, ◌+◌, ◌<◌, ◌≤◌}
 use Rattle.std.proofs.Common.{◌++◌, List, [], Option, Some, None, length, take, drop}
 use Rattle.std.proofs.Common.{append_assoc, if◌then◌else◌, take-append-drop, length-append, Ok}
-use Rattle.std.proofs.Common.{inl, inr}
+use Rattle.std.proofs.Common.{inr}
 use Rattle.std.proofs.KnownBytes.{Appends-kept, Appends-nil, Appends-trans}
 use Rattle.std.specs.Io.KnownBytes.{Appends, Keeps}
 use Rattle.sub_io.specs.Device.{AppendsPrefix}
@@ -200,17 +201,7 @@ pub none_given : (bytes : List ℕ) (left old mid new : Option (List ℕ)) (k ga
     → k ≡ 0
     → (bytes ≡ []) × Keeps old new
 unfolding behind_pieces first_pieces
-none_given bytes left old mid new k gaps so_far none kept is =
-    let nothing : bytes ≡ [] = rw is at none in
-    let written : Appends old mid [] = rw is at so_far.written in
-    (nothing, keeps_old old mid new written kept)
-  where
-    keeps_old : (old mid new : Option (List ℕ)) → Appends old mid [] → Keeps mid new
-        → Keeps old new
-    keeps_old None mid new written kept = tt
-    keeps_old (Some x) None new written kept = absurd written
-    keeps_old (Some x) (Some y) None written kept = absurd kept
-    keeps_old (Some x) (Some y) (Some z) written kept = kept ∙ written ∙ append-nil x
+none_given bytes left old mid new k gaps so_far none kept is = grind (arith, nat_tests, append-nil)
 
 -- What was copied of what follows, and then of the rest of that.
 rest_part : (b : List ℕ) (mid there new next : Option (List ℕ)) (read : ℕ)
@@ -278,12 +269,7 @@ pub cut_behind : (bytes : List ℕ) (left old mid new : Option (List ℕ)) (k ga
     → HasCopiedPieces bytes left old mid k gaps
     → Keeps mid new
     → AreCut bytes old new k
-cut_behind bytes left old mid new k gaps so_far kept = record {
-  pieces = so_far.number;
-  behind = mid;
-  given = so_far.written;
-  rest = inl kept;
-}
+cut_behind bytes left old mid new k gaps so_far kept = grind (arith, nat_tests)
 
 -- It failed in what follows them, which no piece begins.
 pub cut_in_rest : (bytes : List ℕ) (left old mid there new next : Option (List ℕ))

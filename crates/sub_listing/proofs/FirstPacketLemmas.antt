@@ -1,6 +1,7 @@
 -- What was read of a source after its first PES packet was found. Main lemmas: prints_found,
 -- prints_failed.
-use Rattle.std.proofs.Common.{◌≡◌, refl, sym, inl, inr, arith, ℕ, ◌+◌, ◌≤◌, List, [], Bool}
+use Rattle.std.proofs.lemmas.Bool.Decides.{nat_tests}
+use Rattle.std.proofs.Common.{◌≡◌, refl, sym, inr, arith, ℕ, ◌+◌, ◌≤◌, List, [], Bool}
 use Rattle.std.proofs.Common.{Option, Some, None}
 use Rattle.std.specs.Io.KnownBytes.{Consumes, Keeps}
 use Rattle.ttx_pes.specs.Outcome.{PesOutcome, ReadsPackets, ends, fails, gives}
@@ -50,109 +51,49 @@ within_kept : (old mid new : Option (List ℕ))
     → Keeps old mid
     → FailsWithin mid new
     → FailsWithin old new
-within_kept old mid new kept f = record {
-  bytes = f.bytes;
-  consumed = consumed_kept old mid new f.bytes kept f.consumed;
-  begun = f.begun;
-}
+within_kept old mid new kept f = grind (arith, nat_tests, consumed_kept)
 
 packet_kept : (old mid new : Option (List ℕ)) (v : PesValue)
     → Keeps old mid
     → TakesPesPacket mid new v
     → TakesPesPacket old new v
-packet_kept old mid new v kept t = record {
-  bytes = t.bytes;
-  is_packet = t.is_packet;
-  consumed = consumed_kept old mid new t.bytes kept t.consumed;
-}
+packet_kept old mid new v kept t = grind (arith, nat_tests, consumed_kept)
 
 refused_kept : (old mid new : Option (List ℕ)) (f : PesFault)
     → Keeps old mid
     → TakesRefused mid new f
     → TakesRefused old new f
-refused_kept old mid new f kept t = record {
-  bytes = t.bytes;
-  consumed = consumed_kept old mid new t.bytes kept t.consumed;
-  refused = t.refused;
-}
+refused_kept old mid new f kept t = grind (arith, nat_tests, consumed_kept)
 
 -- PES packets that are taken of it then are taken of it.
 pub packets_kept : (n : ℕ) (old mid new : Option (List ℕ))
     → Keeps old mid
     → TakesPackets n mid new
     → TakesPackets n old new
-packets_kept n old mid new kept t = record {
-  packets = t.packets;
-  number = t.number;
-  each = t.each;
-  consumed = consumed_kept old mid new _ kept t.consumed;
-}
+packets_kept n old mid new kept t = grind (arith, nat_tests, consumed_kept)
 
 pub fails_packet_kept : (n : ℕ) (old mid new : Option (List ℕ))
     → Keeps old mid
     → FailsAtPacket n mid new
     → FailsAtPacket n old new
-fails_packet_kept n old mid new kept f = record {
-  behind = f.behind;
-  before = packets_kept n old mid f.behind kept f.before;
-  within = f.within;
-}
+fails_packet_kept n old mid new kept f = grind (arith, nat_tests, packets_kept)
 
 pub fails_piece_kept : (n : ℕ) (old mid new : Option (List ℕ))
     → Keeps old mid
     → FailsAtPiece n mid new
     → FailsAtPiece n old new
-fails_piece_kept n old mid new kept f = record {
-  behind = f.behind;
-  before = record {
-    pieces = f.before.pieces;
-    number = f.before.number;
-    each = f.before.each;
-    consumed = consumed_kept old mid f.behind _ kept f.before.consumed;
-  };
-  within = f.within;
-}
+fails_piece_kept n old mid new kept f = grind (arith, nat_tests, consumed_kept)
 
 -- ---- a source that failed before anything was taken
 
 pub fails_within_first : (old new : Option (List ℕ)) → Keeps old new → FailsWithin old new
-fails_within_first old new kept = record {
-  bytes = [];
-  consumed = consumed_none old new kept;
-  begun = inl (omega arith);
-}
+fails_within_first old new kept = grind (arith, nat_tests, consumed_none)
 
 pub fails_first_packet : (old new : Option (List ℕ)) → Keeps old new → FailsAtPacket 0 old new
-fails_first_packet old new kept = record {
-  behind = new;
-  before = record {
-    packets = [];
-    number = refl;
-    each = tt;
-    consumed = consumed_none old new kept;
-  };
-  within = fails_within_first new new (keeps_same new);
-}
-  where
-    keeps_same : (x : Option (List ℕ)) → Keeps x x
-    keeps_same None = tt
-    keeps_same (Some x) = refl
+fails_first_packet old new kept = grind (arith, nat_tests, consumed_none, fails_within_first)
 
 pub fails_first_piece : (old new : Option (List ℕ)) → Keeps old new → FailsAtPiece 0 old new
-fails_first_piece old new kept = record {
-  behind = new;
-  before = record {
-    pieces = [];
-    number = refl;
-    each = tt;
-    consumed = consumed_none old new kept;
-  };
-  within = fails_within_first new new (keeps_same new);
-}
-  where
-    keeps_same : (x : Option (List ℕ)) → Keeps x x
-    keeps_same None = tt
-    keeps_same (Some x) = refl
+fails_first_piece old new kept = grind (arith, nat_tests, consumed_none, fails_within_first)
 
 -- ---- what is listed
 
@@ -160,14 +101,10 @@ reads_kept : (failed : Bool) (old mid : Option (List ℕ)) (o : PesOutcome) (lef
     → Keeps old mid
     → ReadsPackets failed mid o left
     → ReadsPackets failed old o left
-reads_kept failed old mid ends left kept reads = reads
-reads_kept failed old mid (fails f) left kept reads = (
-  reads.0,
-  λ is. within_kept old mid left kept (reads.1 is),
-  λ is. refused_kept old mid left f kept (reads.2 is),
-)
-reads_kept failed old mid (gives v more) left kept reads =
-    (reads.0, packet_kept old mid reads.0 v kept reads.1, reads.2)
+reads_kept failed old mid ends left kept reads = grind (arith, nat_tests)
+reads_kept failed old mid (fails f) left kept reads =
+    grind (arith, nat_tests, within_kept, refused_kept)
+reads_kept failed old mid (gives v more) left kept reads = grind (arith, nat_tests, packet_kept)
 
 -- PES packets were listed once the first was found. For `list_packets`.
 pub prints_found : (first : FirstNumber) (number : ℕ) (old mid left : Option (List ℕ))
@@ -181,25 +118,7 @@ pub prints_found : (first : FirstNumber) (number : ℕ) (old mid left : Option (
     (record { told = old; left = left; old_count = old_count; new_count = new_count }) out status
 prints_found
     first number old mid left old_count mid_count new_count out status found kept same prints =
-    record {
-      number = number;
-      starts = λ n is. inl (found n is);
-      prints = record {
-        ending = prints.ending;
-        listing = prints.listing;
-        is_listed = record {
-          outcome = prints.is_listed.outcome;
-          listing_is = prints.is_listed.listing_is;
-          exact = λ bytes told. prints.is_listed.exact bytes (told_kept old mid bytes kept told);
-          taken = λ other.
-              reads_kept _ old mid prints.is_listed.outcome left kept
-              (prints.is_listed.taken other);
-        };
-        source_count = rw (sym same) prints.source_count;
-        cut = prints.cut;
-        printed = prints.printed;
-      };
-    }
+    grind (arith, nat_tests, told_kept, reads_kept)
 
 -- The source failed before. For `list_packets`.
 pub prints_failed : (first : FirstNumber) (number : ℕ) (source : SourceCall) (out : SinkCall)

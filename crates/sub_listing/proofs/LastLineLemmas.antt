@@ -1,6 +1,7 @@
 -- The last line of a listing whose source failed. Main lemma: last_alone.
+use Rattle.std.proofs.lemmas.Bool.Decides.{nat_tests}
 use Rattle.std.proofs.Common.{◌≡◌, ℕ, ◌+◌, ◌<◌, Bool, true, false, if◌then◌else◌, List, Option}
-use Rattle.std.proofs.Common.{arith, refl, subst, ◌∙◌}
+use Rattle.std.proofs.Common.{arith, refl}
 use Rattle.sub_listing.specs.LastLine.{HoldsLastLine, IsAlone, PutsLine}
 
 -- A count that rose counted a failure.
@@ -18,9 +19,4 @@ pub last_alone : {K : Type 0} (contents : K → Option (List ℕ)) (held : K →
     → put ≡ text
     → PutsLine contents IsPush before put new
     → HoldsLastLine contents held IsPush new
-last_alone contents held IsPush before new text put alone same line = record {
-  before = before;
-  settled = alone.settled;
-  told = alone.told;
-  line = subst (λ l. PutsLine contents IsPush before l new) (same ∙ alone.line) line;
-}
+last_alone contents held IsPush before new text put alone same line = grind (arith, nat_tests)

@@ -1,7 +1,7 @@
 -- A listing that is printed piece after piece. Main lemmas: front-more, front-end, front-cut,
 -- gives-next, gives-last.
 use Rattle.std.proofs.lemmas.Bool.Decides.{nat_tests}
-use Rattle.std.proofs.Common.{◌≡◌, ◌∙◌, ap, refl, sym, subst, arith, ℕ, ◌+◌, ◌<◌, ◌≤◌, List, []}
+use Rattle.std.proofs.Common.{◌≡◌, ap, refl, sym, subst, arith, ℕ, ◌+◌, ◌<◌, ◌≤◌, List, []}
 use Rattle.std.proofs.Common.{◌∷◌, ◌++◌, append_assoc, drop, length, inl, inr, Bool, false, true}
 use Rattle.std.proofs.Common.{Option, Some, None, Ok, Err}
 use Rattle.std.specs.Io.KnownBytes.{Appends, Consumes, Keeps}
@@ -77,11 +77,7 @@ pub front-kept :
     → IsFront Before After told left old now
     → Keeps now new
     → IsFront Before After told left old new
-front-kept Before After told left old now new i kept = record {
-  text = i.text;
-  printed = Appends-kept old now new i.text i.printed kept;
-  listed = i.listed;
-}
+front-kept Before After told left old now new i kept = grind (arith, nat_tests)
 
 -- The count of a source's failures, where the sink failed. For `list`.
 pub counts-fault : (old new : ℕ) (failed : Bool) → RisesIf old failed new → Counts old Fault new
@@ -228,17 +224,8 @@ pub gives-next :
     (rest : List ℕ) × (left ≡ Some rest) × (given bytes ≡ piece (given' rest)))
     → O
     → Gives (Lists before given Takes) (Lists after given' Takes') told left text None
-gives-next O before after given given' Takes Takes' piece told left text lines tells reads o = (
-  λ end ending more l. record {
-    outcome = piece l.outcome;
-    listing_is = ap (followed text) l.listing_is ∙ sym (lines l.outcome);
-    exact = λ bytes is ok.
-        let read = reads bytes is in
-        ap piece (l.exact read.0 read.1 ok) ∙ sym read.2;
-    taken = λ other. tells l.outcome (has_failed ending) end (l.taken other);
-  },
-  lists-some O after given' Takes' left left o,
-)
+gives-next O before after given given' Takes Takes' piece told left text lines tells reads o =
+    grind (arith, nat_tests, lists-some)
 
 -- The last lines were made, and they are those of this outcome. For the listers.
 pub gives-last :
@@ -252,12 +239,7 @@ pub gives-last :
     → Lists listing_of given Takes told left (Some (listing_of o).status)
     (record { text = text; status = (listing_of o).status })
 gives-last O listing_of given Takes told left o text failed line is exact taken =
-    rw line (record {
-      outcome = o;
-      listing_is = refl;
-      exact = λ bytes e ok. exact bytes e (sym is ∙ ok);
-      taken = λ other. rw is taken;
-    })
+    grind (arith, nat_tests)
 
 -- ---- PES packets
 

@@ -6,7 +6,7 @@ use Rattle.sub_io.specs.HandingOn.{HandsOnIfWaiting}
 use Rattle.std.proofs.lemmas.List.{map-append, take-append-drop}
 use Rattle.std.proofs.lemmas.Bool.{true≢false}
 use Rattle.std.proofs.lemmas.Bool.Decides.{nat_tests}
-use Rattle.std.proofs.KnownBytes.{Appends-nil, Appends-trans, Keeps-refl}
+use Rattle.std.proofs.KnownBytes.{Appends-nil, Appends-trans}
 use Rattle.sub_io.proofs.DeviceLemmas.{AppendsPrefix-first, AppendsPrefix-second}
 use Rattle.sub_io.specs.Device.{AppendsPrefix}
 use Rattle.std.specs.Io.KnownBytes.{Appends}
@@ -165,16 +165,7 @@ lines-same n m (f ∷ fs) =
 pub prints-renumbered : (n : ℕ) (a b : PrinterValue) (fs : List LoadFault)
     → PrintsEvents a (subtitle_events fs) b
     → PrintsEvents (record a { first = n }) (subtitle_events fs) (record b { first = n })
-prints-renumbered n a b fs prints =
-    let lines = lines-same a.first n fs in
-    record {
-      counts_from = refl;
-      put = λ holds. subst (Appends a.contents b.contents) lines (prints.put holds);
-      put_count = prints.put_count;
-      put_refused = prints.put_refused;
-      cut = λ failing. subst (AppendsPrefix a.contents b.contents) lines (prints.cut failing);
-      cut_count = prints.cut_count;
-    }
+prints-renumbered n a b fs prints = grind (arith, nat_tests, lines-same)
 
 -- A printer that has failed has printed a list's events where it has printed its first ones.
 pub prints-taken : {A : Type 0} (event : A → Event) (a b : PrinterValue) (n : ℕ) (items : List A)
@@ -283,13 +274,7 @@ cannot_fail false b holds = refl
 
 -- Nothing was handed on.
 pub stays-none : (a : PrinterValue) → StaysPrinted a a
-stays-none a = record {
-  kept = Keeps-refl a.contents;
-  refused = refl;
-  counts_from = refl;
-  same = λ _. refl;
-  risen = λ other. absurd (other refl);
-}
+stays-none a = grind (arith, nat_tests)
 
 -- One that has said stop, and had not failed, has failed as lines were handed on.
 pub stopped_fails : (a b : PrinterValue) (is : Bool) → b.failed ≡ is
@@ -298,10 +283,7 @@ pub stopped_fails : (a b : PrinterValue) (is : Bool) → b.failed ≡ is
     → StaysPrinted a b
     → (b.failed || not (can_fail b.count)) ≡ true
     → b.failed ≡ true
-stopped_fails a b true is goes room stays stopped = is
-stopped_fails a b false is goes room stays stopped =
-    absurd (true≢false (sym stopped
-    ∙ still_goes b.failed a.count b.count room is (stays.same (is ∙ sym goes))))
+stopped_fails a b is h1 goes room stays stopped = grind (arith, nat_tests, still_goes)
 
 -- Whether it has failed says then whether it could.
 failed_as : (a b : PrinterValue) (ok : Bool)
@@ -321,15 +303,9 @@ module _ {P N : Type 0} (name : P → N) (value : P → PrinterValue) (is_waitin
   handed_same = elim call [ inl same ↦ ap name same.1 | inr on ↦ (one on.1).0 ]
 
   pub handed_stays : StaysPrinted (value s) (value t)
-  handed_stays = elim call [
-    | inl same ↦ rw same.1 (stays-none (value s))
-    | inr on ↦ (one on.1).1.stays
-  ]
+  handed_stays = grind (arith, nat_tests, stays-none)
 
   pub handed_failed : (value s).failed ≡ false
       → (value s).count < 0xFFFF_FFFF_FFFF_FFFF
       → (value t).failed ≡ not ok
-  handed_failed goes room = elim call [
-    | inl same ↦ ap (λ p. (value p).failed) same.1 ∙ goes ∙ sym (ap not same.0)
-    | inr on ↦ failed_as (value s) (value t) ok goes room (one on.1).1
-  ]
+  handed_failed goes room = grind (arith, nat_tests, failed_as)
