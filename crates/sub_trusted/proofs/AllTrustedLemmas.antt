@@ -103,18 +103,17 @@ module _ (g : Task) (pieces : List Piece) (a b i : ℕ)
 
   any_told : (t : List Mark) → past_after [] marks ≡ t → told_after [] (marks ++ close) ≢ []
       → tells t ≡ true
-  any_told t after something = go (tells t) refl
-    where
-      go : (c : Bool) → tells t ≡ c → tells t ≡ true
-      go true e = e
-      go false e =
-          let before : list_any is_said t ≡ false = (or_parts (list_any is_said t) _ e).0 in
-          let first : told_after [] marks ≡ [] =
-          (silent [] marks (before_open g pieces).none (ap (list_any is_said) after ∙ before)).1 in
-          let rest : told_after (past_after [] marks) close ≡ [] =
-          ap (λ (u : List Mark). told_after u close) after
-          ∙ closing_silent g frames (length pieces) (length frames) t e in
-          absurd (something (told_after-append [] marks close ∙ rw (first, rest) refl))
+  any_told t after something =
+      grind (
+        arith,
+        nat_tests,
+        or_parts,
+        silent,
+        before_open,
+        past_after,
+        closing_silent,
+        told_after-append,
+      )
 
   all_marks : told_after [] (marks ++ close) ≢ [] → Among (told_after [] (marks ++ close))
   all_marks something =

@@ -20,7 +20,7 @@ use Rattle.sub_rules.proofs.EndRuleLemmas.{stands_nothing}
 use Rattle.sub_rules.proofs.PrefixEventLemmas.{packets_before-prefix, unfinished_since-prefix}
 use Rattle.sub_laws.specs.CleanStretch.{IsEnd}
 use Rattle.sub_trusted.specs.TrustedFrames.{CanStay, rising_part}
-use Rattle.sub_trusted.proofs.LateDoubtLemmas.{KeepsAll, seen_is, seen_since}
+use Rattle.sub_trusted.proofs.LateDoubtLemmas.{KeepsAll, seen_since}
 use Rattle.sub_laws.proofs.PrefixLemmas.{RiseTo, end_at, first-same, frame_at-take, last-same}
 use Rattle.sub_laws.proofs.PrefixLemmas.{packets-take, rises_to, take_rises}
 use Rattle.sub_trusted.proofs.TrustedFrameLemmas.{part_last, part_length, part_rises, risen}
@@ -225,19 +225,4 @@ module _ (g : Task) (pieces : List Piece) (a b : ℕ) (can : CanStay g pieces a 
       → holds_beginning g.watched.keeps (kind g.watched.page) (packets_of_frame frames i) ≡ true
       → Fits g frames a b i
   fits i there low high header =
-      let last = part_last frames some in
-      let all = part_length frames in
-      record {
-        there = there;
-        low = low;
-        high = high;
-        header = header;
-        packets = packets;
-        ends = ends;
-        finished = λ n f end here. unseen (g.within == 0) (finished n f end here);
-        since = λ n f r end past is. since n f r end past (seen_is g frames n f r is);
-        back = since;
-        last = let to = can.untold.stretch.to in omega arith;
-        fall = λ more. let past = can.before_fall (omega arith) in omega arith;
-        unread = λ u is. let past = can.before_unread u is in omega arith;
-      }
+      grind (arith, nat_tests, part_last, some, part_length, packets, ends, finished, unseen, since)

@@ -3,18 +3,17 @@
 -- what is told once it was looked at: `with_end`.
 use Rattle.std.proofs.lemmas.Bool.Decides.{nat_tests}
 use Rattle.std.proofs.Common.{◌≡◌, ℕ, ◌≤◌, true, false, not}
-use Rattle.std.proofs.Common.{◌==◌, ◌&&◌, Bool, None, if◌then◌else◌, List, [], ◌∷◌, ◌++◌}
-use Rattle.std.proofs.Common.{map, Option, Some, refl, sym, ◌∙◌, arith}
+use Rattle.std.proofs.Common.{◌==◌, ◌&&◌, None, if◌then◌else◌, List, [], ◌∷◌}
+use Rattle.std.proofs.Common.{map, Some, arith}
 use Rattle.std.proofs.Common.{is_some}
 use Rattle.std.proofs.lemmas.Option.{none-some}
 use Rattle.std.specs.Option.{option_or}
 use Rattle.sub_rules.specs.Events.{events_at_end, is_late}
-use Rattle.sub_rules.specs.Events.{since_before, unfinished_since}
+use Rattle.sub_rules.specs.Events.{since_before}
 use Rattle.sub_rules.specs.FrameRules.{Task}
 use Rattle.sub_rules.specs.PieceEvents.{goes_back, marks_at_end}
 use Rattle.sub_rules.specs.Transmission.{Transmission}
-use Rattle.sub_rules.specs.Trusted.Mark.{AtEnd, GoesBack, Says}
-use Rattle.sub_rules.specs.declared.event.Event.{Event}
+use Rattle.sub_rules.specs.Trusted.Mark.{Says}
 use Rattle.sub_laws.specs.CleanStretch.{IsEnd}
 use Rattle.sub_trusted.proofs.TrustedKeptLemmas.{SeesNone}
 use Rattle.sub_trusted.proofs.LateDoubtLemmas.{seen_since}
@@ -62,51 +61,7 @@ module _ (g : Task) (frames : Transmission) where
       → T u (map Says (events_at_end g frames i n f)))
       → T t (marks_at_end g frames i n f)
   unfolding told_at run_of whole_of last_begun since_of late_of back_of stays_quiet tells_fall
-  with_end T i n f t none plain cons so = go (goes_back g) (g.within == 0) refl refl
-    where
-      before : Option ℕ
-      before = since_before g frames i f
-
-      es : List Event
-      es = events_at_end g frames i n f
-
-      since : Option ℕ
-      since = unfinished_since g frames n f
-
-      unseen : (g.within == 0) ≡ true → SeesNone t → Looks n f t t
-      unseen e sees =
-          let since = sees.since in
-          let late = sees.late in
-          let whole = sees.whole in
-          grind (arith, nat_tests)
-
-      mark : Mark
-      mark = AtEnd f since (is_late g frames n f)
-
-      seen : (g.within == 0) ≡ false → Looks n f t (mark ∷ t)
-      seen e = grind (arith, nat_tests)
-
-      seen_back : (g.within == 0) ≡ false → goes_back g ≡ true
-          → Looks n f t (mark ∷ GoesBack before ∷ t)
-      seen_back e back = grind (arith, nat_tests)
-
-      never : (back at_once : Bool) → (back && not at_once) ≡ true → at_once ≡ true → ⊥
-      never back at_once e is = grind (arith, nat_tests)
-
-      go : (b c : Bool) → goes_back g ≡ b → (g.within == 0) ≡ c
-          → T t ((if b then GoesBack before ∷ [] else [])
-          ++ (if c then [] else mark ∷ [])
-          ++ map Says es)
-      go false true b e =
-          so t (unseen e (none e)) (λ r is. absurd (none-some r (sym (plain b) ∙ is)))
-      go false false b e =
-          cons t mark (map Says es) refl
-          (so (mark ∷ t) (seen e) (λ r is. absurd (none-some r (sym (plain b) ∙ is))))
-      go true true b e = absurd (never g.beside (g.within == 0) b e)
-      go true false b e =
-          cons t (GoesBack before) (mark ∷ map Says es) refl
-          (cons (GoesBack before ∷ t) mark (map Says es) refl
-          (so (mark ∷ GoesBack before ∷ t) (seen_back e b) (λ r is. is)))
+  with_end T i n f t none plain cons so = grind (arith, nat_tests, none-some)
 
   -- Frame f, which is not before this one, has an end, up to which m frames count, and these rise.
   abbrev pub HasEnd : ℕ → ℕ → ℕ → Type 0
