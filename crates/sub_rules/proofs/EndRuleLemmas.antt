@@ -4,7 +4,7 @@
 -- passes, `end_any`.
 use Rattle.std.proofs.lemmas.Bool.Decides.{nat_tests}
 use Rattle.std.proofs.Common.{◌≡◌, ℕ, Bool, true, false, List, [], ◌∷◌, Option, Some, None}
-use Rattle.std.proofs.Common.{is_some, not, refl, ◌∙◌, ◌++◌, ap, ap₂, arith, flat_map}
+use Rattle.std.proofs.Common.{is_some, not, refl, ◌∙◌, ap, arith, flat_map}
 use Rattle.std.proofs.lemmas.List.Folds.{list_any-append}
 use Rattle.std.specs.List.{AllByRecursion, list_any}
 use Rattle.sub_rules.specs.Events.{broken_at, end_events, end_fault, end_rules}
@@ -53,28 +53,14 @@ from_none rule a b (Some cell) f = refl
 pub end_from_none : (a b : ℕ) (new : Standing) (f : ℕ)
     → end_events nothing_stands a new f ≡ end_events nothing_stands b new f
 unfolding end_events
-end_from_none a b new f = go end_rules
-  where
-    go : (rules : List EndRule)
-        → flat_map (λ rule. rule_events rule (broken_at rule nothing_stands) a
-        (broken_at rule new) f) rules
-        ≡ flat_map (λ rule. rule_events rule (broken_at rule nothing_stands) b
-        (broken_at rule new) f) rules
-    go [] = refl
-    go (rule ∷ rules) =
-        ap₂ ◌++◌
-        (rw (nothing_at rule) (from_none rule a b (broken_at rule new) f)) (go rules)
+end_from_none a b new f = grind (arith, nat_tests, nothing_at, from_none)
 
 module _ (test : Event → Bool)
     (told : (rule : EndRule) (f : ℕ) (cell : ℕ × ℕ) → test (Told (end_fault rule f cell)) ≡ false)
     (ended : (rule : EndRule) (f : ℕ) → test (Ended rule f) ≡ false) where
   rule_any : (rule : EndRule) (before f : ℕ) (old new : Option (ℕ × ℕ))
       → list_any test (rule_events rule old before new f) ≡ false
-  rule_any rule before f None None = refl
-  rule_any rule before f None (Some new) = rw (told rule f new) refl
-  rule_any rule before f (Some old) None = rw (ended rule before) refl
-  rule_any rule before f (Some old) (Some new) =
-      let one = told rule f new in let other = ended rule before in grind (arith, nat_tests)
+  rule_any rule before f old new = grind (arith, nat_tests)
 
   rules_any : (old : Standing) (before : ℕ) (new : Standing) (f : ℕ) (rules : List EndRule)
       → list_any test

@@ -2,12 +2,11 @@
 -- told first of them, `marks_first`; and where each PES packet is a frame, it is what is told of
 -- the frame, `said_sent`.
 use Rattle.std.proofs.lemmas.Bool.Decides.{nat_tests}
-use Rattle.std.proofs.Common.{◌≡◌, ℕ, zero, suc, ◌+◌, ◌||◌, ◌==◌, Bool, true, false, List, [], ◌∷◌}
+use Rattle.std.proofs.Common.{◌≡◌, ℕ, zero, suc, ◌+◌, ◌==◌, Bool, true, false, List, [], ◌∷◌}
 use Rattle.std.proofs.Common.{◌++◌, length, map, Option, None, Some, refl, sym, ap, ◌∙◌, subst}
 use Rattle.std.proofs.Common.{arith, append_assoc, if◌then◌else◌, unwrap_or}
 use Rattle.std.proofs.lemmas.Bool.{true≢false}
 use Rattle.std.proofs.lemmas.List.{map-append}
-use Rattle.std.specs.List.{list_any}
 use Rattle.std.specs.Option.{option_or}
 use Rattle.sub_rules.specs.Events.{events_at_end, first_header_events, first_told}
 use Rattle.sub_rules.specs.Events.{gap_length, is_late, latest, order_events}
@@ -26,7 +25,7 @@ use Rattle.ttx_page.specs.PacketKind.{kind}
 use Rattle.ttx_page.specs.Span.{holds_beginning}
 use Rattle.sub_rules.proofs.AnyToldLemmas.{own_frame, own_names}
 use Rattle.sub_rules.proofs.JoinedLemmas.{goes_on-none}
-use Rattle.sub_rules.specs.Trusted.{Mark, at_pes, back_of, closing_at, doubted_by, is_said}
+use Rattle.sub_rules.specs.Trusted.{Mark, at_pes, back_of}
 use Rattle.sub_rules.specs.Trusted.{pes_told, run_of}
 use Rattle.sub_rules.specs.Trusted.{stands_none, told_after, told_at, trusted, trusted_up_to}
 use Rattle.sub_rules.specs.Trusted.{whole_of}
@@ -62,11 +61,7 @@ trusted_first t (Some f) = closed_first true (run_of t) (whole_of t) (unwrap_or 
 first_after : (trusts rest said : List Event) (e : Event) → first_told trusts ≡ None
     → first_told rest ≡ first_told said
     → first_told ((trusts ++ e ∷ []) ++ rest) ≡ first_told (e ∷ said)
-first_after trusts rest said e none same =
-    let before = first_of_two trusts (e ∷ []) in
-    let told = first_of_two (trusts ++ e ∷ []) rest in
-    let alone = first_of_two (e ∷ []) said in
-    grind (arith, nat_tests)
+first_after trusts rest said e none same = grind (arith, nat_tests, first_of_two)
 
 first_without : (trusts rest said : List Event) → first_told trusts ≡ None
     → first_told rest ≡ first_told said
@@ -77,17 +72,18 @@ first_without trusts rest said none same =
 pub marks_first : (t ms : List Mark)
     → first_told (told_after t ms) ≡ first_told (said_by (pes_told t) ms)
 unfolding told_after told_at pes_told
-marks_first t [] = refl
+marks_first t [] = grind (arith, nat_tests)
 marks_first t (Says e ∷ ms) =
-    first_after (trusted_up_to t (doubted_by t e)) (told_after (Says e ∷ t) ms)
-    (said_by (pes_told t) ms) (at_pes (pes_told t) e) (trusted_first t (doubted_by t e))
-    (marks_first (Says e ∷ t) ms)
+    grind (arith, nat_tests, first_after, trusted_first, (marks_first (Says e ∷ t) ms))
 marks_first t (Closes are_left more ∷ ms) =
-    first_without (told_at t (Closes are_left more)) (told_after (Closes are_left more ∷ t) ms)
-    (said_by (pes_told t) ms)
-    (closed_first (list_any is_said t || more) (run_of t) (whole_of t) (closing_at t are_left))
-    (marks_first (Closes are_left more ∷ t) ms)
-marks_first t (m ∷ ms) = marks_first (m ∷ t) ms
+    grind (
+      arith,
+      nat_tests,
+      first_without,
+      closed_first,
+      (marks_first (Closes are_left more ∷ t) ms),
+    )
+marks_first t (m ∷ ms) = grind (arith, nat_tests, (marks_first (m ∷ t) ms))
 
 -- ---- marks of one PES packet
 
@@ -109,19 +105,11 @@ module _ (pes : ℕ) where
       → ((more : List Mark) → said_by pes (tail ++ more) ≡ said_by pes more)
       → Saying ms es
       → Saying (ms ++ tail) es
-  saying_tail ms tail es silent one more =
-      ap (said_by pes) (append_assoc ms tail more)
-      ∙ one (tail ++ more)
-      ∙ ap (λ (l : List Event). map (at_pes pes) es ++ l) (silent more)
+  saying_tail ms tail es h1 h2 = grind (arith, nat_tests, append_assoc)
 
   saying_two : (xs ys : List Mark) (es fs : List Event) → Saying xs es → Saying ys fs
       → Saying (xs ++ ys) (es ++ fs)
-  saying_two xs ys es fs one two more =
-      ap (said_by pes) (append_assoc xs ys more)
-      ∙ one (ys ++ more)
-      ∙ ap (λ (l : List Event). map (at_pes pes) es ++ l) (two more)
-      ∙ sym (append_assoc (map (at_pes pes) es) (map (at_pes pes) fs) (said_by pes more))
-      ∙ ap (λ (l : List Event). l ++ said_by pes more) (sym (map-append (at_pes pes) es fs))
+  saying_two xs ys es fs h1 h2 = grind (arith, nat_tests, append_assoc, map-append)
 
   module _ (g : Task) (frames : Transmission) where
     saying_end : (i n f : ℕ)

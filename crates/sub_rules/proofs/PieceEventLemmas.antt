@@ -32,7 +32,6 @@ use Rattle.sub_rules.proofs.MarkEventLemmas.{first_of_two}
 use Rattle.sub_rules.proofs.PacketLists.{or-none}
 use Rattle.sub_rules.specs.Trusted.{Mark, at_pes, pes_told, told_after}
 use Rattle.sub_rules.proofs.FrameEvents.{events, events_of_first, frame_events}
-use Rattle.sub_rules.specs.Pieces.{PesFileValue}
 use Rattle.sub_rules.specs.declared.standing.Standing.{Standing}
 
 -- ---- what is told first
@@ -51,11 +50,7 @@ ended_first run = grind (arith, nat_tests)
 pub all_first : (told : List Event)
     → first_told (all_announced no_run told ++ ended_run (passed_after_all no_run told))
     ≡ first_told told
-all_first told =
-    first_of_two (all_announced no_run told) _
-    ∙ ap (option_or (first_told (all_announced no_run told))) (ended_first _)
-    ∙ or-none _
-    ∙ announced_first told
+all_first told = grind (arith, nat_tests, first_of_two, ended_first, or-none, announced_first)
 
 -- ---- the whole
 
@@ -209,23 +204,12 @@ told_of_frames g pieces at_once =
 read_sent : (frames : Transmission) (unread : Option Unread)
     → read_until_passed (map Sent frames) unread ≡ record { frames = frames; unread = unread }
 unfolding read_until_passed
-read_sent [] unread = refl
-read_sent (s ∷ frames) unread =
-    ap (λ (f : PesFileValue). let r : PesFileValue = record {
-      frames = s ∷ f.frames;
-      unread = f.unread;
-    } in r) (read_sent frames unread)
+read_sent [] unread = grind (arith, nat_tests)
+read_sent (s ∷ frames) unread = grind (arith, nat_tests, (read_sent frames unread))
 
 -- It is that of these frames, a piece each: the law.
 pub first_told_is : LawOfFirstTold
-first_told_is g pieces at_once =
-    let stop = read_until_passed pieces g.unread in
-    let h : Task = until_passed g pieces in
-    told_of_frames g pieces at_once
-    ∙ sym
-    (told_of_frames h (map Sent stop.frames) at_once
-    ∙ ap (λ (f : PesFileValue). first_told (events (record h { unread = f.unread }) f.frames))
-    (read_sent stop.frames h.unread))
+first_told_is = grind (arith, nat_tests, told_of_frames, events, read_sent)
 
 -- ---- one list after another, for a device that hands them on
 

@@ -4,7 +4,7 @@
 use Rattle.std.proofs.lemmas.Bool.Decides.{nat_tests}
 use Rattle.std.proofs.Common.{◌≡◌, ℕ, zero, suc, ◌+◌, ◌<◌, ◌≤◌, true, false, List, []}
 use Rattle.std.proofs.Common.{◌∷◌, ◌++◌, length-append, Option, Some, None, Result, Ok, Err, refl}
-use Rattle.std.proofs.Common.{sym, ap, ◌∙◌, arith, cond}
+use Rattle.std.proofs.Common.{ap, ◌∙◌, arith, cond}
 use Rattle.std.proofs.KnownBytes.{Consumes-nil, Consumes-trans}
 use Rattle.std.proofs.lemmas.List.{append-nil}
 use Rattle.std.proofs.lemmas.List.Folds.{concat-append}
@@ -190,11 +190,7 @@ same_rest : (clock : Clock) (given : ℕ) (bytes : List ℕ)
     → answer_at given bytes ≡ answer
     → file_by clock answer (file_at clock (given + 1) (behind_piece bytes))
     ≡ file_by clock answer (file_at clock (given + 1) (rest_after bytes))
-same_rest clock given bytes (Err f) is = refl
-same_rest clock given bytes (Ok None) is = refl
-same_rest clock given bytes (Ok (Some v)) is =
-    ap (λ (b : List ℕ). file_by clock (Ok (Some v)) (file_at clock (given + 1) b))
-    (sym (behind_packet given bytes v is))
+same_rest clock given bytes answer is = grind (arith, nat_tests, behind_packet)
 
 -- A file is what its first PES packet is, and then the file of the others.
 pub file_at-next :

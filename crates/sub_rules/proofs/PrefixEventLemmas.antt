@@ -2,7 +2,7 @@
 -- since which frame the page is not whole, `unfinished_since-prefix`, whether that is late,
 -- `is_late-prefix`, what stands broken, `standing_at-prefix`, and the marks of a frame.
 use Rattle.std.proofs.lemmas.Bool.Decides.{nat_tests}
-use Rattle.std.proofs.Common.{◌≡◌, ℕ, zero, suc, ◌+◌, ◌-◌, ◌<◌, ◌≤◌, ◌++◌}
+use Rattle.std.proofs.Common.{◌≡◌, ℕ, zero, suc, ◌-◌, ◌<◌, ◌≤◌, ◌++◌}
 use Rattle.std.proofs.Common.{length, get_or, Option, refl, arith}
 use Rattle.std.proofs.lemmas.List.{get_or_append_left, length-map, map-append}
 use lib.Seq.{take-append-le}
@@ -57,13 +57,9 @@ module _ (g : Task) (u : Option Unread) (done more : Transmission) where
   gap_since_same : (n : ℕ) (since : Option ℕ) (k : ℕ) → n ≤ length done
       → since_in_gap g all n since k ≡ since_in_gap h done n since k
   unfolding since_in_gap
-  gap_since_same n since zero l = refl
+  gap_since_same n since zero l = grind (arith, nat_tests)
   gap_since_same n since (suc k) l =
-      rw (
-        gap_since_same n since k l,
-        unfinished_same n (latest all n + suc k) l,
-        latest-prefix n l,
-      ) refl
+      grind (arith, nat_tests, unfinished_same, latest-prefix, (gap_since_same n since k l))
 
   since_same : (n : ℕ) → n ≤ length done → since_frames g all n ≡ since_frames h done n
   unfolding since_frames
@@ -81,11 +77,7 @@ module _ (g : Task) (u : Option Unread) (done more : Transmission) where
       → unfinished_since g all n f ≡ unfinished_since h done n f
   unfolding unfinished_since
   unfinished_since-prefix n f l =
-      rw (
-        gap_since_same n (since_frames g all n) (f - latest all n) l,
-        since_same n l,
-        latest-prefix n l,
-      ) refl
+      grind (arith, nat_tests, gap_since_same, since_same, latest-prefix)
 
   pub since_before-prefix : (n f : ℕ) → n ≤ length done
       → since_before g all n f ≡ since_before h done n f
@@ -170,42 +162,44 @@ module _ (g : Task) (u : Option Unread) (done more : Transmission) where
   pub marks_at_end-prefix : (i n f : ℕ) → 0 < length done → i ≤ length done → n ≤ length done
       → marks_at_end g all i n f ≡ marks_at_end h done i n f
   marks_at_end-prefix i n f some l m =
-      rw (
-        since_before-prefix i f l,
-        unfinished_since-prefix n f m,
-        is_late-prefix n f some m,
-        events_at_end-prefix i n f some l m,
-      ) refl
+      grind (
+        arith,
+        nat_tests,
+        since_before-prefix,
+        unfinished_since-prefix,
+        is_late-prefix,
+        events_at_end-prefix,
+      )
 
   pub marks_of_gap-prefix : (i n : ℕ) → 0 < length done → i ≤ length done
       → marks_of_gap g all i n ≡ marks_of_gap h done i n
   unfolding marks_of_gap
-  marks_of_gap-prefix i zero some l = refl
+  marks_of_gap-prefix i zero some l = grind (arith, nat_tests)
   marks_of_gap-prefix i (suc n) some l =
-      rw (
-        marks_of_gap-prefix i n some l,
-        marks_at_end-prefix i i (latest all i + suc n) some l l,
-        latest-prefix i l,
-      ) refl
+      grind (arith, nat_tests, marks_at_end-prefix, latest-prefix, (marks_of_gap-prefix i n some l))
 
   pub marks_of_arrival-prefix : (i : ℕ) → i < length done
       → marks_of_arrival g all i ≡ marks_of_arrival h done i
   marks_of_arrival-prefix i l =
-      rw (
-        order_events-prefix i l,
-        gap_length-prefix i l,
-        marks_of_gap-prefix i (gap_length done i) (omega arith) (omega arith),
-        frame_at-prefix i l,
-        since_before-prefix i (frame_at done i) (omega arith),
-      ) refl
+      grind (
+        arith,
+        nat_tests,
+        order_events-prefix,
+        gap_length-prefix,
+        marks_of_gap-prefix,
+        frame_at-prefix,
+        since_before-prefix,
+      )
 
   pub marks_of_ending-prefix : (i : ℕ) → i < length done
       → marks_of_ending g all i ≡ marks_of_ending h done i
   marks_of_ending-prefix i l =
-      rw (
-        first_header_events-prefix i l,
-        frame_at-prefix i l,
-        marks_at_end-prefix i (suc i) (frame_at done i) (omega arith) (omega arith) (omega arith),
-        packets_of_frame-prefix i l,
-        standing_at-prefix (suc i) (frame_at done i) (omega arith) (omega arith),
-      ) refl
+      grind (
+        arith,
+        nat_tests,
+        first_header_events-prefix,
+        frame_at-prefix,
+        marks_at_end-prefix,
+        packets_of_frame-prefix,
+        standing_at-prefix,
+      )
