@@ -2,19 +2,10 @@
 that is regular, and of others."""
 from __future__ import annotations
 
-import argparse
 from typing import NamedTuple, Sequence
 
 from developing.pes import pes_packet
-from subtitles.calls.batch import words_of
-from subtitles.calls.machine import asked_words
-from subtitles.calls.main import parser_of
-from subtitles.calls.objects import found, is_current
-from subtitles.calls.pairs import pairs_at
 from subtitles.core.times import CLOCK, TICKS
-from subtitles.core.words import Stop
-from subtitles.qc.asked import asked_of
-from subtitles.qc.made_with import Program
 from subtitles.reading.pace import (
     BY_EVERY, FEW, IRREGULAR, LEAST, PAUSED, REGULAR, TOO_FEW, Pace, Pauses, each_of, pace_of,
     pauses_of, rows_of)
@@ -22,7 +13,6 @@ from subtitles.reading.packets import Packets, Run
 from .bench import Case
 from .judged import Judged, Sent, in_pipe, joined, judged, programme, sendings
 from .muxed import TELETEXT_PID
-from .parts import asked_for
 from .test_holes import Sent as Packet
 from .test_holes import Shape, sent_of, without
 
@@ -203,10 +193,10 @@ def filled(sent: Sent) -> Sent:
     return [(pts, known.get(pts, [])) for pts in range(sent[0][0], sent[-1][0] + 1, TICKS)]
 
 
-def in_bursts(sent: Sent) -> Sent:
+def in_bursts(sent: Sent, times: Sequence[tuple[int, int]]) -> Sent:
     """Each frame of a second from each edge on alone."""
     return [(pts, some) for pts, some in sent if any(
-        edge * TICKS <= pts < (edge + 25) * TICKS for times in TIMES for edge in times)]
+        edge * TICKS <= pts < (edge + 25) * TICKS for both in times for edge in both)]
 
 
 def alone(made: list[Packet], first: int, count: int) -> list[Packet]:
@@ -227,6 +217,9 @@ class Holes(Case):
 
     def multiplexed(self, sent: Sent, rate: int = 100) -> list[Packet]:
         return sent_of([pes_packet(pts, some) for pts, some in sent], Shape(rate))
+
+    def in_bursts(self, times: Sequence[tuple[int, int]]) -> list[Packet]:
+        return self.multiplexed(in_bursts(sendings(self, programme(self, times), every=1), times))
 
     def judge(self, made: list[Packet], *words: str) -> Judged:
         """What is said of a multiplex."""
@@ -290,7 +283,7 @@ class Holes(Case):
     def test_irregular(self) -> None:
         """A second of them at each edge, then none: a hole of 16 is not seen, and that is said;
         one that the counter shows is 45."""
-        made = self.multiplexed(in_bursts(sendings(self, programme(self, TIMES), every=1)))
+        made = self.in_bursts(TIMES)
         first = 155
         for cut, count, word in (
                 (alone, 0, "accepted"), (alone, 1, "refused"), (alone, 15, "refused"),
@@ -307,6 +300,21 @@ class Holes(Case):
             self.must(words, told.word == "accepted" and IRREGULAR_NOTE not in told.told)
         self.is_told("given", self.judge(made, "--pace=100"), "refused", *(
             f"79 Silent frame 10:00:{10 * at + 4:02}:24" for at in range(6)))
+
+    def test_long_irregular(self) -> None:
+        """A hole of more page transmissions is told where they were due, whoever else lost some."""
+        made = self.in_bursts([(BEGIN + 250 * at, BEGIN + 250 * at + 200) for at in range(20)])
+        content = "72 Content frame 10:00:38:00 row 22 column 14"
+        for count, line in ((0, ""), (14, "45 Lost pes 155"), (32, content), (160, content),
+                            (320, content)):
+            for cut in (alone, without):
+                told = self.judge(cut(made, 155, count))
+                faults = [one for one in told.listed if one.startswith("refused")]
+                self.must(f"{cut.__name__} {count}", faults[:1] == [f"refused {line}"] * bool(line)
+                          and told.word == ("refused" if line else "accepted") and
+                          IRREGULAR_NOTE in told.told, told.listed)
+                self.must(f"{cut.__name__} {count}: gap", (count >= 160) == (
+                    "refused 73 Gap frame 10:00:40:04" in told.listed), told.listed)
 
     def test_by_repeats(self) -> None:
         """Where PES packets are as rare as repeats, --every tells each hole: nothing is said."""
@@ -342,53 +350,3 @@ class Holes(Case):
             self.is_told(f"{count}", told, "accepted")
             self.must(f"{count}: said", note in told.told and told.parts("pace") == [(None,)],
                       told.said)
-
-
-class Words(Case):
-    """Words of calls: of one pair, of a line of a list, of a batch that goes on."""
-
-    def setUp(self) -> None:
-        super().setUp()
-        for name in ("one.stl", "one.ts", "two.stl"):
-            self.write(name, b"")
-
-    def options(self, *words: str) -> argparse.Namespace:
-        return parser_of("").parse_args(words)
-
-    def test_words(self) -> None:
-        """What is taken, what `check` gets, and what is asked once more."""
-        for word, pace in (("none", None), ("1", 1), ("0025", 25), ("2160000", 2160000)):
-            asked = asked_for("one.stl", "one.ts", "--pace", word)
-            given = ["--pace", str(pace)] if pace else []
-            self.must(word, asked.check_words() == ["--complete", *given] and asked.pace == pace
-                      and asked_of(self.options(*words_of(asked))) == asked)
-            self.must(f"{word}: result", asked_words(asked)["pace"] == str(pace or "none"))
-        self.must("left out", asked_words(asked_for("one.stl", "one.ts"))["pace"] is None)
-        for word in ("0", "", "-1", "x", "None", "2160001", "9" * 5000, "1.5", "\u0661"):
-            with self.assertRaises(Stop, msg=word):
-                asked_for("one.stl", "one.ts", "--pace", word)
-
-    def test_lines(self) -> None:
-        """Of a list: the pace of the call, one of its own, none, and one that is wrong."""
-        line = f"{self.path('one.stl')} {self.path('one.ts')}"
-        items = pairs_at(self.write("list", f"{line}\n{line} --pace 9\n{line} --pace none\n"
-                                            f"{line} --pace 0\n".encode()),
-                         self.options("--batch", "list", "--pace", "7"))
-        self.must("lines", [item.asked and item.asked.pace for item in items] == [7, 9, None, None]
-                  and str(items[3].reason).endswith(
-                      "line 4: argument --pace: 0 is no pace: 1 to 2160000 frames"),
-                  items)
-
-    def test_goes_on(self) -> None:
-        """What was judged by another pace, or by one that was measured, is judged again."""
-        program = Program("1", "0" * 64, None)
-        asked = [asked_for(self.path("one.stl"), self.path("one.ts"), *words)
-                 for words in ((), ("--pace", "none"), ("--pace", "16"))]
-        for one in asked:
-            words = asked_words(one)
-            known = {"asked": words, "found": found(one),
-                     "program": {"sha256": program.sha256, "version": program.version}}
-            self.must(f"{one.pace}", [is_current(known, other, program) for other in asked] ==
-                      [other == one for other in asked])
-            del words["pace"]
-            self.must(f"{one.pace}: of an earlier tool", not is_current(known, one, program))
