@@ -26,7 +26,7 @@ use Rattle.sub_check.proofs.FilesLemmas.{accepted-loads, accepted-loads_by, acce
 use Rattle.sub_check.proofs.RuleToldLemmas.{first_of_rule}
 use Rattle.sub_check.proofs.FirstToldLemmas.{of_rule}
 use Rattle.sub_rules.specs.declared.event.Event.TheVariants.{Ended, PassedUntil, Told, Trusted}
-use Rattle.sub_rules.specs.Fault.{is_failure, is_pes_read, is_stl_read}
+use Rattle.sub_rules.specs.Fault.{is_failure}
 use Rattle.sub_checker.specs.declared.telling.Accepted.{Accepted}
 use Rattle.sub_rules.specs.declared.event.Event.{Event}
 use Rattle.sub_rules.specs.declared.fault.CheckFault.{CheckFault}
@@ -36,10 +36,10 @@ use Rattle.sub_listing.specs.DeviceCall.{Counts, SinkCall, SourceCall}
 use Rattle.sub_answer.specs.EveryFault.{AnswersAll, AreListed, PrintsMemoryLast, TellsBoth}
 use Rattle.sub_answer.specs.FaultListing.{all_listing, last_listing}
 use Rattle.sub_listing.specs.EventLines.{event_lines, most_counted, refusals, subtitle_events}
-use Rattle.sub_listing.specs.Faults.{kind_by, load_line}
+use Rattle.sub_listing.specs.Faults.{kind_by}
 use Rattle.sub_listing.specs.Listing.{Listing, PrintsOrFails, followed}
 use Rattle.sub_listing.specs.Printer.{PrinterValue, counted}
-use Rattle.sub_listing.specs.FaultLine.{line_of, status_of}
+use Rattle.sub_listing.specs.FaultLine.{status_of}
 use Rattle.sub_listing.specs.declared.status.Status.{Status}
 use Rattle.sub_listing.specs.declared.status.Status.TheVariants.{Done, Fault, Refused}
 use Rattle.sub_listing.proofs.PrintingLemmas.{printed-status}
@@ -116,10 +116,7 @@ answer-fails : (first : ℕ) (events : List Event) (answer : Result (Option Acce
     → IfErr answer (λ f. is_failure f ≡ true)
     → (all_listing first events answer).status ≡ Fault
     → failed is_failure answer ≡ true
-answer-fails first events (Ok None) ended is = cc
-answer-fails first events (Ok (Some a)) ended is =
-    absurd (never-fault (first_told events) (sym (read-status first events a) ∙ is))
-answer-fails first events (Err f) ended is = ended
+answer-fails first events answer ended is = grind (arith, nat_tests, never-fault, read-status)
 
 -- Want of memory is told last, after faults of the subtitle file.
 memory-last : (drawing : Drawing) (options : OptionsValue) (told pes old new : Option (List ℕ))
@@ -212,27 +209,8 @@ pub answers_cut :
     → new.failed ≡ true
     → AnswersAll drawing options stl pes first Untouched
     (sink old.contents old.count new.contents new.count) Fault
-answers_cut drawing options stl pes first Untouched old new given t failing = record {
-  events = t.events;
-  answer = t.answer;
-  number = t.number;
-  starts = t.starts;
-  printed =
-      printed-cut old.contents new.contents old.count new.count (event_lines t.number t.events)
-      (last_listing t.number (min (refusals t.events) most_counted) t.answer)
-      (t.prints.cut failing) (t.prints.cut_count failing);
-  sources = t.sources;
-  listed = t.listed;
-  unjudged = λ other. absurd (other refl);
-  checked = λ other. absurd (other refl);
-  ends = record {
-    done = λ none at_once file heard bytes known other. absurd (other refl);
-    done_within = λ none file heard bytes known other. absurd (other refl);
-    done_by = λ file heard bytes known other. absurd (other refl);
-    fault = λ is stl_same pes_same out_same.
-        let risen = t.prints.cut_count failing in absurd (omega (arith, risen, out_same));
-  };
-}
+answers_cut drawing options stl pes first Untouched old new given t failing =
+    grind (arith, nat_tests, printed-cut)
 
 -- All events were told, and the last line was printed or cut. For `print_every_fault`.
 pub answers_end :
@@ -344,11 +322,4 @@ pub counts : (drawing : Drawing) (options : OptionsValue) (stl pes : SourceCall)
     → AnswersAll drawing options stl pes first Untouched out status
     → Counts stl.old_count status stl.new_count × Counts pes.old_count status pes.new_count
 counts drawing options stl pes first Untouched out status a =
-    let own = printed-status out (all_listing a.number a.events a.answer) status a.printed in (
-      counted_by (failed is_stl_read a.answer) _ _ status a.sources.stl_count
-          (λ is other.
-          other (own other ∙ fault-status is_stl_read stl-fails a.number a.events a.answer is)),
-      counted_by (failed is_pes_read a.answer) _ _ status a.sources.pes_count
-          (λ is other.
-          other (own other ∙ fault-status is_pes_read pes-fails a.number a.events a.answer is)),
-    )
+    grind (arith, nat_tests, printed-status, counted_by, fault-status, stl-fails, pes-fails)

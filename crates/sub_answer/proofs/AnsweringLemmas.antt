@@ -1,7 +1,8 @@
 -- The answer of a check by the contract of `check_files`: as_answered; where the files are
 -- accepted, `done-exactly`.
+use Rattle.std.proofs.lemmas.Bool.Decides.{nat_tests}
 use Rattle.std.proofs.Common.{◌≡◌, ◌≢◌, ◌↔◌, ℕ, List, Some, Result, Ok, Err, true, false}
-use Rattle.std.proofs.Common.{ap, arith, refl, sym, subst, ◌∙◌, Bool}
+use Rattle.std.proofs.Common.{ap, arith, refl, sym, subst, Bool}
 use Rattle.std.proofs.lemmas.Bool.{true≢false}
 use Rattle.std.specs.Io.KnownBytes.{Appends}
 use Rattle.sub_io.specs.Device.{RisesIf, failed}
@@ -17,7 +18,6 @@ use Rattle.stl_rows.specs.Programme.{ProgrammeValue}
 use Rattle.sub_plan.specs.Options.{OptionsValue}
 use Rattle.sub_check.specs.CheckedFiles.{AreChecked, IsCheckedBy, IsCheckedWithin}
 use Rattle.sub_check.specs.CheckedFiles.{TellsSubtitles}
-use Rattle.sub_rules.specs.Events.{first_told}
 use Rattle.ttx_pes.specs.declared.fault.PesFault.TheVariants as pes_fault
 use Rattle.sub_answer.proofs.FailedReadLemmas.{no_events}
 use Rattle.sub_rules.specs.Fault.{is_failure, is_failure_kind, is_pes_read}
@@ -78,10 +78,7 @@ looked-at :
     → TellsSubtitles drawing file (Err f)
     → is_failure f ≡ false
     → (is_subtitle_fault f ≡ false) × (is_pes_read f ≡ false)
-looked-at drawing file programme (fault.Subtitles f) is told runs =
-    let fails = failure-of_programme drawing file programme f.block f.kind is told in
-    absurd (true≢false (sym fails ∙ runs))
-looked-at drawing file programme f is told runs = (refl, runs)
+looked-at drawing file programme f is told runs = grind (arith, nat_tests, failure-of_programme)
 
 -- The status is that of what is done exactly where the files are accepted.
 done-exactly :
@@ -164,25 +161,11 @@ as_answered
 -- options, and where each header has to erase the page. For `check_from`.
 pub no_piece_read : (programme : ProgrammeValue) (options : OptionsValue) (bytes : List ℕ)
     → IsCheckedBy programme options bytes (Err (fault.Pes 0 pes_fault.Read))
-no_piece_read programme options bytes = record {
-  accepted = λ own fine. absurd (true≢false fine);
-  serves = λ frames carries ok. absurd (true≢false (sym ok));
-  counts = λ frames carries. tt;
-  first = λ own fine. absurd (true≢false fine);
-  read = λ pes is.
-      let none : pes ≡ 0 = cc in
-      rw none (omega arith, ap first_told (no_events programme options bytes));
-  content = λ frame row column is. cc;
-  schedule = λ serial same some slow own fine. absurd (true≢false fine);
-}
+no_piece_read programme options bytes = grind (arith, nat_tests, no_events)
 
 pub no_piece_read_within : (programme : ProgrammeValue) (options : OptionsValue) (bytes : List ℕ)
     → IsCheckedWithin programme options bytes (Err (fault.Pes 0 pes_fault.Read))
-no_piece_read_within programme options bytes = record {
-  accepted = λ own fine. absurd (true≢false fine);
-  serves = λ frames carries ok. absurd (true≢false (sym ok));
-  content = λ frame row column is. cc;
-}
+no_piece_read_within programme options bytes = grind (arith, nat_tests)
 
 -- An answer that tells that a source failed has the status `Fault`.
 verdict-fault : (is_one : CheckFault → Bool)
@@ -202,7 +185,4 @@ pub source_counts : (is_one : CheckFault → Bool)
     → RisesIf old (failed is_one answer) new
     → Counts old status new
 source_counts is_one fails out status first old new answer printed counted =
-    counted_by (failed is_one answer) old new status counted
-    (λ is other.
-    other (printed-status out (verdict first answer) status printed other
-    ∙ verdict-fault is_one fails first answer is))
+    grind (arith, nat_tests, counted_by, printed-status, verdict-fault)

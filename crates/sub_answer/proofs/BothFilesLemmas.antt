@@ -1,6 +1,6 @@
 -- What the status of a check tells of both files, by the listing that goes with it. Main lemmas:
 -- status-told, exactly-accepted, exactly-accepted_within, exactly-accepted_by.
-use Rattle.std.proofs.Common.{◌≡◌, ◌≢◌, ◌↔◌, ◌∙◌, ap, arith, refl, sym, subst, ℕ, List, Bool, true}
+use Rattle.std.proofs.Common.{◌≡◌, ◌≢◌, ◌↔◌, ◌∙◌, ap, arith, refl, sym, ℕ, List, Bool, true}
 use Rattle.std.proofs.Common.{false, Result, Ok, Err}
 use Rattle.std.specs.Prelude.{IsFalse, IsOk}
 use Rattle.std.proofs.lemmas.Bool.{true≢false}
@@ -207,10 +207,5 @@ pub sources-untouched :
     → (Untouched → Other)
     → TellsSources AtBlock AtPes Untouched is stl pes answer
     → TellsSources AtBlock AtPes Other is stl pes answer
-sources-untouched AtBlock AtPes Untouched Other is stl pes answer other tells = record {
-  stl_count = tells.stl_count;
-  pes_count = tells.pes_count;
-  stl_read = tells.stl_read;
-  pes_read = tells.pes_read;
-  before = λ refused. other (tells.before refused);
-}
+sources-untouched AtBlock AtPes Untouched Other is stl pes answer other tells =
+    grind (arith, nat_tests)

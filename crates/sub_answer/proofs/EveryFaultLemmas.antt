@@ -1,12 +1,13 @@
 -- What a printer was told of a subtitle file, and of a PES file after it, and what is answered by
 -- it. Main lemmas: after_error, after_faults, after_unhanded, after_judged.
-use Rattle.std.proofs.Common.{◌≡◌, ◌∙◌, ap, refl, sym, subst, arith, inl, inr, ℕ, ◌+◌, ◌<◌, ◌≤◌}
+use Rattle.std.proofs.lemmas.Bool.Decides.{nat_tests}
+use Rattle.std.proofs.Common.{◌≡◌, ◌∙◌, ap, refl, sym, subst, arith, inl, inr, ℕ, ◌<◌, ◌≤◌}
 use Rattle.std.proofs.Common.{List, [], ◌∷◌, take, length, Bool, true, false, Option}
-use Rattle.std.proofs.Common.{Some, None, Result, Ok, Err, ◌-◌, ◌++◌}
+use Rattle.std.proofs.Common.{Some, None, Result, Ok, Err, ◌++◌}
 use Rattle.std.proofs.lemmas.Bool.{true≢false}
 use Rattle.std.specs.Prelude.{◌⊎◌, ◌||◌, not, is_err, IfErr}
 use Rattle.std.specs.List.{filter}
-use Rattle.sub_io.specs.Device.{RisesIf, failed}
+use Rattle.sub_io.specs.Device.{RisesIf}
 use Rattle.sub_io.specs.Reading.{IfTold}
 use Rattle.sub_io.specs.Telling.{Tells, TellsInTurn, TellsSome}
 use Rattle.ttx_pes.specs.declared.fault.PesFault.TheVariants as pes_fault
@@ -146,21 +147,7 @@ module _ {D : Type 0} (IsTold : D → LoadFault → D → Type 0) (value : D →
       → TellsBoth drawing options stl pes first Untouched (value old) (value new)
       (Err (fault.Subtitles (load_fault block kind)))
   after_error block kind quiet kinds some count memory read =
-      let Answers : LoadFaultKind → Type 0 =
-      λ k. TellsBoth drawing options stl pes first Untouched (value old) (value new)
-      (Err (fault.Subtitles (load_fault block k))) in
-      let Counts : LoadFaultKind → Type 0 =
-      λ k. RisesIf stl.old_count (is_load_read (load_fault block k)) stl.new_count in
-      elim kinds [
-        | inl e ↦
-            subst Answers (sym e)
-            (at_memory block quiet some (subst Counts e count)
-            (λ file told. memory file told e))
-        | inr e ↦
-            subst Answers (sym e)
-            (at_read block quiet some (subst Counts e count)
-            (read (ap (λ k. is_load_read (load_fault block k)) e)))
-      ]
+      grind (arith, nat_tests, at_memory, at_read)
 
   -- What was told of a list, where the sink failed or not.
   prints-faults : (items : List LoadFault) (stopped b : Bool)
@@ -263,13 +250,7 @@ pub stops_failed : (old new : PrinterValue) (events : List Event)
     → old.count < 0xFFFF_FFFF_FFFF_FFFF
     → (new.failed || not (can_fail new.count)) ≡ true
     → new.failed ≡ true
-stops_failed old new events prints room stopped = go new.failed refl
-  where
-    go : (b : Bool) → new.failed ≡ b → new.failed ≡ true
-    go true is = is
-    go false is =
-        absurd (true≢false (sym stopped
-        ∙ still_goes new.failed old.count new.count room is (prints.put_count is)))
+stops_failed old new events prints room stopped = grind (arith, nat_tests, still_goes)
 
 -- One that waits was told something. For `tell_every_fault`.
 pub some_told : {D : Type 0} (IsTold : D → LoadFault → D → Type 0) (waits : D → Bool)

@@ -1,12 +1,12 @@
 -- The source of the PES file failed: what is told then, and what is not. Main lemmas: tells_none,
 -- cut_reads, last_line.
+use Rattle.std.proofs.lemmas.Bool.Decides.{nat_tests}
 use Rattle.std.proofs.Common.{◌≡◌, refl, sym, subst, arith, ℕ, ◌<◌}
 use Rattle.std.proofs.Common.{List, [], Bool, true, Option}
 use Rattle.std.proofs.Common.{Result, Ok, Err}
 use Rattle.std.proofs.lemmas.Bool.{true≢false}
 use Rattle.std.specs.Prelude.{IfErr, IsOk, is_err, is_ok, not}
 use Rattle.sub_io.specs.Device.{RisesIf, failed}
-use Rattle.sub_io.specs.Telling.{Tells}
 use Rattle.ttx_pes.specs.declared.fault.PesFault.TheVariants as pes_fault
 use Rattle.stl_rows.specs.Judged.{JudgedValue}
 use Rattle.stl_rows.specs.Programme.{ProgrammeValue}
@@ -45,13 +45,7 @@ no_events_by judged options bytes = refl
 pub tells_none : {D : Type 0} (IsTold : D → Event → D → Type 0) (judged : JudgedValue)
     (options : OptionsValue) (bytes : List ℕ) (old : D)
     → TellsEvents judged options bytes IsTold old old (Err (fault.Pes 0 pes_fault.Read))
-tells_none IsTold judged options bytes old = (
-  0,
-  omega arith,
-  refl,
-  subst (Tells IsTold old old) (sym (no_events_by judged options bytes))
-      (record { in_turn = refl }),
-)
+tells_none IsTold judged options bytes old = grind (arith, nat_tests, no_events_by)
 
 -- An answer that is no success is a failure. For `hand_on_told`.
 pub not_is_err : {X E : Type 0} (r : Result X E) → not (is_ok r) ≡ is_err r

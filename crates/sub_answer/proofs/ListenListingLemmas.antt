@@ -1,6 +1,7 @@
 -- What is told of a fault of a run, and what is printed of one.
+use Rattle.std.proofs.lemmas.Bool.Decides.{nat_tests}
 use Rattle.std.specs.Prelude.{IfOk}
-use Rattle.std.proofs.Common.{◌≡◌, ◌∙◌, ℕ, ◌+◌, List, ap, arith, refl, subst, sym, Bool, Option}
+use Rattle.std.proofs.Common.{◌≡◌, ◌∙◌, ℕ, ◌+◌, List, arith, refl, subst, sym, Bool, Option}
 use Rattle.std.proofs.Common.{Result}
 use Rattle.ttx_packet.specs.PageId.{PageIdValue}
 use Rattle.ttx_page.specs.Screen.{Display}
@@ -40,19 +41,7 @@ pub listens_from : (leaves : ℕ → ℕ) (l : Listening) (first : ℕ) (frames 
 listens_from
     leaves l first frames unread told left w old end result page asks_complete asks tuned start
     is_old hears seen =
-    record {
-      old_page = page;
-      is_old = is_old;
-      end = end;
-      result = result;
-      hears =
-          subst (λ (d : Display). HearsFile leaves l frames unread told left l.options.page d end
-          result) start
-          (subst (λ (u : PageIdValue). HearsFile leaves l frames unread told left u old end result)
-          tuned hears);
-      listing_is = ap (λ b. listing_of first b end result) asks;
-      page_is = subst (λ (b : Bool). IfOk result (λ _. IsSeenWhole b end)) asks seen;
-    }
+    grind (arith, nat_tests)
 
 -- What is answered by what a receiver leaves in a cell whose byte has even parity. For `answer`.
 pub answers_as : (leaves left : ℕ → ℕ) (l : Listening) (pes : SourceCall) (first : FirstNumber)

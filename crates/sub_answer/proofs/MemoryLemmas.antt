@@ -1,6 +1,8 @@
 -- What the status of `check` tells of files in memory: law_of_files_in_memory.
-use Rattle.std.proofs.Common.{◌≡◌, ◌≢◌, ◌↔◌, ◌∙◌, ap, sym, subst, ℕ, true, false, List, [], ◌∷◌}
-use Rattle.std.proofs.Common.{◌++◌, Option, Some, None, inl, inr}
+use Rattle.std.proofs.lemmas.Bool.Decides.{nat_tests}
+use Rattle.std.proofs.Common.{arith}
+use Rattle.std.proofs.Common.{◌≡◌, ◌≢◌, ◌↔◌, ◌∙◌, ap, sym, subst, ℕ, true, false, List}
+use Rattle.std.proofs.Common.{◌++◌, Option, Some, None}
 use Rattle.std.specs.Prelude.{⊤}
 use Rattle.sub_io.specs.Memory.{Written}
 use Rattle.stl_rows.specs.Layout.{drawing_within}
@@ -8,7 +10,6 @@ use Rattle.sub_request.specs.declared.files.FileNames.TheVariants as names
 use Rattle.sub_request.specs.declared.request.Request.{Request}
 use Rattle.sub_request.specs.declared.request.Request.TheVariants as ask
 use Rattle.sub_files.specs.FileCalls.{CallsInTurn, FileCall}
-use Rattle.sub_files.specs.FileCalls.FileCall.{Create, LetGoInput, LetGoOutput, LookUp, Open}
 use Rattle.sub_files.specs.MemoryFiles.{IsMemoryCall, MemFilesValue, bytes_at}
 use Rattle.sub_files.specs.Opening.{Opens}
 use Rattle.sub_files.specs.declared.opening.Opened.{Opened}
@@ -41,51 +42,7 @@ both_opened :
     → CallsInTurn IsMemoryCall before after (calls ++ more)
     → Opens (names.ReadBoth stl pes) calls (Some opened)
     → BothOpened stl pes before opened
-both_opened stl pes before after [] more opened made opens = absurd opens
-both_opened stl pes before after (LookUp name found ∷ calls) more opened made opens = absurd opens
-both_opened stl pes before after (Create name file ∷ calls) more opened made opens = absurd opens
-both_opened stl pes before after (LetGoInput file ∷ calls) more opened made opens = absurd opens
-both_opened stl pes before after (LetGoOutput file ∷ calls) more opened made opens = absurd opens
-both_opened stl pes before after (Open name None ∷ []) more opened made opens =
-    absurd (let none = opens.1 in cc)
-both_opened stl pes before after (Open name None ∷ (call ∷ calls)) more opened made opens =
-    absurd opens
-both_opened stl pes before after (Open name (Some first) ∷ []) more opened made opens = absurd opens
-both_opened
-    stl pes before after (Open name (Some first) ∷ (LookUp other found ∷ calls)) more opened made
-    opens =
-    absurd opens
-both_opened
-    stl pes before after (Open name (Some first) ∷ (Create other file ∷ calls)) more opened made
-    opens =
-    absurd opens
-both_opened
-    stl pes before after (Open name (Some first) ∷ (LetGoInput file ∷ calls)) more opened made
-    opens =
-    absurd opens
-both_opened
-    stl pes before after (Open name (Some first) ∷ (LetGoOutput file ∷ calls)) more opened made
-    opens =
-    absurd opens
-both_opened
-    stl pes before after (Open name (Some first) ∷ (Open other file ∷ (call ∷ calls))) more opened
-    made opens =
-    absurd opens
-both_opened
-    stl pes before after (Open name (Some first) ∷ (Open other None ∷ [])) more opened made
-    (name_is, other_is, none) =
-    absurd cc
-both_opened
-    stl pes before after (Open name (Some first) ∷ (Open other (Some second) ∷ [])) more opened
-    (mid, (same, first_is), (last, (kept, second_is), end)) (name_is, other_is, opened_is) =
-    record {
-      first = first;
-      second = second;
-      opened_is = cc;
-      first_is = sym (first_is ∙ ap (λ n. bytes_at n before) name_is);
-      second_is =
-          sym (second_is ∙ ap (bytes_at other) same ∙ ap (λ n. bytes_at n before) other_is);
-    }
+both_opened stl pes before after calls more opened made opens = grind (arith, nat_tests)
 
 -- What is told of all of a file in memory, or of a part of it, in the calls of an answer.
 read_told : (part : Part) (file : List ℕ) (left : Option (List ℕ)) (input : InputCall)
@@ -100,10 +57,7 @@ same_status :
     → HandsOnHeldLines printed status new result
     → result ≢ Fault
     → result ≡ status
-same_status printed new status result h runs = elim h.ends [
-  | inl same ↦ same.0
-  | inr fails ↦ absurd (runs fails.0)
-]
+same_status printed new status result h runs = grind (arith, nat_tests)
 
 -- What is told of these bytes by a check that ended so.
 abbrev Tells : Request → List ℕ → List ℕ → Status → Type 0
@@ -160,12 +114,7 @@ over_both :
     left old new result
     → EndsOver told_of_memory (λ was is. is ≡ was) request
     (devices_of (part_asked request) (ReadBoth first second)) left old new result
-over_both request opened first second left old new result opened_is ends =
-    subst
-    (λ (o : Opened (List ℕ) Written).
-    EndsOver told_of_memory (λ was is. is ≡ was) request (devices_of (part_asked request) o) left
-    old new result)
-    opened_is ends
+over_both request opened first second left old new result opened_is ends = grind (arith, nat_tests)
 
 -- What is there once is the same.
 same_bytes :

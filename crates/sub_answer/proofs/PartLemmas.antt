@@ -1,6 +1,8 @@
 -- A source of a part of what another one gives, by how it was made. Main lemmas: all_of_source,
 -- range_of_source, stream_of_source, both_of_source.
-use Rattle.std.proofs.Common.{◌≡◌, ◌∙◌, ap, sym, subst, ℕ, List, Option, Some, None}
+use Rattle.std.proofs.lemmas.Bool.Decides.{nat_tests}
+use Rattle.std.proofs.Common.{arith}
+use Rattle.std.proofs.Common.{◌≡◌, ap, ℕ, List, Option, Some, None}
 use Rattle.std.specs.Prelude.{option_map}
 use Rattle.mpeg_ts.specs.Carried.{carried}
 use Rattle.mpeg_ts.specs.PacketSize.{bytes_of}
@@ -21,13 +23,7 @@ module _ {D : Type 0} (remaining : D → Option (List ℕ)) (failure_count : D �
       → input.call.new_count ≡ failure_count left
       → (p ≡ whole_file → ⊥)
       → IsPartOf p remaining failure_count old left input
-  given_part p told number old_count new_count other = record {
-    told = told;
-    number = number;
-    old_count = old_count;
-    new_count = new_count;
-    left_is = λ whole. absurd (other whole);
-  }
+  given_part p told number old_count new_count other = grind (arith, nat_tests)
 
   -- All that it gives.
   pub all_of_source : (p : Part)
@@ -35,12 +31,7 @@ module _ {D : Type 0} (remaining : D → Option (List ℕ)) (failure_count : D �
       → p.range ≡ None
       → input ≡ input_call remaining failure_count (λ s. Some 0) (λ s. 0) old left
       → IsPartOf p remaining failure_count old left input
-  all_of_source p stream range is =
-      let same : whole_file ≡ p =
-      ap (λ s. let q : Part = record { stream = s; range = None } in q) (sym stream)
-      ∙ ap (λ r. let q : Part = record { stream = p.stream; range = r } in q) (sym range) in
-      subst (λ (q : Part). IsPartOf q remaining failure_count old left input) same
-      (whole_source remaining failure_count old left input is)
+  all_of_source p stream range is = grind (arith, nat_tests, whole_source)
 
   -- A range of it.
   pub range_of_source : (p : Part) (r : PieceRangeValue)

@@ -320,16 +320,4 @@ pub with_first : (judged : JudgedValue) (options : OptionsValue) (pes : SourceCa
     (given : Result (Option Accepted) CheckFault)
     → TellsPes judged options pes first (record old { first = number }) new given
     → TellsPes judged options pes first old new given
-with_first judged options pes first old new number given t = record {
-  events = t.events;
-  answer = t.answer;
-  same = t.same;
-  number = t.number;
-  starts = t.starts;
-  prints = t.prints;
-  count = t.count;
-  read = t.read;
-  cut = t.cut;
-  checked = t.checked;
-  listed = t.listed;
-}
+with_first judged options pes first old new number given t = grind (arith, nat_tests)

@@ -1,9 +1,9 @@
 -- What was told of the subtitle file, and then of the PES file: by EveryFaultLemmas.
-use Rattle.std.proofs.Common.{◌≡◌, ◌∙◌, ap, refl, sym, subst, arith, ℕ, List, Option, false}
+use Rattle.std.proofs.Common.{◌≡◌, ◌∙◌, refl, sym, subst, arith, ℕ, List, Option, false}
 use Rattle.std.proofs.lemmas.Bool.{true≢false}
 use Rattle.std.specs.Prelude.{◌≤◌}
 use Rattle.stl_rows.specs.EveryFault.{faults}
-use Rattle.stl_rows.specs.Judged.{JudgedValue, JudgesBy}
+use Rattle.stl_rows.specs.Judged.{JudgesBy}
 use Rattle.stl_rows.specs.declared.fault.LoadFault.{LoadFault}
 use Rattle.sub_io.proofs.HandingOnLemmas.{when_ok}
 use Rattle.sub_io.specs.Telling.{Tells}
