@@ -265,6 +265,23 @@ class Kept(Case):
         self.must("sets", len(packets.sets) == 64 and packets.sets[-1] != packets.sets[0],
                   packets.sets)
 
+    def test_long_ago(self) -> None:
+        """What PES packets did before a time is forgotten, but the page that is held since; what
+        they did from then on stays, each once."""
+        own, lines = Lines(PID), []
+        for second in range(10):
+            lines.append(own.pes(SECOND * second, "heco"))
+            lines += [own.rows(f"text {second}")] * (second < 6)
+        for since, runs, changes in ((0, 0, range(6)), (3, 3, range(3, 6)), (5, 5, range(5, 6)),
+                                     (8, 8, range(5, 6)), (20, 9, range(5, 6))):
+            heard = heard_of(lines)
+            heard.kept_since = SECOND * since
+            for _ in range(2):
+                heard.prune()
+                packets = heard.packets
+                self.must(f"since {since}", packets.runs[0].first == runs and
+                          [one.number for one in packets.changes] == [*changes], packets)
+
     def test_all_is_there(self) -> None:
         """From a time on, and little more, though what is told is behind what came; what nobody
         asks for is gone."""
