@@ -1,6 +1,6 @@
 -- The parts of a text at a character: cut_at-first. For `first_text`.
-use Rattle.std.proofs.Common.{◌≡◌, ℕ, ◌+◌, ◌<◌, ◌≤◌, List, [], ◌∷◌, length, refl, ◌==◌, arith}
-use Rattle.std.proofs.Common.{Bool, true, false, Option, Some, None, option_map, nat_lt, subst, sym}
+use Rattle.std.proofs.Common.{◌≡◌, ℕ, ◌<◌, ◌≤◌, List, [], ◌∷◌, length, refl, ◌==◌, arith}
+use Rattle.std.proofs.Common.{Bool, Option, Some, None, option_map, nat_lt, subst, sym}
 use Rattle.std.proofs.lemmas.Bool.{ltb-false, ltb-true}
 use Rattle.std.proofs.lemmas.Bool.Decides.{nat_tests}
 use Rattle.std.proofs.lemmas.List.{length-drop}
@@ -29,17 +29,8 @@ are_first-by : (mark : ℕ) (text : List ℕ) (found : Bool)
     → nat_lt (position_or_len (λ c. c == mark) text) (length text) ≡ found
     → AreFirst mark text (cut_at mark text)
 unfolding cut_at
-are_first-by mark text true is =
-    let low = ltb-true (position_or_len (λ c. c == mark) text) (length text) is in
-    rw is (
-      slice_split_first (λ c. c == mark) text 0 low,
-      omega (arith, low, length-drop (position_or_len (λ c. c == mark) text + 1) text),
-    )
-are_first-by mark text false is =
-    rw is (
-      cut_at-none mark text (ltb-false (position_or_len (λ c. c == mark) text) (length text) is),
-      tt,
-    )
+are_first-by mark text found is =
+    grind (arith, nat_tests, ltb-true, slice_split_first, length-drop, cut_at-none, ltb-false)
 
 -- So of what `cut_at` gives.
 pub cut_at-first : (mark : ℕ) (text front : List ℕ) (behind : Option (Bor (List ℕ)))

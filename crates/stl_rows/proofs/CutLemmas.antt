@@ -1,6 +1,6 @@
 -- The cells of a text and the new lines between them are its lines: cut_flat. For `draw_by`.
 use Rattle.std.proofs.Common.{◌≡◌, ℕ, zero, suc, ◌+◌, List, [], ◌∷◌, ◌++◌, refl}
-use Rattle.std.proofs.Common.{ap, arith, Some, Err, false}
+use Rattle.std.proofs.Common.{arith, Some, Err, false}
 use Rattle.std.proofs.lemmas.Bool.Decides.{nat_tests}
 use Rattle.std.specs.List.{AllByRecursion}
 use Rattle.ttx_page.specs.Page.{Rows, blank}
@@ -10,7 +10,6 @@ use Rattle.stl_rows.specs.declared.laid_out.Place.{Place}
 use Rattle.stl_rows.specs.declared.layout.LayoutItems.{LayoutItems}
 use Rattle.stl_rows.specs.declared.national.National.{National}
 use Rattle.stl_rows.specs.declared.text_code.TextCode.{TextCode}
-use Rattle.stl_rows.specs.declared.text_code.TextCode.TheVariants.{Cell, NewLine, NoCell, Refused}
 use Rattle.stl_rows.specs.DrawnPage.{codes_by, drawn_by, first_depth, lines_by}
 use Rattle.stl_rows.specs.DrawnPage.{rows_off, unstripped}
 use Rattle.stl_rows.specs.LineByLayout.{cut_lines, drawn_from, flat_codes, prepared_cut}
@@ -27,11 +26,7 @@ cut-code : (at : ℕ) (code : TextCode) (codes : List (ℕ × TextCode))
     → HasSevenBits code
     → cut_lines (flat_codes codes) ≡ lines_of_codes codes
     → cut_lines (flat_codes ((at, code) ∷ codes)) ≡ with_code code (lines_of_codes codes)
-cut-code at (Cell cell) codes small is =
-    grind (arith, nat_tests)
-cut-code at NewLine codes small is = ap (λ lines. [] ∷ lines) is
-cut-code at NoCell codes small is = is
-cut-code at (Refused kind) codes small is = is
+cut-code at code codes small is = grind (arith, nat_tests)
 
 -- The lines of a text.
 pub cut_flat : (n : National) (at skip : ℕ) (bytes : List ℕ)

@@ -19,10 +19,10 @@ use Rattle.stl_rows.specs.DrawnPage.{unstripped}
 use Rattle.stl_rows.specs.Layout.{attribute_code, default_items, default_layout}
 use Rattle.stl_rows.specs.Layout.{drawing_by}
 use Rattle.stl_rows.specs.Line.{is_boxed, is_double, prepared, row_of, start_column}
-use Rattle.stl_rows.specs.PlainPage.{line_fault_kinds, line_faults, line_on, lines, page_of_lines}
-use Rattle.stl_rows.specs.PlainPage.{plainly_drawn, subtitle_faults, unless}
+use Rattle.stl_rows.specs.PlainPage.{line_fault_kinds, line_faults, line_on, page_of_lines}
+use Rattle.stl_rows.specs.PlainPage.{plainly_drawn, unless}
 use Rattle.stl_rows.specs.PreparedLine.{framed, headed, prepared_by, row_from, start_by}
-use Rattle.stl_rows.specs.TextCode.{fault_of, lines_of_codes, refused_codes, text_codes}
+use Rattle.stl_rows.specs.TextCode.{refused_codes}
 use Rattle.stl_rows.proofs.DrawnPageLemmas.{row_of-none}
 use Rattle.stl_rows.proofs.LaidOutLemmas.{none_above}
 
@@ -67,12 +67,14 @@ faults-default : (number row : ℕ) (under : Bool) (ls : List (List ℕ))
     → placed_faults default_items 0 (placed_from default_items number row under ls)
     ≡ line_faults number row under ls
 unfolding default_items
-faults-default number row under [] low = refl
+faults-default number row under [] low = grind (arith, nat_tests)
 faults-default number row under (l ∷ ls) low =
-    rw (faults-default (number + 1) (row + 1) (is_double l) ls (omega arith))
-    (ap (λ kinds. map (fault_of number) kinds
-    ++ line_faults (number + 1) (row + 1) (is_double l) ls)
-    (kinds-default number row under l low))
+    grind (
+      arith,
+      nat_tests,
+      kinds-default,
+      (faults-default (number + 1) (row + 1) (is_double l) ls (omega arith)),
+    )
 
 -- ---- the page
 
@@ -109,9 +111,9 @@ shown-default jc number first row under (l ∷ ls) =
       default-pack,
       default-double,
       row_of-none,
-      row-default jc l,
-      none_above default_items 0 row (number + 1) (first + 1) (is_double l) ls,
-      shown-default jc (number + 1) (first + 1) row (is_double l) ls,
+      row-default,
+      none_above,
+      (shown-default jc (number + 1) (first + 1) row (is_double l) ls),
     )
 
 -- The page.
@@ -167,15 +169,7 @@ drawn_by-default : (national : National) (t : SubtitleValue)
     → drawn_by national default_items t ≡ plainly_drawn national t
 unfolding drawn_by plainly_drawn drawn_of
 drawn_by-default national t low =
-    let cut : List ℕ → List (List ℕ) = λ text. lines_of_codes (text_codes national 0 text) in
-    ap (λ text. drawn_of national t.jc t.vp (text_codes national 0 text)
-    (map (prepared_by default_items) (cut text))) (none_stripped t.text)
-    ∙ ap (drawn_of national t.jc t.vp (text_codes national 0 t.text)) (lines-default (cut t.text))
-    ∙ ap (λ faults. unless (refused_codes (text_codes national 0 t.text) ++ faults)
-    (page_of_placed default_items t.jc (rows_off default_items (lines national t))
-    (placed_lines default_items t.vp (lines national t))))
-    (faults-all t.vp (lines national t) low)
-    ∙ ap (unless (subtitle_faults national t)) (page-all t.jc t.vp (lines national t))
+    grind (arith, nat_tests, drawn_of, none_stripped, lines-default, faults-all, page-all)
 
 -- Where a drawing has no items, and where it has some: for `first_fault` and `drawn_page`.
 pub drawn-none : (drawing : Drawing) (t : SubtitleValue)

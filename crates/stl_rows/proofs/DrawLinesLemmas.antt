@@ -1,6 +1,6 @@
 -- Lines that are drawn one by one: line-fault, line-next, line-end. For `draw_lines`.
-use Rattle.std.proofs.Common.{◌≡◌, ℕ, ◌+◌, ◌<◌, ◌≤◌, List, [], ◌∷◌, map, refl, ap, ◌∙◌, sym, arith}
-use Rattle.std.proofs.Common.{Option, Some, None, Ok, Err, lit<}
+use Rattle.std.proofs.Common.{◌≡◌, ℕ, ◌+◌, ◌≤◌, List, [], ◌∷◌, map, refl, ap, ◌∙◌, sym, arith}
+use Rattle.std.proofs.Common.{Option, Some, None, Ok, Err}
 use Rattle.std.proofs.lemmas.Bool.Decides.{nat_tests}
 use Rattle.std.specs.Borrow.{Bor}
 use Rattle.std.specs.Option.{option_map_or}
@@ -45,10 +45,7 @@ module _ (items : LayoutItems) (jc off : ℕ) (place : Place) (page : Rows)
 
   -- It holds codes alone.
   pub line-codes : HoldCodes (cut_lines rest) → AreCodes line
-  line-codes h column =
-      rw is
-      (holds_at (λ c. c < 128) (prepared_by items first) column 0 (lit< tt)
-      (prepared_small items first ((rw cut at h).0)))
+  line-codes h1 = grind (arith, nat_tests, holds_at, prepared_small)
 
   -- So do those behind it.
   pub behind-codes : HoldCodes (cut_lines rest) → HoldCodes (cut_behind behind)

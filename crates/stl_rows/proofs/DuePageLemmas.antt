@@ -2,7 +2,7 @@
 -- none_is_blank and next_edge-tci.
 use Rattle.std.proofs.Common.{rules, ◌≡◌, ◌≢◌, ℕ, zero, suc, ◌+◌, ◌-◌, ◌<◌, ◌≤◌, Bool, true, false}
 use Rattle.std.proofs.Common.{List, [], ◌∷◌, Option, Some, None, MatchOption, option_map, length}
-use Rattle.std.proofs.Common.{Result, Ok, Err}
+use Rattle.std.proofs.Common.{Ok}
 use Rattle.std.proofs.Common.{get_or, refl, sym, ap, ◌∙◌, arith, ◌⊎◌, inl, inr}
 use Rattle.std.proofs.lemmas.Bool.{cases_lt}
 use Rattle.std.proofs.lemmas.Bool.Decides.{nat_tests}
@@ -12,10 +12,8 @@ use Rattle.std.proofs.lemmas.List.Recursion.{found_at, found_nowhere}
 use Rattle.std.specs.List.{find}
 use Rattle.std.specs.List.Sorted.{IsNonDecreasingBy}
 use Rattle.std.specs.Prelude.{Contains}
-use Rattle.std.specs.Result.{result_unwrap_or}
 use Rattle.ttx_page.specs.Page.{Rows, blank}
 use Rattle.stl_file.specs.Subtitle.{SubtitleValue, IsSubtitle, empty_subtitle}
-use Rattle.stl_rows.specs.declared.fault.RowFault.{RowFault}
 use Rattle.stl_rows.specs.declared.layout.Drawing.{Drawing}
 use Rattle.stl_rows.specs.DrawnPage.{drawn}
 use Rattle.stl_rows.specs.DuePage.{IsEdge, IsLastEdge, IsNextEdge, LawOfBlankPages}
@@ -86,17 +84,7 @@ pub due_has : (P : Rows → Type 0) (n : Drawing) (ts : List SubtitleValue) (f :
     → ((t : SubtitleValue) (page : Rows) → drawn n t ≡ Ok page → P page)
     → P (due n ts f)
 unfolding due
-due_has P n ts f none some = of_found (find (is_due f) ts)
-  where
-    of_result : (t : SubtitleValue) (r : Result Rows RowFault)
-        → drawn n t ≡ r
-        → P (result_unwrap_or r blank)
-    of_result t (Ok page) is = some t page is
-    of_result t (Err fault) is = none
-
-    of_found : (found : Option SubtitleValue) → P (drawn_or_blank n found)
-    of_found None = none
-    of_found (Some t) = of_result t (drawn n t) refl
+due_has P n ts f none some = grind (arith, nat_tests)
 
 -- ---- the first subtitle after a frame
 

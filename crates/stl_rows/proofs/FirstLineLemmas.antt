@@ -1,8 +1,10 @@
 -- The first line of cells that are read one by one: first_line-more, first_line-end,
 -- first_line-all.
+use Rattle.std.proofs.lemmas.Bool.Decides.{nat_tests}
+use Rattle.std.proofs.Common.{arith}
 use Rattle.std.proofs.Common.{◌≡◌, ℕ, ◌+◌, ◌<◌, ◌≤◌, List, [], ◌∷◌, ◌++◌, length, get_or, take}
 use Rattle.std.proofs.Common.{drop}
-use Rattle.std.proofs.Common.{refl, sym, ap, ◌∙◌, true, false, ◌==◌, add-one, drop-cons}
+use Rattle.std.proofs.Common.{refl, true, false, ◌==◌, add-one, drop-cons}
 use Rattle.std.proofs.Math.Seq.{take-suc}
 use Rattle.std.proofs.lemmas.List.{drop_all, take_all}
 use Rattle.std.proofs.lemmas.List.Splits.{slice_split-cons_no, slice_split-cons_yes}
@@ -31,12 +33,7 @@ module _ (cells : List ℕ) (at : ℕ) where
       → AreOnto
       → cut_lines cells ≡ onto (take (at + 1) cells) (cut_lines (drop (at + 1) cells))
   first_line-more low other h =
-      h
-      ∙ ap (λ left. onto (take at cells) (cut_lines left)) (here low)
-      ∙ ap (onto (take at cells))
-      (slice_split-cons_no (λ c. c == new_line) (get_or cells at 0) (drop (at + 1) cells) other)
-      ∙ onto_code (take at cells) (get_or cells at 0) (cut_lines (drop (at + 1) cells))
-      ∙ ap (λ front. onto front (cut_lines (drop (at + 1) cells))) (sym (one_more low))
+      grind (arith, nat_tests, here, slice_split-cons_no, onto_code, one_more)
 
   -- A new line ends them.
   pub first_line-end : (more : List ℕ)
@@ -46,17 +43,8 @@ module _ (cells : List ℕ) (at : ℕ) where
       → more ≡ drop 1 (drop at cells)
       → cut_lines cells ≡ take at cells ∷ cut_lines more
   first_line-end more low own h is =
-      h
-      ∙ ap (λ left. onto (take at cells) (cut_lines left)) (here low)
-      ∙ ap (onto (take at cells))
-      (slice_split-cons_yes (λ c. c == new_line) (get_or cells at 0) (drop (at + 1) cells) own)
-      ∙ onto_line_end (take at cells) (cut_lines (drop (at + 1) cells))
-      ∙ ap (λ left. take at cells ∷ cut_lines left) (sym (is ∙ ap (drop 1) (here low)))
+      grind (arith, nat_tests, here, slice_split-cons_yes, onto_line_end)
 
   -- So does the end.
   pub first_line-all : length cells ≤ at → AreOnto → cut_lines cells ≡ cells ∷ []
-  first_line-all past h =
-      h
-      ∙ ap (λ left. onto (take at cells) (cut_lines left)) (drop_all at cells past)
-      ∙ onto_line_end (take at cells) []
-      ∙ ap (λ line. line ∷ []) (take_all at cells past)
+  first_line-all past h = grind (arith, nat_tests, drop_all, onto_line_end, take_all)

@@ -1,11 +1,9 @@
 -- What can be relied on in a file: judged_drawn; all of it, where nothing is told: all_decided. And
 -- at which frames it is not known what is due: undecided-last, undecided-next.
 use Rattle.std.proofs.Common.{◌≡◌, ℕ, Bool, false, true, List, [], ◌∷◌, ◌++◌, Option, Some, None}
-use Rattle.std.proofs.Common.{map, refl, ap, arith, inl, inr, Result, Ok, Err, zero, suc, ◌<◌, ◌≤◌}
+use Rattle.std.proofs.Common.{map, refl, ap, arith, Result, Ok, Err, zero, suc, ◌<◌, ◌≤◌}
 use Rattle.std.proofs.Common.{get_or, length}
-use Rattle.std.proofs.lemmas.Bool.{cases_Bool}
 use Rattle.std.proofs.lemmas.Bool.Decides.{nat_tests}
-use Rattle.std.proofs.lemmas.List.Elements.{All-cons, All-nil}
 use Rattle.std.specs.Prelude.{All, IsOk, is_none, nat_lt, ◌&&◌}
 use Rattle.ttx_page.specs.Page.{Rows}
 use Rattle.stl_file.specs.Reader.{findings_for}
@@ -22,7 +20,7 @@ use Rattle.stl_rows.specs.Judged.{LawOfKnown, is_followed_in_order, is_undecided
 use Rattle.stl_rows.specs.Judged.{with_bits}
 use Rattle.stl_rows.specs.Judged.{is_undecided_from, judged_before, judged_behind, judged_of}
 use Rattle.stl_rows.specs.Loading.{records_of}
-use Rattle.stl_rows.specs.Programme.{follow_faults, order_faults, row_faults, times_of}
+use Rattle.stl_rows.specs.Programme.{follow_faults, row_faults, times_of}
 use Rattle.stl_rows.specs.TextCode.{first_of}
 use Rattle.stl_rows.proofs.FaultlessLemmas.{empty_parts, map_empty}
 
@@ -41,25 +39,18 @@ each_drawn : (drawing : Drawing) (before : Option Times) (other : Bool) (left : 
     → All (λ (j : JudgedSubtitle). IsOk (drawn drawing j.subtitle))
     (judged_behind drawing before other left).judged
 unfolding judged_behind
-each_drawn drawing before other no_more =
-    All-nil (λ (j : JudgedSubtitle). IsOk (drawn drawing j.subtitle))
-each_drawn drawing before other (breaks f block) =
-    All-nil (λ (j : JudgedSubtitle). IsOk (drawn drawing j.subtitle))
-each_drawn drawing before other (refuses f block left) = each_drawn drawing before true left
+each_drawn drawing before other no_more = grind (arith, nat_tests)
+each_drawn drawing before other (breaks f block) = grind (arith, nat_tests)
+each_drawn drawing before other (refuses f block left) =
+    grind (arith, nat_tests, (each_drawn drawing before true left))
 each_drawn drawing before other (finds t block left) =
-    elim (cases_Bool (is_none (first_of (follow_faults drawing before t)))) [
-      | inr told ↦ rw told (each_drawn drawing (Some (times_of t)) true left)
-      | inl none ↦ elim (cases_Bool (is_followed_in_order (times_of t) left)) [
-        | inr early ↦ rw (none, early) (each_drawn drawing (Some (times_of t)) true left)
-        | inl followed ↦
-            rw (none, followed)
-            (All-cons (λ (j : JudgedSubtitle). IsOk (drawn drawing j.subtitle))
-            (record { subtitle = t; is_behind_other = other })
-            (judged_behind drawing (Some (times_of t)) false left).judged
-            (drawn_none (order_faults before (times_of t)) (drawn drawing t) none)
-            (each_drawn drawing (Some (times_of t)) false left))
-      ]
-    ]
+    grind (
+      arith,
+      nat_tests,
+      drawn_none,
+      (each_drawn drawing (Some (times_of t)) true left),
+      (each_drawn drawing (Some (times_of t)) false left),
+    )
 
 pub judged_drawn : LawOfJudged
 unfolding judged_of
@@ -92,14 +83,11 @@ followed : (drawing : Drawing) (t : SubtitleValue) (left : Findings)
     → faults_behind drawing (Some (times_of t)) left ≡ []
     → is_followed_in_order (times_of t) left ≡ true
 unfolding faults_behind
-followed drawing t no_more none = refl
-followed drawing t (breaks f block) none = absurd cc
-followed drawing t (refuses f block left) none = absurd cc
+followed drawing t no_more none = grind (arith, nat_tests)
+followed drawing t (breaks f block) none = grind (arith, nat_tests)
+followed drawing t (refuses f block left) none = grind (arith, nat_tests)
 followed drawing t (finds u block left) none =
-    let parts = empty_parts (map (load_fault block) (follow_faults drawing (Some (times_of t)) u)) _
-    none in
-    no_order (order_faults (Some (times_of t)) (times_of u)) (row_faults (drawn drawing u))
-    (map_empty (load_fault block) (follow_faults drawing (Some (times_of t)) u) parts.0)
+    grind (arith, nat_tests, empty_parts, no_order, map_empty)
 
 -- All subtitles can be relied on.
 all_behind : (drawing : Drawing) (before : Option Times) (left : Findings)

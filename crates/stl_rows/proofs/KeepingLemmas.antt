@@ -9,7 +9,7 @@ use Rattle.std.proofs.lemmas.List.{length-replicate}
 use Rattle.std.proofs.Math.Seq.{drop-cons, take-append_seam}
 use Rattle.std.proofs.lemmas.Bool.{cases_Bool}
 use Rattle.std.proofs.lemmas.Bool.Decides.{nat_tests}
-use Rattle.std.proofs.lemmas.List.Elements.{All-nil, All-push, All-take}
+use Rattle.std.proofs.lemmas.List.Elements.{All-push, All-take}
 use Rattle.std.specs.Prelude.{All, IsOk, is_some, option_map, ◌&&◌, not, nat_lt, is_none}
 use Rattle.std.specs.Prelude.{if◌then◌else◌}
 use Rattle.stl_file.specs.Reading.{Findings, finds, no_more, refuses}
@@ -19,7 +19,7 @@ use Rattle.stl_rows.specs.declared.fault.LoadFault.{LoadFault}
 use Rattle.stl_rows.specs.declared.fault.LoadFaultKind.{LoadFaultKind}
 use Rattle.stl_rows.specs.declared.layout.Drawing.{Drawing}
 use Rattle.stl_rows.specs.declared.times.Times.{Times}
-use Rattle.stl_rows.specs.Judged.{AllJudged, JudgedSubtitle, are_in_order, are_some}
+use Rattle.stl_rows.specs.Judged.{AllJudged, JudgedSubtitle, are_in_order}
 use Rattle.stl_rows.specs.Judged.{is_followed_in_order}
 use Rattle.stl_rows.specs.Judged.{judged_before, judged_behind, start_from, with_bits}
 use Rattle.stl_rows.specs.Keeping.{KeptRecords, all_kept, kept_after, nothing_kept, refused_one}
@@ -29,7 +29,7 @@ use Rattle.stl_rows.specs.Keeping.{broken_one, with_one, without_last}
 use Rattle.stl_rows.specs.Programme.{AreInOrder, IsProgramme, follow_faults, order_faults}
 use Rattle.stl_rows.specs.Programme.{row_faults, times_before, times_of}
 use Rattle.stl_rows.proofs.FaultlessLemmas.{empty_parts}
-use Rattle.stl_rows.proofs.ProgrammeLemmas.{IsProgramme-none, IsProgramme-push, draws, last_of-push}
+use Rattle.stl_rows.proofs.ProgrammeLemmas.{IsProgramme-push, draws, last_of-push}
 use Rattle.stl_rows.specs.DrawnPage.{drawn}
 use Rattle.stl_rows.specs.TextCode.{first_of}
 
@@ -199,10 +199,7 @@ joined js all = record { judged = js ++ all.judged; is_before_other = all.is_bef
 
 joined-more : (js : List JudgedSubtitle) (j : JudgedSubtitle) (all : AllJudged)
     → joined js (judged_before j all) ≡ joined (js ++ j ∷ []) all
-joined-more js j all =
-    ap (λ (l : List JudgedSubtitle).
-    record { judged = l; is_before_other = all.is_before_other })
-    (sym (append_assoc js (j ∷ []) all.judged))
+joined-more js j all = grind (arith, nat_tests, append_assoc)
 
 -- The record that is compared next with these times is in order with them.
 abbrev is_followed : Option Times → Findings → Bool
@@ -227,12 +224,7 @@ end_none : (latest other : Bool) (js : List JudgedSubtitle) (given : AllJudged)
     → (if latest && false then given
     else record { judged = js ++ []; is_before_other = other })
     ≡ record { judged = js; is_before_other = other }
-end_none false other js given =
-    ap (λ (l : List JudgedSubtitle). record { judged = l; is_before_other = other })
-    (append-nil js)
-end_none true other js given =
-    ap (λ (l : List JudgedSubtitle). record { judged = l; is_before_other = other })
-    (append-nil js)
+end_none latest other js given = grind (arith, nat_tests, append-nil)
 
 pub judged-end : (drawing : Drawing) (before : Option Times) (k : KeptRecords)
     → judged_on drawing before k no_more
@@ -288,10 +280,7 @@ clean_order (k ∷ ks) row none = absurd cc
 bits_kept : (k : KeptRecords) (t : SubtitleValue)
     → length k.behind_other ≤ length k.records
     → all_kept (with_one t k) ≡ all_kept k ++ with_bit t k.is_before_other ∷ []
-bits_kept k t fits = elim (cases_Bool k.is_before_other) [
-  | inl set ↦ rw set (with_bits-set k.records k.behind_other t)
-  | inr unset ↦ rw unset (with_bits-unset k.records k.behind_other t fits)
-]
+bits_kept k t fits = grind (arith, nat_tests, with_bits-set, with_bits-unset)
 
 drop_last : (js : List JudgedSubtitle) (j : JudgedSubtitle) (n : ℕ)
     → n ≡ length js
@@ -313,14 +302,8 @@ clean_step : (latest followed : Bool) (given behind other_behind : AllJudged)
     → (if latest && not true then given
     else joined js (if followed then judged_before j behind else other_behind))
     ≡ (if not followed then joined (take n then_kept) other_behind else joined then_kept behind)
-clean_step false true given behind other_behind js then_kept j n is size =
-    rw is (joined-more js j behind)
-clean_step true true given behind other_behind js then_kept j n is size =
-    rw is (joined-more js j behind)
-clean_step false false given behind other_behind js then_kept j n is size =
-    rw (is, drop_last js j n size) refl
-clean_step true false given behind other_behind js then_kept j n is size =
-    rw (is, drop_last js j n size) refl
+clean_step latest followed given behind other_behind js then_kept j n is size =
+    grind (arith, nat_tests, joined-more, drop_last)
 
 judged_clean : (drawing : Drawing) (before : Option Times) (k : KeptRecords) (t : SubtitleValue)
     (block : ℕ) (left : Findings)
@@ -329,16 +312,17 @@ judged_clean : (drawing : Drawing) (before : Option Times) (k : KeptRecords) (t 
     → judged_on drawing before k (finds t block left)
     ≡ judged_on drawing (Some (times_of t)) (with_one t k) left
 judged_clean drawing before k t block left fits none =
-    let order =
-    followed_is before t block left
-    ∙ clean_order (order_faults before (times_of t)) (row_faults (drawn drawing t)) none in
-    let size : length (k.records ++ t ∷ []) - 1 ≡ length (all_kept k) =
-    omega (arith, length-append k.records (t ∷ []), kept_length k.records k.behind_other) in
-    rw (order, finds_clean drawing before k.is_before_other t block left none)
-    (clean_step k.is_latest (is_followed_in_order (times_of t) left) _
-    (judged_behind drawing (Some (times_of t)) false left)
-    (judged_behind drawing (Some (times_of t)) true left) (all_kept k) (all_kept (with_one t k))
-    (with_bit t k.is_before_other) (length (k.records ++ t ∷ []) - 1) (bits_kept k t fits) size)
+    grind (
+      arith,
+      nat_tests,
+      followed_is,
+      clean_order,
+      length-append,
+      kept_length,
+      finds_clean,
+      clean_step,
+      bits_kept,
+    )
 
 judged_told : (drawing : Drawing) (before : Option Times) (k : KeptRecords) (t : SubtitleValue)
     (block : ℕ) (left : Findings) (in_order : Bool)
@@ -348,14 +332,7 @@ judged_told : (drawing : Drawing) (before : Option Times) (k : KeptRecords) (t :
     ≡ judged_on drawing (Some (times_of t))
     (if k.is_latest && not in_order then broken_one (without_last k) else broken_one k) left
 judged_told drawing before k t block left in_order some is =
-    rw (
-      followed_is before t block left ∙ sym is,
-      finds_told drawing before k.is_before_other t block left some,
-      finds_told drawing before true t block left some,
-    ) (elim (cases_Bool (k.is_latest && not in_order)) [
-      | inl early ↦ rw (early, with_bits-take (length k.records - 1) k.records k.behind_other) refl
-      | inr followed ↦ rw followed refl
-    ])
+    grind (arith, nat_tests, followed_is, finds_told, with_bits-take)
 
 -- One more of the file.
 pub judged-next : (drawing : Drawing) (before : Option Times) (k : KeptRecords)
@@ -384,13 +361,7 @@ pub record AreKept (drawing : Drawing) (before : Option Times) (early : List Loa
 
 -- Nothing was read yet.
 pub kept-none : (drawing : Drawing) → AreKept drawing None [] nothing_kept
-kept-none drawing = record {
-  each = All-nil IsSubtitle;
-  drawable = All-nil (λ t. IsOk (drawn drawing t));
-  fits = omega arith;
-  whole = refl;
-  programme = λ none. (refl, IsProgramme-none drawing);
-}
+kept-none drawing = grind (arith, nat_tests)
 
 -- Where something stands behind the last not all is kept.
 not_whole : (none : Bool) → (none && not true) ≡ false
@@ -411,13 +382,7 @@ pub kept-refused : {drawing : Drawing} {before : Option Times} {early : List Loa
     {k : KeptRecords} (fault : LoadFault)
     → AreKept drawing before early k
     → AreKept drawing before (early ++ fault ∷ []) (refused_one k)
-kept-refused {early = early} {k} fault kept = record {
-  each = kept.each;
-  drawable = kept.drawable;
-  fits = kept.fits;
-  whole = not_whole (are_none k.behind_other) ∙ sym (told_some early [] fault);
-  programme = λ none. absurd (not_empty early [] fault none);
-}
+kept-refused fault kept = grind (arith, nat_tests, not_whole, told_some, not_empty)
 
 -- Bits are there where one was set.
 some_bits : (bits more : List Bool) → are_none (bits ++ (more ++ true ∷ [])) ≡ false
@@ -445,32 +410,10 @@ module _ {drawing : Drawing} {before : Option Times} {early : List LoadFault} {k
     (t : SubtitleValue) (block : ℕ) (kept : AreKept drawing before early k) where
   fits_then : (other : Bool)
       → length (bits_after (length k.records) other k.behind_other) ≤ length (k.records ++ t ∷ [])
-  fits_then false = let fits = kept.fits in omega (arith, fits, length-append k.records (t ∷ []))
-  fits_then true =
-      let fits = kept.fits in
-      let bits = take (length k.records) k.behind_other in
-      let more : ℕ = length k.records - length k.behind_other in
-      omega (
-        arith,
-        fits,
-        length-append k.records (t ∷ []),
-        length-append bits (replicate more false ++ true ∷ []),
-        length-append (replicate more false) (true ∷ []),
-        length-replicate more false,
-        length-take (length k.records) k.behind_other,
-      )
+  fits_then other = grind (arith, nat_tests, length-append, length-replicate, length-take)
 
   whole_then : is_whole (with_one t k) ≡ is_none (first_of early)
-  whole_then = elim (cases_Bool k.is_before_other) [
-    | inl set ↦
-        let some = rw (set, not_whole (are_none k.behind_other)) at kept.whole in
-        rw (
-          set,
-          some_bits (take (length k.records) k.behind_other)
-              (replicate (length k.records - length k.behind_other) false),
-        ) some
-    | inr unset ↦ rw unset (rw unset at kept.whole)
-  ]
+  whole_then = grind (arith, nat_tests, not_whole, some_bits)
 
   -- It is kept.
   kept_clean : IsSubtitle t
@@ -564,19 +507,10 @@ pub enough-some : (k : KeptRecords)
     → is_whole k ≡ false
     → 0 < length k.records
     → is_enough k ≡ are_in_order (with_bits k.records [])
-enough-some k part some =
-    let size = kept_length k.records k.behind_other in
-    rw (part, any_some (all_kept k) (omega arith)) (in_order-bits k.records k.behind_other)
-  where
-    any_some : (js : List JudgedSubtitle) → 0 < length js → are_some js ≡ true
-    any_some [] some = absurd (omega arith)
-    any_some (j ∷ js) some = refl
+enough-some k part some = grind (arith, nat_tests, kept_length, in_order-bits)
 
 -- Whether there is none, as it is asked.
 pub none-asked : {A : Type 0} (x : Option A) (none : Bool)
     → is_some x ≡ not none
     → none ≡ is_none x
-none-asked None false h = absurd cc
-none-asked None true h = refl
-none-asked (Some x) false h = refl
-none-asked (Some x) true h = absurd cc
+none-asked x none h = grind (arith, nat_tests)

@@ -1,7 +1,7 @@
 -- Lines put on a page by a layout one after another give the page that shows them, or their first
 -- fault: drawn_from-is. And what is known of a page that is drawn so: drawn_by-lines.
 use Rattle.std.proofs.Common.{◌≡◌, ℕ, ◌+◌, ◌-◌, ◌<◌, ◌≤◌, Bool, true, false, List, [], ◌∷◌}
-use Rattle.std.proofs.Common.{◌++◌, length, map, get_or, refl, sym, ap, ◌∙◌, arith}
+use Rattle.std.proofs.Common.{length, map, get_or, refl, sym, ap, ◌∙◌, arith}
 use Rattle.std.proofs.Common.{None, Result, Ok, Err}
 use Rattle.std.proofs.lemmas.Bool.Decides.{nat_tests}
 use Rattle.std.proofs.lemmas.List.{ext_get_or, get_or-replicate, get_or-set_other, length-set}
@@ -16,14 +16,14 @@ use Rattle.stl_rows.specs.declared.fault.RowFaultKind.{RowFaultKind}
 use Rattle.stl_rows.specs.declared.laid_out.Place.{Place}
 use Rattle.stl_rows.specs.declared.layout.LayoutItems.{LayoutItems}
 use Rattle.stl_rows.specs.declared.national.National.{National}
-use Rattle.stl_rows.specs.DrawnPage.{PlacedLine, codes_by, drawn_by, is_on_row, lines_by}
+use Rattle.stl_rows.specs.DrawnPage.{PlacedLine, drawn_by, is_on_row, lines_by}
 use Rattle.stl_rows.specs.DrawnPage.{page_of_placed, pitch, placed_from, placed_fault_kinds}
 use Rattle.stl_rows.specs.DrawnPage.{placed_faults, placed_lines, rows_off, shown_row, takes_none}
 use Rattle.stl_rows.specs.Line.{has_cells, is_double}
 use Rattle.stl_rows.specs.LineByLayout.{drawn_from, fault_at, line_at, page_with, place_behind}
 use Rattle.stl_rows.specs.PlainPage.{unless}
 use Rattle.stl_rows.specs.PreparedLine.{row_from, start_by}
-use Rattle.stl_rows.specs.TextCode.{fault_of, first_of, refused_codes}
+use Rattle.stl_rows.specs.TextCode.{fault_of, first_of}
 use Rattle.stl_rows.proofs.FaultlessLemmas.{empty_parts, map_empty}
 
 -- ---- rows rise
@@ -60,12 +60,7 @@ rows_same : (f g : ℕ → List ℕ)
     → ((row : ℕ) → 1 ≤ row → row ≤ 24 → f row ≡ g row)
     → map f (range_with_len 1 24) ≡ map g (range_with_len 1 24)
 rows_same f g h =
-    ext_get_or [] (map f (range_with_len 1 24)) (map g (range_with_len 1 24))
-    (length-map-range_with_len f 1 24 ∙ sym (length-map-range_with_len g 1 24)) (λ k l.
-    let inside : k < 24 = omega (arith, l, length-map-range_with_len f 1 24) in
-    get_or-map-range_with_len f 1 24 k (k + 1) [] inside (omega arith)
-    ∙ h (k + 1) (omega arith) (omega arith)
-    ∙ sym (get_or-map-range_with_len g 1 24 k (k + 1) [] inside (omega arith)))
+    grind (arith, nat_tests, ext_get_or, length-map-range_with_len, get_or-map-range_with_len)
 
 -- A page has the rows that it has.
 page_again : (page : Rows) → length page ≡ 24 → page ≡ map (row_at page) (range_with_len 1 24)
@@ -99,14 +94,7 @@ row_step : (items : LayoutItems) (jc off : ℕ) (place : Place) (line : List ℕ
     ≡ row_over items jc off page (line_at place line ∷ rest) row
 unfolding page_with
 row_step items jc off place line page rest row long none above low high =
-    grind (
-      arith,
-      nat_tests,
-      on_page items off (line_at place line) none,
-      get_or-set_same page (place.depth - off - 1) (row_from (start_by items jc line) line) [],
-      get_or-set_other page (place.depth - off - 1) (row - 1)
-          (row_from (start_by items jc line) line) [],
-    )
+    grind (arith, nat_tests, on_page, get_or-set_same, get_or-set_other)
 
 -- ---- the loop
 
@@ -156,12 +144,9 @@ of_kinds : (items : LayoutItems) (jc off : ℕ) (place : Place) (line : List ℕ
     → option_map_or Err (first_of (map (fault_of place.number) kinds)) drawn
     ≡ drawn_over items jc off page (line_at place line ∷ rest)
 of_kinds items jc off place line page rest [] drawn long none is above =
-    is
-    ∙ ap (unless (placed_faults items off rest))
-    (rows_same _ _ (λ row low high.
-    row_step items jc off place line page rest row long none (above row) low high))
-    ∙ rw none refl
-of_kinds items jc off place line page rest (k ∷ ks) drawn long some is above = rw some refl
+    grind (arith, nat_tests, rows_same, row_step)
+of_kinds items jc off place line page rest (k ∷ ks) drawn long some is above =
+    grind (arith, nat_tests)
 
 -- One line, and those behind it.
 drawn_from-step : (items : LayoutItems) (jc off : ℕ) (place : Place) (page : Rows)
@@ -266,15 +251,7 @@ pub drawn_by-lines : (national : National) (items : LayoutItems) (t : SubtitleVa
     × (page ≡ page_of_placed items t.jc (off_of_subtitle national items t)
     (lines_of_subtitle national items t))
 unfolding drawn_by
-drawn_by-lines national items t page e =
-    let off = off_of_subtitle national items t in
-    let taken = lines_of_subtitle national items t in
-    let parts = nothing_wrong (refused_codes (codes_by national items t.text)
-    ++ placed_faults items off taken) (page_of_placed items t.jc off taken) page e in (
-      (empty_parts (refused_codes (codes_by national items t.text)) (placed_faults items off taken)
-          parts.0).1,
-      parts.1,
-    )
+drawn_by-lines national items t page e = grind (arith, nat_tests, taken, nothing_wrong, empty_parts)
 
 -- No line without a fault goes to row 24.
 pub none_below : (items : LayoutItems) (off : ℕ) (lines : List PlacedLine)

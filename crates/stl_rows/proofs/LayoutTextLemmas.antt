@@ -39,13 +39,7 @@ here text at low = rw (add-one, drop-cons text at 0) refl
 -- With the pair there.
 pair_at : (text : List ℕ) (at : ℕ) → at + 1 < length text
     → drop at text ≡ get_or text at 0 ∷ get_or text (at + 1) 0 ∷ drop (at + 2) text
-pair_at text at low =
-    here text at (omega (arith, low))
-    ∙ ap (λ rest. get_or text at 0 ∷ rest) (here text (at + 1) low)
-    ∙ ap (λ k. get_or text at 0 ∷ get_or text (at + 1) 0 ∷ drop k text) two
-  where
-    two : at + 1 + 1 ≡ at + 2
-    two = omega arith
+pair_at text at low = grind (arith, nat_tests, here)
 
 -- A digit that has no other.
 last_at : (text : List ℕ) (at : ℕ) → at + 1 ≡ length text → drop at text ≡ get_or text at 0 ∷ []

@@ -1,11 +1,10 @@
 -- A page has the letters of its text: law_of_letters.
 use Rattle.std.proofs.Common.{◌≡◌, ◌≢◌, ℕ, zero, suc, ◌+◌, ◌<◌, ◌≤◌, Bool, true, false, List, []}
-use Rattle.std.proofs.Common.{◌∷◌, ◌++◌, map, refl, sym, ap, ◌∙◌, arith, Option, Some}
+use Rattle.std.proofs.Common.{◌∷◌, ◌++◌, map, refl, sym, ap, ◌∙◌, arith, Option}
 use Rattle.std.proofs.Common.{None, Ok, inl, inr, ◌⊎◌}
 use Rattle.std.proofs.lemmas.Bool.{cases_lt}
 use Rattle.std.proofs.lemmas.Bool.Decides.{nat_tests}
 use Rattle.std.specs.List.{AllByRecursion, filter, find, onto_first, range_with_len}
-use Rattle.std.specs.Option.{option_map_or}
 use Rattle.std.specs.Prelude.{if◌then◌else◌}
 use Rattle.ttx_page.specs.Page.{Rows, blank_row}
 use Rattle.stl_file.specs.Subtitle.{SubtitleValue}
@@ -13,7 +12,7 @@ use Rattle.stl_rows.specs.declared.layout.LayoutItems.{LayoutItems}
 use Rattle.stl_rows.specs.declared.national.National.{National}
 use Rattle.stl_rows.specs.declared.sub_sets.NationalCharacter.{NationalCharacter}
 use Rattle.stl_rows.specs.declared.text_code.TextCode.{TextCode}
-use Rattle.stl_rows.specs.declared.text_code.TextCode.TheVariants.{Cell, NewLine, NoCell, Refused}
+use Rattle.stl_rows.specs.declared.text_code.TextCode.TheVariants.{Cell, NoCell}
 use Rattle.stl_rows.specs.DrawnPage.{PlacedLine, codes_by, drawn, drawn_by, first_depth, is_on_row}
 use Rattle.stl_rows.specs.DrawnPage.{lines_by}
 use Rattle.stl_rows.specs.DrawnPage.{page_of_placed, pitch, placed_from, placed_fault_kinds}
@@ -24,7 +23,7 @@ use Rattle.stl_rows.specs.Line.{has_cells, is_double}
 use Rattle.stl_rows.specs.PreparedLine.{prepared_by, row_from, start_by}
 use Rattle.stl_rows.specs.SubSets.{cell_in, has_bytes, sub_set}
 use Rattle.stl_rows.specs.TextCode.{cell_of, cell_of_pair, code_before, code_of_other, codes_after}
-use Rattle.stl_rows.specs.TextCode.{fault_of, first_of, is_common, lines_of_codes, with_code}
+use Rattle.stl_rows.specs.TextCode.{first_of, is_common, lines_of_codes, with_code}
 use Rattle.stl_rows.proofs.FaultlessLemmas.{empty_parts, map_empty}
 use Rattle.stl_rows.proofs.LaidOutLemmas.{drawn_by-lines, none_above}
 use Rattle.stl_rows.proofs.LaidOutLemmas.{off_of_subtitle, on_page}
@@ -82,10 +81,7 @@ rows-none items jc off row (suc count) =
 own_and_rest : (items : LayoutItems) (off : ℕ) (line : PlacedLine) (rest : List PlacedLine)
     → placed_faults items off (line ∷ rest) ≡ []
     → (placed_fault_kinds items off line ≡ []) × (placed_faults items off rest ≡ [])
-own_and_rest items off line rest none =
-    let parts = empty_parts (map (fault_of line.number) (placed_fault_kinds items off line))
-    (placed_faults items off rest) none in
-    (map_empty (fault_of line.number) (placed_fault_kinds items off line) parts.0, parts.1)
+own_and_rest items off line rest none = grind (arith, nat_tests, empty_parts, map_empty)
 
 printed-nothing : printed [] ≡ []
 unfolding printed
@@ -145,12 +141,8 @@ module _ (items : LayoutItems) (jc off : ℕ) where
       → has_cells place.cells ≡ b
       → HasNothing rest
       → HasNothing (place ∷ rest)
-  nothing-cells place rest true low some more sound =
-      let on = on_page items off place (own_and_rest items off place rest sound).0 some in
-      absurd (omega (arith, low, on.1))
-  nothing-cells place rest false low empty more sound =
-      printed_lines-empty place.cells (cells_of rest) empty
-      ∙ more (own_and_rest items off place rest sound).1
+  nothing-cells place rest b h1 h2 h3 =
+      grind (arith, nat_tests, on_page, own_and_rest, printed_lines-empty)
 
   nothing_below : (number depth : ℕ) (under : Bool) (lines : List (List ℕ))
       → off + 24 ≤ depth
@@ -191,30 +183,15 @@ module _ (items : LayoutItems) (jc off : ℕ) where
       → off + row ≡ place.depth
       → Show (row + 1) count rest
       → Show row (suc count) (place ∷ rest)
-  show-line place rest row count some here more sound =
-      let parts = own_and_rest items off place rest sound in
-      let own : shown_row items jc off (place ∷ rest) row
-      ≡ row_from (start_by items jc place.cells) place.cells = grind (arith, nat_tests) in
-      printed_lines-cons _ _ (printed place.cells)
-      (ap printed own ∙ printed-shown items jc off place parts.0)
-      ∙ ap (λ lines. filter has_cells (printed place.cells ∷ []) ++ lines)
-      (ap printed_lines (range_same _ _ (row + 1) count (λ at above.
-      others place rest at (inr (λ e. omega (arith, e, here, above)))))
-      ∙ more parts.1)
-      ∙ sym (printed_lines-cons place.cells (cells_of rest) (printed place.cells) refl)
+  show-line place rest row count h1 h2 h3 =
+      grind (arith, nat_tests, own_and_rest, printed_lines-cons, printed-shown, range_same, others)
 
   -- A row above all lines shows nothing.
   show-above : (lines : List PlacedLine) (row count : ℕ)
       → find (is_on_row off row) lines ≡ None
       → Show (row + 1) count lines
       → Show row (suc count) lines
-  show-above lines row count none more sound =
-      printed_lines-cons _ _ []
-      (ap (λ found. printed (option_map_or
-      (λ (line : PlacedLine). row_from (start_by items jc line.cells) line.cells) found
-      blank_row)) none
-      ∙ printed-blank)
-      ∙ more sound
+  show-above lines row count h1 h2 = grind (arith, nat_tests, printed_lines-cons, printed-blank)
 
   -- The rows from one on show the lines from a depth on, where none goes to a row before.
   rows_show : (lines : List (List ℕ)) (count number depth row : ℕ) (under : Bool)
@@ -335,10 +312,7 @@ letters-first code (line ∷ lines) = grind (arith, nat_tests)
 
 letters-code : (code : TextCode) (lines : List (List ℕ))
     → letters (with_code code lines) ≡ letter_of code ++ letters lines
-letters-code (Cell code) lines = letters-first code lines
-letters-code NoCell lines = refl
-letters-code NewLine lines = refl
-letters-code (Refused kind) lines = refl
+letters-code code lines = grind (arith, nat_tests, letters-first)
 
 -- Two text codes that give the same letter, and take as many bytes.
 abbrev AreAlike : TextCode × ℕ → TextCode × ℕ → Type 0
@@ -349,26 +323,14 @@ low_byte : (n : National) (byte : ℕ) (bytes : List ℕ)
     → (byte < 0x20) ⊎ (byte ≡ 0x80)
     → AreAlike (code_before n byte bytes) (NoCell, 0)
 unfolding cell_of cell_of_pair code_of_other is_common
-low_byte n byte bytes low =
-    grind (
-      arith,
-      nat_tests,
-      no_character (sub_set n).characters None byte (have_letters n),
-    )
+low_byte n byte bytes low = grind (arith, nat_tests, no_character, have_letters)
 
 -- What comes behind a byte that is not stripped gives no other pair with it.
 pair_kept : (items : LayoutItems) (n : National) (byte : ℕ) (bytes : List ℕ)
     → cell_of_pair n byte (first_of (unstripped items bytes))
     ≡ cell_of_pair n byte (first_of bytes)
 unfolding cell_of_pair
-pair_kept items n byte [] = refl
-pair_kept items n byte (next ∷ bytes) =
-    grind (
-      arith,
-      nat_tests,
-      no_character (sub_set n).characters (Some byte) next (have_letters n),
-      no_character (sub_set n).characters (Some byte) 0x80 (have_letters n),
-    )
+pair_kept items n byte bytes = grind (arith, nat_tests, no_character, have_letters)
 
 -- A text code has the same letter where bytes are stripped.
 code_kept-by : (items : LayoutItems) (n : National) (byte : ℕ) (bytes : List ℕ) (b : Bool)

@@ -1,6 +1,6 @@
 -- A line from its first cell that prints to its last is that of the prepared line, and of the row
 -- that shows it: printed-prepared, printed-row.
-use Rattle.std.proofs.Common.{◌≡◌, ℕ, zero, suc, ◌+◌, ◌-◌, ◌≤◌, Bool, true, false, List, []}
+use Rattle.std.proofs.Common.{◌≡◌, ℕ, zero, suc, ◌+◌, ◌-◌, ◌≤◌, Bool, true, List, []}
 use Rattle.std.proofs.Common.{◌∷◌, ◌++◌, length, take, drop, replicate, refl, sym, ap, ◌∙◌}
 use Rattle.std.proofs.Common.{arith, Option, Some, None, append-nil}
 use Rattle.std.proofs.lemmas.Bool.Decides.{nat_tests}
@@ -12,7 +12,7 @@ use Rattle.stl_rows.specs.declared.layout.LayoutItems.{LayoutItems}
 use Rattle.stl_rows.specs.Layout.{attribute_code, codes_of_places}
 use Rattle.stl_rows.specs.Letters.{before_left, from_first, letters, printed, printed_lines, prints}
 use Rattle.stl_rows.specs.Letters.{to_last}
-use Rattle.stl_rows.specs.PreparedLine.{ending, framed, headed, leading, leading_codes, prepared_by}
+use Rattle.stl_rows.specs.PreparedLine.{ending, framed, headed, leading, prepared_by}
 use Rattle.stl_rows.specs.PreparedLine.{row_from, trailing, trimmed, whitened}
 use Rattle.stl_rows.specs.PreparedLine.{without_leading_spaces}
 use Rattle.stl_rows.specs.TextCode.{is_within}
@@ -67,15 +67,8 @@ none-trailing-by : (first last c : ℕ) (cells : List ℕ) (all : Bool) → last
     → list_all (is_within first last) (c ∷ cells) ≡ all
     → NonePrints (drop (length cells - trailing first last cells) cells)
     → NonePrints (drop (length (c ∷ cells) - trailing first last (c ∷ cells)) (c ∷ cells))
-none-trailing-by first last c cells true low is rest =
-    none-drop _ (c ∷ cells) (none-all first last (c ∷ cells) low is)
-none-trailing-by first last c cells false low is rest =
-    rw (is, one_more)
-    rest
-  where
-    one_more : length (c ∷ cells) - trailing first last cells
-        ≡ suc (length cells - trailing first last cells)
-    one_more = omega (arith, trailing-few first last cells)
+none-trailing-by first last c cells all low is rest =
+    grind (arith, nat_tests, none-drop, none-all, trailing-few)
 
 none-trailing : (first last : ℕ) (cells : List ℕ) → last ≤ space
     → NonePrints (drop (length cells - trailing first last cells) cells)
@@ -153,36 +146,27 @@ printed-headed : (items : LayoutItems) (cells : List ℕ)
     → printed (headed items cells) ≡ printed cells
 unfolding headed
 printed-headed items cells =
-    let leads = none-leading 0 0x1F cells (omega arith) in
-    let q = take (leading_codes cells) cells in
-    printed-ahead (codes_of_places items.ahead ++ whitened items q ++ codes_of_places items.behind)
-    (drop (leading_codes cells) cells)
-    (none-append (codes_of_places items.ahead ++ whitened items q) (codes_of_places items.behind)
-    (none-append (codes_of_places items.ahead) (whitened items q) (none-codes items.ahead)
-    (none-whitened items q leads)) (none-codes items.behind))
-    ∙ printed-drop (leading_codes cells) cells leads
+    grind (
+      arith,
+      nat_tests,
+      none-leading,
+      printed-ahead,
+      none-append,
+      none-codes,
+      none-whitened,
+      printed-drop,
+    )
 
 printed-framed : (items : LayoutItems) (cells : List ℕ)
     → printed (framed items cells) ≡ printed cells
 unfolding framed
-printed-framed items [] = refl
-printed-framed items (c ∷ cells) =
-    printed-behind (headed items (c ∷ cells)) _
-    (none-ending items (length (headed items (c ∷ cells))))
-    ∙ printed-headed items (c ∷ cells)
+printed-framed items cells = grind (arith, nat_tests, printed-behind, none-ending, printed-headed)
 
 -- A prepared line has what its cells have.
 pub printed-prepared : (items : LayoutItems) (cells : List ℕ)
     → printed (prepared_by items cells) ≡ printed cells
 unfolding prepared_by
-printed-prepared items cells =
-    grind (
-      arith,
-      nat_tests,
-      printed-framed items cells,
-      printed-framed items (trimmed cells),
-      printed-trimmed cells,
-    )
+printed-prepared items cells = grind (arith, nat_tests, printed-framed, printed-trimmed)
 
 -- ---- rows
 
@@ -222,13 +206,7 @@ letters-line : (line own : List ℕ) (lines : List (List ℕ))
     → printed line ≡ own
     → letters (printed_lines lines) ≡ letters lines
     → letters (printed_lines (line ∷ lines)) ≡ letters (line ∷ lines)
-letters-line line [] lines is rest =
-    rw is (rest
-    ∙ ap (λ own. own ++ letters lines) (ap (filter prints) (sym is) ∙ letters-printed line))
-letters-line line (c ∷ own) lines is rest =
-    rw is (ap (λ first. first ++ letters (printed_lines lines))
-    (ap (filter prints) (sym is) ∙ letters-printed line)
-    ∙ ap (λ more. filter prints line ++ more) rest)
+letters-line line own lines is rest = grind (arith, nat_tests, letters-printed)
 
 pub letters-lines : (lines : List (List ℕ)) → letters (printed_lines lines) ≡ letters lines
 letters-lines [] = refl

@@ -151,12 +151,7 @@ pub record GoesOn (drawing : Drawing) (file : List ℕ) (left : Findings) (befor
 pub goes_on-start : (drawing : Drawing) (file : List ℕ)
     → GoesOn drawing file (findings_for drawing.scope file) None nothing_kept []
 unfolding faults judged_of
-goes_on-start drawing file = record {
-  same = refl;
-  judged = judged-start drawing (findings_for drawing.scope file);
-  whole = refl;
-  ends_after = λ rest at e. e;
-}
+goes_on-start drawing file = grind (arith, nat_tests, judged-start)
 
 module _ {drawing : Drawing} {file : List ℕ} {rest : Findings} {before : Option Times}
     {kept : KeptRecords} {early : List LoadFault} where
@@ -170,17 +165,7 @@ module _ {drawing : Drawing} {file : List ℕ} {rest : Findings} {before : Optio
       (early ++ map (load_fault block) (follow_faults drawing before t))
   unfolding faults_behind
   goes_on-next t block in_order clean are_kept is_order is_clean on =
-      let own : List LoadFault = map (load_fault block) (follow_faults drawing before t) in
-      record {
-        same = on.same ∙ sym (append_assoc early own _);
-        judged =
-            on.judged
-            ∙ judged-next drawing before kept t block rest in_order clean are_kept.fits is_order
-            is_clean;
-        whole = on.whole;
-        ends_after = λ more at e.
-            rw (append_assoc early own more) (on.ends_after (own ++ more) at (inr (more, refl, e)));
-      }
+      grind (arith, nat_tests, append_assoc, judged-next)
 
   -- One more that is refused.
   pub goes_on-refused : (fault : StlFault) (block : ℕ)
@@ -188,16 +173,7 @@ module _ {drawing : Drawing} {file : List ℕ} {rest : Findings} {before : Optio
       → GoesOn drawing file rest before (refused_one kept)
       (early ++ load_fault block (File fault) ∷ [])
   unfolding faults_behind
-  goes_on-refused fault block on =
-      let own : List LoadFault = load_fault block (File fault) ∷ [] in
-      record {
-        same = on.same ∙ sym (append_assoc early own _);
-        judged = on.judged ∙ judged-refused drawing before kept fault block rest;
-        whole = on.whole;
-        ends_after = λ more at e.
-            rw (append_assoc early own more)
-            (on.ends_after (load_fault block (File fault) ∷ more) at (more, refl, e));
-      }
+  goes_on-refused fault block on = grind (arith, nat_tests, append_assoc, judged-refused)
 
 -- ---- what was told in all
 
@@ -435,18 +411,18 @@ late : (drawing : Drawing) (before : Option Times) (block : ℕ) (left : Finding
     → FindsFrom block left
     → filter (is_told_before block) (faults_behind drawing before left) ≡ []
 unfolding faults_behind
-late drawing before block no_more names = refl
-late drawing before block (breaks f at) names = rw (late_fault block at f names) refl
+late drawing before block no_more names = grind (arith, nat_tests)
+late drawing before block (breaks f at) names = grind (arith, nat_tests, late_fault)
 late drawing before block (refuses f at left) names =
-    filter-append (is_told_before block) (load_fault at (File f) ∷ [])
-    (faults_behind drawing before left)
-    ∙ rw (late_kinds block at (File f ∷ []) names.0)
-    (rw (late drawing before block left names.1) refl)
+    grind (arith, nat_tests, filter-append, late_kinds, (late drawing before block left names.1))
 late drawing before block (finds t at left) names =
-    filter-append (is_told_before block) (map (load_fault at) (follow_faults drawing before t))
-    (faults_behind drawing (Some (times_of t)) left)
-    ∙ rw (late_kinds block at (follow_faults drawing before t) names.0)
-    (rw (late drawing (Some (times_of t)) block left names.1) refl)
+    grind (
+      arith,
+      nat_tests,
+      filter-append,
+      late_kinds,
+      (late drawing (Some (times_of t)) block left names.1),
+    )
 
 -- The faults that are found before this block.
 unread : {drawing : Drawing} {file : List ℕ} {left : Findings} {before : Option Times}

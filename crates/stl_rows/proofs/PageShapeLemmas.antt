@@ -18,7 +18,7 @@ use Rattle.stl_rows.specs.DrawnPage.{placed_from, shown_row, unstripped}
 use Rattle.stl_rows.specs.DuePage.{due}
 use Rattle.stl_rows.specs.Layout.{attribute_code, codes_of_places, items_of_layout}
 use Rattle.stl_rows.specs.Line.{is_double}
-use Rattle.stl_rows.specs.PreparedLine.{ending, framed, headed, leading_codes, prepared_by}
+use Rattle.stl_rows.specs.PreparedLine.{ending, framed, headed, prepared_by}
 use Rattle.stl_rows.specs.PreparedLine.{row_from, start_by}
 use Rattle.stl_rows.specs.PreparedLine.{trimmed, whitened}
 use Rattle.stl_rows.specs.TextCode.{HasSevenBits, code_before, codes_after, lines_of_codes}
@@ -89,13 +89,7 @@ ending_small items n = grind (arith, nat_tests, codes_small items.after, take_sm
 headed_small : (items : LayoutItems) (cells : List ℕ) → Small cells → Small (headed items cells)
 unfolding headed
 headed_small items cells h =
-    let q = take (leading_codes cells) cells in
-    append_small (codes_of_places items.ahead ++ whitened items q ++ codes_of_places items.behind)
-    (drop (leading_codes cells) cells)
-    (append_small (codes_of_places items.ahead ++ whitened items q) (codes_of_places items.behind)
-    (append_small (codes_of_places items.ahead) (whitened items q) (codes_small items.ahead)
-    (whitened_small items q (take_small _ cells h))) (codes_small items.behind))
-    (drop_small (leading_codes cells) cells h)
+    grind (arith, nat_tests, append_small, codes_small, whitened_small, take_small, drop_small)
 
 framed_small : (items : LayoutItems) (cells : List ℕ) → Small cells → Small (framed items cells)
 unfolding framed
@@ -112,13 +106,7 @@ trimmed_small cells h = take_small _ _ (drop_small _ cells h)
 pub prepared_small : (items : LayoutItems) (cells : List ℕ) → Small cells
     → Small (prepared_by items cells)
 unfolding prepared_by
-prepared_small items cells h =
-    grind (
-      arith,
-      nat_tests,
-      framed_small items cells h,
-      framed_small items (trimmed cells) (trimmed_small cells h),
-    )
+prepared_small items cells h = grind (arith, nat_tests, framed_small, trimmed_small)
 
 -- Prepared lines of codes hold codes alone.
 all_prepared : (items : LayoutItems) (ls : List (List ℕ))

@@ -49,13 +49,7 @@ pub trailing_at : (first last : ℕ) (cells : List ℕ) (left : ℕ)
     → is_within first last (get_or cells (left - 1) 0) ≡ false
     → list_all (is_within first last) (drop left cells) ≡ true
     → trailing first last cells ≡ length cells - left
-trailing_at first last cells zero some low not all = absurd (omega (arith, some))
-trailing_at first last cells (suc at) some low not all =
-    trailing_from first last cells at (omega (arith, low))
-    (ap (λ k. is_within first last (get_or cells k 0)) (one_less at) ∙ not) all
-  where
-    one_less : (at : ℕ) → at ≡ suc at - 1
-    one_less at = omega arith
+trailing_at first last cells left some low not all = grind (arith, nat_tests, trailing_from)
 
 -- What fits of two lines that are joined, where all of the first is kept.
 take_fitting : (xs ys : List ℕ)
