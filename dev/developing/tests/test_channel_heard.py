@@ -339,7 +339,9 @@ class Kept(Case):
         for second in range(5):
             spool.write(bytes(188), second * SECOND)
         self.must("why", "No such file" in (spool.failure(SECOND) or ""), spool.failures)
-        self.must("since then", spool.failure(9 * SECOND) is None and len(spool.failures) <= 3)
+        self.must("since then", spool.failure(9 * SECOND) is None and
+                  [then for then, _ in spool.failures] == [0, 3 * SECOND, 4 * SECOND],
+                  spool.failures)
         os.mkdir(self.path("nowhere"))
         spool.write(bytes(188), 9 * SECOND)
         self.must("again", len(spool.between(0, 10**12)) == 1)

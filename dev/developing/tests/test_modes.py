@@ -176,7 +176,7 @@ class Words(unittest.TestCase):
         for read, good, bad in (
                 (jobs_word, ("1", "9999"), ("0", "10000", "-1", "", "x", "\u00b2")),
                 (seconds_word, ("0", "99999"), ("100000", "-1", "", "1.5", "\u0663")),
-                (minutes_word, ("1", "1440"), ("0", "1441", "", "10000", "-1"))):
+                (minutes_word, ("1", "1440"), ("0", "1441", "", "10000", "00001", "-1"))):
             self.assertEqual([read(word) for word in good], list(map(int, good)))
             for word in bad:
                 self.assertRaises(argparse.ArgumentTypeError, read, word)
