@@ -7,7 +7,7 @@ import shutil
 import subprocess
 from typing import Iterable
 
-from subtitles.core.built import TOP, read
+from subtitles.core.built import TOP, behind_script, read
 from ..proved import Proved, digest_of, parsed, text_of
 from ..trial import ANOTHER_USER, Trial
 from .bench import SECONDS, Case, Done
@@ -203,6 +203,17 @@ class Clones(Case):
             clone.write("other", text)
             clone.put("dist", clone.path("other"))
             clone.does_not_run(name, "dist/subttx does not run here")
+
+    def test_program_that_is_given(self) -> None:
+        """The script of a repository stands for what it runs, any other file for itself."""
+        clone = Clone(self)
+        clone.write("other", "\x7fELF")
+        for name, path, program in (
+                ("the script", clone.path("subttx"), clone.path("dist", "subttx")),
+                ("a program beside it", clone.path("other"), clone.path("other")),
+                ("a script elsewhere", self.write("alone", b"#!/bin/sh\n"), self.path("alone"))):
+            found = behind_script(path)
+            self.must(name, os.path.realpath(found) == os.path.realpath(program), found)
 
     def test_takes_first_what_was_built_here(self) -> None:
         """out/ comes before dist/, as long as it is of the sources; what is left has no word."""
