@@ -153,6 +153,17 @@ class Searches(Case):
         self.must("counted", (found.found - found.drawn) == 1
                   and found.found == sum(is_found(one, ENGLISH) for one in sent), found)
 
+    def test_one_drawn_otherwise_hides_no_column(self) -> None:
+        """Whether it is the first or the last, lines of the others say where columns are."""
+        house, other = layout_of("left=3,text"), layout_of("left=3,text,after=0A")
+        assert house is not None and other is not None
+        sent, otherwise = (programme(random.Random(10), False, False, one)
+                           for one in (house, other))
+        for place in (0, len(sent) - 1):
+            mixed = [*sent[:place], otherwise[place], *sent[place + 1:]]
+            found = layout_of_sent(mixed, ENGLISH)
+            self.must(f"{place}", found == Choice(house, len(sent) - 1, len(sent)), found)
+
     def test_guesses_nothing(self) -> None:
         """Of another programme, of fewer than ten subtitles, of pages that are drawn in turns."""
         some = random.Random(9)
