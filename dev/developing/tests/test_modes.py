@@ -18,6 +18,7 @@ from subtitles.calls.channel.planned import Planned
 from subtitles.core.built import TOP
 from subtitles.core.words import Stop
 from subtitles.qc.asked import asked_of_line
+from subtitles.qc.typed import Typed
 from .bench import Case, alone
 from .test_channel_tables import defaults
 
@@ -150,6 +151,21 @@ class Modes(Case):
             self.must(" ".join(words), done.status == 2 and len(done.told) == 1
                       and words[2] in done.told[0] + words[2] and " goes with " in done.told[0],
                       done)
+
+    def test_names_as_typed(self) -> None:
+        """Of a tool and of the program beside it, in a repository and where they are installed."""
+        self.write("subttx-qc", b"#!/bin/sh\n")
+        os.chmod(self.path("subttx-qc"), 0o755)
+        program = self.bench.program
+        with mock.patch.dict(os.environ, {"PATH": self.folder}):
+            for called, tool, beside in (
+                    ("tools/qc", "tools/cut", "./subttx"), ("qc", "./cut", "../subttx"),
+                    ("/some/tools/qc", "/some/tools/cut", "/some/subttx"),
+                    ("/some/subttx-qc", "/some/subttx-cut", "/some/subttx"),
+                    (self.path("subttx-qc"), "subttx-cut", "subttx")):
+                typed = Typed(called, program)
+                self.must(called, (typed.tool("cut"), typed.beside()) == (tool, beside), (
+                    typed.tool("cut"), typed.beside()))
 
 
 class Words(unittest.TestCase):
