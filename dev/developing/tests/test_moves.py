@@ -10,7 +10,7 @@ from subtitles.qc.clock import RECORDING, Clock
 from subtitles.qc.fitting import Found
 from subtitles.qc.moved import Piece, moves_told, pieces_of
 from subtitles.reading.moving import Stage, joined, part_inside, stages_of
-from subtitles.reading.packets import Packets, Run
+from subtitles.reading.packets import Change, Mark, Packets, Run
 from subtitles.reading.survey import survey
 from .bench import Case, moved, packets
 from .judged import in_pipe, judged, programme
@@ -258,12 +258,22 @@ class Pieces(Case):
 
     def test_joined(self) -> None:
         """By numbers of their own, and back again."""
-        one = Packets(OLD, [Run(0, 10, 0, TICKS, "h", "")], marks=[])
-        other = Packets(NEW, [Run(0, 4, TICKS * 20, TICKS, "h", "")])
+        one, other = (
+            Packets(pid, [Run(0, length, TICKS * begin, TICKS, "h", "")],
+                    [(number, ((20, b"held"),)) for number in range(length)],
+                    [(number, ((21, b"stray"),)) for number in range(length)],
+                    [Change(0, b"changed", number) for number in range(length)],
+                    [Mark(number, None, 1, 0) for number in range(length)])
+            for pid, length, begin in ((OLD, 10, 0), (NEW, 4, 20)))
         stages = [Stage(one, (2, 7)), Stage(other, (1, 3))]
         whole = joined(stages)
         self.must("numbers", [(run.first, run.length, run.pts) for run in whole.runs] == [
             (0, 6, 2 * TICKS), (6, 3, 21 * TICKS)], whole.runs)
+        for name, found in (("held", [number for number, _ in whole.held]),
+                            ("strays", [number for number, _ in whole.strays]),
+                            ("changes", [change.number for change in whole.changes]),
+                            ("marks", [mark.number for mark in whole.marks])):
+            self.must(name, found == [*range(9)], found)
         for inside, wanted in ((None, [(2, 7), (1, 3)]), ((0, 8), [(2, 7), (1, 3)]),
                                ((3, 6), [(5, 7), (1, 1)]), ((0, 2), [(2, 4), (1, -3)])):
             made = [part_inside(stages, place, inside) for place in range(2)]
