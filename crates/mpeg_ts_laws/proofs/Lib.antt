@@ -1,9 +1,9 @@
+pub mod ArrivingLaw
 pub mod CarrierLemmas
 pub mod ExampleLemmas
 pub mod LeadsLemmas
 pub mod LossGoodLemmas
 pub mod LossLaw
-pub mod LossLemmas
 pub mod LossNoteLemmas
 pub mod LossPartLemmas
 pub mod MultiplexLemmas
@@ -15,5 +15,4 @@ pub mod PacePartLemmas
 pub mod PaceReadLemmas
 pub mod PartLemmas
 pub mod RecordingLemmas
-pub mod StartingLemmas
 pub mod WholeFileLemmas

@@ -1,29 +1,23 @@
--- The good packets of what is left of carriers, and what links them. Main lemma: good-left.
-use Rattle.std.proofs.Common.{◌≡◌, ℕ, ◌+◌, ◌%◌, ◌<◌, inl, inr, Bool, true, false, not, ◌||◌}
-use Rattle.std.proofs.Common.{◌==◌, List, [], ◌∷◌, Option, Some, None, refl, ap, arith}
-use Rattle.std.proofs.Common.{if◌then◌else◌, length, length-drop, length-take, ap₂}
-use Rattle.std.proofs.Common.{◌∙◌, drop, nat_lt, subst}
+-- The good packets of what is left of carriers, and what links them. Main lemmas: copy-again, break-left.
+use Rattle.std.proofs.Common.{◌≡◌, ℕ, ◌+◌, ◌%◌, ◌<◌, Bool, true, false, not, ◌||◌, ◌==◌, List, []}
+use Rattle.std.proofs.Common.{◌∷◌, Option, Some, None, arith, if◌then◌else◌, length, length-drop}
+use Rattle.std.proofs.Common.{length-take, drop, nat_lt}
 use Rattle.std.specs.Bool.{⊤}
-use Rattle.std.specs.List.{AllByRecursion, flat_map}
+use Rattle.std.specs.List.{AllByRecursion}
 use Rattle.std.specs.Option.{option_to_list}
-use Rattle.std.proofs.lemmas.Bool.{cases_Bool}
 use Rattle.std.proofs.lemmas.Bool.Decides.{nat_tests}
-use Rattle.std.proofs.lemmas.Grind.{flat_map-append}
 use Rattle.std.proofs.lemmas.List.{get_or-take}
 use Rattle.std.proofs.lemmas.Slice.Eq.{bytes_eq-Decides}
-use Rattle.mpeg_ts.specs.GoodPackets.{Follows, Break, First, GoodPacket, Link, Note, good_after}
-use Rattle.mpeg_ts.specs.GoodPackets.{counts_on, is_repeat, is_same, linked, with_good}
+use Rattle.mpeg_ts.specs.GoodPackets.{Follows, Break, First, GoodPacket, Link, counts_on, is_repeat}
+use Rattle.mpeg_ts.specs.GoodPackets.{is_same, linked}
 use Rattle.mpeg_ts.specs.Parts.{is_break, is_unlinked}
 use Rattle.mpeg_ts.specs.PacketsInStep.{lead_size}
 use Rattle.mpeg_ts.specs.TransportPacket.{announces_jump, begins, counter, payload}
-use Rattle.mpeg_ts_laws.specs.Losses.{Fated, any_wrong, are_few_gone, is_as_sent, is_there}
-use Rattle.mpeg_ts_laws.specs.Losses.{sent_packet, units_before, units_behind}
+use Rattle.mpeg_ts_laws.specs.Losses.{Fated, are_few_gone, is_there, sent_packet}
 use Rattle.mpeg_ts_laws.specs.Multiplex.{Carrier, IsRecordedUnit, IsRepetition, announces, carries}
-use Rattle.mpeg_ts_laws.specs.Multiplex.{items_of_carrier, packet_in}
+use Rattle.mpeg_ts_laws.specs.Multiplex.{packet_in}
 use Rattle.mpeg_ts_laws.proofs.CarrierLemmas.{counter-same}
-use Rattle.mpeg_ts_laws.proofs.LossNoteLemmas.{IsLeft, IsLeftCarrier, copy_of, good-gone}
-use Rattle.mpeg_ts_laws.proofs.LossNoteLemmas.{good-there, heard_again, heard_left, heard_packet}
-use Rattle.mpeg_ts_laws.proofs.LossNoteLemmas.{since_loss}
+use Rattle.mpeg_ts_laws.proofs.LossNoteLemmas.{IsLeft, IsLeftCarrier, copy_of, since_loss}
 
 -- ---- copies
 
@@ -102,7 +96,7 @@ IsCounter None i = ⊤
 IsCounter (Some g) i = counter g ≡ i % 16
 
 -- A packet of a later carrier is no repeat.
-fresh-later : (good : Option (List ℕ)) (again wrong : Bool) (h : List ℕ) (i n : ℕ)
+pub fresh-later : (good : Option (List ℕ)) (again wrong : Bool) (h : List ℕ) (i n : ℕ)
     → IsCounter good i
     → counter h ≡ (i + 1 + n) % 16
     → n < 15
@@ -163,60 +157,11 @@ module _ (distance number : ℕ) where
   copy-again p again h1 h2 h3 =
       grind (arith, nat_tests, counter-same, begins-same, payload-same, carried-no_jump)
 
-  -- What is heard of a carrier is a copy of its packet.
-  pub heard-copy : (first : Bool) (c : Carrier Fated)
-      → IsLeftCarrier distance number first c
-      → IsCopy (sent_packet distance c.packet) (heard_packet distance number c)
-  heard-copy first c h = elim (cases_Bool (is_as_sent c.packet.fate)) [
-    | inl kept ↦
-        rw kept (record { counter = refl; begins = refl; payload = refl; no_jump = none })
-    | inr lost ↦ rw lost (copy-again p c.again none h.again h.is_carrier.again)
-  ]
-    where
-      p : List ℕ
-      p = sent_packet distance c.packet
-
-      none : announces_jump p ≡ false
-      none = carried-no_jump number p h.is_carrier.carries h.packet.no_jump
-
   -- The payload of a carrier has a byte.
   pub carrier-payload : (first : Bool) (c : Carrier Fated)
       → IsLeftCarrier distance number first c
       → 0 < length (payload (sent_packet distance c.packet))
   carrier-payload first c h1 = grind (arith, nat_tests, payload-long, length-packet)
-
-  -- The good packets of carriers, behind a good packet.
-  abbrev pub left_goods : Option (List ℕ) → Bool → List (Carrier Fated) → List GoodPacket
-  left_goods good wrong [] = []
-  left_goods good wrong (c ∷ more) =
-      if is_there c then
-      good_left good (wrong || any_wrong (units_before c)) (heard_packet distance number c)
-      ∷ left_goods (Some (heard_packet distance number c)) (any_wrong (units_behind c)) more
-      else left_goods good (wrong || any_wrong (items_of_carrier c)) more
-
-  -- Those of a carrier that is there, and of those behind it.
-  pub left_goods-there : (good : Option (List ℕ)) (wrong : Bool) (c : Carrier Fated)
-      (more : List (Carrier Fated))
-      → is_there c ≡ true
-      → left_goods good wrong (c ∷ more)
-      ≡ good_left good (wrong || any_wrong (units_before c)) (heard_packet distance number c)
-      ∷ left_goods (Some (heard_packet distance number c)) (any_wrong (units_behind c)) more
-  left_goods-there good wrong c more there = rw there
-
-  -- Those of a carrier that is gone are those behind it.
-  pub left_goods-gone : (good : Option (List ℕ)) (wrong : Bool) (c : Carrier Fated)
-      (more : List (Carrier Fated))
-      → is_there c ≡ false
-      → left_goods good wrong (c ∷ more)
-      ≡ left_goods good (wrong || any_wrong (items_of_carrier c)) more
-  left_goods-gone good wrong c more gone = rw gone
-
-  -- A unit was made wrong behind the last of them.
-  abbrev pub wrong_at_end : Bool → List (Carrier Fated) → Bool
-  wrong_at_end wrong [] = wrong
-  wrong_at_end wrong (c ∷ more) =
-      if is_there c then wrong_at_end (any_wrong (units_behind c)) more
-      else wrong_at_end (wrong || any_wrong (items_of_carrier c)) more
 
   -- The counters of carriers rise, from a number on.
   abbrev pub AreRising : ℕ → List (Carrier Fated) → Type 0
@@ -227,57 +172,3 @@ module _ (distance number : ℕ) where
   -- A carrier, and whether a PES packet begins with it.
   abbrev pub IsSomeLeft : Carrier Fated → Type 0
   IsSomeLeft c = (first : Bool) × IsLeftCarrier distance number first c
-
-  -- They are those that are found.
-  pub good-left : (good : Option (List ℕ)) (again wrong : Bool) (i n : ℕ)
-      (cs : List (Carrier Fated))
-      → IsCounter good i
-      → n < 15
-      → AllByRecursion IsSomeLeft cs
-      → AreRising (i + 1 + n) cs
-      → are_few_gone n cs ≡ true
-      → good_after (since_loss good again wrong)
-      (flat_map (heard_left distance number) (flat_map items_of_carrier cs))
-      ≡ record { packets = left_goods good wrong cs; wrong_behind = wrong_at_end wrong cs }
-  unfolding good_after
-  good-left good again wrong i n [] number_is small each rising few = refl
-  good-left good again wrong i n (c ∷ cs) number_is small each rising few =
-      ap (good_after (since_loss good again wrong))
-      (flat_map-append (heard_left distance number) (items_of_carrier c)
-      (flat_map items_of_carrier cs))
-      ∙ (elim (cases_Bool (is_there c)) [
-        | inl there ↦
-            good-there distance number good again wrong first c rest is there
-            (λ w. fresh-later good again w h i n number_is second small)
-            ∙ ap₂ with_good
-            (linked-left good again (wrong || any_wrong (units_before c)) h copy.no_jump)
-            (good-left (Some h) (heard_again distance number c) (any_wrong (units_behind c))
-            (i + 1 + n) 0 cs second (omega arith) each.1
-            (subst (λ (j : ℕ). AreRising j cs) (omega arith) rising.1) (few-there n c cs there few))
-            ∙ rw there
-        | inr gone ↦
-            good-gone distance number good again wrong first c rest is gone
-            ∙ good-left good again (wrong || any_wrong (items_of_carrier c)) i (n + 1) cs number_is
-            (few-gone n c cs gone few).0 each.1
-            (subst (λ (j : ℕ). AreRising j cs) (omega arith) rising.1)
-            (few-gone n c cs gone few).1
-            ∙ rw gone
-      ])
-    where
-      first : Bool
-      first = each.0.0
-
-      is : IsLeftCarrier distance number first c
-      is = each.0.1
-
-      h : List ℕ
-      h = heard_packet distance number c
-
-      copy : IsCopy (sent_packet distance c.packet) h
-      copy = heard-copy first c is
-
-      second : counter h ≡ (i + 1 + n) % 16
-      second = copy.counter ∙ rising.0
-
-      rest : List Note
-      rest = flat_map (heard_left distance number) (flat_map items_of_carrier cs)

@@ -8,20 +8,17 @@ use Rattle.std.proofs.lemmas.Grind.{flat_map-append}
 use Rattle.std.proofs.lemmas.List.Folds.{concat-append}
 use Rattle.mpeg_ts.specs.Carried.{carried, with_marks}
 use Rattle.mpeg_ts.specs.GoodPackets.{GoodPackets, Note, good_after, nothing_since}
-use Rattle.mpeg_ts.specs.Parts.{outcomes, outcomes_of, parts}
-use Rattle.mpeg_ts.specs.TransportPacket.{counter}
-use Rattle.mpeg_ts_laws.specs.Laws.{LawOfLosses}
-use Rattle.mpeg_ts_laws.specs.Losses.{AreLosses, Fate, Fated, IsFate, IsSpoiled}
-use Rattle.mpeg_ts_laws.specs.Losses.{any_wrong, left_of, sent_packet, units_left}
+use Rattle.mpeg_ts.specs.Parts.{outcomes_of}
+use Rattle.mpeg_ts.specs.TransportPacket.{counter, payload}
+use Rattle.mpeg_ts_laws.specs.Losses.{AreLosses, Fate, Fated, IsFate, IsSpoiled, any_wrong, left_of}
+use Rattle.mpeg_ts_laws.specs.Losses.{sent_packet, units_left}
 use Rattle.mpeg_ts_laws.specs.Multiplex.{AreInSequence, AreNextCarriers, AreRecordedUnits, Carrier}
 use Rattle.mpeg_ts_laws.specs.Multiplex.{IsCarrier, IsNextCarrier, IsRecordedUnit, IsRecording}
 use Rattle.mpeg_ts_laws.specs.Multiplex.{IsSentPes, Multiplex, SentPes, announces, carriers_of}
 use Rattle.mpeg_ts_laws.specs.Multiplex.{items_of_carrier, items_of_multiplex, packet_in}
-use Rattle.mpeg_ts_laws.proofs.LossGoodLemmas.{AreRising, IsSomeLeft, carried-no_jump, good-left}
-use Rattle.mpeg_ts_laws.proofs.LossGoodLemmas.{left_goods, wrong_at_end}
-use Rattle.mpeg_ts_laws.proofs.LeadsLemmas.{Leads}
-use Rattle.mpeg_ts_laws.proofs.LossLemmas.{IsLeftPes}
-use Rattle.mpeg_ts_laws.proofs.StartingLemmas.{from_start}
+use Rattle.mpeg_ts_laws.specs.Multiplex.{carriers_of_pes}
+use Rattle.mpeg_ts_laws.proofs.LossGoodLemmas.{AreRising, IsSomeLeft, carried-no_jump}
+use Rattle.ttx_pes.specs.Pieces.{IsPiece}
 use Rattle.mpeg_ts_laws.proofs.LossNoteLemmas.{IsLeft, IsLeftCarrier, good-quiets-left, heard_left}
 use Rattle.mpeg_ts_laws.proofs.LossNoteLemmas.{since_loss}
 use Rattle.mpeg_ts_laws.proofs.RecordingLemmas.{noted, notes-units}
@@ -92,6 +89,14 @@ notes-left distance number (f ∷ fs) =
     grind (arith, nat_tests, flat_map-append, noted, heard_left, (notes-left distance number fs))
 
 -- ---- what is known of each unit
+
+-- What is left of a PES packet, whether it arrives or not.
+pub record IsLeftPes (distance number : ℕ) (s : SentPes Fated) : Type 0 where
+  pub is_piece : IsPiece s.bytes
+  pub first : IsLeftCarrier distance number true s.first
+  pub others : AllByRecursion (IsLeftCarrier distance number false) s.others
+  pub joined :
+      concat (map (λ c. payload (sent_packet distance c.packet)) (carriers_of_pes s)) ≡ s.bytes
 
 module _ (distance number : ℕ) where
   -- What became of each.
@@ -324,44 +329,3 @@ module _ (distance number : ℕ) (m : Multiplex Fated) (recording : List ℕ) wh
     where
       behind : List Fated
       behind = flat_map items_of_carrier (carriers_of m.sent)
-
--- The law of losses.
-pub law_of_losses : LawOfLosses
-law_of_losses number distance m recording h = record {
-  is_marked = leads.is_marked;
-  after_one = leads.after_one;
-  bytes_are = all ∙ leads.bytes_are;
-}
-  where
-    cs : List (Carrier Fated)
-    cs = carriers_of m.sent
-
-    pes : AllByRecursion (IsLeftPes distance number) m.sent
-    pes = all-pes distance number m recording h.losses
-
-    some : AllByRecursion (IsSomeLeft distance number) cs
-    some = all-carriers-left distance number m.sent pes
-
-    wrong : Bool
-    wrong = any_wrong m.lead
-
-    j : ℕ
-    j = 15 + first_counter distance number cs
-
-    rising : AreRising distance number (j + 1 + 0) cs
-    rising = pes-rising distance number m recording h.losses
-
-    end : Bool
-    end = wrong_at_end distance number wrong cs
-
-    leads : Leads [] false false m.sent
-        (with_marks false false
-        (outcomes end (parts (left_goods distance number None wrong cs))))
-    leads = from_start distance number end m.sent wrong (j + 1 + 0) pes rising h.few
-
-    all : carried number distance recording
-        ≡ with_marks false false (outcomes end (parts (left_goods distance number None wrong cs)))
-    all =
-        carried-left distance number m recording h.losses
-        ∙ ap (λ (good : GoodPackets). with_marks false false (outcomes_of good))
-        (good-left distance number None false wrong j 0 cs tt (omega arith) some rising h.few)

@@ -1,19 +1,16 @@
 -- What is noted of what is left of a carrier, and the good packet that it is, if it is there. Main
--- lemma: good-left.
-use Rattle.std.proofs.Common.{◌≡◌, ℕ, inl, inr, Bool, true, false, ◌&&◌, ◌||◌, List, [], ◌∷◌, ◌++◌}
-use Rattle.std.proofs.Common.{Option, Some, None, sym, ap, ◌∙◌, arith, append_assoc}
-use Rattle.std.proofs.Common.{if◌then◌else◌}
+-- lemmas: good-first, good-second.
+use Rattle.std.proofs.Common.{◌≡◌, ℕ, Bool, true, false, ◌||◌, List, [], ◌∷◌, ◌++◌, Option, Some}
+use Rattle.std.proofs.Common.{None, sym, ap, ◌∙◌, arith, append_assoc}
 use Rattle.std.specs.List.{AllByRecursion, flat_map}
 use Rattle.std.specs.Option.{option_to_list}
-use Rattle.std.proofs.lemmas.Bool.{cases_Bool}
 use Rattle.std.proofs.lemmas.Bool.Decides.{nat_tests}
 use Rattle.std.proofs.lemmas.Grind.{flat_map-append}
 use Rattle.std.proofs.lemmas.List.{append-nil}
 use Rattle.std.proofs.lemmas.List.Folds.{list_any-append}
 use Rattle.mpeg_ts.specs.GoodPackets.{Note, Since, good_after, is_repeat, linked, with_good}
-use Rattle.mpeg_ts_laws.specs.Losses.{Fate, Fated, IsFate, any_kept}
-use Rattle.mpeg_ts_laws.specs.Losses.{any_wrong, is_as_sent, is_made_wrong, is_there, left_of}
-use Rattle.mpeg_ts_laws.specs.Losses.{sent_packet, units_before, units_behind}
+use Rattle.mpeg_ts_laws.specs.Losses.{Fate, Fated, IsFate, any_kept, any_wrong, is_as_sent}
+use Rattle.mpeg_ts_laws.specs.Losses.{is_made_wrong, left_of, sent_packet}
 use Rattle.mpeg_ts_laws.specs.Multiplex.{Carrier, IsCarrier, IsRepetition, announces, is_quiet}
 use Rattle.mpeg_ts_laws.specs.Multiplex.{IsRecordedUnit, items_of_carrier, packet_in}
 use Rattle.mpeg_ts_laws.proofs.CarrierLemmas.{good-packet, good-quiet, good-repeat, is_repeat-again}
@@ -134,16 +131,6 @@ module _ (distance number : ℕ) where
   copy_of None p = p
   copy_of (Some f) p = sent_packet distance f
 
-  -- The first copy of it that is there.
-  abbrev pub heard_packet : Carrier Fated → List ℕ
-  heard_packet c =
-      if is_as_sent c.packet.fate then sent_packet distance c.packet
-      else copy_of c.again (sent_packet distance c.packet)
-
-  -- Its repeat came too.
-  abbrev pub heard_again : Carrier Fated → Bool
-  heard_again c = is_as_sent c.packet.fate && any_kept (option_to_list c.again)
-
   -- A carrier, and what may have become of its units.
   pub record IsLeftCarrier (first : Bool) (c : Carrier Fated) : Type 0 where
     pub is_carrier : IsCarrier (sent_packet distance) number first c
@@ -226,64 +213,3 @@ module _ (distance number : ℕ) where
       (since_loss good again ((wrong || any_wrong (option_to_list o)) || any_wrong after)) ns
   good-no_second good again wrong o after ns h1 h2 h3 h4 =
       grind (arith, nat_tests, good-quiets-left, or-false, append-nil, good-lost)
-
-  -- A carrier that is there, whatever follows it.
-  pub good-there : (good : Option (List ℕ)) (again wrong first : Bool) (c : Carrier Fated)
-      (ns : List Note)
-      → IsLeftCarrier first c
-      → is_there c ≡ true
-      → ((w : Bool) → is_repeat (since_loss good again w) (heard_packet c) ≡ false)
-      → good_after (since_loss good again wrong) (flat_map heard_left (items_of_carrier c) ++ ns)
-      ≡ with_good
-      (linked (since_loss good again (wrong || any_wrong (units_before c))) (heard_packet c))
-      (good_after
-      (since_loss (Some (heard_packet c)) (heard_again c) (any_wrong (units_behind c))) ns)
-  good-there good again wrong first c ns h there fresh =
-      elim (cases_Bool (is_as_sent c.packet.fate)) [
-        | inl kept ↦
-            rw (kept, or-false wrong)
-            (good-first good again wrong first c ns h kept (rw kept at (fresh wrong)))
-        | inr lost ↦
-            rw lost
-            (good-no_first good again wrong first c ns h lost
-            ∙ good-second good again (wrong || any_wrong (c.packet ∷ c.before))
-            (sent_packet distance c.packet) c.again c.after ns h.is_carrier.again h.after
-            h.is_carrier.after (rw lost at there)
-            (rw lost at (fresh (wrong || any_wrong (c.packet ∷ c.before)))))
-      ]
-
-  -- A carrier that is gone.
-  pub good-gone : (good : Option (List ℕ)) (again wrong first : Bool) (c : Carrier Fated)
-      (ns : List Note)
-      → IsLeftCarrier first c
-      → is_there c ≡ false
-      → good_after (since_loss good again wrong) (flat_map heard_left (items_of_carrier c) ++ ns)
-      ≡ good_after (since_loss good again (wrong || any_wrong (items_of_carrier c))) ns
-  good-gone good again wrong first c ns h gone =
-      good-no_first good again wrong first c ns h lost
-      ∙ good-no_second good again (wrong || any_wrong (c.packet ∷ c.before)) c.again c.after ns
-      h.again
-      h.after h.is_carrier.after none
-      ∙ ap (λ (w : Bool). good_after (since_loss good again w) ns) all
-    where
-      lost : is_as_sent c.packet.fate ≡ false
-      lost = grind (arith, nat_tests)
-
-      none : any_kept (option_to_list c.again) ≡ false
-      none = grind (arith, nat_tests)
-
-      all : (((wrong || any_wrong (c.packet ∷ c.before)) || any_wrong (option_to_list c.again))
-          || any_wrong c.after)
-          ≡ (wrong || any_wrong (items_of_carrier c))
-      all =
-          or-assoc (wrong || any_wrong (c.packet ∷ c.before)) (any_wrong (option_to_list c.again))
-          (any_wrong c.after)
-          ∙ or-assoc wrong (any_wrong (c.packet ∷ c.before))
-          (any_wrong (option_to_list c.again) || any_wrong c.after)
-          ∙ ap (λ (w : Bool). wrong || w)
-          (or-assoc (is_made_wrong c.packet.fate) (any_wrong c.before)
-          (any_wrong (option_to_list c.again) || any_wrong c.after)
-          ∙ ap (λ (w : Bool). is_made_wrong c.packet.fate || w)
-          (sym (or-assoc (any_wrong c.before) (any_wrong (option_to_list c.again))
-          (any_wrong c.after))
-          ∙ sym (wrong-of_three c.before (option_to_list c.again) c.after)))

@@ -1,4 +1,4 @@
--- What a part that is closed gives, whatever follows it. Main lemmas: closes-whole, closes-broken.
+-- What a part that is closed gives, whatever follows it. Main lemmas: closes-piece, closes-broken.
 use Rattle.std.proofs.Common.{◌≡◌, ℕ, ◌<◌, ◌≤◌, inl, inr, Bool, true, false, not, ◌&&◌, ◌||◌, List}
 use Rattle.std.proofs.Common.{[], ◌∷◌, ◌++◌, length, length-append, take, Ok, refl, sym, ap, ◌∙◌}
 use Rattle.std.proofs.Common.{arith, append_assoc, nat_le}
@@ -11,7 +11,7 @@ use Rattle.mpeg_ts.specs.Carried.{mark_where, with_marks}
 use Rattle.mpeg_ts.specs.GoodPackets.{GoodPacket}
 use Rattle.mpeg_ts.specs.Parts.{Gap, PartOutcome, Part, Pes, part_bytes, gap_where, may_be_cut_off}
 use Rattle.mpeg_ts.specs.Parts.{outcome, outcomes, parts_from, with_packet}
-use Rattle.mpeg_ts_laws.proofs.PartLemmas.{IsWhole, outcomes-whole, piece-size}
+use Rattle.mpeg_ts_laws.proofs.PartLemmas.{piece-size}
 
 -- A gap before outcomes.
 pub gap-before : (given gap here : Bool) (more : List PartOutcome)
@@ -37,37 +37,46 @@ pub record Closes (part : Part) (given gap : Bool) (front : List ℕ) (given' ga
       (wrong_behind : Bool)
       → EndsMarked given' front (with_marks given gap (outcomes wrong_behind (part ∷ [])))
 
--- A part that is whole gives its PES packet, behind a mark where there was a gap.
-pub closes-whole : (part : Part) (given gap : Bool) (bytes : List ℕ)
-    → IsWhole part bytes
-    → Closes part given gap (mark_where (given && (gap || part.after_break)) ++ bytes) true false
+-- A mark behind a PES packet, where there was a gap.
+mark-behind : (gap : Bool)
+    → (wrong_behind : Bool)
+    → with_marks true gap (outcomes wrong_behind []) ≡ mark_where (gap || wrong_behind)
 unfolding with_marks outcomes
-closes-whole part given gap bytes h = record {
+mark-behind gap true = elim (cases_Bool gap) [ inl e ↦ rw e | inr e ↦ rw e ]
+mark-behind gap false = elim (cases_Bool gap) [ inl e ↦ rw e | inr e ↦ rw e ]
+
+-- A part that gives a piece, behind a mark where there was a gap; and there is one behind it where
+-- more bytes stand there.
+pub closes-piece : (part : Part) (given gap : Bool) (bytes : List ℕ) (longer : Bool)
+    → ((cut_off : Bool) → outcome cut_off part ≡ Pes bytes ∷ gap_where longer)
+    → Closes part given gap (mark_where (given && (gap || part.after_break)) ++ bytes) true longer
+unfolding with_marks outcomes
+closes-piece part given gap bytes longer gives = record {
   next = λ wrong_behind more some. told wrong_behind more;
   last = λ wrong_behind. record {
-    is_marked = wrong_behind;
+    is_marked = longer || wrong_behind;
     after_one = λ e. refl;
     bytes_are =
         told wrong_behind []
         ∙ ap (λ (x : List ℕ). (mark_where (given && (gap || part.after_break)) ++ bytes) ++ x)
-        (end wrong_behind);
+        (mark-behind longer wrong_behind);
   };
 }
   where
     told : (wrong_behind : Bool) (more : List Part)
         → with_marks given gap (outcomes wrong_behind (part ∷ more))
         ≡ (mark_where (given && (gap || part.after_break)) ++ bytes)
-        ++ with_marks true false (outcomes wrong_behind more)
+        ++ with_marks true longer (outcomes wrong_behind more)
     told wrong_behind more =
-        ap (with_marks given gap) (outcomes-whole wrong_behind part more bytes h)
-        ∙ gap-before given gap part.after_break (Pes bytes ∷ outcomes wrong_behind more)
+        ap (λ (l : List PartOutcome).
+        with_marks given gap (gap_where part.after_break ++ (l ++ outcomes wrong_behind more)))
+        (gives (may_be_cut_off wrong_behind more))
+        ∙ gap-before given gap part.after_break
+        (Pes bytes ∷ (gap_where longer ++ outcomes wrong_behind more))
+        ∙ ap (λ (l : List ℕ). mark_where (given && (gap || part.after_break)) ++ (bytes ++ l))
+        (gap-before true false longer (outcomes wrong_behind more))
         ∙ sym (append_assoc (mark_where (given && (gap || part.after_break))) bytes
-        (with_marks true false (outcomes wrong_behind more)))
-
-    end : (wrong_behind : Bool)
-        → with_marks true false (outcomes wrong_behind []) ≡ mark_where wrong_behind
-    end true = refl
-    end false = refl
+        (with_marks true longer (outcomes wrong_behind more)))
 
 -- A part that is not whole, wherever it stands.
 pub record IsBroken (part : Part) : Type 0 where

@@ -1,8 +1,8 @@
 -- What a part gives that begins as a PES packet does, whatever was joined to its first packet. Main
 -- lemma: closes-front.
-use Rattle.std.proofs.Common.{◌≡◌, ℕ, ◌≤◌, ◌⊎◌, inl, inr, Bool, true, false, not}
-use Rattle.std.proofs.Common.{◌&&◌, ◌||◌, List, [], ◌∷◌, ◌++◌, length, take, drop, Ok}
-use Rattle.std.proofs.Common.{refl, sym, ap, ◌∙◌, arith, append_assoc, nat_le, nat_lt, length-take}
+use Rattle.std.proofs.Common.{◌≡◌, ℕ, ◌≤◌, ◌⊎◌, inl, inr, Bool, true, false, not, ◌&&◌, ◌||◌, List}
+use Rattle.std.proofs.Common.{[], ◌∷◌, ◌++◌, length, take, drop, Ok, sym, ap, ◌∙◌, arith, nat_le}
+use Rattle.std.proofs.Common.{nat_lt, length-take}
 use Rattle.std.specs.Int.{bytes_high_first}
 use Rattle.std.proofs.lemmas.Bool.{cases_Bool}
 use Rattle.std.proofs.lemmas.Bool.Decides.{nat_tests}
@@ -11,13 +11,12 @@ use Rattle.std.proofs.Math.Seq.{take-length}
 use Rattle.ttx_pes.specs.PesPacket.{packet_length, packet_start}
 use Rattle.ttx_pes.specs.Pieces.{IsPiece}
 use Rattle.ttx_pes.specs.Reading.{size_at}
-use Rattle.mpeg_ts.specs.Carried.{mark_where, with_marks}
-use Rattle.mpeg_ts.specs.Parts.{Part, PartOutcome, Pes, gap_where, may_be_cut_off, outcome}
-use Rattle.mpeg_ts.specs.Parts.{outcomes, part_bytes}
+use Rattle.mpeg_ts.specs.Carried.{mark_where}
+use Rattle.mpeg_ts.specs.Parts.{Part, Pes, gap_where, outcome, part_bytes}
 use Rattle.mpeg_ts_laws.specs.Losses.{Fated}
 use Rattle.mpeg_ts_laws.specs.Multiplex.{SentPes}
 use Rattle.mpeg_ts_laws.specs.Pace.{up_to_pts}
-use Rattle.mpeg_ts_laws.proofs.LossPartLemmas.{Closes, closes-broken, gap-before}
+use Rattle.mpeg_ts_laws.proofs.LossPartLemmas.{Closes, closes-broken, closes-piece}
 use Rattle.mpeg_ts_laws.proofs.PartLemmas.{piece-long, piece-size}
 
 -- ---- bytes that begin as others do
@@ -148,51 +147,6 @@ given-piece part s h enough =
 
 -- ---- what it gives
 
--- A mark behind a PES packet, where there was a gap.
-mark-behind : (gap : Bool)
-    → (wrong_behind : Bool)
-    → with_marks true gap (outcomes wrong_behind []) ≡ mark_where (gap || wrong_behind)
-unfolding with_marks outcomes
-mark-behind gap true = elim (cases_Bool gap) [ inl e ↦ rw e | inr e ↦ rw e ]
-mark-behind gap false = elim (cases_Bool gap) [ inl e ↦ rw e | inr e ↦ rw e ]
-
--- Where all of it is there, a piece; and there is a gap where more bytes stand behind it.
-closes-given : (part : Part) (given gap : Bool) (s : SentPes Fated)
-    → IsFront part s
-    → nat_le (length s.bytes) (length (part_bytes part)) ≡ true
-    → Closes part given gap
-    (mark_where (given && (gap || part.after_break)) ++ given_bytes part s) true (is_longer part s)
-unfolding with_marks outcomes
-closes-given part given gap s h enough = record {
-  next = λ wrong_behind more some. told wrong_behind more;
-  last = λ wrong_behind. record {
-    is_marked = is_longer part s || wrong_behind;
-    after_one = λ e. refl;
-    bytes_are =
-        told wrong_behind []
-        ∙ ap
-        (λ (x : List ℕ).
-        (mark_where (given && (gap || part.after_break)) ++ given_bytes part s) ++ x)
-        (mark-behind (is_longer part s) wrong_behind);
-  };
-}
-  where
-    told : (wrong_behind : Bool) (more : List Part)
-        → with_marks given gap (outcomes wrong_behind (part ∷ more))
-        ≡ (mark_where (given && (gap || part.after_break)) ++ given_bytes part s)
-        ++ with_marks true (is_longer part s) (outcomes wrong_behind more)
-    told wrong_behind more =
-        ap (λ (l : List PartOutcome).
-        with_marks given gap (gap_where part.after_break ++ (l ++ outcomes wrong_behind more)))
-        (outcome-front (may_be_cut_off wrong_behind more) part s h enough)
-        ∙ gap-before given gap part.after_break
-        (Pes (given_bytes part s) ∷ (gap_where (is_longer part s) ++ outcomes wrong_behind more))
-        ∙ ap (λ (l : List ℕ).
-        mark_where (given && (gap || part.after_break)) ++ (given_bytes part s ++ l))
-        (gap-before true false (is_longer part s) (outcomes wrong_behind more))
-        ∙ sym (append_assoc (mark_where (given && (gap || part.after_break))) (given_bytes part s)
-        (with_marks true (is_longer part s) (outcomes wrong_behind more)))
-
 -- It gives a piece that begins as the PES packet does, and is it where the part has no other bytes;
 -- or nothing, and there is a gap.
 pub record ClosesGiven (part : Part) (given gap : Bool) (s : SentPes Fated) : Type 0 where
@@ -218,7 +172,9 @@ closes-front part given gap s h =
             is_piece = given-piece part s h enough;
             front = (given-front part s h enough).1;
             as_sent = λ e. ap (take (length s.bytes)) e ∙ take-length s.bytes;
-            closes = closes-given part given gap s h enough;
+            closes =
+                closes-piece part given gap (given_bytes part s) (is_longer part s)
+                (λ cut_off. outcome-front cut_off part s h enough);
           })
       | inr short ↦
           inr

@@ -8,7 +8,8 @@ use Rattle.ttx_pes.specs.Pieces.{IsPiece}
 use Rattle.ttx_pes.proofs.PesHeaderLemmas.{body_complete, body_of, packet_of_body}
 use Rattle.mpeg_ts.specs.Carried.{mark}
 use Rattle.mpeg_ts_laws.specs.Laws.{LawOfWholeFile}
-use Rattle.mpeg_ts_laws.proofs.NeighbourLemmas.{law_of_neighbours, pieces-append}
+use Rattle.mpeg_ts_laws.proofs.ArrivingLaw.{law_of_neighbours}
+use Rattle.mpeg_ts_laws.proofs.NeighbourLemmas.{pieces-append}
 
 -- Byte 6 of a mark is FF, that of a PES packet with Teletext begins with 1000.
 no-packet : (v : PesValue) → IsPesPacket v mark → ⊥

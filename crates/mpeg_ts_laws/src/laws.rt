@@ -12,7 +12,7 @@ pub fn law_of_multiplex()
 
 /// Where units are missing or wrong, the PES packets that arrive are carried as they were sent, in
 /// their order, and no other; a mark stands where one is missing between two.
-#[tactic(auto, using(crate::proofs::LossLaw::law_of_losses))]
+#[tactic(auto, using(crate::proofs::ArrivingLaw::law_of_losses))]
 pub fn law_of_losses()
     ensures { LawOfLosses }
 {}

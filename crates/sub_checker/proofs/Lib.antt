@@ -3,6 +3,7 @@ pub mod EdgeLemmas
 pub mod EndingLemmas
 pub mod FollowingLemmas
 pub mod HearingLemmas
+pub mod LatchLemmas
 pub mod MoreLemmas
 pub mod RelayLemmas
 pub mod PieceWaysLemmas

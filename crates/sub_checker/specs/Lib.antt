@@ -1,5 +1,6 @@
 pub mod Checker
 pub mod Following
+pub mod Latch
 pub mod Lending
 pub mod PassedPieces
 pub mod Relay

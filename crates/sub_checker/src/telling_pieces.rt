@@ -1,5 +1,5 @@
 //! What is told of a PES file that is read on behind the pieces that are passed over.
-ghost use Rattle.std.specs.Prelude.{◌≡◌, ℕ, ◌+◌, ◌<◌, ◌≤◌, [], ◌∷◌, Err, IfErr, IfOk, List, OnOk};
+ghost use Rattle.std.specs.Prelude.{◌≡◌, ℕ, ◌+◌, ◌<◌, ◌≤◌, [], ◌∷◌, Err, IfErr, IfOk, List};
 ghost use Rattle.std.specs.Prelude.{Option, false, is_err, is_none, length, take, true};
 ghost use Rattle.sub_io.specs.Device.{CanFail, CountsIf, failed};
 ghost use Rattle.sub_io.specs.Reading.{IfTold};
@@ -17,11 +17,12 @@ ghost use Rattle.sub_checker.specs.PieceTelling.{TellsPieces};
 
 use crate::checker::Checker;
 use crate::closing_pieces::finish;
+use crate::latch::Latch;
 use crate::lending::next_followed;
 use crate::relaying::{Relay, Stage};
 use crate::telling::{Accepted, is_source_failure};
 use stl_rows::Judging;
-use sub_io::{Audience, LiveAudience, Source, Stopped};
+use sub_io::{Audience, LiveAudience, Source};
 use sub_plan::Options;
 use sub_rules::{CheckFault, Event, NextPiece, Sending, units_of};
 use ttx_pes::{ComparingReader, PesFault};
@@ -71,13 +72,16 @@ pub fn tell_pieces<S: Source, A: LiveAudience<Event>>(
     let mut reader = ComparingReader::new();
     let mut checker = Checker::new(judging, options);
     let mut stage = Stage {
-        device: audience,
+        latch: Latch {
+            device: audience,
+            stopped: false,
+        },
         relay: Relay::new(),
     };
     let mut passed = false;
     let mut pes = 0;
     'pieces: loop {
-        let Some(read) = next_followed(&mut reader, source, stage.device, options, pes) else {
+        let Some(read) = next_followed(&mut reader, source, &mut stage.latch, options, pes) else {
             return Ok(None);
         };
         let next = match read {
@@ -93,17 +97,18 @@ pub fn tell_pieces<S: Source, A: LiveAudience<Event>>(
             return Ok(finish(&mut checker, pes, None, &mut stage));
         };
         match piece {
-            NextPiece::Passed(fault) => match tell_passed(pes, fault, &mut stage) {
-                Err(_) => return Ok(None),
-                Ok(()) => passed = true,
-            },
+            NextPiece::Passed(fault) => {
+                tell_passed(pes, fault, &mut stage);
+                passed = true;
+            }
             NextPiece::Sent(sending) => {
                 let units = units_of(&reader);
-                match checker.go_on(pes, after_piece(passed, sending), &units, &mut stage) {
-                    Err(_) => return Ok(None),
-                    Ok(()) => passed = false,
-                }
+                checker.go_on(pes, after_piece(passed, sending), &units, &mut stage);
+                passed = false;
             }
+        }
+        if stage.latch.stopped {
+            return Ok(None);
         }
         pes += 1;
     }
@@ -121,19 +126,10 @@ fn after_piece(passed: bool, sending: Sending) -> Sending
 }
 
 // Tells the fault of a piece that is passed over.
-fn tell_passed<A: Audience<Event>>(
-    pes: u32,
-    fault: CheckFault,
-    stage: &mut Stage<'_, A>,
-) -> Result<(), Stopped>
-    requires goes_on { A.has_stopped stage.old.device.now ≡ false }
-    ensures same { stage.new.device.ghost_name ≡ stage.old.device.ghost_name }
-    ensures stopped { A.has_stopped stage.new.device.now ≡ is_err result }
-    ensures some { TellsSome A.is_told stage.old.device.now stage.new.device.now }
-    ensures told { StageRelays A.is_told stage.old (AtPes pes ∷ Says (Event.Told fault) ∷ [])
-        stage.new result }
-    ensures day { OnOk result (stage.new.relay.trust.last ≡ stage.old.relay.trust.last) }
+fn tell_passed<A: Audience<Event>>(pes: u32, fault: CheckFault, stage: &mut Stage<'_, A>)
+    ensures { StageRelays A.is_told stage.old (AtPes pes ∷ Says (Event.Told fault) ∷ [])
+        stage.new }
 {
     stage.go_to(pes);
-    stage.relay(Event::Told(fault))
+    stage.relay(Event::Told(fault));
 }

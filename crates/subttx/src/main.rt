@@ -4,13 +4,14 @@
 //! the files that it names, and ends in a `Status` (`sub_answer`).
 #![tactic(auto)]
 
+mod in_memory;
 mod words;
 
 ghost use Rattle.std.specs.Prelude.{◌≡◌, IfErr, IfOk};
 ghost use Rattle.sub_io.specs.Buffered.{failures_and_refused};
 ghost use Rattle.sub_answer.specs.Ending.{lines_of, told_of_files};
 ghost use Rattle.sub_files.specs.FileCalls.{CallsInTurn};
-ghost use Rattle.subttx.specs.Run.{Answered, EndsRun, IsCause, RunsProgram};
+ghost use Rattle.sub_headline.specs.Run.{Answered, EndsRun, IsCause, RunsProgram};
 ghost use Rattle.subttx.specs.Words.{words_given};
 
 use crate::words::{texts_of, words_of};

@@ -1,5 +1,5 @@
--- The law: NeighbourLemmas.
-use Rattle.mpeg_ts_laws.proofs.NeighbourLemmas as lemma
+-- The law: ArrivingLaw.
+use Rattle.mpeg_ts_laws.proofs.ArrivingLaw as lemma
 use Rattle.mpeg_ts_laws.proofs.laws.law_of_neighbours.Goals as goal
 
 pub returns : goal.returns
