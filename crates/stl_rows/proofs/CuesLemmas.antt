@@ -12,7 +12,7 @@ use Rattle.std.specs.List.{All}
 use Rattle.std.specs.List.Sorted.{IsNonDecreasingBy, IsPartitionPoint}
 use Rattle.stl_file.specs.Subtitle.{IsSubtitle, SubtitleValue}
 use Rattle.stl_rows.specs.declared.cues.Cue.{Cue}
-use Rattle.stl_rows.specs.Cues.{IsWithin, cue_at, subtitle_in}
+use Rattle.stl_rows.specs.Cues.{IsCueAmong, cue_at, subtitle_in}
 
 -- A text among all texts stays where it was when others are added.
 pub text_kept : (texts more : List ℕ) (start len : ℕ)
@@ -25,13 +25,13 @@ text_kept texts more start len within =
 
 -- So does the subtitle of a cue.
 pub subtitle_kept : (texts more : List ℕ) (c : Cue)
-    → IsWithin texts c
+    → IsCueAmong texts c
     → subtitle_in (texts ++ more) c ≡ subtitle_in texts c
 subtitle_kept texts more c is = rw (text_kept texts more c.start c.len is.within) refl
 
 pub within_kept : (texts more : List ℕ) (c : Cue)
-    → IsWithin texts c
-    → IsWithin (texts ++ more) c
+    → IsCueAmong texts c
+    → IsCueAmong (texts ++ more) c
 within_kept texts more c is = record {
   within = let l = length-append texts more in let w = is.within in omega (arith, l, w);
   subtitle = rw (subtitle_kept texts more c is) is.subtitle;
@@ -39,7 +39,7 @@ within_kept texts more c is = record {
 
 -- And those of all cues.
 pub subtitles_kept : (texts more : List ℕ) (cs : List Cue)
-    → All (IsWithin texts) cs
+    → All (IsCueAmong texts) cs
     → map (subtitle_in (texts ++ more)) cs ≡ map (subtitle_in texts) cs
 subtitles_kept texts more [] all = refl
 subtitles_kept texts more (c ∷ cs) all =
@@ -47,8 +47,8 @@ subtitles_kept texts more (c ∷ cs) all =
     rw (subtitle_kept texts more c (all 0 c (omega arith)), rest) refl
 
 pub all_kept : (texts more : List ℕ) (cs : List Cue)
-    → All (IsWithin texts) cs
-    → All (IsWithin (texts ++ more)) cs
+    → All (IsCueAmong texts) cs
+    → All (IsCueAmong (texts ++ more)) cs
 all_kept texts more cs all = λ i d b. within_kept texts more (get_or cs i d) (all i d b)
 
 -- The text of a new cue is the one that was added.
@@ -63,7 +63,7 @@ is_added texts s = rw (text_added texts s.text) refl
 
 -- The subtitles are those before it and it: for `push`.
 pub subtitles_added : (texts : List ℕ) (cs : List Cue) (s : SubtitleValue)
-    → All (IsWithin texts) cs
+    → All (IsCueAmong texts) cs
     → map (subtitle_in (texts ++ s.text)) (cs ++ cue_at (length texts) s ∷ [])
     ≡ map (subtitle_in texts) cs ++ s ∷ []
 subtitles_added texts cs s all =
@@ -72,12 +72,12 @@ subtitles_added texts cs s all =
 
 -- And each stands among all texts: for `push`.
 pub all_added : (texts : List ℕ) (cs : List Cue) (s : SubtitleValue)
-    → All (IsWithin texts) cs
+    → All (IsCueAmong texts) cs
     → IsSubtitle s
-    → All (IsWithin (texts ++ s.text)) (cs ++ cue_at (length texts) s ∷ [])
+    → All (IsCueAmong (texts ++ s.text)) (cs ++ cue_at (length texts) s ∷ [])
 all_added texts cs s all is =
     let l = length-append texts s.text in
-    All-push (IsWithin (texts ++ s.text)) cs (cue_at (length texts) s)
+    All-push (IsCueAmong (texts ++ s.text)) cs (cue_at (length texts) s)
     (all_kept texts s.text cs all)
     (record { within = omega (arith, l); subtitle = rw (is_added texts s) is })
 

@@ -16,7 +16,7 @@ subtitle_in texts c = record {
 }
 
 -- The text of a cue stands among all texts, and what it says is a subtitle.
-pub record IsWithin (texts : List ℕ) (c : Cue) : Type 0 where
+pub record IsCueAmong (texts : List ℕ) (c : Cue) : Type 0 where
   pub within : c.start + c.len ≤ length texts
   pub subtitle : IsSubtitle (subtitle_in texts c)
 

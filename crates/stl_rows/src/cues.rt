@@ -41,11 +41,11 @@ impl<A: Allocator + Copy> Model for Cues<A> {
 
     ghost Value = { List SubtitleValue };
 
-    ghost use Rattle.stl_rows.specs.Cues.{IsWithin, subtitle_in};
+    ghost use Rattle.stl_rows.specs.Cues.{IsCueAmong, subtitle_in};
 
     ghost view = { λ c. map (subtitle_in c.texts.items) c.cues.items };
 
-    ghost invariant = { λ c. All (IsWithin c.texts.items) c.cues.items };
+    ghost invariant = { λ c. All (IsCueAmong c.texts.items) c.cues.items };
 }
 
 // The cue of a subtitle whose text begins at a place among all texts.

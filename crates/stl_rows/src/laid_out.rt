@@ -244,7 +244,6 @@ fn draw_lines(
 /// # Errors
 ///
 /// Those of `draw`.
-#[inline(never)]
 pub(crate) fn draw_by(
     national: National,
     items: &LayoutItems,

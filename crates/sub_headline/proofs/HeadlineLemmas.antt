@@ -34,9 +34,10 @@ use Rattle.sub_listing.specs.declared.status.Status.TheVariants.{Done}
 use Rattle.sub_answer.specs.FilesInMemory.{TellsAccepted, told_of_memory}
 use Rattle.sub_answer.specs.Part.{through_range, through_stream}
 use Rattle.sub_answer.proofs.MemoryLemmas.{law_of_files_in_memory}
+use Rattle.sub_plan.specs.Examples.{page_888}
 use Rattle.sub_headline.specs.Headline.{LawOfHeadline, default_drawing}
-use Rattle.sub_headline.specs.PlainHeadline.{Headline, page_888}
-use Rattle.sub_headline.specs.PlainWords.{IsName, default_options, whole_of}
+use Rattle.sub_headline.specs.PlainHeadline.{Headline}
+use Rattle.sub_headline.specs.PlainWords.{IsName, default_options, whole_pes_file}
 use Rattle.sub_headline.specs.Run.{RunsProgram}
 use Rattle.sub_headline.proofs.AcceptanceLemmas.{law_of_plain_acceptance, programme_of}
 use Rattle.sub_headline.proofs.EnglishLemmas.{all_drawn, due_is}
@@ -46,7 +47,7 @@ use Rattle.sub_headline.proofs.RunLemmas.{HasAnswered, answered, done_by_code, n
 -- What is asked of two files by the default options.
 abbrev plain_check : (stl pes : Text) → Asked
 plain_check stl pes =
-    Asked.Check stl (whole_of pes) default_options English default_layout whole false
+    Asked.Check stl (whole_pes_file pes) default_options English default_layout whole false
 
 -- What it names and asks for is that of the default options.
 record IsPlain

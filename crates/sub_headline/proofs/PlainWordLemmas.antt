@@ -28,7 +28,7 @@ use Rattle.sub_words.specs.Help.{asks_help, has_help_flag, is_help_flag}
 use Rattle.sub_words.specs.PesTexts.{packet_size_of_text}
 use Rattle.sub_words.specs.Requests.{Asked, AsksFor, asked_by, asked_for, asked_in}
 use Rattle.sub_words.specs.Texts.{number_of_text}
-use Rattle.sub_headline.specs.PlainWords.{IsName, LawOfPlainWords, default_options, whole_of}
+use Rattle.sub_headline.specs.PlainWords.{IsName, LawOfPlainWords, default_options, whole_pes_file}
 
 -- ---- no word asks for help
 
@@ -152,7 +152,7 @@ rows_are stl pes is_stl is_pes =
 
 asked_are : (stl pes : Text)
     → asked_in (codes "check") (finished check_shape.rules (held_of_two stl pes))
-    ≡ Ok (Asked.Check stl (whole_of pes) default_options English default_layout whole false)
+    ≡ Ok (Asked.Check stl (whole_pes_file pes) default_options English default_layout whole false)
 unfolding subttx_app clap_on_literals number_of_text page_of_text option_named sub_set
     pes_packets_of packet_size_of_text
 asked_are stl pes = refl
@@ -168,7 +168,7 @@ plain_asked : (program stl pes : Text)
     → IsName stl
     → IsName pes
     → asked_for (program ∷ codes "check" ∷ stl ∷ pes ∷ [])
-    ≡ Some (Ok (Asked.Check stl (whole_of pes) default_options English default_layout whole false))
+    ≡ Some (Ok (Asked.Check stl (whole_pes_file pes) default_options English default_layout whole false))
 plain_asked program stl pes is_stl is_pes =
     ap (option_map (λ command. asked_in command.0 command.1)) (command_is program stl pes)
     ∙ ap (λ (rows : List Row). Some (asked_in (codes "check") rows))

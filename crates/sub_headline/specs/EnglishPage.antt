@@ -45,18 +45,18 @@ Fit row (line ∷ lines) =
     (length line ≤ 40) × (line ≢ [] → row ≤ 23) × Fit (row + 1) lines
 
 -- The prepared lines of a subtitle: each that has cells in a box.
-abbrev pub prepared_lines : SubtitleValue → List (List ℕ)
-prepared_lines t = map prepared (english_lines t.text)
+abbrev pub boxed_lines : SubtitleValue → List (List ℕ)
+boxed_lines t = map prepared (english_lines t.text)
 
 -- Nothing of its text is left out: each byte is read, and its lines fit on the page from row VP on.
 pub record IsWhole (t : SubtitleValue) : Type 0 where
   pub read : All IsRead t.text
-  pub fit : Fit t.vp (prepared_lines t)
+  pub fit : Fit t.vp (boxed_lines t)
 
 -- The line of a row, where line 0 goes to row VP; none above it or below the last.
 abbrev pub english_line : SubtitleValue → ℕ → List ℕ
 english_line t row =
-    if nat_lt row t.vp then [] else slice_index_or (prepared_lines t) (row - t.vp) []
+    if nat_lt row t.vp then [] else slice_index_or (boxed_lines t) (row - t.vp) []
 
 -- The page of a subtitle: rows 1 to 24, each with its line, in a box, at the column of JC.
 abbrev pub english_page : SubtitleValue → Rows

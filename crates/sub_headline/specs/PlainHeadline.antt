@@ -3,7 +3,6 @@
 use Rattle.std.specs.Prelude.{◌≡◌, ◌⊎◌, ℕ, ◌+◌, ◌≤◌, All, IsFalse, IsTrue, List}
 use Rattle.std.specs.List.{AllZip}
 use Rattle.ttx_packet.specs.OneBit.{AreNear}
-use Rattle.ttx_packet.specs.PageId.{PageIdValue}
 use Rattle.ttx_page.specs.Page.{IsCell, cell, space}
 use Rattle.ttx_page.specs.PacketKind.{kind}
 use Rattle.ttx_page.specs.Receiver.{Hears, State}
@@ -12,14 +11,11 @@ use Rattle.ttx_page.specs.Span.{holds_header}
 use Rattle.stl_file.specs.File.{IsFile}
 use Rattle.stl_file.specs.Subtitle.{SubtitleValue}
 use Rattle.stl_rows.specs.Programme.{AreInOrder}
+use Rattle.sub_plan.specs.Examples.{page_888}
 use Rattle.sub_rules.specs.PesFrames.{Carries}
 use Rattle.sub_rules.specs.Transmission.{Transmission, first_frame, last_frame, on_air}
 use Rattle.sub_laws.specs.Robust.{IsListening}
 use Rattle.sub_headline.specs.EnglishPage.{IsWhole, english_due}
-
--- Page 888: magazine 8, which is sent as 0.
-abbrev pub page_888 : PageIdValue
-page_888 = record { magazine = 0; page = 0x88 }
 
 -- What a receiver gets by the end of frame f that was switched on in frame g, of what was sent
 -- since, where these bytes of it arrived wrong: within 250 frames, 10 seconds, a header of page

@@ -4,6 +4,7 @@ use Rattle.clap.specs.Words.{Text}
 use Rattle.stl_file.specs.Scope.{whole}
 use Rattle.stl_rows.specs.Layout.{default_layout}
 use Rattle.stl_rows.specs.declared.national.National.TheVariants.{English}
+use Rattle.sub_plan.specs.Examples.{page_888}
 use Rattle.sub_plan.specs.Options.{OptionsValue}
 use Rattle.sub_request.specs.declared.request.Request.{Request}
 use Rattle.sub_words.specs.Arguments.{PesAsked}
@@ -14,7 +15,7 @@ use Rattle.sub_words.specs.Requests.{Asked, AsksFor, asked_by}
 -- be whole; and each header of it has to erase it.
 abbrev pub default_options : OptionsValue
 default_options = record {
-  page = record { magazine = 0; page = 0x88 };
+  page = page_888;
   every = 250;
   origin = 0;
   asks_complete = false;
@@ -28,8 +29,8 @@ abbrev pub IsName : Text → Type 0
 IsName word = slice_get word 0 ≢ Some 0x2D
 
 -- All of a file of PES packets.
-abbrev pub whole_of : Text → PesAsked
-whole_of name = record { name = name; stream = None; range = None }
+abbrev pub whole_pes_file : Text → PesAsked
+whole_pes_file name = record { name = name; stream = None; range = None }
 
 -- The words `check STL PES` alone, behind the program's name, ask for a check of these two files by
 -- the default options.
@@ -41,4 +42,4 @@ LawOfPlainWords =
     → IsName pes
     → AsksFor (program ∷ codes "check" ∷ stl ∷ pes ∷ []) request
     → asked_by request
-    ≡ Asked.Check stl (whole_of pes) default_options English default_layout whole false
+    ≡ Asked.Check stl (whole_pes_file pes) default_options English default_layout whole false

@@ -2,8 +2,8 @@
 //!
 //! No device of the system tells its bytes, so what is said of bytes is said of files that tell
 //! theirs.
-ghost use Rattle.sub_headline.specs.Headline.{TellsAcceptance, TellsHeadline};
 ghost use Rattle.std.specs.Prelude.{◌≡◌};
+ghost use Rattle.sub_headline.specs.Headline.{TellsAcceptance, TellsHeadline};
 ghost use Rattle.subttx.specs.Words.{words_given};
 
 use crate::run;
