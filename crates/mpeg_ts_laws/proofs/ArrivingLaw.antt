@@ -1,5 +1,5 @@
--- The laws of losses and of neighbours, by what is read where few are gone: `law_of_losses`,
--- `law_of_neighbours`.
+-- Where at most 14 packets in a row are gone, `law_of_reading` says which PES packets arrive:
+-- `law_of_losses`, `law_of_neighbours`.
 use Rattle.std.proofs.Common.{◌≡◌, ℕ, inl, inr, Bool, true, false, ◌||◌, List, [], ◌∷◌, ◌++◌}
 use Rattle.std.proofs.Common.{length, refl, sym, ap, ◌∙◌}
 use Rattle.std.specs.List.{concat}
@@ -9,11 +9,11 @@ use Rattle.mpeg_ts_laws.specs.Laws.{LawOfLosses, LawOfNeighbours}
 use Rattle.mpeg_ts_laws.specs.Losses.{Fated, arriving, IsLossy}
 use Rattle.mpeg_ts_laws.specs.Multiplex.{SentPes, Multiplex}
 use Rattle.mpeg_ts_laws.proofs.LeadsLemmas.{Leads, leads-gone, leads-there, leads-ungiven}
-use Rattle.mpeg_ts_laws.proofs.NeighbourLemmas.{concat-marks, marks_where, one-way, sent_bytes}
-use Rattle.mpeg_ts_laws.proofs.PaceLaw.{law_of_reading}
-use Rattle.mpeg_ts_laws.proofs.PaceLemmas.{Gives}
-use Rattle.mpeg_ts_laws.proofs.PaceReadLemmas.{After, Held, Marked, Nothing, Reads, is_gap, is_held}
-use Rattle.mpeg_ts_laws.proofs.PaceReadLemmas.{Located, located, sent-next, skip}
+use Rattle.mpeg_ts_laws.proofs.PieceLemmas.{concat-marks, marks_where, one-way, sent_bytes}
+use Rattle.mpeg_ts_laws.proofs.ReadingLaw.{law_of_reading}
+use Rattle.mpeg_ts_laws.proofs.OpenPartLemmas.{Gives}
+use Rattle.mpeg_ts_laws.proofs.ReadingLemmas.{After, Held, Marked, Nothing, Reads, is_gap, is_held}
+use Rattle.mpeg_ts_laws.proofs.ReadingLemmas.{Located, located, sent-next, skip}
 use Rattle.std.specs.Bool.{⊤}
 
 -- A PES packet that is skipped is a gap.

@@ -7,7 +7,7 @@ use Rattle.mpeg_ts.specs.Carried.{mark_where}
 use Rattle.mpeg_ts_laws.specs.Losses.{Fated, any_wrong, arrives, arriving, is_wrong_behind}
 use Rattle.mpeg_ts_laws.specs.Losses.{units_before}
 use Rattle.mpeg_ts_laws.specs.Multiplex.{SentPes}
-use Rattle.mpeg_ts_laws.proofs.LossNoteLemmas.{or-true}
+use Rattle.mpeg_ts_laws.proofs.LeftNoteLemmas.{or-true}
 
 -- Bytes are the PES packets that arrive, with one mark behind them at most.
 pub record Leads (given gap : Bool) (sent : List (SentPes Fated)) (bytes : List ℕ) : Type 0 where

@@ -9,7 +9,7 @@ use Rattle.ttx_pes.proofs.PesHeaderLemmas.{body_complete, body_of, packet_of_bod
 use Rattle.mpeg_ts.specs.Carried.{mark}
 use Rattle.mpeg_ts_laws.specs.Laws.{LawOfWholeFile}
 use Rattle.mpeg_ts_laws.proofs.ArrivingLaw.{law_of_neighbours}
-use Rattle.mpeg_ts_laws.proofs.NeighbourLemmas.{pieces-append}
+use Rattle.mpeg_ts_laws.proofs.PieceLemmas.{pieces-append}
 
 -- Byte 6 of a mark is FF, that of a PES packet with Teletext begins with 1000.
 no-packet : (v : PesValue) → IsPesPacket v mark → ⊥

@@ -38,7 +38,9 @@ module _ {D : Type 0} {g : _} (IsTold : D → Event → D → Type 0) where
         same = rest.same ∙ first.same;
         stays = λ e. (on.0 ∙ at.0, on.1);
         whole = λ f. absurd (true≢false (sym on.1 ∙ f));
-        cut = rw (on.0, at.0) (TellsPrefix-first _ _ [] (e ∷ es) (TellsPrefix-whole _ _ [] (Tells-none _)));
+        cut =
+            rw (on.0, at.0)
+            (TellsPrefix-first _ _ [] (e ∷ es) (TellsPrefix-whole _ _ [] (Tells-none _)));
       }
   comes-more old mid new e es false true is then first rest =
       let on = rest.stays then in

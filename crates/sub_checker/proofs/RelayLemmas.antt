@@ -54,7 +54,9 @@ module _ {D : Type 0} {g : _} (IsTold : D → Event → D → Type 0) where
   -- Nothing.
   pub relays-none : (s : Stage D g) → StageRelays IsTold s [] s
   relays-none s = record {
-    told = subst (Tells (IsLatched IsTold) s.latch s.latch) (sym (passed-none s.relay)) (Tells-none s.latch);
+    told =
+        subst (Tells (IsLatched IsTold) s.latch s.latch) (sym (passed-none s.relay))
+        (Tells-none s.latch);
     kept = sym (after-none s.relay);
   }
 
@@ -130,7 +132,9 @@ pub silent : {D : Type 0} {g : _} (IsTold : D → Event → D → Type 0) (s t :
     → told_with m s.relay.trust ≡ []
     → StageRelays IsTold s (m ∷ []) t
 unfolding all_announced passed_after_all
-silent IsTold s t m is none = let no = Tells-none {IsTold = IsLatched IsTold} s.latch in grind (arith, nat_tests, one_told, one_kept)
+silent IsTold s t m is none =
+    let no = Tells-none {IsTold = IsLatched IsTold} s.latch in
+    grind (arith, nat_tests, one_told, one_kept)
 
 -- ---- what a device relays
 

@@ -168,7 +168,8 @@ plain_asked : (program stl pes : Text)
     → IsName stl
     → IsName pes
     → asked_for (program ∷ codes "check" ∷ stl ∷ pes ∷ [])
-    ≡ Some (Ok (Asked.Check stl (whole_pes_file pes) default_options English default_layout whole false))
+    ≡ Some
+    (Ok (Asked.Check stl (whole_pes_file pes) default_options English default_layout whole false))
 plain_asked program stl pes is_stl is_pes =
     ap (option_map (λ command. asked_in command.0 command.1)) (command_is program stl pes)
     ∙ ap (λ (rows : List Row). Some (asked_in (codes "check") rows))

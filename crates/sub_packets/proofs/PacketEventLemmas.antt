@@ -1,5 +1,5 @@
--- What is told of the packets of a frame, one packet on: `told_one`, `told_part`; and where they
--- break no rule, `packets_told-none`.
+-- What is told of the packets of a frame: of one that is passed, packets_told-passed; where they
+-- break no rule, packets_told-none.
 use Rattle.std.proofs.lemmas.Bool.Decides.{nat_tests}
 use Rattle.std.proofs.Common.{◌≡◌, ℕ, zero, suc, ◌+◌, List, [], ◌++◌, map, take}
 use Rattle.std.proofs.Common.{◌∙◌, append-nil, arith, get_or, refl}

@@ -7,8 +7,8 @@ use Rattle.ttx_pes.specs.Pieces.{IsPiece}
 use Rattle.mpeg_ts.specs.Carried.{mark}
 use Rattle.mpeg_ts_laws.specs.Multiplex.{pes_packets}
 use Rattle.mpeg_ts_laws.specs.Pace.{KeepPace, up_to_pts}
-use Rattle.mpeg_ts_laws.proofs.NeighbourLemmas.{one-way}
-use Rattle.mpeg_ts_laws.proofs.PaceLaw.{law_of_pace}
+use Rattle.mpeg_ts_laws.proofs.PieceLemmas.{one-way}
+use Rattle.mpeg_ts_laws.proofs.ReadingLaw.{law_of_pace}
 use Rattle.mpeg_ts_laws.proofs.WholeFileLemmas.{law_of_whole_file}
 use Rattle.sub_plan.specs.FrameTime.{clock_of}
 use Rattle.sub_plan.specs.Options.{OptionsValue}

@@ -1,5 +1,5 @@
--- The law: PaceLaw.
-use Rattle.mpeg_ts_laws.proofs.PaceLaw as lemma
+-- The law: ReadingLaw.
+use Rattle.mpeg_ts_laws.proofs.ReadingLaw as lemma
 use Rattle.mpeg_ts_laws.proofs.laws.law_of_pace.Goals as goal
 
 pub returns : goal.returns

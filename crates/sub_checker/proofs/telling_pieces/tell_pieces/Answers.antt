@@ -159,7 +159,8 @@ returns-then-stage-clause-exact g c = λ pieces unread bytes told reads.
     let here = rw c.in-Ok.is at c.in-Some.ensures.reads in
     let so_far =
     c.next_followed.ensures.told.kept c.args.audience.now _ c.requires.still i.5 in
-    let both : (c.match-piece.stage.latch.device.ghost_name ≡ c.next_followed.new.latch.device.ghost_name)
+    let both :
+    (c.match-piece.stage.latch.device.ghost_name ≡ c.next_followed.new.latch.device.ghost_name)
     × TellsPrefix g.A.Audience.is_told c.args.audience.now
     c.match-piece.stage.latch.device.now (all_of_pieces task pieces) =
     elim c.match-piece.branch [
@@ -217,7 +218,8 @@ pub returns-then-stage-clause-some : goal.returns-then-stage-clause-some
 returns-then-stage-clause-some g c =
     let inv = c.pieces.invariant in
     let here = rw c.in-Ok.is at c.in-Some.ensures.reads in
-    let both : (c.match-piece.stage.latch.device.ghost_name ≡ c.next_followed.new.latch.device.ghost_name)
+    let both :
+    (c.match-piece.stage.latch.device.ghost_name ≡ c.next_followed.new.latch.device.ghost_name)
     × TellsSome g.A.Audience.is_told c.next_followed.new.latch.device.now
     c.match-piece.stage.latch.device.now =
     elim c.match-piece.branch [
@@ -248,7 +250,8 @@ pub returns-then-stage-clause-stopped : goal.returns-then-stage-clause-stopped
 returns-then-stage-clause-stopped g c =
     let inv = c.pieces.invariant in
     let here = rw c.in-Ok.is at c.in-Some.ensures.reads in
-    let both : c.match-piece.stage.latch.device.ghost_name ≡ c.next_followed.new.latch.device.ghost_name =
+    let both :
+    c.match-piece.stage.latch.device.ghost_name ≡ c.next_followed.new.latch.device.ghost_name =
     elim c.match-piece.branch [
       | in-Passed w ↦
           rw w.stage-is

@@ -5,10 +5,10 @@ use Rattle.std.proofs.Common.{List, [], ◌∷◌, ◌++◌, Option, Some, None,
 use Rattle.std.proofs.Common.{subst}
 use Rattle.std.specs.List.{AllByRecursion, flat_map}
 use Rattle.std.specs.Option.{is_some, option_to_list}
-use Rattle.mpeg_ts_laws.proofs.LossGoodLemmas.{IsCounter, few-gone, few-there, fresh-later}
-use Rattle.mpeg_ts_laws.proofs.LossGoodLemmas.{break-left, AreRising, IsCopy, IsSomeLeft}
-use Rattle.mpeg_ts_laws.proofs.LossGoodLemmas.{carried-no_jump, copy-again, cut-left, good_left}
-use Rattle.mpeg_ts_laws.proofs.LossGoodLemmas.{link_left, linked-left}
+use Rattle.mpeg_ts_laws.proofs.LeftLemmas.{IsCounter, few-gone, few-there, fresh-later}
+use Rattle.mpeg_ts_laws.proofs.LeftLemmas.{break-left, AreRising, IsCopy, IsSomeLeft}
+use Rattle.mpeg_ts_laws.proofs.LeftLemmas.{carried-no_jump, copy-again, cut-left, good_left}
+use Rattle.mpeg_ts_laws.proofs.LeftLemmas.{link_left, linked-left}
 use Rattle.std.proofs.lemmas.Bool.{cases_Bool}
 use Rattle.std.proofs.lemmas.Bool.Decides.{nat_tests}
 use Rattle.std.proofs.lemmas.Grind.{flat_map-append}
@@ -21,10 +21,10 @@ use Rattle.mpeg_ts_laws.specs.Losses.{are_few_gone, is_there, units_before, unit
 use Rattle.mpeg_ts_laws.specs.Losses.{any_kept, any_wrong, is_as_sent, sent_packet}
 use Rattle.mpeg_ts_laws.specs.Multiplex.{Carrier, IsRepetition, is_quiet, items_of_carrier}
 use Rattle.mpeg_ts_laws.proofs.CarrierLemmas.{good-repeat}
-use Rattle.mpeg_ts_laws.proofs.LossNoteLemmas.{or-false, IsLeft, IsLeftCarrier, copy_of, good-first}
-use Rattle.mpeg_ts_laws.proofs.LossNoteLemmas.{good-no_first, good-no_second, good-quiets-left}
-use Rattle.mpeg_ts_laws.proofs.LossNoteLemmas.{good-second, heard-carrier, heard-kept, heard_left}
-use Rattle.mpeg_ts_laws.proofs.LossNoteLemmas.{since_loss}
+use Rattle.mpeg_ts_laws.proofs.LeftNoteLemmas.{or-false, IsLeft, IsLeftCarrier, copy_of, good-first}
+use Rattle.mpeg_ts_laws.proofs.LeftNoteLemmas.{good-no_first, good-no_second, good-quiets-left}
+use Rattle.mpeg_ts_laws.proofs.LeftNoteLemmas.{good-second, heard-carrier, heard-kept, heard_left}
+use Rattle.mpeg_ts_laws.proofs.LeftNoteLemmas.{since_loss}
 
 -- The carriers that are gone between two good packets, where the second follows the first.
 gone-between : (i n a b : ℕ)

@@ -16,19 +16,19 @@ use Rattle.mpeg_ts.specs.TransportPacket.{begins, payload}
 use Rattle.mpeg_ts_laws.specs.Losses.{Fated, any_wrong, are_there_after, arrives, is_there}
 use Rattle.mpeg_ts_laws.specs.Losses.{is_wrong_behind, last_carrier, sent_packet, units_before}
 use Rattle.mpeg_ts_laws.specs.Losses.{units_behind}
-use Rattle.mpeg_ts_laws.proofs.LossGoodLemmas.{carrier-payload}
-use Rattle.mpeg_ts_laws.proofs.LossPartLemmas.{Closes, IsBroken, broken-short, closes-piece}
-use Rattle.mpeg_ts_laws.proofs.LossPartLemmas.{parts_from-some, broken-unbegun, closes-broken}
+use Rattle.mpeg_ts_laws.proofs.LeftLemmas.{carrier-payload}
+use Rattle.mpeg_ts_laws.proofs.ClosedPartLemmas.{Closes, IsBroken, broken-short, closes-piece}
+use Rattle.mpeg_ts_laws.proofs.ClosedPartLemmas.{parts_from-some, broken-unbegun, closes-broken}
 use Rattle.mpeg_ts_laws.proofs.PartLemmas.{outcome-whole, IsWhole, parts_from-cut, concat-snoc}
 use Rattle.mpeg_ts_laws.proofs.PartLemmas.{parts_from-follows}
-use Rattle.mpeg_ts_laws.proofs.PacePartLemmas.{ClosesGiven, IsFront, closes-front}
-use Rattle.mpeg_ts_laws.proofs.PaceReadLemmas.{IsMarkExact, is_held, After, Fits, Held, Marked}
-use Rattle.mpeg_ts_laws.proofs.PaceReadLemmas.{Nothing, Reads, reads-marked, skip}
+use Rattle.mpeg_ts_laws.proofs.BegunPartLemmas.{ClosesGiven, IsFront, closes-front}
+use Rattle.mpeg_ts_laws.proofs.ReadingLemmas.{IsMarkExact, is_held, After, Fits, Held, Marked}
+use Rattle.mpeg_ts_laws.proofs.ReadingLemmas.{Nothing, Reads, reads-marked, skip}
 use Rattle.mpeg_ts_laws.specs.Multiplex.{Carrier, SentPes, carriers_of, carriers_of_pes}
 use Rattle.mpeg_ts_laws.specs.Pace.{up_to_pts}
-use Rattle.mpeg_ts_laws.proofs.LossNoteLemmas.{IsLeftCarrier}
-use Rattle.mpeg_ts_laws.proofs.NeighbourLemmas.{concat-marks, marks-pieces, marks_where}
-use Rattle.mpeg_ts_laws.proofs.PaceGoodLemmas.{IsHeard, Traced}
+use Rattle.mpeg_ts_laws.proofs.LeftNoteLemmas.{IsLeftCarrier}
+use Rattle.mpeg_ts_laws.proofs.PieceLemmas.{concat-marks, marks-pieces, marks_where}
+use Rattle.mpeg_ts_laws.proofs.TraceLemmas.{IsHeard, Traced}
 
 -- A part that is closed by a good packet.
 pub closed-by : (wrong_behind : Bool) (part : Part) (given gap : Bool) (front : List ℕ)
@@ -434,16 +434,17 @@ module _ (distance number : ℕ) (wrong_behind few : Bool) where
       → IsGoing part s between skipped n wrong []
       → (breaks ≡ false → n % 16 ≡ 0)
       → Fits (After piece s between skipped) (true && (longer || breaks))
-  going-fits part given gap s between skipped n wrong piece longer breaks as_sent (inl all) on none =
+  going-fits
+      part given gap s between skipped n wrong piece longer breaks as_sent (inl all) on none =
       inr (all.unskipped, as_sent (sym (append-nil (part_bytes part)) ∙ all.joined))
-  going-fits part given gap s between skipped n wrong piece longer breaks as_sent (inr (inl some)) on none
-      =
+  going-fits
+      part given gap s between skipped n wrong piece longer breaks as_sent (inr (inl some)) on none =
       let follows = on (grind (arith, nat_tests)) in
       let first = some.0 in
       let near = some.1 in
       inl (omega (arith, follows, first, near))
-  going-fits part given gap s between skipped n wrong piece longer breaks as_sent (inr (inr far)) on none
-      =
+  going-fits
+      part given gap s between skipped n wrong piece longer breaks as_sent (inr (inr far)) on none =
       let many = far.0 in inl (omega (arith, many))
 
   -- It begins as its PES packet does, whatever is joined to it.
@@ -586,7 +587,8 @@ module _ (distance number : ℕ) (wrong_behind few : Bool) where
       → IsHeard distance number few true n wrong c g
       → begins_part g ≡ false
       → is_break g.link ≡ false
-  heard-follows n wrong c g heard within = let link = (heard.linked refl).cut in grind (arith, nat_tests)
+  heard-follows n wrong c g heard within =
+      let link = (heard.linked refl).cut in grind (arith, nat_tests)
 
   -- So nothing is lost.
   heard-still : (n : ℕ) (wrong : Bool) (c : Carrier Fated) (g : GoodPacket)
@@ -605,7 +607,8 @@ module _ (distance number : ℕ) (wrong_behind few : Bool) where
       → IsHeard distance number few true n wrong c g
       → begins_part g ≡ true
       → is_break g.link ≡ true
-  heard-breaks n wrong c g begun heard cut = let link = (heard.linked refl).cut in grind (arith, nat_tests)
+  heard-breaks n wrong c g begun heard cut =
+      let link = (heard.linked refl).cut in grind (arith, nat_tests)
 
   -- So what is open is not whole, or was so before.
   cut-lost : (part : Part) (s : SentPes Fated) (between : ℕ) (skipped : Bool) (n : ℕ)
@@ -634,8 +637,8 @@ module _ (distance number : ℕ) (wrong_behind few : Bool) where
       absurd (cc (e, far.1))
 
   -- The rest, behind a part that begins no PES packet.
-  pub headless-within : (more : List (SentPes Fated)) (part : Part) (given gap behind : Bool) (n : ℕ)
-      (wrong : Bool) (cs : List (Carrier Fated)) (goods : List GoodPacket)
+  pub headless-within : (more : List (SentPes Fated)) (part : Part) (given gap behind : Bool)
+      (n : ℕ) (wrong : Bool) (cs : List (Carrier Fated)) (goods : List GoodPacket)
       → Onward more
       → part.begins ≡ false
       → AllByRecursion (IsLeftCarrier distance number false) cs
@@ -646,7 +649,8 @@ module _ (distance number : ℕ) (wrong_behind few : Bool) where
   headless-within more part given gap behind n wrong (c ∷ cs) goods go headless each traced =
       elim traced [
         | inl gone ↦
-            headless-within more part given gap behind (n + 1) gone.0 cs goods go headless each.1 gone.2
+            headless-within more part given gap behind (n + 1) gone.0 cs goods go headless each.1
+            gone.2
         | inr here ↦ elim (cases_Bool (begins_part here.0)) [
           | inl cut ↦
               subst (Gives few (gapped given) more)

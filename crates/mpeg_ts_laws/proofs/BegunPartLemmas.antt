@@ -16,7 +16,7 @@ use Rattle.mpeg_ts.specs.Parts.{Part, Pes, gap_where, outcome, part_bytes}
 use Rattle.mpeg_ts_laws.specs.Losses.{Fated}
 use Rattle.mpeg_ts_laws.specs.Multiplex.{SentPes}
 use Rattle.mpeg_ts_laws.specs.Pace.{up_to_pts}
-use Rattle.mpeg_ts_laws.proofs.LossPartLemmas.{Closes, closes-broken, closes-piece}
+use Rattle.mpeg_ts_laws.proofs.ClosedPartLemmas.{Closes, closes-broken, closes-piece}
 use Rattle.mpeg_ts_laws.proofs.PartLemmas.{piece-long, piece-size}
 
 -- ---- bytes that begin as others do

@@ -1,4 +1,5 @@
--- The good packets of what is left of carriers, and what links them. Main lemmas: copy-again, break-left.
+-- The good packets of what is left of carriers, and what links them. Main lemmas: copy-again,
+-- break-left.
 use Rattle.std.proofs.Common.{◌≡◌, ℕ, ◌+◌, ◌%◌, ◌<◌, Bool, true, false, not, ◌||◌, ◌==◌, List, []}
 use Rattle.std.proofs.Common.{◌∷◌, Option, Some, None, arith, if◌then◌else◌, length, length-drop}
 use Rattle.std.proofs.Common.{length-take, drop, nat_lt}
@@ -17,7 +18,7 @@ use Rattle.mpeg_ts_laws.specs.Losses.{Fated, are_few_gone, is_there, sent_packet
 use Rattle.mpeg_ts_laws.specs.Multiplex.{Carrier, IsRecordedUnit, IsRepetition, announces, carries}
 use Rattle.mpeg_ts_laws.specs.Multiplex.{packet_in}
 use Rattle.mpeg_ts_laws.proofs.CarrierLemmas.{counter-same}
-use Rattle.mpeg_ts_laws.proofs.LossNoteLemmas.{IsLeft, IsLeftCarrier, copy_of, since_loss}
+use Rattle.mpeg_ts_laws.proofs.LeftNoteLemmas.{IsLeft, IsLeftCarrier, copy_of, since_loss}
 
 -- ---- copies
 

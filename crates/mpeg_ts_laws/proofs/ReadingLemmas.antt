@@ -11,8 +11,8 @@ use Rattle.mpeg_ts_laws.specs.Losses.{Fated, any_wrong, arrives, is_wrong_behind
 use Rattle.mpeg_ts_laws.specs.Multiplex.{SentPes, carriers_of_pes}
 use Rattle.mpeg_ts_laws.specs.Pace.{AreFarApart, AreFarFrom, KeepPace, KeepPaceFrom, frame_by}
 use Rattle.mpeg_ts_laws.specs.Pace.{up_to_pts}
-use Rattle.mpeg_ts_laws.proofs.NeighbourLemmas.{HasNoMark, heads, marks_where, not-empty}
-use Rattle.mpeg_ts_laws.proofs.NeighbourLemmas.{sent_bytes, tails}
+use Rattle.mpeg_ts_laws.proofs.PieceLemmas.{HasNoMark, heads, marks_where, not-empty}
+use Rattle.mpeg_ts_laws.proofs.PieceLemmas.{sent_bytes, tails}
 
 -- What was given before: nothing; something, and a gap since; or a piece that begins as this PES
 -- packet does. Behind its first carrier so many stand before the next PES packet, and perhaps
@@ -119,7 +119,9 @@ module _ (few : Bool) (IsFar : List (SentPes Fated) → Type 0)
     (behind-far : (s : SentPes Fated) (more : List (SentPes Fated)) → IsFar (s ∷ more) → IsFar more)
   where
     -- A piece that is no mark began as one of them, and is it where few are gone.
-    pub record Located (x : List ℕ) (tail : List (List ℕ)) (sent : List (SentPes Fated)) : Type 0 where
+    pub record Located
+        (x : List ℕ) (tail : List (List ℕ)) (sent : List (SentPes Fated))
+        : Type 0 where
       pub earlier : List (List ℕ)
       pub here : SentPes Fated
       pub later : List (SentPes Fated)
@@ -400,7 +402,8 @@ module _ (frame_of : List ℕ → ℕ) (pace : ℕ) where
       → WasSent sent run last
   read-run held sent before [] last behind reads none keep far =
       let found =
-      located false (AreFarApart frame_of pace) (λ s more far. far.1) held sent (before ++ (last ∷ behind)) before behind last reads refl none.0 far in
+      located false (AreFarApart frame_of pace) (λ s more far. far.1) held sent
+      (before ++ (last ∷ behind)) before behind last reads refl none.0 far in
       record {
         earlier = found.earlier;
         later = sent_bytes found.later;
@@ -410,8 +413,9 @@ module _ (frame_of : List ℕ → ℕ) (pace : ℕ) where
       }
   read-run held sent before (x ∷ run) last behind reads none keep far =
       let found =
-      located false (AreFarApart frame_of pace) (λ s more far. far.1) held sent (before ++ (x ∷ (run ++ (last ∷ behind)))) before (run ++ (last ∷ behind)) x
-      reads refl none.0 far in
+      located false (AreFarApart frame_of pace) (λ s more far. far.1) held sent
+      (before ++ (x ∷ (run ++ (last ∷ behind)))) before (run ++ (last ∷ behind)) x reads refl none.0
+      far in
       let behind_it =
       follows x found.here (length found.here.others) false found.later (run ++ (last ∷ behind))
       run last behind found.reads refl none.1 keep found.front found.far.0 found.far.1 in

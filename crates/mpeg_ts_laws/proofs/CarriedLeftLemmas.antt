@@ -1,4 +1,5 @@
--- The law of losses, from the bytes of a recording: `law_of_losses`.
+-- What a recording carries of carriers of which some are lost: the good packets of what is left.
+-- Main lemma: carried-left.
 use Rattle.std.proofs.Common.{◌≡◌, ℕ, ◌+◌, ◌%◌, ◌≤◌, ◌⊎◌, inl, inr, Bool, true, false, ◌||◌, ◌==◌}
 use Rattle.std.proofs.Common.{List, [], ◌∷◌, ◌++◌, length, length-append, map, None, refl, ap, ◌∙◌}
 use Rattle.std.proofs.Common.{subst, arith, append_assoc, slice_index}
@@ -17,10 +18,10 @@ use Rattle.mpeg_ts_laws.specs.Multiplex.{IsCarrier, IsNextCarrier, IsRecordedUni
 use Rattle.mpeg_ts_laws.specs.Multiplex.{IsSentPes, Multiplex, SentPes, announces, carriers_of}
 use Rattle.mpeg_ts_laws.specs.Multiplex.{items_of_carrier, items_of_multiplex, packet_in}
 use Rattle.mpeg_ts_laws.specs.Multiplex.{carriers_of_pes}
-use Rattle.mpeg_ts_laws.proofs.LossGoodLemmas.{AreRising, IsSomeLeft, carried-no_jump}
+use Rattle.mpeg_ts_laws.proofs.LeftLemmas.{AreRising, IsSomeLeft, carried-no_jump}
 use Rattle.ttx_pes.specs.Pieces.{IsPiece}
-use Rattle.mpeg_ts_laws.proofs.LossNoteLemmas.{IsLeft, IsLeftCarrier, good-quiets-left, heard_left}
-use Rattle.mpeg_ts_laws.proofs.LossNoteLemmas.{since_loss}
+use Rattle.mpeg_ts_laws.proofs.LeftNoteLemmas.{IsLeft, IsLeftCarrier, good-quiets-left, heard_left}
+use Rattle.mpeg_ts_laws.proofs.LeftNoteLemmas.{since_loss}
 use Rattle.mpeg_ts_laws.proofs.RecordingLemmas.{noted, notes-units}
 
 -- ---- the recording

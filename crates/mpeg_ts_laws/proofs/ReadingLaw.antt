@@ -1,4 +1,6 @@
--- The law of pace: `law_of_pace`.
+-- What is read of PES packets that were sent, whatever was lost of them: `law_of_reading`, by
+-- induction over what was sent. The laws of losses, of neighbours and of the pace are read off it;
+-- that of the pace here: `law_of_pace`.
 use Rattle.std.proofs.Common.{◌≡◌, ℕ, ◌+◌, inl, inr, Bool, true, false, ◌&&◌, ◌||◌, List, [], ◌∷◌}
 use Rattle.std.proofs.Common.{◌++◌, length, None, refl, sym, ap, ◌∙◌, subst, arith, nat_lt, ◌≤◌}
 use Rattle.std.specs.List.{AllByRecursion, flat_map}
@@ -16,22 +18,22 @@ use Rattle.mpeg_ts_laws.specs.Losses.{is_wrong_behind, units_before, units_behin
 use Rattle.mpeg_ts_laws.specs.Losses.{sent_packet}
 use Rattle.mpeg_ts_laws.specs.Multiplex.{Multiplex, Carrier, SentPes, carriers_of, carriers_of_pes}
 use Rattle.mpeg_ts_laws.specs.Multiplex.{items_of_carrier}
-use Rattle.mpeg_ts_laws.proofs.PaceReadLemmas.{IsMarkExact, is_held, After, Fits, Held, Nothing}
-use Rattle.mpeg_ts_laws.proofs.PaceReadLemmas.{Reads, WasSent, read-run}
+use Rattle.mpeg_ts_laws.proofs.ReadingLemmas.{IsMarkExact, is_held, After, Fits, Held, Nothing}
+use Rattle.mpeg_ts_laws.proofs.ReadingLemmas.{Reads, WasSent, read-run}
 use Rattle.mpeg_ts_laws.specs.Pace.{HoldsPts, up_to_pts}
-use Rattle.mpeg_ts_laws.proofs.LossGoodLemmas.{IsCopy}
-use Rattle.mpeg_ts_laws.proofs.LossLaw.{all-carriers-left, all-pes, carried-left, first_counter}
-use Rattle.mpeg_ts_laws.proofs.LossLaw.{pes-rising, IsLeftPes}
-use Rattle.mpeg_ts_laws.proofs.PaceLemmas.{closed-by, payloads_of, Gives, Onward, Opens}
-use Rattle.mpeg_ts_laws.proofs.PaceLemmas.{carried_from, gapped, closing, going-ends, IsFirst}
-use Rattle.mpeg_ts_laws.proofs.PaceLemmas.{gives-later, gives-one, gives-opened, going-fits}
-use Rattle.mpeg_ts_laws.proofs.PaceLemmas.{going-skip, headless-within, open-within, opens-later}
-use Rattle.mpeg_ts_laws.proofs.PaceLemmas.{IsGoing}
-use Rattle.mpeg_ts_laws.proofs.LossNoteLemmas.{or-true, heard_left, since_loss}
-use Rattle.mpeg_ts_laws.proofs.LossPartLemmas.{broken-unbegun, closes-broken}
-use Rattle.mpeg_ts_laws.proofs.NeighbourLemmas.{marks-alone, marks_where, one-way}
-use Rattle.mpeg_ts_laws.proofs.PaceGoodLemmas.{IsHeard, Traced, traced}
-use Rattle.mpeg_ts_laws.proofs.PacePartLemmas.{IsFront}
+use Rattle.mpeg_ts_laws.proofs.LeftLemmas.{IsCopy}
+use Rattle.mpeg_ts_laws.proofs.CarriedLeftLemmas.{all-carriers-left, all-pes, carried-left}
+use Rattle.mpeg_ts_laws.proofs.CarriedLeftLemmas.{first_counter, pes-rising, IsLeftPes}
+use Rattle.mpeg_ts_laws.proofs.OpenPartLemmas.{closed-by, payloads_of, Gives, Onward, Opens}
+use Rattle.mpeg_ts_laws.proofs.OpenPartLemmas.{carried_from, gapped, closing, going-ends, IsFirst}
+use Rattle.mpeg_ts_laws.proofs.OpenPartLemmas.{gives-later, gives-one, gives-opened, going-fits}
+use Rattle.mpeg_ts_laws.proofs.OpenPartLemmas.{going-skip, headless-within, open-within, opens-later}
+use Rattle.mpeg_ts_laws.proofs.OpenPartLemmas.{IsGoing}
+use Rattle.mpeg_ts_laws.proofs.LeftNoteLemmas.{or-true, heard_left, since_loss}
+use Rattle.mpeg_ts_laws.proofs.ClosedPartLemmas.{broken-unbegun, closes-broken}
+use Rattle.mpeg_ts_laws.proofs.PieceLemmas.{marks-alone, marks_where, one-way}
+use Rattle.mpeg_ts_laws.proofs.TraceLemmas.{IsHeard, Traced, traced}
+use Rattle.mpeg_ts_laws.proofs.BegunPartLemmas.{IsFront}
 
 -- Marks alone are pieces, of no PES packet.
 gives-marks : (few : Bool) (held : Held) (marked : Bool)
@@ -244,25 +246,26 @@ module _ (distance number : ℕ) (wrong_behind few : Bool) where
       → Traced distance number few behind n wrong (t.first ∷ (t.others ++ carriers_of more)) goods
       → Gives few (gapped given) (t ∷ more)
       (carried_from distance number wrong_behind few part given gap goods)
-  next-headless t more part given gap behind n wrong goods go is holds headless traced = elim traced [
-    | inl gone ↦
-        gives-later few given t more
-        (carried_from distance number wrong_behind few part given gap goods)
-        (λ e. not-first t (gone.1 e))
-        (headless-within distance number wrong_behind few more part given gap behind (n + 1) gone.0
-        t.others goods go headless is.others gone.2)
-    | inr here ↦
-        subst (Gives few (gapped given) (t ∷ more))
-        (sym
-        (ap (carried_from distance number wrong_behind few part given gap) here.2
-        ∙ closed-by wrong_behind part given gap [] given true here.0 here.1
-        (closes-broken part given gap (broken-unbegun part headless))
-        (first-cuts t here.0 is here.3.copy)))
-        (opening t more here.0 here.1 here.4 (gapped given) given true go is holds here.3.copy
-        (λ e. (here.3.there e, here.5 e)) here.6
-        (gapped-held given) (gapped-fits given (is_break here.0.link))
-        (gapped-exact given (is_break here.0.link) t))
-  ]
+  next-headless t more part given gap behind n wrong goods go is holds headless traced =
+      elim traced [
+        | inl gone ↦
+            gives-later few given t more
+            (carried_from distance number wrong_behind few part given gap goods)
+            (λ e. not-first t (gone.1 e))
+            (headless-within distance number wrong_behind few more part given gap behind (n + 1) gone.0
+            t.others goods go headless is.others gone.2)
+        | inr here ↦
+            subst (Gives few (gapped given) (t ∷ more))
+            (sym
+            (ap (carried_from distance number wrong_behind few part given gap) here.2
+            ∙ closed-by wrong_behind part given gap [] given true here.0 here.1
+            (closes-broken part given gap (broken-unbegun part headless))
+            (first-cuts t here.0 is here.3.copy)))
+            (opening t more here.0 here.1 here.4 (gapped given) given true go is holds here.3.copy
+            (λ e. (here.3.there e, here.5 e)) here.6
+            (gapped-held given) (gapped-fits given (is_break here.0.link))
+            (gapped-exact given (is_break here.0.link) t))
+      ]
 
   -- and behind one that does, where its first packet is there.
   next-opened : (t : SentPes Fated) (more : List (SentPes Fated)) (part : Part)
@@ -295,8 +298,8 @@ module _ (distance number : ℕ) (wrong_behind few : Bool) where
             later one.is.closes (first-cuts t g is heard.copy))
             (opening t more g later since (After one.is.piece s between skipped) true one.is.longer
             go is holds heard.copy (λ e. (heard.there e, behind e)) traced refl
-            (going-fits distance number wrong_behind few part given gap s between skipped n wrong
-            one.is.piece one.is.longer (is_break g.link) one.is.as_sent going (heard.linked refl).far)
+            (going-fits distance number wrong_behind few part given gap s between skipped n
+            wrong one.is.piece one.is.longer (is_break g.link) one.is.as_sent going (heard.linked refl).far)
             (going-exact part s between skipped n wrong one.is.piece one.is.longer t g going heard
             (λ e. ((one.exact e).0, (one.exact e).2)))))
         | inr broken ↦
@@ -426,7 +429,8 @@ pub law_of_reading : (number distance : ℕ) (few : Bool) (m : Multiplex Fated) 
     → Gives few Nothing m.sent (carried number distance recording)
 law_of_reading number distance few m recording h small holds =
     subst (Gives few Nothing m.sent) (sym (carried-left distance number m recording h))
-    (starting distance number goods.wrong_behind few m.sent (any_wrong m.lead) goods.packets pes holds
+    (starting distance number goods.wrong_behind few m.sent (any_wrong m.lead) goods.packets pes
+    holds
     (traced distance number few None false (any_wrong m.lead)
     (15 + first_counter distance number cs) 0 cs tt
     (all-carriers-left distance number m.sent pes) (pes-rising distance number m recording h)
