@@ -6,20 +6,8 @@ use crate::packet_sizes::find_size;
 use crate::packets_in_step::PacketsInStep;
 use crate::pes_file::PesFile;
 use crate::text::Text;
-use mpeg_ts::{PacketSize, Pid};
+use mpeg_ts::{PacketSize, SurveyOptions};
 use std::alloc::Global;
-use ttx_packet::PageId;
-
-/// What is asked of a recording.
-#[derive(Clone, Copy, Debug, PartialEq, Eq)]
-pub struct SurveyOptions {
-    /// The page that is followed.
-    pub page: PageId,
-    /// The PID that alone is followed; `None` for each with Teletext.
-    pub pid: Option<Pid>,
-    /// The bytes from one packet to the next; `None` where they are to be found.
-    pub packet_size: Option<PacketSize>,
-}
 
 /// The bytes that are told of the recording.
 const HEAD: usize = 11;
