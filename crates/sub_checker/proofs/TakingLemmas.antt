@@ -6,22 +6,19 @@ use Rattle.std.proofs.Common.{◌≡◌, ℕ, suc, ◌+◌, ◌-◌, ◌<◌, �
 use Rattle.std.proofs.Common.{true, false, List, [], ◌∷◌, ◌++◌, length, refl, sym, ap}
 use Rattle.std.proofs.Common.{◌∙◌, subst, arith, ap₂, length-append}
 use Rattle.std.proofs.lemmas.List.{append-nil}
-use Rattle.ttx_page.specs.PacketKind.{kind}
-use Rattle.ttx_page.specs.Span.{holds_beginning}
-use Rattle.sub_rules.specs.Events.{since_before, standing_at}
 use Rattle.sub_rules.specs.FrameRules.{Task, frame_at, packets_before}
 use Rattle.sub_rules.specs.FrameRules.{packets_of_frame}
-use Rattle.sub_rules.specs.PieceEvents.{marks_at_end, marks_of_arrival, marks_of_ending}
-use Rattle.sub_rules.specs.PieceEvents.{marks_before, marks_of_more}
+use Rattle.sub_rules.specs.PieceEvents.{marks_of_arrival, marks_of_ending}
+use Rattle.sub_rules.specs.PieceEvents.{marks_of_more}
 use Rattle.sub_rules.specs.PieceEvents.{marks_of_packets, marks_of_sent, marks_of_waiting}
 use Rattle.sub_rules.specs.Pieces.{goes_on_with, with_packets}
 use Rattle.sub_rules.proofs.JoinedLemmas.{with_packets-length}
 use Rattle.sub_rules.specs.Sendings.{IsSentFrame}
 use Rattle.sub_rules.specs.Transmission.{SentFrame, Transmission}
-use Rattle.sub_rules.specs.Trusted.{Mark, stands_none}
-use Rattle.sub_rules.specs.Trusted.Mark.{AtPes, Begins, Ends}
+use Rattle.sub_rules.specs.Trusted.{Mark}
+use Rattle.sub_rules.specs.Trusted.Mark.{AtPes, Begins}
 use Rattle.sub_rules.specs.declared.event.Event.{Event}
-use Rattle.sub_checker.specs.Checker.{AreFew, CheckerValue, HasHeard, after_headers}
+use Rattle.sub_checker.specs.Checker.{CheckerValue, HasHeard, after_headers}
 use Rattle.sub_checker.specs.Following.{Arrives, Follows, Heard, Keeps, StaysOpen, next_marks}
 use Rattle.sub_checker.specs.Following.{back_stage, reaching_marks}
 use Rattle.sub_checker.proofs.EndingLemmas.{back_are}
@@ -179,12 +176,6 @@ next_each g frames n each = grind (arith, nat_tests)
 pub next_within : (g : Task) (frames : Transmission) (n : ℕ) → 0 < g.within
     → next_marks g frames n ≡ marks_of_arrival g frames n ++ marks_of_packets g frames n
 next_within g frames n within = grind (arith, nat_tests, append-nil)
-
--- ---- what is counted
-
--- One piece more.
-pub few_later : (pes : ℕ) (n : Counts) → AreFew pes n → AreFew (pes + 1) n
-few_later pes n few = grind (arith, nat_tests)
 
 -- ---- the packets of another frame
 

@@ -2,9 +2,10 @@ pub mod Checker
 pub mod Following
 pub mod Latch
 pub mod Lending
+pub mod NextPieces
 pub mod PassedPieces
-pub mod Relay
 pub mod PieceTelling
+pub mod Relay
 pub mod Steps
 pub mod Telling
 pub mod Trust

@@ -4,14 +4,23 @@ ghost use Rattle.std.specs.Prelude.{Option, false, is_err, is_none, length, take
 ghost use Rattle.sub_io.specs.Device.{CanFail, CountsIf, failed};
 ghost use Rattle.sub_io.specs.Reading.{IfTold};
 ghost use Rattle.sub_io.specs.Telling.{TellsSome};
+ghost use Rattle.stl_file.specs.TimeCode.{day};
+ghost use Rattle.ttx_pes.specs.PesPacket.{IsPesValue};
 ghost use Rattle.ttx_pes.specs.Reader.{FailsAtPacket};
+ghost use Rattle.ttx_pes.specs.Reading.{most_packets};
 ghost use Rattle.stl_rows.specs.Programme.{IsProgramme};
 ghost use Rattle.sub_plan.specs.FrameTime.{clock_of};
 ghost use Rattle.sub_plan.specs.Options.{IsOptions};
 ghost use Rattle.sub_rules.specs.Fault.{is_pes_read};
-ghost use Rattle.sub_rules.specs.FrameRules.{Unread, task_beside};
+ghost use Rattle.sub_rules.specs.FrameRules.{Task, Unread, task_beside};
+ghost use Rattle.sub_rules.specs.PacketRules.{packets_of_units};
 ghost use Rattle.sub_rules.specs.Pieces.{FailsAtPiece, Piece, ReadsPieces, frames_of};
+ghost use Rattle.sub_rules.specs.Transmission.{Transmission};
 ghost use Rattle.sub_rules.specs.Trusted.Mark.{AtPes, Says};
+ghost use Rattle.sub_checker.specs.Checker.{AreFew};
+ghost use Rattle.sub_checker.specs.Following.{Keeps};
+ghost use Rattle.sub_checker.specs.NextPieces.{IsAgain, is_passed, last_with, marks_of_read};
+ghost use Rattle.sub_checker.specs.NextPieces.{sent_with};
 ghost use Rattle.sub_checker.specs.Relay.{StageRelays};
 ghost use Rattle.sub_checker.specs.PieceTelling.{TellsPieces};
 
@@ -96,21 +105,49 @@ pub fn tell_pieces<S: Source, A: LiveAudience<Event>>(
         let Some(piece) = next else {
             return Ok(finish(&mut checker, pes, None, &mut stage));
         };
-        match piece {
-            NextPiece::Passed(fault) => {
-                tell_passed(pes, fault, &mut stage);
-                passed = true;
-            }
-            NextPiece::Sent(sending) => {
-                let units = units_of(&reader);
-                checker.go_on(pes, after_piece(passed, sending), &units, &mut stage);
-                passed = false;
-            }
-        }
+        passed = tell_piece(piece, pes, passed, &reader, &mut checker, &mut stage);
         if stage.latch.stopped {
             return Ok(None);
         }
         pes += 1;
+    }
+}
+
+// Tells a piece that was read, and says whether it is passed over. `passed` says whether the one
+// before it was.
+fn tell_piece<A: Audience<Event>>(
+    piece: NextPiece,
+    pes: u32,
+    passed: bool,
+    reader: &ComparingReader,
+    checker: &mut Checker<'_>,
+    stage: &mut Stage<'_, A>,
+) -> bool
+    requires day { (sending : Sending) → piece ≡ NextPiece.Sent sending → sending.frame < day }
+    requires fewer { pes ≤ most_packets }
+    requires room { AreFew pes checker.old.counts }
+    ensures passed { result ≡ is_passed piece }
+    ensures frame { (sending : Sending) → piece ≡ NextPiece.Sent sending
+        → IsPesValue reader.now.frame }
+    ensures room { AreFew (pes + 1) checker.new.counts }
+    ensures told { (g : Task) (sent : Transmission) (last : List (List ℕ))
+        → Keeps g sent last checker.old
+        → (passed ≡ false → IsAgain piece → last ≡ packets_of_units reader.now.frame.units)
+        → StageRelays A.is_told stage.old
+        (marks_of_read g sent pes piece (packets_of_units reader.now.frame.units)) stage.new
+        × Keeps g (sent_with g sent piece (packets_of_units reader.now.frame.units))
+        (last_with last piece (packets_of_units reader.now.frame.units)) checker.new }
+{
+    match piece {
+        NextPiece::Passed(fault) => {
+            tell_passed(pes, fault, stage);
+            true
+        }
+        NextPiece::Sent(sending) => {
+            let units = units_of(reader);
+            checker.go_on(pes, after_piece(passed, sending), &units, stage);
+            false
+        }
     }
 }
 
