@@ -25,7 +25,7 @@ from typing import Any, Iterator, NamedTuple, Sequence
 from subtitles.calls.main import main
 from subtitles.core.built import TOP
 from subtitles.core.words import run
-from subtitles.qc import steps
+from subtitles.qc import checks
 from subtitles.qc.ending import Ending
 from .scenario import Scenario
 
@@ -143,7 +143,7 @@ def in_folder() -> Iterator[None]:
 
 def called(words: list[str], program: str, more: Sequence[str] = ("-p", "PROGRAM")) -> Said:
     """All that a call of qc says."""
-    setattr(steps, "subprocess", Here)
+    setattr(checks, "subprocess", Here)
     # Not by the time.
     setattr(Ending, "is_due", lambda self, packets: packets.count > 2 * self.count + 4)
     status, out, told = in_process(lambda line: main("", "tools/qc", line),

@@ -22,7 +22,7 @@ from subtitles.core.stl import NEW_LINE
 from subtitles.core.times import CLOCK, TICKS
 from subtitles.qc.asked import asked_of
 from subtitles.qc.made_with import Program
-from subtitles.qc.names import Names, of_pid
+from subtitles.qc.names import Names
 from subtitles.qc.pair import Pair
 from subtitles.qc.progress import Progress
 from subtitles.qc.severity import Severity
@@ -100,9 +100,8 @@ def judged(case: Case, *words: str, by: str | None = None, heard: Heard | None =
         files.leave(pair)
         # Of a feed the PES packets that were kept stand for the recording.
         known_files = {asked.stl, asked.recording, os.devnull}
-        if pair.recording and not pair.recording.is_file:
-            known_files = {asked.stl, os.devnull, names.whole, *(
-                names.typed(of_pid(pid)) for pid in pair.recording.pids())}
+        if pair.recording:
+            known_files.add(pair.recording.shown)
         for line in verdict.commands:
             case.must(line, set(shown_files(line)) <= known_files, known_files)
     return Judged(verdict, heard.lines, result, listed)

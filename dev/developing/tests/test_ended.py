@@ -280,8 +280,8 @@ class Mistakes(Story):
                       AssertionError("never"), IndexError("far"), OSError("read"), Stop("stopped")):
             with self.subTest(error=error):
                 self.failing("qc.pair.Pair.judge", error)
-        for place in ("qc.steps.Steps.check_alone", "qc.steps.find", "qc.judging.Judging.end",
-                      "qc.verdict.Part.is_read", "qc.checking.Answer.take"):
+        for place in ("qc.checks.check_alone", "qc.clocks.find", "qc.judging.end",
+                      "qc.part.Part.is_read", "qc.checking.Answer.take"):
             with self.subTest(place):
                 self.failing(place, ValueError("odd"))
 

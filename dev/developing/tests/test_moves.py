@@ -6,8 +6,7 @@ from typing import Callable, Sequence
 from developing.pes import pts_in
 from subtitles.core.programme import Subtitle
 from subtitles.core.times import TICKS, Between
-from subtitles.qc.clock import RECORDING, Clock
-from subtitles.qc.fitting import Found
+from subtitles.qc.clock import RECORDING, Clock, Found
 from subtitles.qc.moved import Piece, moves_told, pieces_of
 from subtitles.reading.moving import Stage, joined, part_inside, stages_of
 from subtitles.reading.packets import Change, Mark, Packets, Run

@@ -15,13 +15,14 @@ from subtitles.calls.objects import Row
 from subtitles.calls.single import Files, Output, end, end_pair, judge_pair, name_of
 from subtitles.core.words import Stop
 from subtitles.qc.checking import Answer
-from subtitles.qc.clock import FITTED, GIVEN, RECORDING, Clock
+from subtitles.qc.clock import FITTED, GIVEN, RECORDING, Clock, Found
 from subtitles.qc.made_with import program_at
 from subtitles.qc.names import Names
 from subtitles.qc.severity import Severity
 from subtitles.qc.typed import Typed
 from subtitles.qc.unclear import Unclear
-from subtitles.qc.verdict import Gap, Part, Verdict
+from subtitles.qc.part import Part
+from subtitles.qc.verdict import Gap, Verdict
 from subtitles.qc.warned import Warned
 from subtitles.reading.gaps import Place
 from .bench import Case, example
@@ -63,7 +64,7 @@ class Ends(Case):
             "! a note", said[2], "a hint", "accepted 10 frames 2 transmissions"] and
             "strange" in said[2] and said[2].startswith("! "), said)
         fitted = part_with(0, 9, 0)
-        fitted.clock = Clock(0, RECORDING)
+        fitted.found = Found(0, 9, Clock(0, RECORDING))
         said = self.said(self.verdict([fitted, part_with(10, 19, 0, number=2)]))
         self.must("parts", said[1:3] == [
             "part 1, from 00:00:00:00 to 00:00:00:09: accepted 10 frames 2 transmissions",
@@ -145,7 +146,7 @@ class Writes(Case):
             said.take(line)
         said.end(1)
         made = part_with(0, 9, 0, said, number)
-        made.stl_path = example("story.stl")
+        made.names.given = example("story.stl")
         return made
 
     def verdict(self, lines: Sequence[str] = REFUSED) -> Verdict:
@@ -319,13 +320,12 @@ class Overview(Case):
         names = Names("one", self.folder, self.path("out"))
         verdict = Verdict(asked_for(example("story.stl"), "one.pes"), Severity(None), "now")
         verdict.parts = [part_with(0, 9, 7), part_with(50, 99, 9, answer(REFUSED), 2),
-                         part_with(120, 149, None, number=3)]
+                         part_with(120, 149, 7, number=3)]
         for delay, words in ((None, "origin 7, given"), (0, "origin 7, given"),
                              (2, "origin 7, given, all 2 frames late"),
                              (-1, "origin 7, given, all 1 frame early")):
-            verdict.parts[0].clock = Clock(7, GIVEN, delay)
+            verdict.parts[0].found = Found(0, 9, Clock(7, GIVEN, delay))
             self.must(words, overview.clock_of(verdict.parts[0]) == words)
-        self.must("no clock", overview.clock_of(verdict.parts[2]) == "")
         table = overview.table(verdict, names)
         for number in (1, 2, 3):
             link = f'<a href="one.{number}.html">'
@@ -336,7 +336,7 @@ class Overview(Case):
         self.must("between", "between 00:00:00:09 and 00:00:02:00; between 00:00:03:24 and "
                   "00:00:04:20." in overview.between(verdict.parts))
         for part in verdict.parts:
-            part.stl_path = example("story.stl")
+            part.names.given = example("story.stl")
         verdict.gaps = [gap(True), gap(False)]
         verdict.warnings = [Warned("kind", "strange")]
         box = overview.box(verdict, "the <line>")

@@ -219,8 +219,9 @@ class Members(unittest.TestCase):
             "packet_size", "pes", "judged")], [
             2, 7, "00:00:01:00", "00:00:01:24", "accepted", 10, 2, 0, None, None, None, None])
         self.assertEqual(bare["clock"], {"origin": 7, "source": GIVEN, "delay_frames": None})
-        part.stream, part.pes = (0x101, 204), (3, 9)
-        part.judged, part.clock = File("a.cut.pes", 5, "sum"), None
+        recording: Any = SimpleNamespace(stream=lambda: (0x101, 204))
+        part.recording, part.pes = recording, (3, 9)
+        part.judged, part.found = File("a.cut.pes", 5, "sum"), None
         for is_kept, name in ((True, "a.cut.pes"), (False, None)):
             words = part_words(part, is_kept)
             self.assertEqual([words[name] for name in ("pid", "packet_size", "pes", "judged",

@@ -231,7 +231,7 @@ class Recordings(Case):
             ([], path, ["html", "json", "txt"]),
             (["--keep"], path, ["html", "json", "recording.pes", "txt"]),
             ([], in_pipe(self, data), ["html", "json", "txt"]),
-            (["--keep"], in_pipe(self, data), ["html", "json", "recording.pes", "txt"])]
+            (["--keep"], in_pipe(self, data), ["html", "json", "recording.ts", "txt"])]
         for words, recording, kept in rows:
             out = self.path(f"out{len(os.listdir(self.folder))}")
             found = judged(self, STORY, recording, "-o", out, "--origin", "0", *words)

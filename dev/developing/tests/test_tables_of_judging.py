@@ -14,8 +14,8 @@ from developing.stl import gsi_block, subtitle_blocks, tti_block
 from subtitles.core.times import CLOCK, TICKS
 from subtitles.qc.causes import (
     ATTRIBUTE, EARLY, LATE, NEVER, NOT_ERASED, OTHER, PLACE, TEXT, UNKNOWN)
-from subtitles.qc.clock import GIVEN, RECORDING, START, Clock
-from subtitles.qc.fitting import Found, found_in
+from subtitles.qc.clock import GIVEN, RECORDING, START, Clock, Found
+from subtitles.qc.clocks import found_in
 from subtitles.qc.off_frame import Off, off_of
 from subtitles.qc.start import start_frame
 from subtitles.qc.subtitle_file import SubtitleFile
@@ -24,10 +24,9 @@ from subtitles.qc.warned import (
     Warned, length_words, of_character_sets, of_counts, of_jumps, of_pauses, of_repeat, of_tables,
     there_are)
 from subtitles.qc.within import Trying, is_accepted, line_of
-from subtitles.reading.cutting import Cut
 from subtitles.reading.finding import OfPart, Origin, Sought
 from subtitles.reading.gaps import Jump
-from subtitles.reading.packets import Packets
+from subtitles.reading.packets import Packets, Range
 from subtitles.reading.survey import Announced
 from .bench import Case
 from .parts import CLOSING, HEADER, PAGE, asked_for, packets_told
@@ -39,6 +38,12 @@ AT_THE_END = ("refused 77 Repeat frame 00:00:01:00", 1)
 OTHERS = ("refused 61 OffFrame pes 1", 1)
 
 
+def part_of(found: Found, **more: Any) -> Any:
+    """A part of some frames."""
+    recording = SimpleNamespace(packets=None)
+    return SimpleNamespace(found=found, recorded=(recording, found), **more)
+
+
 class Tried(Trying):
     """A part tried within more frames, of which `check` says what a test says."""
 
@@ -46,17 +51,18 @@ class Tried(Trying):
                  asked: int = 0, is_cut: bool = True) -> None:
         self.said_within, self.clocks = said, clocks
         known = asked_for("one.stl", "one.pes", "--within", str(asked))
-        self.steps: Any = SimpleNamespace(asked=known, taken=lambda *_: Cut(
-            (0, 9) if is_cut else None, 10))
-        self.recording: Any = None
-        self.one: Any = SimpleNamespace(found=Found(0, 9, Clock(7, RECORDING)))
+        self.part: Any = part_of(Found(0, 9, Clock(7, RECORDING)), asked=known)
+        self.is_cut = is_cut
         self.checked: list[tuple[int, int]] = []
 
     def clocked(self, within: int) -> Found | None:
         origin = self.clocks.get(within, 7)
         return None if origin is None else Found(0, 9, Clock(origin, RECORDING))
 
-    def check(self, found: Found, cut: Cut, within: int) -> tuple[str, int]:
+    def taken(self, found: Found) -> Range | None:
+        return (0, 9) if self.is_cut else None
+
+    def check(self, found: Found, pes: Range, within: int) -> tuple[str, int]:
         self.checked.append((within, found.origin))
         return self.said_within[within - 1]
 
@@ -104,7 +110,7 @@ class Within(unittest.TestCase):
         and of one that was fitted."""
         for source, most in ((GIVEN, 5), (RECORDING, 10)):
             tried = Tried([], {})
-            tried.one = SimpleNamespace(found=Found(0, 9, Clock(7, source)))
+            tried.part = part_of(Found(0, 9, Clock(7, source)))
             for name, frames, wanted in (
                     (LATE, most, True), (LATE, most + 1, False), (LATE, 1, True),
                     (LATE, None, True), (EARLY, most, True), (EARLY, most + 1, False),
@@ -135,11 +141,10 @@ class Within(unittest.TestCase):
                 (2, 3, 10, 18, RECORDING, None), (2, 3, 9, 19, RECORDING, None),
                 (2, 3, 10, 19, GIVEN, 7), (1, 1, 0, 9, START, 7)):
             tried: Any = Trying.__new__(Trying)
-            tried.one = SimpleNamespace(found=Found(begin, end, Clock(7, source)))
-            tried.number, tried.count = number, count
-            tried.recording = SimpleNamespace(packets=None)
-            tried.steps = SimpleNamespace(sought=lambda *_: Sought("one.stl", "one.pes"))
-            with mock.patch("subtitles.qc.within.origin_in", ask):
+            tried.part = part_of(Found(begin, end, Clock(7, source)), number=number)
+            tried.count, tried.pair = count, None
+            with mock.patch("subtitles.qc.clocks.origin_in", ask), mock.patch(
+                    "subtitles.qc.clocks.sought", lambda *_: Sought("one.stl", "one.pes")):
                 found = tried.clocked(3)
             self.assertEqual(found and found.origin, wanted, (number, count, begin, end))
         self.assertEqual(set(asked), {Sought("one.stl", "one.pes", within=3)})

@@ -37,10 +37,9 @@ class Named(Case):
             names = Names("one", self.folder, out)
             for one, name in ((names, "one"), (names.of_part(2), "one.2")):
                 typed = os.path.join(out or "", name)
-                self.must(f"{out} {name}: typed", [one.whole, one.report] == [
-                    f"{typed}.{ending}" for ending in ("recording.pes", "html")])
+                self.must(f"{out} {name}: typed", one.report == f"{typed}.html")
                 self.must(f"{out} {name}: here", (one.whole_path, one.list_path) == (
-                    os.path.join(self.folder, f"{name}.recording.pes"),
+                    os.path.join(self.folder, f"{name}.recording"),
                     os.path.join(here, f"{name}.txt")))
                 self.must(f"{out} {name}: object", one.machine == (f"{typed}.json" if out else
                                                                    None))
@@ -49,16 +48,16 @@ class Named(Case):
         """Files of the pair and of its parts, and of no other pair."""
         out = self.path("out")
         os.mkdir(out)
-        own = ["one.1.txt", "one.12.cut.pes", "one.3.txt", "one.9.html", "one.10f.recording.pes"]
+        own = ["one.1.txt", "one.12.cut.pes", "one.3.txt", "one.9.html"]
         others = ["one.0.txt", "one.x.txt", "one.1x.txt", "two.1.txt", "one.1.a.txt", "one.01.txt",
-                  "one.txt.1", "one.1.stl", "one.5.html", "one.5.json", "one.5.recording.pes",
-                  "one.x.recording.pes"]
+                  "one.txt.1", "one.1.stl", "one.5.html", "one.5.json", "one.x.recording.pes"]
         for name in [*own, *others]:
             with open(os.path.join(out, name), "wb"):
                 pass
         names = Names("one", self.folder, out)
         found = [os.path.basename(path) for path in names.kept()]
         self.must("own", sorted(found) == sorted([*own, "one.cut.pes", "one.recording.pes",
+                                                  "one.recording.ts",
                                                   "one.txt", "one.html", "one.json"]), found)
         self.must("no folder", Names("one", self.folder, None).kept() == [])
 

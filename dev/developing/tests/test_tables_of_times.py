@@ -9,9 +9,8 @@ from typing import Any, Sequence
 
 from subtitles.core.spans import Spans, joined
 from subtitles.core.times import CLOCK, TICKS
-from subtitles.qc.clock import RECORDING, Clock
-from subtitles.qc.fitting import Found
-from subtitles.qc.steps import Steps
+from subtitles.qc.clock import RECORDING, Clock, Found
+from subtitles.qc.clocks import last_time
 from subtitles.reading.cutting import cut_of
 from subtitles.reading.finding import drift_of
 from subtitles.reading.gaps import SECOND, Jump, Place, jumps_of, line_of, places_of, what_of
@@ -201,12 +200,12 @@ class Times(unittest.TestCase):
 
     def test_what_is_near_in_a_feed(self) -> None:
         """Of the time bases the last in which PES packets come near the time of the subtitles."""
-        steps = Steps.__new__(Steps)
-        steps.asked = asked_for("a.stl", "a.pes", "--every", "25")
+        pair: Any = SimpleNamespace(asked=asked_for("a.stl", "a.pes", "--every", "25"),
+                                    whole=Found(110, 120, Clock(0, RECORDING)))
         for frames, wanted in (([0, 110, 120, 600] * 2, (4, 6)), ([600, 700], None),
                                ([0, 110, 120, 600, -9, -8], (0, 2)),
                                ([600, 700, 800, 900, 50, 60], (4, 5)),
                                ([110, 120, 600, 700, 400, 410], (0, 1))):
             recording: Any = SimpleNamespace(packets=packets_with([TICKS * one for one in frames]))
-            found = steps.near(recording, Found(110, 120, Clock(0, RECORDING)), 0)
+            found = last_time(pair, recording, 0)
             self.assertEqual(found, wanted, frames)

@@ -13,8 +13,9 @@ from ..qc.layouts import Choice
 from ..qc.made_with import Program
 from ..qc.naming import counts_of
 from ..qc.options import passed_members
+from ..qc.part import Part
 from ..qc.sums import File
-from ..qc.verdict import Gap, Part, Verdict
+from ..qc.verdict import Gap, Verdict
 
 FORMAT = 3
 
@@ -40,7 +41,7 @@ def part_words(part: Part, is_kept: bool) -> dict[str, Value]:
     judged = part.judged and {**part.judged._asdict(), **({} if is_kept else {"name": None})}
     answer, (begin, end) = part.answer, part.times()
     pid, packet_size = part.stream or (None, None)
-    return {"part": part.number, "stl": part.stl, "origin": part.origin, "from": begin, "to": end,
+    return {"part": part.number, "stl": part.asked.stl, "origin": part.origin, "from": begin, "to": end,
             "verdict": answer.verdict, "line": answer.line,
             "frames": answer.frames, "transmissions": answer.transmissions,
             "faults": answer.count, "pid": pid, "packet_size": packet_size,

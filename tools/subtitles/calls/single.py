@@ -21,6 +21,7 @@ from ..qc.hints import hints_of
 from ..qc.made_with import program_at
 from ..qc.names import Names
 from ..qc.pair import Pair
+from ..qc.part import Part
 from ..qc.progress import Progress
 from ..qc.recording import size_of
 from ..qc.severity import Severity
@@ -28,7 +29,7 @@ from ..qc.speech import Speech
 from ..qc.status import NOT_JUDGED
 from ..qc.typed import Typed
 from ..qc.unclear import Unclear
-from ..qc.verdict import Gap, Part, Verdict
+from ..qc.verdict import Gap, Verdict
 from ..qc.within import line_of as line_of_within
 from ..reading.gaps import TOLD
 from . import junit, machine, table
@@ -88,15 +89,13 @@ def refuse_auto(asked: Asked) -> None:
             raise Stop(AUTO_OF_FEED)
 
 
-def draw(pair: Pair, part: Part, names: Names, gaps: Sequence[Gap], count: int) -> None:
+def draw(pair: Pair, part: Part, gaps: Sequence[Gap], count: int) -> None:
     """Draws the report of a part, one of so many, with what is missing there."""
     from ..preview import page, program as asking, report  # most calls need nothing of these
     verdict, typed = pair.verdict.of_part(part, [*gaps]), pair.typed
-    path, shown_name = pair.recording.judged() if pair.recording else (None, None)
-    program = asking.Program(typed.program_word, typed.program_path, path,
-                             pair.recording.stream() if pair.recording else None, names.folder)
-    if pair.recording and not pair.recording.is_file:
-        program.stream = None
+    program = asking.Program(typed.program_word, typed.program_path,
+                             part.recording.path if part.recording else None, part.stream,
+                             part.names.folder)
     files = [(kind, file) for kind, file in (
         ("STL", verdict.stl), ("PES", part.judged), ("Recording", verdict.recording)) if file]
     subject = report.Subject(verdict, part, count, program, pair.speech.commands, files)
@@ -104,7 +103,7 @@ def draw(pair: Pair, part: Part, names: Names, gaps: Sequence[Gap], count: int) 
         text = page.report_page(report.Report(subject))
     except asking.NoReport as reason:
         raise Unclear(f"no report was made: {reason}") from None
-    with whole_file(names.report, [pair.asked.stl, pair.asked.recording]) as file:
+    with whole_file(part.names.report, [pair.asked.stl, pair.asked.recording]) as file:
         file.write(text.encode("utf-8", "replace"))
 
 
@@ -273,7 +272,7 @@ class Files:
         """Keeps the PES packets of the recording, where that is asked for."""
         recording = pair.recording
         if self.words.is_kept and recording and recording.packets.count:
-            recording.keep(self.names.place("recording.pes"))
+            recording.keep()
 
     def lines(self) -> list[str]:
         """The first lines of the lists of all parts."""

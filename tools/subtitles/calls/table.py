@@ -8,7 +8,8 @@ from typing import Any, Iterable, Iterator, Sequence
 
 from ..core.words import shown
 from ..qc.faults import Cell, Fault
-from ..qc.verdict import Part, Verdict
+from ..qc.part import Part
+from ..qc.verdict import Verdict
 
 OF_FAULT = ["part", "number", "name", "severity", "file", "block", "subtitle", "begin", "end",
             "byte", "character", "pes", "pes_time", "packet", "frame", "time", "row", "column",

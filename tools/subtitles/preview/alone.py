@@ -9,22 +9,25 @@ import time
 
 from ..core.built import behind_script
 from ..core.layout import PLAIN, layout_of
+from ..core.times import FRAMES_OF_A_DAY
 from ..core.told import EMPTY, STL_FAULTS, WITH_CAUSE
 from ..core.words import line_of, stream_words
 from ..qc.asked import Asked
 from ..qc.beside import Beside, beside_of, due_beside, is_judged_beside
 from ..qc.checking import Answer, check
-from ..qc.clock import GIVEN, Clock
+from ..qc.clock import GIVEN, Clock, Found
 from ..qc.delays import MOVED, frames_in
 from ..qc.due_pages import due_pages_of
+from ..qc.names import Names
 from ..qc.naming import Causes
 from ..qc.options import LAYOUT
+from ..qc.part import Part
 from ..qc.severity import Severity
 from ..qc.subtitle_file import SubtitleFile
 from ..qc.sums import Files
 from ..qc.typed import line_of as command_of
 from ..qc.unclear import Unclear
-from ..qc.verdict import Part, Verdict
+from ..qc.verdict import Verdict
 from ..reading.packets import PES, Packets
 from ..reading.survey import survey
 from .program import NoReport, Program
@@ -86,8 +89,11 @@ def part_of(asked: Asked, program: str, options: list[str], folder: str) \
         raise NoReport(f"{program} can't be run: {line_of(reason)}") from None
     if asked.recording is None and is_judged_beside(answer.numbers):
         answer = answer.without(EMPTY, os.path.join(folder, "refused.txt"))
-    part = Part(1, asked.stl, asked.stl, None, asked.origin, None, None, None, answer,
-                Clock(asked.origin or 0, GIVEN), asked=asked, was_read=True)
+    names = Names("report", folder, None)
+    names.give(asked.stl)
+    part = Part(1, asked, names, Found(0, FRAMES_OF_A_DAY - 1, Clock(asked.origin or 0, GIVEN)),
+                was_read=True)
+    part.answer = answer
     if answer.first is None or answer.first.block is None:
         part.due = functools.cache(lambda: due_pages_of(
             program, asked.stl, asked.page, asked.option, words=asked.words_of_pages(),

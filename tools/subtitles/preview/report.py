@@ -14,8 +14,9 @@ from ..core.told import UNDECIDED, Told
 from ..core.words import counted, shown
 from ..qc.clock import START, TCP
 from ..qc.made_with import program_at
+from ..qc.part import Part
 from ..qc.sums import File
-from ..qc.verdict import Part, Verdict
+from ..qc.verdict import Verdict
 from ..reading.gaps import TOLD
 from ..reading.held import with_marks
 from ..reading.receiver import Rows
@@ -58,7 +59,7 @@ class Subject(NamedTuple):
         words += ["--complete"] * asked.is_complete
         words += [f"--within {asked.within}"] * (asked.within > 0)
         words += [f"--pes {part.pes_name}"] if part.pes else []
-        return " ".join([*words, *(part.between.words() or map(
+        return " ".join([*words, *(part.asked.between.words() or map(
             "{} {}".format, ("--from", "--to"), map(time_of, self.window)))])
 
 
@@ -69,7 +70,7 @@ class Report:
         self.subject, self.asked = subject, subject.judged.asked
         self.part, self.program = subject.part, subject.program
         answer = self.part.answer
-        self.stl, self.page = self.part.stl, page_name(*self.asked.page)
+        self.stl, self.page = self.part.asked.stl, page_name(*self.asked.page)
         self.origin = self.part.origin or 0
         self.date = subject.judged.date.replace("T", " ").replace("Z", " UTC")
         self.made_with = program_at(self.program.path)
@@ -114,7 +115,7 @@ class Report:
         clock, count, recording = self.part.clock, self.subject.parts, self.subject.judged.recording
         words = clock.words() if clock and clock.source in (START, TCP) else None
         part = (self.part.number, count) if count > 1 else None
-        return Scope(titles_in(self.part.stl_path), recording, self.subtitles[0].begin,
+        return Scope(titles_in(self.part.names.given), recording, self.subtitles[0].begin,
                      self.subtitles[-1].end, len(self.subtitles), part,
                      bool(self.subject.judged.fitted), part is not None, words)
 

@@ -3,6 +3,8 @@ from __future__ import annotations
 
 from typing import NamedTuple
 
+from ..reading.packets import Range
+
 RECORDING, GIVEN, START, TCP = "recording", "given", "start", "tcp"
 SOURCES = {RECORDING: "fitted to the recording", GIVEN: "given", START: "by the first picture",
            TCP: "by the first picture, TCP"}
@@ -30,3 +32,16 @@ class Clock(NamedTuple):
     def words(self) -> str:
         """The origin, and where it is from."""
         return f"origin {self.origin}, {SOURCES[self.source]}"
+
+
+class Found(NamedTuple):
+    """The frames of a part, its clock, and its PES packets where PTS go back."""
+
+    begin: int
+    end: int
+    clock: Clock
+    packets: Range | None = None
+
+    @property
+    def origin(self) -> int:
+        return self.clock.origin

@@ -17,8 +17,9 @@ from .headers import header_words
 from .hints import open_words
 from .midnight import midnight_words
 from .option_advice import OptionAdvice
+from .part import Part
 from .subtitle_file import NamedSubtitle
-from .verdict import Part, Verdict
+from .verdict import Verdict
 
 
 class Cell(TypedDict):

@@ -19,8 +19,9 @@ from .midnight import midnight_words
 from .off_frame import off_of
 from .option_advice import OptionAdvice
 from .options import NONE, PACE
+from .part import Part
 from .subtitle_file import SubtitleFile
-from .verdict import Part, Verdict
+from .verdict import Verdict
 
 HINTED = {EMPTY_TIME, CHARACTER, OUT_OF_ORDER, OFF_FRAME, CONTROL, GAP, SILENT}
 NAMED = {DISPLAY, CONTENT}  # for which an option is named, where one helps

@@ -11,7 +11,7 @@ from typing import Iterator, NamedTuple, Sequence
 from ..core.programme import Subtitle
 from ..core.times import Between, frame_in, time_of
 from ..reading.moving import Stage, part_inside, words_of
-from .fitting import Found
+from .clock import Found
 from .warned import Warned
 
 PID = "pid"  # the word for machines

@@ -3,7 +3,6 @@ from __future__ import annotations
 
 import glob
 import os
-import re
 from typing import Iterator
 
 from ..core.files import is_utf_8
@@ -15,13 +14,7 @@ from .typed import Typed, line_of
 
 LINK = ".out"  # in the temporary folder
 ENDINGS = ("cut.pes", "txt", "html")  # of what is made of a part
-KEPT = "recording.pes"  # the PES packets of a recording
-PID = re.compile(rf"[0-9a-f]+\.{re.escape(KEPT)}")
-
-
-def of_pid(pid: int) -> str:
-    """What the file with the PES packets of a PID ends with, where the page moves."""
-    return f"{pid:x}.{KEPT}"
+KEPT, KEPT_STREAM = "recording.pes", "recording.ts"  # of a recording that is kept
 
 
 class Names:
@@ -39,7 +32,7 @@ class Names:
             if not os.path.lexists(self.here):
                 os.symlink(os.path.abspath(out), self.here)
         self.given = ""  # the subtitle file, for the program
-        self.whole, self.whole_path = self.typed(KEPT), self.temporary(KEPT)
+        self.whole_path = self.temporary("recording")  # of what comes through a pipe
         self.list_path = self.place("txt")
         self.report = self.typed("html")
         self.machine = self.typed("json") if out else None
@@ -59,15 +52,17 @@ class Names:
 
     def of_part(self, number: int) -> Names:
         """The files of a part."""
-        return Names(f"{self.name}.{number}", self.folder, self.out)
+        part = Names(f"{self.name}.{number}", self.folder, self.out)
+        part.given = self.given
+        return part
 
     def kept(self) -> list[str]:
         """What an earlier call may have left in the folder: files of the pair, and of its parts.
         One beside a JSON result is of another pair."""
         if self.out is None:
             return []
-        own = [self.place("cut.pes"), self.place(KEPT), self.list_path, self.report,
-               self.typed("json"), *self.of_pids()]
+        own = [self.place("cut.pes"), self.place(KEPT), self.place(KEPT_STREAM), self.list_path,
+               self.report, self.typed("json")]
         return own + [path for ending in ENDINGS for path, stem in self.of_parts(ending)
                       if not os.path.exists(f"{stem}.json")]
 
@@ -80,12 +75,6 @@ class Names:
                 stem = path.removesuffix(f".{ending}")
                 if stem.removeprefix(begin).isdecimal():
                     yield path, stem
-
-    def of_pids(self) -> list[str]:
-        """Files in the folder with the PES packets of a PID of a feed whose page moves."""
-        begin = glob.escape(self.typed(""))
-        return [path for path in glob.glob(f"{begin}*.{KEPT}") if PID.fullmatch(
-            path[len(self.typed("")):]) and not os.path.exists(f"{path[:-len(KEPT)]}json")]
 
     def written(self) -> list[str]:
         """What is there of the files that may be written."""

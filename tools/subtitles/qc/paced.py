@@ -4,46 +4,42 @@ from __future__ import annotations
 import os
 from typing import Sequence
 
-from ..core.programme import Subtitle
 from ..core.words import counted, pid_name
 from ..reading.pace import (
-    BY_EVERY, IRREGULAR, PAUSED, REGULAR, Pace, each_of, pace_of, pauses_of, rows_of)
+    BY_EVERY, IRREGULAR, PAUSED, Pace, each_of, pace_of, pauses_of, rows_of)
 from ..reading.packets import Range
 from .options import NONE, PACE
+from .part import Part
 from .recording import Recording
 from .speech import Speech
-from .steps import Stretch
 from .verdict import Verdict
 
 HOLES = "a hole of 15, or of 16, 32, 48 .. TS packets"  # that a counter of 4 bits may not show
 
 
-def paced(one: Stretch, pes: Range, subtitles: Sequence[Subtitle], verdict: Verdict,
-          speech: Speech) -> Stretch:
-    """A stretch with the pace of the PES packets that are judged, where they are regular and none
-    is asked for. Where holes may be unseen the verdict has a note."""
-    asked, recording = one.asked, one.recording
+def set_pace(part: Part, pes: Range, verdict: Verdict, speech: Speech,
+             times: Sequence[tuple[int, int]]) -> None:
+    """Asks for the pace of the PES packets that are judged, where they are regular and none is asked
+    for, by the frames of the subtitles. Where holes may be unseen the verdict has a note."""
+    asked, recording = part.asked, part.recorded[0]
     if PACE not in asked.passed_on:
-        pace = measured(one, pes, subtitles)
+        pace = measured(part, pes, times)
         if pace.frames:
             speech.say(regular_words(pace))
-            return one._replace(asked=asked.paced(pace.frames))
+            part.asked = asked.paced(pace.frames)
+            return
         note = unseen_words(pace, recording)
     else:
         note = clock_words(recording) if asked.passed_on[PACE] == NONE else ""
     if note and note not in verdict.notes:
         verdict.notes.append(note)
-    return one
 
 
-def measured(one: Stretch, pes: Range, subtitles: Sequence[Subtitle]) -> Pace:
-    """How far apart the PES packets of a stretch come."""
-    packets, asked = one.recording.packets, one.asked
-    size = None if one.recording.is_file and one.recording.is_stream else \
-        os.path.getsize(one.recording.judged()[0])
-    times = [(subtitle.begin, subtitle.end) for subtitle in subtitles
-             if asked.between.has(subtitle.begin)]
-    return pace_of(rows_of(packets, pes, one.found.origin, asked.within),
+def measured(part: Part, pes: Range, times: Sequence[tuple[int, int]]) -> Pace:
+    """How far apart the PES packets of a part come."""
+    packets, asked, (recording, found) = part.packets, part.asked, part.recorded
+    size = None if recording.is_stream else os.path.getsize(recording.path)
+    return pace_of(rows_of(packets, pes, found.origin, asked.within),
                    each_of(packets, pes, size), asked.every, pauses_of(times))
 
 
