@@ -1,4 +1,4 @@
-"""tools/install and tools/dist: what they make is run from another folder."""
+"""tools/install and dev/dist: what they make is run from another folder."""
 from __future__ import annotations
 
 import glob
@@ -57,7 +57,7 @@ def proved_here(case: Case) -> str:
     program, _ = chosen(TOP)
     proved = os.path.join(os.path.dirname(program), "PROVED")
     if not program or lacking(parsed(read(proved))):
-        case.skipTest("tools/dist, since the gate has not proved the program here")
+        case.skipTest("dev/dist, since the gate has not proved the program here")
     return proved
 
 
@@ -159,8 +159,8 @@ class Installed(Case):
         for name in PAGES:
             page = read(os.path.join(TOP, "docs", name)) or ""
             self.must(name, re.search(rf'^\.TH .*"subttx {re.escape(version)}"', page, re.M))
-        log = re.search(r"^## (\S+)", read(os.path.join(TOP, "CHANGELOG.md")) or "", re.M)
-        self.must("the change log", log and log[1].rstrip(",") == version, log)
+        log = re.search(r"^## (\S+), \d", read(os.path.join(TOP, "CHANGELOG.md")) or "", re.M)
+        self.must("the first of the change log with a date", log and log[1] == version, log)
 
     def test_makes_an_archive(self) -> None:
         """The archive's sums are right, and what is in it runs; twice the same bytes."""
@@ -188,7 +188,7 @@ class Installed(Case):
         error."""
         proved = proved_here(self)
         if not shutil.which("dpkg-deb"):
-            self.skipTest("tools/dist --deb, since there is no dpkg-deb")
+            self.skipTest("dev/dist --deb, since there is no dpkg-deb")
         done = self.tool("dist", "--deb")
         path = self.path(done.out.decode().strip())
         self.must("status", done.status == 0, done)
