@@ -47,10 +47,10 @@ def answer(lines: Sequence[str] = ("accepted 10 frames 2 transmissions",),
 
 
 def part_with(begin: int | None, end: int | None, origin: int | None,
-              said: Answer | None = None, number: int = 1) -> Part:
+              said: Answer | None = None, number: int = 1, source: str = GIVEN) -> Part:
     """A part of some frames."""
     found = None if begin is None or end is None or origin is None else \
-        Found(begin, end, Clock(origin, GIVEN))
+        Found(begin, end, Clock(origin, source))
     names = Names("a", "", None)
     names.given = "a.stl"
     part = Part(number, asked_for("a.stl", "a.pes"), names, found, was_read=True)

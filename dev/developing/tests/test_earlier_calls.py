@@ -101,8 +101,8 @@ class EarlierCalls(Case):
 
     def test_files_of_a_pair_in_a_folder(self) -> None:
         """Those of the pair and of all its parts are its own; those of others stay."""
-        own = ["one.cut.pes", "one.recording.pes", "one.recording.ts", "one.txt", "one.html", "one.json", "one.1.txt",
-               "one.2.cut.pes", "one.3.txt", "one.12.html"]
+        own = ["one.cut.pes", "one.recording.pes", "one.recording.ts", "one.txt", "one.html",
+               "one.json", "one.1.txt", "one.2.cut.pes", "one.3.txt", "one.12.html"]
         others = ["one.two.html", "one.0.txt", "one.1.2.html", "two.html", "two.one.1.html",
                   "one.1.pes", "one.stl", "one.pes", "xone.html", "one.1x.html",
                   # Somebody's own subtitle files, and what was made of a pair of such a name.

@@ -15,7 +15,7 @@ from subtitles.preview.strips import Strip, Strips, runs_of
 from subtitles.qc.subtitle_file import SubtitleFile
 from subtitles.reading.receiver import TUNED, State
 from .bench import Case
-from .parts import fault_of
+from .parts import fault_of, part_with
 from .test_report_faults import SUBTITLES, at, faults
 
 COUNT = 60
@@ -370,7 +370,7 @@ class Blocks(Case):
         for count, left in ((3, 0), (200, 0), (220, 0), (221, 1), (500, 280)):
             lines = [f"line {at}" for at in range(count)]
             report: Any = SimpleNamespace(
-                part=SimpleNamespace(stl_path="one.stl"), asked=SimpleNamespace(is_open=False),
+                part=part_with(1, 2, 0), asked=SimpleNamespace(is_open=False),
                 program=SimpleNamespace(show=lambda path: lines))
             said = blocks.printed(report)
             words = f"Lines 201 to {200 + left}, {left} of them" if left else ""

@@ -10,7 +10,7 @@ from typing import Any
 
 from developing.stl import gsi_block, tti_block
 from subtitles.core.manual import Meaning
-from subtitles.core.times import ALL_DAY, FRAMES_OF_A_DAY
+from subtitles.core.times import FRAMES_OF_A_DAY
 from subtitles.preview import page, program as asking
 from subtitles.preview.counts import (
     meaning_of_verdict, means_and_do, numbers_table, place_words)
@@ -19,13 +19,13 @@ from subtitles.preview.page import lost_places, subtitles_words, verdict_box
 from subtitles.preview.places import pes_words
 from subtitles.preview.report import Report, Subject, end_of_knowledge
 from subtitles.preview.scope import BETWEEN, DELAY, ROW_0, Scope
-from subtitles.qc.clock import GIVEN, START, Clock
+from subtitles.qc.clock import GIVEN, START
 from subtitles.qc.made_with import Program
 from subtitles.qc.midnight import AT_MIDNIGHT
 from subtitles.qc.subtitle_file import SubtitleFile
 from subtitles.qc.sums import File
 from .bench import Case, example
-from .parts import asked_for, fault_of
+from .parts import asked_for, fault_of, part_with
 from .test_report_faults import SUBTITLES, faults
 
 
@@ -242,7 +242,8 @@ class Reports(Case):
             (["--within", "2", "--no-complete"], ["--within 2"])]
         for words, more in rows:
             asked = asked_for("a.stl", "a.pes", "--every", "25", *words)
-            part = SimpleNamespace(origin=5, pes=(1, 2), pes_name="1-2", between=ALL_DAY)
+            part = part_with(0, 10, 5)
+            part.pes = 1, 2
             made: Any = SimpleNamespace(judged=SimpleNamespace(asked=asked), part=part,
                                         window=(0, 10))
             complete = [] if "--no-complete" in words else ["--complete"]
@@ -253,7 +254,8 @@ class Reports(Case):
         for count, source, is_fitted, clock in ((3, GIVEN, True, None), (1, START, False, "words")):
             subject = SimpleNamespace(parts=count, judged=SimpleNamespace(
                 recording=file, fitted=["1"] * is_fitted))
-            part = SimpleNamespace(clock=Clock(7, source), number=2, stl_path=example("story.stl"))
+            part = part_with(0, 10, 7, number=2, source=source)
+            part.names.given = example("story.stl")
             made = SimpleNamespace(is_refused_file=False, part=part, subject=subject, subtitles=[
                 SimpleNamespace(begin=25, end=30), SimpleNamespace(begin=40, end=50)])
             found = Report.scope(made)

@@ -41,8 +41,8 @@ def part_words(part: Part, is_kept: bool) -> dict[str, Value]:
     judged = part.judged and {**part.judged._asdict(), **({} if is_kept else {"name": None})}
     answer, (begin, end) = part.answer, part.times()
     pid, packet_size = part.stream or (None, None)
-    return {"part": part.number, "stl": part.asked.stl, "origin": part.origin, "from": begin, "to": end,
-            "verdict": answer.verdict, "line": answer.line,
+    return {"part": part.number, "stl": part.asked.stl, "origin": part.origin, "from": begin,
+            "to": end, "verdict": answer.verdict, "line": answer.line,
             "frames": answer.frames, "transmissions": answer.transmissions,
             "faults": answer.count, "pid": pid, "packet_size": packet_size,
             "pes": part.pes_name, "pace": part.asked and part.asked.pace, "judged": judged,

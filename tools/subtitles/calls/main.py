@@ -45,7 +45,8 @@ def parser_of(text: str) -> Words:
     add_pair_options(parser)
     parser.add_argument("-o", dest="out", metavar="DIR", help="the folder for report and list")
     parser.add_argument("--keep", dest="is_kept", action="store_true",
-                        help="keep in DIR the PES packets of the recording, NAME.recording.pes")
+                        help="keep in DIR the PES packets of the recording, NAME.recording.pes; of "
+                             "a feed all that came, NAME.recording.ts")
     parser.add_argument("--json", metavar="FILE", help="the verdict as a JSON result")
     parser.add_argument("--csv", metavar="FILE", help="a line for each fault")
     parser.add_argument("--junit", metavar="FILE", help="the verdict for a CI")

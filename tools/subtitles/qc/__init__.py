@@ -3,16 +3,18 @@
 asked         what is asked of a pair
 options       options that `check` gets as they are: one table
 pair          a pair judged, from a recording to a verdict
+part          a part of a pair: what is judged by itself
 judging       a part judged, and what follows of it
-steps         the steps: what is asked of the program, and said
+checks        each call of `check` for a pair
 verdict       a verdict, its parts, and what is missing
 unclear       why a pair can't be judged
 
 recording     what is told of a recording, and how the program reads it once more
-feed          a recording that comes through a pipe
+feed          a recording that comes through a pipe, which is kept as it comes
+source        its bytes
 ending        when a feed has all that is judged
 pes_header    the first PES header of a PID, where it is not one of Teletext
-fitting       what is found of its origin: parts with their clocks
+clocks        the clocks of its parts, and which of its PES packets are judged
 moved         a page that moves to another PID: what is judged on each
 missing       places at which something is missing, and of which parts
 paced         the pace by which a part is judged, or which holes may be unseen

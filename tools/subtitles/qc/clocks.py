@@ -139,8 +139,9 @@ def to_type(pair: Pair, recording: Recording, origin: Origin) -> Iterator[str]:
     elif origin.runs:
         yield from (pair.again("--pes", f"{first}-{last}") for first, last in origin.runs)
     else:
-        if pair.asked.within < MOST_TRIED and found_in(origin_in(
-                recording.packets, sought(pair, recording)._replace(within=MOST_TRIED)), pair.whole):
+        later = sought(pair, recording)._replace(within=MOST_TRIED)
+        if pair.asked.within < MOST_TRIED and \
+                found_in(origin_in(recording.packets, later), pair.whole):
             yield pair.again("--within", str(MOST_TRIED))
         if origin.breaks is not None:
             yield pair.again("--breaks", str(origin.breaks))

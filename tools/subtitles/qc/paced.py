@@ -1,4 +1,4 @@
-"""The pace by which a part is judged, where its PES packets are regular; else what may be unseen."""
+"""The pace by which a part is judged, where its PES packets are regular; else what is unseen."""
 from __future__ import annotations
 
 import os
@@ -19,8 +19,8 @@ HOLES = "a hole of 15, or of 16, 32, 48 .. TS packets"  # that a counter of 4 bi
 
 def set_pace(part: Part, pes: Range, verdict: Verdict, speech: Speech,
              times: Sequence[tuple[int, int]]) -> None:
-    """Asks for the pace of the PES packets that are judged, where they are regular and none is asked
-    for, by the frames of the subtitles. Where holes may be unseen the verdict has a note."""
+    """Asks for the pace of the PES packets that are judged, where they are regular and none is
+    asked for, by the frames of the subtitles. Where holes may be unseen the verdict has a note."""
     asked, recording = part.asked, part.recorded[0]
     if PACE not in asked.passed_on:
         pace = measured(part, pes, times)

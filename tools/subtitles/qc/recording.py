@@ -12,7 +12,7 @@ from typing import BinaryIO
 from ..core.pes import START
 from ..core.times import ticks_between
 from ..core.words import PACKET_SIZES, Stop, counted, shown, stream_words
-from ..reading.gaps import TOLD, Place, line_of, places_of, why_refused
+from ..reading.gaps import Place, marks_told, places_of, why_refused
 from ..reading.moving import Stage, joined, stages_of
 from ..reading.packets import PES, Packets
 from ..reading.survey import Survey, survey
@@ -72,6 +72,11 @@ def refuse(survey: Survey, name: str) -> None:
         raise Unclear(f"{name}: no transport stream: packets of 188 bytes that begin with 47")
 
 
+def silent_in(survey: Survey) -> list[Packets]:
+    """The PIDs of which nothing is given though there are TS packets of them, in their order."""
+    return [one for _, one in sorted(survey.by_pid.items()) if not one.count and one.packets]
+
+
 class Recording:
     """A recording that is read: `packets` are those of the PID with the page; `stages` are the PIDs
     where it moves to another one, and `packets` then stand for all of them. What is judged is a
@@ -102,8 +107,7 @@ class Recording:
             raise self.without_first(reason) from None
         refuse(self.survey, self.name)
         self.packets = self.chosen()
-        for place in self.say_read()[:TOLD]:
-            self.speech.say(place)
+        self.say_read()
 
     def read_file(self, is_summed: bool) -> None:
         """Takes all that is told of a file."""
@@ -151,10 +155,8 @@ class Recording:
     def why_nothing(self) -> list[str]:
         """Why nothing is given of each PID that should carry Teletext: scrambled, or not as it is.
         """
-        silent = [one for pid, one in sorted(self.survey.by_pid.items())
-                  if not one.count and one.packets]
-        return [words for one in silent for words in (why_refused(one), self.header_words(one))
-                if words]
+        return [words for one in silent_in(self.survey)
+                for words in (why_refused(one), self.header_words(one)) if words]
 
     def header_words(self, packets: Packets) -> str:
         """What is wrong with the PES header of a PID."""
@@ -164,22 +166,20 @@ class Recording:
             self.typed.program_path, self.path, packets.pid, self.survey.size or 0)
         return header_words(begun, packets.pid)
 
-    def say_read(self) -> list[str]:
-        """What was read, and where something is missing."""
-        packets, first = self.packets, next(self.packets.pts(), None)
+    def say_read(self) -> None:
+        """Says what was read, and where something is missing."""
+        packets = self.packets
         if packets.damage:
             self.speech.say(f"{self.name}: {packets.damage}; it was read up to there")
         if not self.is_stream:
-            return []
+            return
         why = why_refused(packets)
         if why:
             self.speech.say(why)
-        places = [line_of(place, first) for place in self.places() if place.mark is not None]
-        if len(places) > TOLD:
-            places[TOLD - 1:] = [f"and at {counted(len(places) - TOLD + 1, 'more place')}"]
         if self.survey.skipped:
             self.speech.say(f"{counted(self.survey.skipped, 'byte')} of no TS packet skipped")
-        return places
+        for line in marks_told(packets):
+            self.speech.say(line)
 
     # What it is.
 

@@ -104,6 +104,15 @@ def line_of(place: Place, first: int | None) -> str:
     return (f"{where} PTS {names}, {times} on: " if known else "") + what_of(place)
 
 
+def marks_told(packets: Packets) -> list[str]:
+    """A line for each place with a mark, the last of them for all that are too many."""
+    first = next(packets.pts(), None)
+    lines = [line_of(place, first) for place in places_of(packets) if place.mark is not None]
+    if len(lines) > TOLD:
+        lines[TOLD - 1:] = [f"and at {counted(len(lines) - TOLD + 1, 'more place')}"]
+    return lines
+
+
 def why_refused(packets: Packets) -> str | None:
     """Why nothing of a PID is given, or nothing more; `None` where all is."""
     name = pid_name(packets.pid)
