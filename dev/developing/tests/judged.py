@@ -21,7 +21,7 @@ from subtitles.calls.single import Files, draw, end_pair, judge_pair, now
 from subtitles.core.stl import NEW_LINE
 from subtitles.core.times import CLOCK, TICKS
 from subtitles.qc.asked import asked_of
-from subtitles.qc.made_with import Program
+from subtitles.qc.made_with import MadeWith
 from subtitles.qc.names import Names
 from subtitles.qc.pair import Pair
 from subtitles.qc.progress import Progress
@@ -95,7 +95,7 @@ def judged(case: Case, *words: str, by: str | None = None, heard: Heard | None =
             pair.draw = functools.partial(draw, pair)
         judge_pair(pair, files)
         end_pair(verdict, heard, files)
-        result = json.loads("".join(object_of(verdict, Program("1", "0" * 64, None))))
+        result = json.loads("".join(object_of(verdict, MadeWith("1", "0" * 64, None))))
         listed = [line for part in verdict.parts for line in part.answer.lines()]
         files.leave(pair)
         # Of a feed the PES packets that were kept stand for the recording.

@@ -15,7 +15,7 @@ from subtitles.calls.batch import words_of
 from subtitles.calls.machine import asked_words, total
 from subtitles.calls.objects import hint_in
 from subtitles.calls.pairs import of_folder
-from subtitles.calls.watching import Seen, Watch
+from subtitles.calls.watching import Sighting, Watch
 from subtitles.core.programme import Subtitle
 from subtitles.core.spans import Span
 from subtitles.core.times import TICKS, time_of
@@ -153,7 +153,7 @@ class Folders(Case):
         self.write("in/two.stl", b"2")
         self.write("in/two.done", b"")
         self.must("somebody says so", due(311) == ["two"])
-        self.must("what was seen", isinstance(watch.seen["one"], Seen))
+        self.must("what was seen", isinstance(watch.seen["one"], Sighting))
 
     def test_told_once(self) -> None:
         """What is no pair is told once, and again after it was one."""

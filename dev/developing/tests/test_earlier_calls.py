@@ -21,7 +21,7 @@ from subtitles.calls.pairs import Item
 from subtitles.calls.watching import Stopping, Watch, refuse_folders
 from subtitles.core.words import Stop
 from subtitles.qc.asked import Asked
-from subtitles.qc.made_with import Program, program_at
+from subtitles.qc.made_with import MadeWith, program_at
 from subtitles.qc.names import Names
 from subtitles.qc.feed import Stall
 from subtitles.qc.typed import Typed
@@ -32,7 +32,7 @@ from .test_many_pairs import known, row
 
 FAULT = {"line": "x", "number": 5, "name": "X", "cause": None, "subtitle": None, "due": None,
          "held": None}
-PROGRAM = Program("1", "ab" * 32, None)
+PROGRAM = MadeWith("1", "ab" * 32, None)
 # What is asked otherwise than by the earlier call, each by itself.
 OTHERS: dict[str, object] = {
     "page": (0, 0x87), "every": 25, "option": "german", "origin": 5, "is_complete": False,

@@ -10,7 +10,7 @@ from subtitles.calls.objects import found, is_current
 from subtitles.calls.pairs import pairs_at
 from subtitles.core.words import Stop
 from subtitles.qc.asked import asked_of
-from subtitles.qc.made_with import Program
+from subtitles.qc.made_with import MadeWith
 from .bench import Case
 from .parts import asked_for
 
@@ -52,7 +52,7 @@ class Words(Case):
 
     def test_goes_on(self) -> None:
         """What was judged by another pace, or by one that was measured, is judged again."""
-        program = Program("1", "0" * 64, None)
+        program = MadeWith("1", "0" * 64, None)
         asked = [asked_for(self.path("one.stl"), self.path("one.ts"), *words)
                  for words in ((), ("--pace", "none"), ("--pace", "16"))]
         for one in asked:

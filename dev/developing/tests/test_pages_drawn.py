@@ -6,7 +6,7 @@ from typing import Any
 
 from subtitles.core.national import ENGLISH
 from subtitles.preview.drawing import (
-    LOW_ROWS, Span, cut_of, differences, frames_of, is_boxed, picture, row_drawing,
+    LOW_ROWS, CellStyle, cut_of, differences, frames_of, is_boxed, picture, row_drawing,
     spans_of, text_of_code, words_of)
 from subtitles.reading.receiver import BLANK_PAGE, HIT, OLD, Rows
 
@@ -21,13 +21,13 @@ def page(**rows: bytes) -> Rows:
 class Attributes(unittest.TestCase):
     """How cells look, by the spacing attributes before them (EN 300 706, 12.2)."""
 
-    def look(self, row: bytes, number: int = 20, is_boxed_page: bool = True) -> Span:
+    def look(self, row: bytes, number: int = 20, is_boxed_page: bool = True) -> CellStyle:
         """The look of the last cell of a row."""
         return spans_of(row, number, 0, is_boxed_page)[-1]
 
     def test_last(self) -> None:
         """White on black outside of a box at first; each attribute by itself, and what ends it."""
-        plain = Span("A", 7, 0, False, False, False)
+        plain = CellStyle("A", 7, 0, False, False, False)
         rows: list[tuple[bytes, dict[str, Any]]] = [
                 (b"A", {}), (b"\x0b\x0bA", {"boxed": True}), (b"\x0bA", {}), (b"\x0b \x0bA", {}),
                 (b"\x0b\x0b\x0a\x0aA", {}), (b"\x0b\x0b\x0aA", {"boxed": True}),

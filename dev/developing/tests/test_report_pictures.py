@@ -6,7 +6,7 @@ from types import SimpleNamespace
 from typing import Any, Sequence
 
 from developing.stl import gsi_block, tti_block
-from subtitles.core.programme import Programme, Subtitle
+from subtitles.core.programme import SubtitleList, Subtitle
 from subtitles.core.spans import Spans
 from subtitles.preview import blocks
 from subtitles.preview.figures import DIFFERENT, NOT_KNOWN, NOTHING, SAME, Figures
@@ -185,7 +185,7 @@ class Pictured(unittest.TestCase):
         held: Any = SimpleNamespace(last_before=lambda pes: 10 * pes,
                                     sendings_between=lambda first, end: len(range(first, end, 25)))
         made = faults(*lines)
-        made.programme = Programme(subtitles)
+        made.programme = SubtitleList(subtitles)
         return Entries(figures, held, list(subtitles), looked, window, made, broken)
 
     def test_need(self) -> None:

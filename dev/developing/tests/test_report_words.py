@@ -20,7 +20,7 @@ from subtitles.preview.places import pes_words
 from subtitles.preview.report import Report, Subject, end_of_knowledge
 from subtitles.preview.scope import BETWEEN, DELAY, ROW_0, Scope
 from subtitles.qc.clock import GIVEN, START
-from subtitles.qc.made_with import Program
+from subtitles.qc.made_with import MadeWith
 from subtitles.qc.midnight import AT_MIDNIGHT
 from subtitles.qc.subtitle_file import SubtitleFile
 from subtitles.qc.sums import File
@@ -175,7 +175,7 @@ class Reports(Case):
         """What is made from files: each with its size and its sum, words by lines, the prover's."""
         file = File("a<b", 1234, "f" * 64)
         for proved, words in (("x & y", "x &amp; y</code>"), (None, "no file PROVED says")):
-            text = page.made_from([("STL", file), ("PES", file)], "a date", Program(
+            text = page.made_from([("STL", file), ("PES", file)], "a date", MadeWith(
                 "1.2.3", "", proved), [("One", "a\nb"), ("Two", "<")])
             self.must(words, text.count("<td>1,234 bytes</td>") == 2 and words in text and
                       text.count("a&lt;b</td>") == 2 and text.count("f" * 64) == 2, text)

@@ -25,7 +25,7 @@ from subtitles.qc.warned import (
     there_are)
 from subtitles.qc.within import Trying, is_accepted, line_of
 from subtitles.reading.finding import OfPart, Origin, Sought
-from subtitles.reading.gaps import Jump
+from subtitles.reading.gaps import ClockJump
 from subtitles.reading.packets import Packets, Range
 from subtitles.reading.survey import Announced
 from .bench import Case
@@ -172,7 +172,7 @@ class Warnings(Case):
         """Those of the frames that are judged, the first and the last too, each in its direction.
         """
         for origin in (0, CLOCK - 5 * TICKS):
-            jumps = [Jump(None, 90_000), *(Jump((origin + TICKS * frame) % CLOCK, ticks)
+            jumps = [ClockJump(None, 90_000), *(ClockJump((origin + TICKS * frame) % CLOCK, ticks)
                                            for frame, ticks in (
                 (9, 1), (10, 90_000), (15, -90_000), (20, 8_640_000), (21, 5)))]
             with mock.patch("subtitles.qc.warned.jumps_of", lambda packets: jumps):

@@ -13,7 +13,7 @@ from subtitles.qc.clock import RECORDING, Clock, Found
 from subtitles.qc.clocks import last_time
 from subtitles.reading.cutting import cut_of
 from subtitles.reading.finding import drift_of
-from subtitles.reading.gaps import SECOND, Jump, Place, jumps_of, line_of, places_of, what_of
+from subtitles.reading.gaps import SECOND, ClockJump, Place, jumps_of, line_of, places_of, what_of
 from subtitles.reading.packets import Clocked, Mark, Packets, Run
 from subtitles.reading.stretches import LACKED, Stretch, by_breaks
 from subtitles.reading.survey import Survey
@@ -155,11 +155,11 @@ class Times(unittest.TestCase):
     def test_jumps(self) -> None:
         """Where nothing is missing, and more packets than a tenth of those of that time would be
         there: the clock was set anew."""
-        for one, wanted in ((clocked(5, 99_000, "whole"), [Jump(5, 90_000)]),
+        for one, wanted in ((clocked(5, 99_000, "whole"), [ClockJump(5, 90_000)]),
                             (clocked(5, 99_000, "broken"), []),
-                            (clocked(5, 99_000, "whole", 109), [Jump(5, 90_000)]),
+                            (clocked(5, 99_000, "whole", 109), [ClockJump(5, 90_000)]),
                             (clocked(5, 99_000, "whole", 110), []),
-                            (clocked(5, -99_000, "whole"), [Jump(5, -108_000)])):
+                            (clocked(5, -99_000, "whole"), [ClockJump(5, -108_000)])):
             self.assertEqual(list(jumps_of(packets_with([], clocked=[one]))), wanted, one)
 
     def test_words_of_places(self) -> None:

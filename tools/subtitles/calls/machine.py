@@ -10,7 +10,7 @@ from ..qc.asked import Asked
 from ..qc.cause_words import Wording
 from ..qc.faults import faults_of, words_of_subtitle
 from ..qc.layouts import Choice
-from ..qc.made_with import Program
+from ..qc.made_with import MadeWith
 from ..qc.naming import counts_of
 from ..qc.options import passed_members
 from ..qc.part import Part
@@ -68,7 +68,7 @@ def total(numbers: list[int | None]) -> int | None:
     return sum(known) if known and len(known) == len(numbers) else None
 
 
-def head_of(verdict: Verdict, program: Program) -> dict[str, Value]:
+def head_of(verdict: Verdict, program: MadeWith) -> dict[str, Value]:
     """The object but for its faults and its trusted stretches."""
     parts = verdict.parts
     return {
@@ -102,7 +102,7 @@ def head_of(verdict: Verdict, program: Program) -> dict[str, Value]:
     }
 
 
-def object_of(verdict: Verdict, program: Program) -> Iterator[str]:
+def object_of(verdict: Verdict, program: MadeWith) -> Iterator[str]:
     """The text of the object, a piece after another: there may be any number of faults."""
     head = json.dumps(head_of(verdict, program), ensure_ascii=False, indent=1)
     yield head.removesuffix("\n}") + ',\n "trusted": ['

@@ -10,7 +10,7 @@ from typing import Any, Iterator, NamedTuple, Sequence
 from ..core.files import is_replaced, whole_file
 from ..qc.asked import Asked
 from ..qc.beside import Counts
-from ..qc.made_with import Program
+from ..qc.made_with import MadeWith
 from ..qc.status import NOT_JUDGED, STATUSES, is_of_call
 from .machine import FORMAT, asked_words
 
@@ -184,7 +184,7 @@ def found(asked: Asked) -> dict[str, Any]:
             "severity": found_at(asked.severity)}
 
 
-def is_current(known: dict[str, Any], asked: Asked, program: Program) -> bool:
+def is_current(known: dict[str, Any], asked: Asked, program: MadeWith) -> bool:
     """Whether a pair would be judged with the same words, by the same program and tools, on files
     of the same size and time."""
     made_with = known.get("program") or {}

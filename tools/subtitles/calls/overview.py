@@ -12,7 +12,7 @@ from ..preview.counts import heads
 from ..preview.page import FRAMES, REFUSAL, document, lost_places, made_from
 from ..preview.scope import Scope
 from ..qc.cause_words import count_line, names_line
-from ..qc.made_with import Program
+from ..qc.made_with import MadeWith
 from ..qc.names import Names
 from ..qc.part import Part
 from ..qc.status import NOT_JUDGED
@@ -23,7 +23,7 @@ from ..qc.verdict import Verdict
 COLUMNS = ("From", "To", "Verdict", "Faults", "Causes", "Clock")
 
 
-def overview(verdict: Verdict, program: Program, names: Names, typed: Typed) -> Iterator[str]:
+def overview(verdict: Verdict, program: MadeWith, names: Names, typed: Typed) -> Iterator[str]:
     """The page."""
     asked = verdict.asked
     line = verdict.line or f"{NOT_JUDGED}: {verdict.why_not}"

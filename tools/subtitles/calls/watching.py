@@ -35,7 +35,7 @@ class Stopping:
         self.is_asked = True
 
 
-class Seen(NamedTuple):
+class Sighting(NamedTuple):
     """What files are like, or why they are no pair, and since when by this machine's clock."""
 
     is_like: object
@@ -49,7 +49,7 @@ class Watch:
         self.words, self.folder, self.out = words, words.watch, words.out
         self.calls = Calls(typed, words.out, words.out, words.is_kept)
         self.program = program_at(typed.program_path)
-        self.seen: dict[str, Seen] = {}
+        self.seen: dict[str, Sighting] = {}
         self.tried: dict[str, object] = {}  # what was found of pairs that were judged here
         self.named: dict[str, str] = {}  # what is no pair, and the reason that was told
         self.rows: dict[str, Row] = {}
@@ -70,7 +70,7 @@ class Watch:
         is_like = found(item.asked) if item.asked else item.reason
         seen = self.seen.get(item.name)
         if seen is None or seen.is_like != is_like:
-            self.seen[item.name] = Seen(is_like, now)
+            self.seen[item.name] = Sighting(is_like, now)
             return False
         return bool(now - seen.since >= self.words.settled)
 

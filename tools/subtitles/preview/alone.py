@@ -24,7 +24,7 @@ from ..qc.options import LAYOUT
 from ..qc.part import Part
 from ..qc.severity import Severity
 from ..qc.subtitle_file import SubtitleFile
-from ..qc.sums import Files
+from ..qc.sums import Sums
 from ..qc.typed import line_of as command_of
 from ..qc.unclear import Unclear
 from ..qc.verdict import Verdict
@@ -46,7 +46,7 @@ def report_of(words: argparse.Namespace, folder: str) -> Report:
                   words.is_complete, words.pid, False, None, 0, words.pes, None, words.within,
                   passed_on=words.passed_on)
     names = [one for one in (words.stl, words.recording) if one is not None]
-    summed = Files(names)  # while they are read
+    summed = Sums(names)  # while they are read
     stream = None if words.pid is None else (words.pid, words.packet_size)
     options = [*(stream_words(*stream) if stream else []), *asked.check_words(),
                *(["--origin", str(asked.origin)] if asked.origin else []),

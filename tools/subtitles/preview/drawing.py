@@ -32,7 +32,7 @@ PARTS = re.compile(rb"[\0-\x1f\x80-\x9f]|[^\0-\x1f\x80-\x9f]+")  # a spacing att
 MARKED = re.compile(bytes([HIT]) + b"+|" + bytes([OLD]) + b"+")
 
 
-class Span(NamedTuple):
+class CellStyle(NamedTuple):
     """How neighbouring cells look; ink and paper are colours from 0 to 7."""
 
     letters: str
@@ -44,9 +44,9 @@ class Span(NamedTuple):
 
 
 # What neighbours are drawn together by.
-letters_of: Callable[[Span], str] = operator.attrgetter("letters")
-look_of: Callable[[Span], Look] = operator.attrgetter("ink", "flash", "boxed", "double")
-ground_of: Callable[[Span], Ground] = operator.attrgetter("paper", "boxed")
+letters_of: Callable[[CellStyle], str] = operator.attrgetter("letters")
+look_of: Callable[[CellStyle], Look] = operator.attrgetter("ink", "flash", "boxed", "double")
+ground_of: Callable[[CellStyle], Ground] = operator.attrgetter("paper", "boxed")
 
 
 @functools.lru_cache(maxsize=None)
@@ -62,10 +62,10 @@ def drawn_letters(cells: bytes, option: int, is_mosaic: bool = False) -> str:
     return codecs.charmap_decode(cells, "strict", letter_table(option, is_mosaic))[0]
 
 
-def spans_of(row: bytes, number: int, option: int, is_boxed_page: bool) -> list[Span]:
+def spans_of(row: bytes, number: int, option: int, is_boxed_page: bool) -> list[CellStyle]:
     """The look of the cells of a row, by the spacing attributes before them."""
     ink, paper, flash, boxed, double, mosaic = 7, 0, False, not is_boxed_page, False, False
-    spans: list[Span] = []
+    spans: list[CellStyle] = []
     last = SPACE
     for part in PARTS.findall(row):
         code = part[0] & 0x7F
@@ -83,7 +83,7 @@ def spans_of(row: bytes, number: int, option: int, is_boxed_page: bool) -> list[
         elif code in (0x0A, 0x0B) and code == last and is_boxed_page:
             boxed = code == 0x0B
         letters_ = drawn_letters(part, option, mosaic)
-        spans.append(Span(letters_, ink, paper, flash, boxed, double))
+        spans.append(CellStyle(letters_, ink, paper, flash, boxed, double))
         last = code
         # These hold from the next cell on.
         if code >= SPACE:
@@ -97,7 +97,7 @@ def spans_of(row: bytes, number: int, option: int, is_boxed_page: bool) -> list[
     return spans
 
 
-def grouped(spans: Iterable[Span], key: Callable[[Span], Key]) -> Iterator[tuple[Key, int, str]]:
+def grouped(spans: Iterable[CellStyle], key: Callable[[CellStyle], Key]) -> Iterator[tuple[Key, int, str]]:
     """Neighbours with the same key, as the first column and the letters."""
     column = 0
     for value, several in itertools.groupby(spans, key):

@@ -15,7 +15,7 @@ from .places import place_of_pts
 from .scope import listed
 
 if TYPE_CHECKING:
-    from ..qc.made_with import Program as Made
+    from ..qc.made_with import MadeWith
     from ..qc.sums import File
     from ..qc.asked import Asked
     from .report import Looks, Report
@@ -237,7 +237,7 @@ def navigation(report: Report) -> str:
         links.append(("pages", "Headers"))
     if report.looks:
         links.append(("key", "How to read this page"))
-    links.append(("files", "Made from"))
+    links.append(("files", "MadeWith from"))
     return "<nav>" + " ".join(f'<a href="#{to}">{words}</a>' for to, words in links) + "</nav>"
 
 
@@ -249,7 +249,7 @@ def foot(report: Report) -> str:
         f'<p class="says">{SAYS}</p>'
 
 
-def made_from(files: Iterable[tuple[str, File]], date: str, program: Made,
+def made_from(files: Iterable[tuple[str, File]], date: str, program: MadeWith,
               words: Iterable[tuple[str, str]]) -> str:
     """The files of a page, each with what it is, the program, and commands."""
     rows = "".join(
@@ -262,7 +262,7 @@ def made_from(files: Iterable[tuple[str, File]], date: str, program: Made,
               for name, line in words),
             ("PROVED", f'<code class="long">{shown(proved)}</code>' if proved else
              "no file PROVED says what the prover said of this program")]
-    return ('<h2 id="files">Made from</h2><table class="files"><thead><tr><td></td>'
+    return ('<h2 id="files">MadeWith from</h2><table class="files"><thead><tr><td></td>'
             f"{heads('Name', 'Size', 'SHA-256')}</tr></thead><tbody>{rows}</tbody></table>"
             f"{listed(made)}")
 

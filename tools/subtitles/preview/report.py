@@ -7,7 +7,7 @@ from typing import NamedTuple, Sequence
 from ..core.gsi import titles_in
 from ..core.manual import meanings
 from ..core.national import BY_WORD
-from ..core.programme import Programme
+from ..core.programme import SubtitleList
 from ..core.teletext import page_name
 from ..core.times import FRAMES_OF_A_DAY, time_of
 from ..core.told import UNDECIDED, Told
@@ -84,7 +84,7 @@ class Report:
         self.is_refused_file = is_of_file and not self.is_beside
         due = self.part.due()
         self.subtitles = due.subtitles
-        self.programme: Programme = due
+        self.programme: SubtitleList = due
         if self.part.pes is None and self.first and self.first.number == EMPTY:
             raise NoReport(f"nothing is wrong with {self.stl}, "
                            f"{counted(len(self.subtitles), 'subtitle')}: give the PES file, which "

@@ -9,7 +9,7 @@ import subprocess
 from typing import Sequence
 
 from ..core.files import temporary_folder, whole_bytes
-from ..core.programme import Programme, Subtitle, subtitles_read, subtitles_shown
+from ..core.programme import SubtitleList, Subtitle, subtitles_read, subtitles_shown
 from ..core.teletext import Page, page_name
 from ..core.times import ALL_DAY, Between
 from ..reading.packets import PES, Packets
@@ -23,7 +23,7 @@ NOTHING = 82  # the number where there is no subtitle
 EVERY = "1500"  # frames: the fewest repeats
 
 
-class DuePages(Programme):
+class DuePages(SubtitleList):
     """A programme with the page that is due of each subtitle; which have the same page or words.
     `timeline` is what a receiver holds of it, `None` where there is no subtitle."""
 

@@ -49,7 +49,7 @@ class Choice(NamedTuple):
         return self.found >= FEWEST and self.drawn * 10 >= self.found * TENTHS
 
 
-class Pair(NamedTuple):
+class SentLine(NamedTuple):
     """A line with letters as it was sent: the subtitle's place, the line's number, all its cells
     with each code that stands there, its row of the page and the cells of that."""
 
@@ -82,13 +82,13 @@ def letters(cells: bytes) -> bytes:
     return bytes(cell for cell in cells if cell > SPACE)
 
 
-def pairs_of(place: int, lines: Sequence[bytes], rows: Sequence[bytes]) -> list[Pair]:
+def pairs_of(place: int, lines: Sequence[bytes], rows: Sequence[bytes]) -> list[SentLine]:
     """The lines with letters of a found subtitle; none where they are other lines on the page."""
     said = [(number, line) for number, line in enumerate(lines) if letters(line)]
     shown = [(number, row) for number, row in enumerate(rows, 1) if letters(row)]
     if [letters(line) for _, line in said] != [letters(row) for _, row in shown]:
         return []
-    return [Pair(place, number, line, row, sent)
+    return [SentLine(place, number, line, row, sent)
             for (number, line), (row, sent) in zip(said, shown)]
 
 
@@ -103,7 +103,7 @@ def stripped(cells: bytes, strip: Iterable[int]) -> bytes:
     return cells.translate(None, bytes(strip))
 
 
-def strips(pairs: Sequence[Pair]) -> Iterator[bytes]:
+def strips(pairs: Sequence[SentLine]) -> Iterator[bytes]:
     """The codes that may be left out of texts: all that a page can't have, those that lines lack
     between their letters, and of the others at the ends of lines each choice or the usual ones."""
     lacks, has, ends = set[int](), set[int](), set[int]()
@@ -168,7 +168,7 @@ def afters(lines: Counter[tuple[bytes, bytes]]) -> list[bytes]:
             if len(one) <= MOST_AFTER and all(code in DRAWN_CODES for code in one)]
 
 
-def ways_to_prepare(pairs: Sequence[Pair]) -> list[Layout]:
+def ways_to_prepare(pairs: Sequence[SentLine]) -> list[Layout]:
     """Layouts that say what a line becomes, those first that give most lines as they were sent."""
     scores = Counter[Layout]()
     for strip, trim in itertools.product(strips(pairs), (False, True)):
@@ -204,7 +204,7 @@ def as_bits(places: Iterable[int]) -> int:
     return bits
 
 
-def placed(layout: Layout, pairs: Sequence[Pair], all_lines: Sequence[Sequence[bytes]],
+def placed(layout: Layout, pairs: Sequence[SentLine], all_lines: Sequence[Sequence[bytes]],
            found: Sequence[Sent]) -> Iterator[tuple[Layout, int]]:
     """Layouts with these cells that say where rows are, each with the subtitles of which no line
     stands elsewhere."""
@@ -226,7 +226,7 @@ def spaces_before(cells: bytes) -> int:
     return len(cells) - len(cells.lstrip(b" "))
 
 
-def justified(layout: Layout, pairs: Sequence[Pair], found: Sequence[Sent]
+def justified(layout: Layout, pairs: Sequence[SentLine], found: Sequence[Sent]
               ) -> Iterator[tuple[Layout, int]]:
     """Layouts with these cells that say where columns are, each with the subtitles of which a line
     stands elsewhere or has other cells."""

@@ -13,7 +13,7 @@ PROVED = "PROVED"  # lies beside a program, or over the folder of one that is in
 OF_PROGRAM = re.compile(r"crate subttx \S+ (logic=proved .*)")
 
 
-class Program(NamedTuple):
+class MadeWith(NamedTuple):
     """The version of the tools, and the program's SHA-256 and line of the prover."""
 
     version: str
@@ -21,11 +21,11 @@ class Program(NamedTuple):
     proved: str | None
 
 
-def program_at(path: str) -> Program:
+def program_at(path: str) -> MadeWith:
     """What there is to say of the program at a path."""
     real = os.path.realpath(behind_script(path))
     sha256 = file_of(real, path).sha256
-    return Program(version(), sha256, proved_line(real, sha256))
+    return MadeWith(version(), sha256, proved_line(real, sha256))
 
 
 def proved_line(program: str, sha256: str) -> str | None:

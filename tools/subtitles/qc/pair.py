@@ -40,7 +40,7 @@ from .warned import Warned
 NO_CLOCK = Clock(0, RECORDING)  # stands for one that is not found yet
 
 
-class Heard(NamedTuple):
+class Located(NamedTuple):
     """A recording that was read, its parts with their clocks, and the subtitles of the file."""
 
     recording: Recording
@@ -180,7 +180,7 @@ class Pair:
         self.speech.say(told_of(choice))
 
     @functools.cached_property
-    def heard(self) -> Heard:
+    def heard(self) -> Located:
         """The recording, which is read once, and its parts."""
         asked = self.asked
         subtitles = self.subtitles()
@@ -195,7 +195,7 @@ class Pair:
             packets, clocks.sought(self, recording)))
         recording.read(self.is_summed, ending)
         self.verdict.recording = recording.file
-        return Heard(recording, clocks.parts_of(self, recording), subtitles)
+        return Located(recording, clocks.parts_of(self, recording), subtitles)
 
     def judge_beside(self, answer: Answer) -> None:
         """Judges how the subtitles were sent that are not refused. Where that can't be judged the

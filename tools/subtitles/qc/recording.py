@@ -24,7 +24,7 @@ from .names import KEPT, KEPT_STREAM, Names, again
 from .pes_header import first_of, header_words
 from .speech import Speech
 from .start import NoFirst
-from .sums import File, Files
+from .sums import File, Sums
 from .typed import Typed
 from .unclear import Unclear
 from .warned import Warned
@@ -111,7 +111,7 @@ class Recording:
 
     def read_file(self, is_summed: bool) -> None:
         """Takes all that is told of a file."""
-        files = Files([self.name]) if is_summed else None
+        files = Sums([self.name]) if is_summed else None
         self.survey = survey(self.typed.program_path, self.path, self.asked.page, self.asked.pid,
                              look=self.show)
         self.file = files.all()[0] if files else None

@@ -6,16 +6,15 @@ from typing import Iterable
 
 from ..core.told import LOSSES, STL_FAULTS
 from ..reading.gaps import Place
-from . import sentence
 from .asked import Asked
 from .beside import Beside, Counts
 from .clock import FITTED, FITTED_LATER
 from .delays import Spread, spread_of
 from .layouts import Choice
 from .part import Part
-from .sentence import Seen as Spoken
+from .sentence import Facts, sentence_of
 from .severity import Severity
-from .status import LOST, NOT_JUDGED, REFUSED, WAIVED, WARNED, Decision, Seen, decide
+from .status import LOST, NOT_JUDGED, REFUSED, WAIVED, WARNED, Decision, Evidence, decide
 from .sums import File
 from .warned import Warned
 
@@ -97,10 +96,10 @@ class Verdict:
             return None
         return FITTED if are_fitted[0] else FITTED_LATER
 
-    def seen(self) -> Seen:
+    def seen(self) -> Evidence:
         """All that decides it."""
         kinds = [*(warned.kind for warned in self.warnings), *[FITTED_KIND] * bool(self.fitted)]
-        return Seen([part.said() for part in self.parts], self.severity,
+        return Evidence([part.said() for part in self.parts], self.severity,
                     [gap.is_judged and gap.place.mark is None for gap in self.gaps], kinds,
                     self.asked.is_strict, [] if self.reason is None else [self.reason],
                     self.failed)
@@ -125,7 +124,7 @@ class Verdict:
     def sentence(self) -> str:
         """It in one sentence for a person."""
         refused = next((part for part in self.parts if part.is_refused), None)
-        said = sentence.Seen(
+        said = Facts(
             self.word, self.count, option=self.asked.option, faults=self.faults,
             lost=[gap.line() for gap in self.gaps if gap.is_judged], warnings=self.seen().warnings,
             reason=self.why_not, is_file=self.asked.recording is None, within=self.asked.within,
@@ -135,9 +134,9 @@ class Verdict:
         elif refused:
             said = said._replace(first=refused.answer.first, hint=refused.hint,
                                  causes=refused.causes)
-        return sentence.sentence_of(said)
+        return sentence_of(said)
 
-    def sent_beside(self, said: Spoken, beside: Beside) -> Spoken:
+    def sent_beside(self, said: Facts, beside: Beside) -> Facts:
         """What the sentence is made of where subtitles are refused: that of the transmission, of
         the first part of which something is."""
         answers = [part.answer for part in self.parts]

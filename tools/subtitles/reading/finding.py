@@ -13,7 +13,7 @@ from ..core.times import (
 from ..core.words import Stop, counted, range_words
 from .alignment import MOST_APART, Base, Fit, Shown, bases_of
 from .packets import STRAY, Packets, Range
-from .stretches import IN_A_ROW, Part, Run, Stretch, by_breaks, find_row, parts_of, runs_of
+from .stretches import IN_A_ROW, FittedPart, Airing, Stretch, by_breaks, find_row, parts_of, runs_of
 from .subcodes import subcode_words, turns_of
 
 NEAR = 10 * FRAMES_A_SECOND  # to the origin 0
@@ -148,7 +148,7 @@ def is_sent(packets: Packets, asked: Sought, told: list[str]) -> bool:
 
 
 def take_one(origin: Origin, asked: Sought, bases: Sequence[Base],
-             row: Sequence[Stretch], parts: Sequence[Part]) -> None:
+             row: Sequence[Stretch], parts: Sequence[FittedPart]) -> None:
     """Takes one origin, that of the first part, where it is clear."""
     if not parts:
         origin.told.append("no edge agrees with any origin")
@@ -171,7 +171,7 @@ def take_one(origin: Origin, asked: Sought, bases: Sequence[Base],
 
 
 def take_parts(origin: Origin, asked: Sought, bases: Sequence[Base],
-               parts: Sequence[Part]) -> None:
+               parts: Sequence[FittedPart]) -> None:
     """Takes all parts, where they are as many as there are to be, and clear."""
     if len(parts) != asked.breaks + 1:
         origin.breaks = max(len(parts) - 1, 0)
@@ -204,7 +204,7 @@ def add(origin: Origin, part: OfPart) -> None:
     origin.printed.append(f"{frames}{packets}--origin {part.origin}")
 
 
-def measure(origin: Origin, known: int | None, part: Part) -> None:
+def measure(origin: Origin, known: int | None, part: FittedPart) -> None:
     """Takes how the first part agrees with its origin, and how late it is compared with one that
     is known, or with 0 near that."""
     best, apart = part.best, part.sent.apart(part.best)
@@ -245,7 +245,7 @@ def frames_words(ticks: int) -> str:
     return f"{counted(frames, 'frame')}{more} {'late' if ticks > 0 else 'early'}"
 
 
-def as_good(part: Part) -> list[Fit]:
+def as_good(part: FittedPart) -> list[Fit]:
     """The origins that are as good as the best of a part, but where beginnings and ends are apart
     the one of the ends, and those with which nothing is but erased."""
     best, apart = part.best, part.sent.apart(part.best)
@@ -254,13 +254,13 @@ def as_good(part: Part) -> list[Fit]:
             and not (apart and (abs(fit.start - best.start) <= MOST_APART or not fit.texts))]
 
 
-def is_clear(part: Part) -> bool:
+def is_clear(part: FittedPart) -> bool:
     """Whether the origin of a part is clear."""
     return not as_good(part) and (part.best.agree * 2 >= part.best.among
                                   or bool(part.sent.apart(part.best)))
 
 
-def part_lines(part: Part, count: int) -> Iterator[str]:
+def part_lines(part: FittedPart, count: int) -> Iterator[str]:
     """What there is to know of the best origin of a part; the file has so many edges."""
     best, others, edges = part.best, part.others, len(part.sent.edges)
     following = f"--origin {others[0].origin} with {others[0].agree}" if others else "none"
@@ -291,7 +291,7 @@ def part_lines(part: Part, count: int) -> Iterator[str]:
                "is the right subtitle file")
 
 
-def shift_lines(row: Sequence[Stretch], parts: Sequence[Part], known: int) -> list[str]:
+def shift_lines(row: Sequence[Stretch], parts: Sequence[FittedPart], known: int) -> list[str]:
     """From when on subtitles are late, compared with an origin, and what to say if it is a break.
     """
     lines = []
@@ -331,7 +331,7 @@ def drift_of(parts: Sequence[tuple[int, int]]) -> int | None:
     return ppm if is_steady and are_small and 0 < abs(ppm) <= MOST_PPM else None
 
 
-def break_lines(parts: Sequence[Part]) -> Iterator[str]:
+def break_lines(parts: Sequence[FittedPart]) -> Iterator[str]:
     """Where parts begin, and how much longer the recording is there than the file."""
     for number, (before, part) in enumerate(zip(parts, parts[1:]), 2):
         frames, rest = divmod(abs(away := ticks_between(before.origin, part.origin)), TICKS)
@@ -346,7 +346,7 @@ def runs_line(runs: int) -> str:
     return f"the programme is there {runs} times"
 
 
-def run_lines(runs: Sequence[Run], packets: Sequence[Range], bases: Sequence[Base]) \
+def run_lines(runs: Sequence[Airing], packets: Sequence[Range], bases: Sequence[Base]) \
         -> Iterator[str]:
     """Where the runs of a programme are."""
     def after(place: tuple[int, int]) -> str:
@@ -360,7 +360,7 @@ def run_lines(runs: Sequence[Run], packets: Sequence[Range], bases: Sequence[Bas
                f"{after(run.last)} after the first header: --pes {own[0]}-{own[1]}")
 
 
-def packets_of(runs: Sequence[Run], number: int, bases: Sequence[Base],
+def packets_of(runs: Sequence[Airing], number: int, bases: Sequence[Base],
                packets: Packets) -> Range:
     """The PES packets of a run, and all beside it up to the last of the run before and the first of
     the next one."""

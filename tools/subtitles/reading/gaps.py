@@ -28,7 +28,7 @@ class Place:
     mark: int | None = None
 
 
-class Jump(NamedTuple):
+class ClockJump(NamedTuple):
     """The clock goes on by some ticks more, or less, after a PTS of the PID."""
 
     before: int | None
@@ -60,12 +60,12 @@ def hole_of(one: Clocked) -> Place | None:
     return Place(one.before, one.after, missing=one.ticks - round(one.usual))
 
 
-def jumps_of(packets: Packets) -> Iterator[Jump]:
+def jumps_of(packets: Packets) -> Iterator[ClockJump]:
     """Where nothing is missing and the clock was set anew."""
     for one in packets.clocked:
         if one.counters == "whole" and one.packets * PAUSE * one.usual < \
                 one.usual_packets * abs(one.ticks):
-            yield Jump(one.before, one.ticks - round(one.usual))
+            yield ClockJump(one.before, one.ticks - round(one.usual))
 
 
 def is_within(ticks: int, place: Place) -> bool:

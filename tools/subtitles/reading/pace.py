@@ -30,7 +30,7 @@ REGULAR, IRREGULAR, PAUSED, BY_EVERY, TOO_FEW = \
 Pauses = Sequence[Tuple[Optional[int], Optional[int]]]
 
 
-class Silence(NamedTuple):
+class Lull(NamedTuple):
     """The frames of two PES packets between which none came for long, and whether another such
     place is near."""
 
@@ -82,7 +82,7 @@ def pace_of(rows: Sequence[Sequence[int]], each: int, every: int, pauses: Pauses
     return Pace(REGULAR, apart, lost)
 
 
-def idle_of(silences: Sequence[Silence], every: int, pauses: Pauses) -> list[Silence]:
+def idle_of(silences: Sequence[Lull], every: int, pauses: Pauses) -> list[Lull]:
     """The silences in which nothing had to come. One behind another is how seldom PES packets come
     then, as where another page of the PID is over; one is longer than is usual, and `--every`
     allows that; one lies outside of the programme. Or it lies in a pause, up to its end, and so
@@ -98,7 +98,7 @@ def idle_of(silences: Sequence[Silence], every: int, pauses: Pauses) -> list[Sil
             or any(is_outside(one, *pause) for pause in pauses)]
 
 
-def is_outside(silence: Silence, begin: int | None, end: int | None) -> bool:
+def is_outside(silence: Lull, begin: int | None, end: int | None) -> bool:
     """Whether a silence lies before the first in cue, or behind the last out cue."""
     if begin is None:
         return end is not None and silence.last <= end + NEAR
@@ -126,13 +126,13 @@ def at_rank(counts: collections.Counter[int], rank: int, is_from_above: bool) ->
     raise ValueError("there are fewer")
 
 
-def silences_in(row: Sequence[int], lost: int, steps: int) -> Iterator[Silence]:
+def silences_in(row: Sequence[int], lost: int, steps: int) -> Iterator[Lull]:
     """Where PES packets are so many frames apart or more; those are near each other between which
     fewer steps lie."""
     places = [] if isinstance(row, range) else [
         at for at, (first, last) in enumerate(zip(row, row[1:])) if last - first >= lost]
     for before, at, after in zip([-steps, *places], places, [*places[1:], len(row) + steps]):
-        yield Silence(row[at], row[at + 1], min(at - before, after - at) < steps)
+        yield Lull(row[at], row[at + 1], min(at - before, after - at) < steps)
 
 
 # ---- of a recording

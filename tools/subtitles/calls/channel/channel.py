@@ -31,7 +31,7 @@ from .feed_clock import MINUTE
 from .hearing import Hearing
 from .partial import ENDED, STOPPED, reason_of
 from .planned import Planned
-from .queue import Queue, Seen, Waiting
+from .queue import Queue, Arrival, Waiting
 from .results import Results
 from .running import Call, Running
 from .spool import Spool
@@ -195,7 +195,7 @@ class Channel(Results):
         while planned.gone:
             self.unjudged(planned.gone.pop(0).name, f"it is gone from {planned.path}")
 
-    def begin_seen(self, seen: Seen) -> None:
+    def begin_seen(self, seen: Arrival) -> None:
         """Begins with a programme that is there; those before it in the list were not."""
         name = self.queue.waiting[seen.place].programme.name
         for _ in range(seen.place):
