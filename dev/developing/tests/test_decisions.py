@@ -18,7 +18,7 @@ from subtitles.calls.pairs import of_folder
 from subtitles.calls.watching import Sighting, Watch
 from subtitles.core.programme import Subtitle
 from subtitles.core.spans import Span
-from subtitles.core.times import TICKS, time_of
+from subtitles.core.times import TICKS, Between, time_of
 from subtitles.core.words import Words
 from subtitles.qc.asked import add_pair_options, asked_of_line
 from subtitles.qc.clock import START, Clock, Found
@@ -384,7 +384,8 @@ class Parting(Case):
             typed, names = Typed("tools/qc", self.bench.program), Names("one", self.folder, None)
             pair = Pair(Verdict(asked, Severity(None), "now"), typed, names, Speech(Progress()),
                         False)
-            found = [self.FOUND._replace(begin=begin, end=end) for begin, end in parts]
+            found = [self.FOUND._replace(begin=begin, end=end, between=Between(begin, end))
+                     for begin, end in parts]
             recording: Any = SimpleNamespace(stages=[], packets=Packets(1))
             try:
                 pair.judged = subtitles

@@ -3,6 +3,8 @@ from __future__ import annotations
 
 from typing import NamedTuple
 
+from ..core.times import ALL_DAY, Between
+from ..reading.moving import Stage
 from ..reading.packets import Range
 
 RECORDING, GIVEN, START, TCP = "recording", "given", "start", "tcp"
@@ -35,13 +37,24 @@ class Clock(NamedTuple):
 
 
 class Found(NamedTuple):
-    """The frames of a part, its clock, and its PES packets where PTS go back."""
+    """What is judged by one clock: its frames, its PES packets where PTS go back, and the frames in
+    which its subtitles come. Where the page moves to another PID it is what one of these carries,
+    `stage`; `came` and `goes` are the PIDs from which the page comes, and to which it goes."""
 
     begin: int
     end: int
     clock: Clock
     packets: Range | None = None
+    between: Between = ALL_DAY
+    stage: Stage | None = None
+    came: int | None = None
+    goes: int | None = None
 
     @property
     def origin(self) -> int:
         return self.clock.origin
+
+    @property
+    def pid(self) -> int | None:
+        """The PID, where the page moves to another one."""
+        return self.stage and self.stage.pid

@@ -82,7 +82,7 @@ def words_of(told: Told, part: Part, verdict: Verdict) -> str:
 def end_words(number: int, part: Part, page: str) -> str:
     """That the page comes from another PID, or goes to one, or that its PID goes on with what is
     no Teletext, where that is why a subtitle is not whole."""
-    came, goes = (part.piece.came, part.piece.goes) if part.piece else (None, None)
+    came, goes = (part.found.came, part.found.goes) if part.found else (None, None)
     if number == BEGIN and came is not None:
         return f"page {page} was on {pid_name(came)} before"
     if number == END and goes is not None:

@@ -105,7 +105,7 @@ def look_at_headers(pair: Pair, part: Part) -> None:
 def measure(pair: Pair, part: Part, count: int) -> None:
     """Takes after how many frames the subtitles of a part were whole, and of one that is refused
     within how many it would be accepted."""
-    answer, asked, recording = part.answer, pair.asked, part.recorded[0]
+    answer, asked, (recording, found) = part.answer, pair.asked, part.recorded
     held = part.causes.held if part.causes else part.held
     if (pair.is_summed or asked.within) and held:
         part.delays = frames_in(not asked.within and not answer.numbers & MOVED,
@@ -113,5 +113,5 @@ def measure(pair: Pair, part: Part, count: int) -> None:
                                 asked.is_complete)
     part.is_lost = bool(LOSSES & answer.numbers) or \
         any(is_in(place, part) for place in recording.places())
-    if part.is_refused and not (recording.is_feed or part.is_lost or part.piece):
+    if part.is_refused and not (recording.is_feed or part.is_lost or found.stage):
         part.accepted_within = Trying(pair, part, count).least(answer.numbers, part.causes)

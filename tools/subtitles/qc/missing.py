@@ -29,12 +29,12 @@ def gaps_in(recording: Recording, parts: Sequence[Part]) -> list[Gap]:
 def places_on(one: Part, other: Part | None) -> Iterator[Place]:
     """Where something is missing on a PID; what is where the page goes to the one of another part
     is told here, and not there."""
-    assert one.piece
-    for place in one.recorded[0].places():
+    recording, its = one.recorded
+    for place in recording.places():
         if other and is_in_move(place, one):
             _, found = other.recorded
             yield dataclasses.replace(place, after=pts_of(found.begin, found.origin))
-        elif place.mark is not None or place.before is not None or one.piece.came is None:
+        elif place.mark is not None or place.before is not None or its.came is None:
             yield place
 
 
@@ -49,8 +49,9 @@ def gaps_of(places: Sequence[Place], parts: Sequence[Part]) -> list[Gap]:
 
 def is_in_move(place: Place, one: Part) -> bool:
     """Whether something is missing where the page goes to another PID."""
-    return bool(one.piece and one.piece.goes is not None and place.mark is None
-                and place.before == one.piece.stage.last())
+    found = one.found
+    return bool(found and found.stage and found.goes is not None and place.mark is None
+                and place.before == found.stage.last())
 
 
 def is_in(place: Place, part: Part) -> bool:

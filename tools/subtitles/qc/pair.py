@@ -23,7 +23,7 @@ from .hints import words_of
 from .layouts import layout_of_sent
 from .midnight import title_words
 from .missing import gap_of, gaps_in, is_in, unsent_in
-from .moved import Piece, moves_told, pieces_of
+from .moved import found_on, moves_told
 from .names import Names
 from .options import FROM, LAYOUT
 from .part import Part
@@ -222,8 +222,7 @@ class Pair:
         parts = self.parts(found, recording)
         for one, its in (part.recorded for part in parts if recording.stages):
             self.warn(one, its.origin, its)
-        self.verdict.warn(moves_told([part.piece for part in parts if part.piece],
-                                     self.asked.page_name))
+        self.verdict.warn(moves_told([part.recorded[1] for part in parts], self.asked.page_name))
         for part in parts:
             self.recording, its = part.recorded
             judging.judge(self, part, len(parts))
@@ -251,19 +250,15 @@ class Pair:
         is in the file; in two, where the page moves to another PID while it is due."""
         if len(found) == 1:
             found = [self.whole._replace(clock=found[0].clock, packets=found[0].packets)]
+        else:
+            found = [one._replace(between=Between(one.begin, one.end)) for one in found]
         if recording.stages:
-            pieces = [piece for one in found for piece in pieces_of(
+            found = [its for one in found for its in found_on(
                 one._replace(packets=one.packets or self.inside), recording.stages, self.judged,
                 self.asked.within)]
-            if len(pieces) == 1:
-                return [self.part(pieces[0].found, recording.of(pieces[0].stage), pieces[0])]
-            parts = [self.part(one.found, recording.of(one.stage), one, number, one.between)
-                     for number, one in enumerate(pieces, 1)]
-        elif len(found) == 1:
+        if len(found) == 1:
             return [self.part(found[0], recording)]
-        else:
-            parts = [self.part(one, recording, None, number, Between(one.begin, one.end))
-                     for number, one in enumerate(found, 1)]
+        parts = [self.part(one, recording, number) for number, one in enumerate(found, 1)]
         parted = [one for part in parts for one in self.judged
                   if part.asked.between.has(one.begin)]
         if recording.stages:
@@ -276,11 +271,10 @@ class Pair:
             raise Unclear(f"the parts of {self.asked.stl} would hold other subtitles than it has")
         return parts
 
-    def part(self, found: Found, recording: Recording, piece: Piece | None = None,
-             number: int | None = None, between: Between = ALL_DAY) -> Part:
-        """All that is judged; with a number a part of it, of the subtitles that come in some
+    def part(self, found: Found, recording: Recording, number: int | None = None) -> Part:
+        """All that is judged; with a number a part of it, of the subtitles that come in its
         frames."""
         asked, names = (self.asked, self.names) if number is None else (
-            self.asked.of_part(*between), self.names.of_part(number))
-        return Part(number or 1, asked, names, found, recording, recording.packets, piece,
-                    self.left_out)
+            self.asked.of_part(*found.between), self.names.of_part(number))
+        one = recording.of(found.stage) if found.stage else recording
+        return Part(number or 1, asked, names, found, one, one.packets, self.left_out)

@@ -18,7 +18,6 @@ from .clock import Clock, Found
 from .due_pages import DuePages
 from .headers import headers_of
 from .keeping import Kept
-from .moved import Piece
 from .names import Names
 from .naming import Causes
 from .recording import Recording
@@ -42,7 +41,6 @@ class Part:
     found: Found | None = None
     recording: Recording | None = None
     packets: Packets = dataclasses.field(default_factory=lambda: Packets(PES))
-    piece: Piece | None = None  # of one PID, where the page moves to another one
     left_out: Collection[int] = ()  # subtitles that are not judged, by their places in the file
     due: Callable[[], DuePages] = lambda: DuePages([], [])  # none of a file that is refused
     pes: Range | None = None
