@@ -10,7 +10,7 @@ import shutil
 from subtitles.core.built import TOP, read
 from subtitles.core.words import INSTALLED, Stop
 
-TOOLS = ["cut", "origin", "preview", "qc", "text", "ts2pes"]
+TOOLS = ["preview", "qc", "text", "ts2pes"]
 PAGES = ["subttx.1", "subttx-qc.1"]
 MANUAL = os.path.join("docs", "manual")
 READ = [os.path.join("docs", "MANUAL.md"), os.path.join("docs", "verdict.schema.json"), "VERSION"]

@@ -6,6 +6,7 @@ import os
 from typing import Sequence
 
 from developing.pes import packet
+from subtitles.core.teletext import Page
 from subtitles.core.told import Told, told_of
 from subtitles.core.words import Words
 from subtitles.qc.asked import Asked, add_pair_options, asked_with
@@ -66,9 +67,9 @@ def asked_for(stl: str, recording: str | None, *words: str) -> Asked:
     return asked_with(stl, recording, options)
 
 
-def packets_told(case: Case, data: bytes, name: str = "held.pes") -> Packets:
+def packets_told(case: Case, data: bytes, page: Page = PAGE) -> Packets:
     """What `survey` tells of a file of PES packets."""
-    return survey(case.bench.program, case.write(name, data), PAGE).by_pid.get(0, Packets(0))
+    return survey(case.bench.program, case.write("held.pes", data), page).by_pid.get(0, Packets(0))
 
 
 def timeline_of(case: Case, data: bytes, origin: int = 0, within: int = 0) -> Timeline:

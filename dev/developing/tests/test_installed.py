@@ -13,7 +13,6 @@ from ..prefix import PAGES, without_dead_links
 from ..proved import lacking, parsed
 from .bench import Case, Done, example
 
-TIMES = ["--from", "20:15:00:00", "--to", "20:15:09:00"]
 COMPLETE = '''source "$1"
 COMP_WORDS=("${@:2}")
 COMP_CWORD=$((${#COMP_WORDS[@]} - 1))
@@ -31,23 +30,18 @@ def runs_the_whole_way(case: Case, prefix: str) -> None:
     stream = case.tool("pes2ts", example("story.pes"), "0x101")
     recording = run("subttx-ts2pes", case.write("story.ts", stream.out), "0x101")
     pes = case.write("recording.pes", recording.out)
-    origin = run("subttx-origin", stl, pes).out.decode().split()
-    case.must("origin", origin == ["--origin", "0"], origin)
-    done = run("subttx-cut", pes, *TIMES, *origin)
-    case.must("cut", done.status == 0, done)
-    some = done.out.decode().split()
-    done = run("subttx", "check", stl, pes, *origin, *some)
+    done = run("subttx", "check", stl, pes, "--pes", "0-4")
     case.must("check", done.out == b"accepted 226 frames 5 transmissions\n", done)
     done = run("subttx-text", stl)
     case.must("text", done.out.endswith(b"3 subtitles\n"), done)
-    done = run("subttx-preview", stl, pes, *origin, *some, "-o", "report.html")
+    done = run("subttx-preview", stl, pes, "-o", "report.html")
     case.must("preview", (done.status, done.out) ==
               (0, b"accepted 226 frames 5 transmissions\n"), done)
     done = run("subttx-qc", stl, "story.ts")
     case.must("qc", done.out.endswith(b"accepted 226 frames 5 transmissions\n") and
               os.path.join(prefix, "bin", "subttx").encode() in done.out, done)
-    done = run("subttx-cut", "--help")
-    case.must("its own names in the help", b"subttx-cut PES" in done.out
+    done = run("subttx-text", "--help")
+    case.must("its own names in the help", b"subttx-text STL" in done.out
               and b"tools/" not in done.out, done)
 
 
@@ -147,9 +141,8 @@ class Installed(Case):
             options = set(re.findall(r"--[\w-]+", words))
             self.must(name, options <= offered("subttx", name, "-"), (options, name))
         self.must("values", offered("subttx", "check", "--option", "g") == {"german"})
-        tool = os.path.join(TOP, "tools", "cut")
-        self.must("a tool", {"--from", "--to", "--page", "--origin", "--pes"} <= offered(tool, "-"),
-                  offered(tool, "-"))
+        tool = os.path.join(TOP, "tools", "ts2pes")
+        self.must("a tool", {"--version", "-p"} <= offered(tool, "-"), offered(tool, "-"))
         tool = os.path.join(TOP, "tools", "qc")
         self.must("qc", {"--batch", "--allow-lost", "--severity", "-o"} <= offered(tool, "-"),
                   offered(tool, "-"))

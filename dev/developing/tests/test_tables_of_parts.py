@@ -82,13 +82,13 @@ class Named(Case):
                   "tools/qc one.stl --origin T")
         self.must("words", line_of("cat", "a b", ">", "c", "|", "d'e") ==
                   "cat 'a b' >c | 'd'\"'\"'e'")
-        for called, tool, program in (("tools/qc", "tools/cut", "subttx"), ("./qc", "./cut",
+        for called, tool, program in (("tools/qc", "tools/text", "subttx"), ("./qc", "./text",
                                                                            "../subttx"),
-                                      ("qc", "./cut", "../subttx"),
-                                      ("/a/tools/qc", "/a/tools/cut", "/a/subttx")):
+                                      ("qc", "./text", "../subttx"),
+                                      ("/a/tools/qc", "/a/tools/text", "/a/subttx")):
             made = Typed(called, self.bench.program)
-            self.must(called, made.tool("cut") == tool and made.program_words ==
-                      ["-p", self.bench.program], made.tool("cut"))
+            self.must(called, made.tool("text") == tool and made.program_words ==
+                      ["-p", self.bench.program], made.tool("text"))
             self.must(f"{called}: beside", os.path.normpath(made.beside()) ==
                       os.path.normpath(program), made.beside())
 

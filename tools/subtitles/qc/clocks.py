@@ -90,8 +90,7 @@ def origin_in(packets: Packets, asked: Sought) -> Origin:
 
 
 def fitted(pair: Pair, recording: Recording, clock: Clock | None) -> Origin:
-    """What is found of the clock, also compared with one that is known; said as tools/origin does.
-    """
+    """What is found of the clock, also compared with one that is known, which is said."""
     origin = origin_in(recording.packets, sought(pair, recording, clock))
     for line in [*origin.printed, *map("origin: {}".format, origin.told)]:
         pair.speech.say(line)

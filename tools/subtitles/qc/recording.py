@@ -65,7 +65,7 @@ def refuse(survey: Survey, name: str) -> None:
         raise Stop(f"{name} is empty")
     if head[3:6] == b"STL":
         raise Stop(f"{name} is a subtitle file: the recording stands after the subtitle file")
-    if survey.size is None and head.startswith(START[:3]) and head[3:4] != START[3:]:
+    if survey.size is None and head.startswith(START[:3]) and head[3:4] not in (b"", START[3:]):
         raise Stop(f"{name} has PES packets of another kind than Teletext's: stream_id "
                    f"{head[3]:02X} instead of BD")
     if survey.size is None:

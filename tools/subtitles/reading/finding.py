@@ -1,4 +1,4 @@
-"""The origin of a recording, found and told: what tools/origin does."""
+"""The origin of a recording, found and told."""
 from __future__ import annotations
 
 import dataclasses
@@ -63,7 +63,7 @@ class Agreement(NamedTuple):
 
 @dataclasses.dataclass
 class Origin:
-    """What is found: the status, as the tool ends with it; `parts`, where they are clear; the PES
+    """What is found: a status, 0 where it is clear; `parts`, where they are clear; the PES
     packets of each time that the programme is there, where that is more than once; how many breaks,
     where others were said; by how many ticks the first part is later than the origin that is known;
     from when on subtitles are late, first, and in words. `printed` and `told` are all lines."""
