@@ -2,14 +2,14 @@
 from __future__ import annotations
 
 import argparse
+import collections
 import contextlib
 import dataclasses
 import io
 import json
 import os
-import threading
 from types import SimpleNamespace
-from typing import Any
+from typing import Any, Iterator
 from unittest import mock
 
 from subtitles.calls import watching
@@ -275,8 +275,8 @@ class Watched(Case):
         self.must("rows", list(watch.rows) == ["old", "older"])
         out = io.StringIO()
         with contextlib.redirect_stdout(out):
-            watch.end(Item("b", None, ""), row("b", "accepted", "accepted 5"))
-            watch.end(Item("a", None, ""), row("a", "refused", "refused 72 X", "a hint"))
+            watch.end(row("b", "accepted", "accepted 5"))
+            watch.end(row("a", "refused", "refused 72 X", "a hint"))
         self.must("lines", [line[21:] for line in out.getvalue().splitlines()] ==
                   ["b  accepted", "a  refused: 72 X: a hint"], out.getvalue())
         page = self.read("out/index.html").decode()
@@ -309,13 +309,16 @@ class Watched(Case):
         it is over."""
         for name in ("in", "out"):
             os.mkdir(self.path(name))
-        begun, looks, released = list[str](), list[int](), threading.Event()
+        begun, looks, running = list[str](), list[int](), list[Item]()
         stopping, due = SimpleNamespace(is_asked=False), Watch.due
 
-        def judge(_: object, item: Item) -> Row:
-            begun.append(item.name)
-            released.wait(9)
-            return row(item.name, "accepted")
+        def judged_next(_: object, waiting: collections.deque[Item], *more: object) \
+                -> Iterator[Row]:
+            while waiting:
+                running.append(waiting.popleft())
+                begun.append(running[-1].name)
+            while stopping.is_asked and running:
+                yield row(running.pop().name, "accepted")
 
         def look(watch: Watch, busy: set[str], now: float) -> list[Item]:
             looks.append(len(looks))
@@ -324,12 +327,12 @@ class Watched(Case):
                     self.write(f"in/{name}", b"x" * len(looks))
             if len(looks) == 7:
                 stopping.is_asked = True
-                released.set()
             return due(watch, busy, now)
 
         with mock.patch.object(watching, "Stopping", lambda: stopping), \
                 mock.patch.object(watching, "LOOK", 0.01), mock.patch.object(Watch, "due", look), \
-                mock.patch("subtitles.calls.batch.Calls.judge", judge), \
+                mock.patch.object(watching, "judged_next", judged_next), \
+                mock.patch("subtitles.calls.batch.Calls.items", lambda calls: running), \
                 contextlib.redirect_stdout(io.StringIO()) as out:
             watching.watch(self.words(program=self.bench.program, jobs=4), "tools/qc")
         self.must("once", sorted(begun) == ["a", "b"] and len(out.getvalue().splitlines()) == 2,

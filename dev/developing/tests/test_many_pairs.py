@@ -2,27 +2,30 @@
 from __future__ import annotations
 
 import argparse
-import concurrent.futures
 import contextlib
 import io
 import json
 import os
+import signal
 import socket
+import sys
 import time
-from typing import Any
+from typing import Any, Callable
 from unittest import mock
 
 from subtitles.calls import batch
 from subtitles.calls.batch import Calls, all_rows, kept_rows, progress_line, words_of
+from subtitles.calls.forked import Call, ended_of, qc, signals_held
 from subtitles.calls.machine import asked_words
 from subtitles.calls.main import parser_of
 from subtitles.calls.objects import Row, found, object_at, row_of, unjudged
 from subtitles.calls.pairs import Item, OwnNames, no_file, pairs_at
+from subtitles.calls.single import SIGNALS
 from subtitles.core.words import Stop
 from subtitles.qc.asked import asked_of
 from subtitles.qc.made_with import program_at
 from subtitles.qc.typed import Typed
-from .bench import Case, alone
+from .bench import SECONDS, Case, alone
 from .parts import asked_for
 from .test_channel_tables import defaults
 
@@ -136,11 +139,22 @@ class Lists(Case):
 class Judged(Case):
     """Calls for pairs, side by side."""
 
+    is_alone = True  # its calls are forked from what has no other thread
+
     def setUp(self) -> None:
         super().setUp()
-        self.write_program("call", CALL)
+        path = self.write_program("call", CALL)
         self.typed = Typed("tools/qc", self.bench.program)
-        vars(self.typed)["call"] = lambda name: [self.path("call")]
+
+        def execute(words: list[str]) -> int:
+            for file in os.listdir("/proc/self/fd"):  # that it goes on is known by one of them
+                with contextlib.suppress(OSError):
+                    os.set_inheritable(int(file), True)
+            os.execv(path, [path, *words])
+
+        asking = mock.patch.object(batch, "qc", execute)
+        asking.start()
+        self.addCleanup(asking.stop)
         os.mkdir(self.path("temporary"))
         os.mkdir(self.path("out"))
         self.write("one.ts", b"1")
@@ -150,13 +164,17 @@ class Judged(Case):
         stl = self.write(f"{name}.stl", kind.encode())
         return Item(name, asked_for(stl, self.path("one.ts"), *words), None)
 
+    def judged(self, calls: Calls, item: Item) -> Row:
+        """The row of a pair that is judged alone."""
+        return calls.begin(item) or next(calls.rows(SECONDS))
+
     def test_words(self) -> None:
         """Of the call for a pair: where its object goes, what is asked; the name as it is shown."""
         for out, is_kept in ((None, False), (self.path("out"), False), (self.path("out"), True)):
             calls = Calls(self.typed, self.path("temporary"), out, is_kept)
             item = self.item("refused", "one", "--every", "50")._replace(name="pair")
             path = os.path.join(out or self.path("temporary"), "pair.json")
-            self.must("row", calls.judge(item).name == "pair" and calls.path(item) == path)
+            self.must("row", self.judged(calls, item).name == "pair" and calls.path(item) == path)
             have = object_at(path)
             kept = f"-o {out}{' --keep' * is_kept}" if out else f"--json {path}"
             self.must("words", have and have["words"].startswith(
@@ -187,24 +205,62 @@ class Judged(Case):
                 ("changes", "not judged", "a file was written to while it was judged")):
             item = self.item(kind)
             self.write("out/one.json", json.dumps(known("accepted")).encode())
-            found_row = calls.judge(item)
+            found_row = self.judged(calls, item)
             self.must(kind, (found_row.name, found_row.verdict, found_row.line) == (
                 "one", verdict, line), found_row)
             have = object_at(calls.path(item))
             self.must("its object", have is not None and have["verdict"] == verdict, have)
-        none = calls.judge(Item("two", None, "no pair"))
+        none = self.judged(calls, Item("two", None, "no pair"))
         self.must("no pair", (none.name, none.verdict, none.line) == (
             "two", "not judged", "no pair") and object_at(self.path("out/two.json")) == unjudged(
                 "two", "no pair"))
-        vars(self.typed)["call"] = lambda name: [self.path("none")]
-        gone = calls.judge(self.item("accepted"))
-        self.must("no call", gone.line == f"{self.path('none')}: No such file or directory", gone)
-        running = [mock.Mock(), mock.Mock()]
-        calls.running |= {*running}
+        with mock.patch("os.fork", side_effect=BlockingIOError(11, "Try again")):
+            gone = self.judged(calls, self.item("accepted"))
+        self.must("no call", gone.line == "no process was begun: Try again", gone)
+        for name in ("one", "two"):
+            calls.begin(self.item("waits", name))
         calls.stop()
-        self.must("all are ended", [one.terminate.call_count for one in running] == [1, 1])
+        self.must("all are ended", not calls.running)
         calls.leave(Item("three", None, "x"), "stopped")
         self.must("nothing is written then", not os.path.exists(self.path("out/three.json")))
+
+    def test_one_that_dies(self) -> None:
+        """It costs its own pair alone, however it ends; what it told last is its reason."""
+        kinds: list[tuple[str, Callable[[], object], str]] = [
+            ("killed", lambda: os.kill(os.getpid(), signal.SIGKILL), "it did not end by itself"),
+            ("an error", lambda: 1 // 0, "it did not end by itself"),
+            ("no memory", lambda: os.abort(), "it did not end by itself"),
+            ("no words", lambda: qc(["--none"]), "--none"),
+            ("a signal", lambda: signal.raise_signal(signal.SIGTERM), "it did not end by itself")]
+        for name, does, reason in kinds:
+            calls = Calls(self.typed, self.path("temporary"), self.path("out"), False)
+            with mock.patch.object(batch, "qc", lambda words: does()):
+                calls.begin(self.item("accepted", "dies"))
+            calls.begin(self.item("accepted", "other"))
+            rows: dict[str, Row] = {}
+            while calls.running:
+                rows.update((one.name, one) for one in calls.rows(SECONDS))
+            self.must(name, [rows[one].verdict for one in ("dies", "other")] == [
+                "not judged", "accepted"] and reason in rows["dies"].line, rows)
+
+    def test_what_a_call_has(self) -> None:
+        """Its own session, nothing to read, nobody who reads what it prints, and no file and lock
+        of who called it; signals end it as ever, though they are held when it begins."""
+        kept = open(self.write("kept", b""), "rb")
+        self.addCleanup(kept.close)
+
+        def look() -> int:
+            files = [os.path.realpath(f"/proc/self/fd/{file}") for file in range(2)]
+            told = [files == [os.devnull] * 2, os.getsid(0) == os.getpid(),
+                    not os.path.exists(f"/proc/self/fd/{kept.fileno()}"),
+                    not signal.pthread_sigmask(signal.SIG_BLOCK, []),
+                    all(signal.getsignal(one) == signal.default_int_handler for one in SIGNALS)]
+            print(told, file=sys.stderr)
+            return 7
+
+        with signals_held():
+            call = Call(look)
+        self.must("all", call.end() == (7, [str([True] * 5)]))
 
     def test_all(self) -> None:
         """Each once, what is kept not again; the words of each are its own."""
@@ -220,7 +276,6 @@ class Judged(Case):
                              for one in items[:2]] == [False, True])
         self.must("not called", not os.path.exists(calls.path(items[2])))
 
-    @alone
     def test_stopped(self) -> None:
         """A signal ends the calls that run, and no other is begun: what was judged is kept. What
         else ends them is told."""
@@ -246,19 +301,18 @@ class Judged(Case):
                       ignored.called == isinstance(reason, KeyboardInterrupt))
             self.must("objects", os.listdir(self.path("out")) == ["name0.json"])
 
-    @alone
     def test_stopped_when_others_are_over(self) -> None:
         """What was judged by then counts, though nobody had looked at it yet."""
         calls = Calls(self.typed, self.path("temporary"), self.path("out"), False)
         items = [self.item("accepted", f"name{at}") for at in range(3)]
-        wait = concurrent.futures.wait
 
-        def one_of_all(waiting: Any, *_: object) -> Any:
-            wait(waiting)
-            return [next(iter(waiting))], []
+        def stopped(*_: object) -> None:
+            while not all(os.path.exists(calls.path(item)) for item in items) or \
+                    len(ended_of(calls.running, SECONDS)) < len(calls.running):
+                time.sleep(0.01)
+            raise KeyboardInterrupt
 
-        with mock.patch.object(concurrent.futures, "wait", one_of_all), \
-                mock.patch("subtitles.qc.progress.Progress.show", side_effect=KeyboardInterrupt), \
+        with mock.patch("subtitles.qc.progress.Progress.show", stopped), \
                 mock.patch.object(batch, "ignore_signals"):
             rows = all_rows(calls, items, {}, 3)
         self.must("all", sorted(rows) == ["name0", "name1", "name2"], rows)

@@ -123,8 +123,8 @@ class Words(Case):
             self.assertEqual((source.read(5), waited.call_count), (b"some", 2))
         for code, status in ((3, 3), (None, 0), (0, 0)):
             with mock.patch("sys.argv", ["tool", "word"]):
-                self.assertEqual(words.answer(lambda line: sys.exit(code)), status)
-                self.assertEqual(words.answer(len), 1)
+                self.assertEqual(words.answer(lambda line: sys.exit(code), []), status)
+                self.assertEqual(words.answer(len, ["one"]), 1)
 
     def test_manual(self) -> None:
         """A row of which the cure is that of the one before, as it is or with more."""

@@ -11,6 +11,7 @@ overview      one page over all parts of a pair
 junit         pairs as testcases
 pairs         the pairs of a folder or a list
 batch         many pairs, each judged by a call of its own
+forked        such a call, in a process forked from one that has all loaded
 objects       the objects of pairs that were judged, as rows
 collecting    one table, and the files for machines, of many objects
 index_page    one page of many pairs

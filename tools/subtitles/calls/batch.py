@@ -2,13 +2,13 @@
 from __future__ import annotations
 
 import argparse
-import concurrent.futures
+import collections
 import os
-import subprocess
 import time
+from typing import Iterator, NamedTuple
 
 from ..core.files import temporary_folder
-from ..core.words import Stop, counted, line_of, shown, tell
+from ..core.words import Stop, counted, shown, tell
 from ..qc.asked import Asked
 from ..qc.made_with import program_at
 from ..qc.options import passed_words
@@ -17,12 +17,20 @@ from ..qc.status import ACCEPTED, NOT_JUDGED, WAIVED
 from ..qc.typed import Typed
 from . import collecting
 from .claim import claimed_for_batch
+from .forked import Call, ended_of, qc, signals_held
 from .objects import (
     ENDING, Row, found, is_current, left_by_call, object_at, put, row_of, unjudged)
 from .pairs import Item, pairs_at
 from .single import ignore_signals
 
 WAIT = 0.2  # seconds between two looks at what is done
+
+
+class Running(NamedTuple):
+    """A pair that is judged, and what its files were like when that began."""
+
+    item: Item
+    found: dict[str, object]
 
 
 class Calls:
@@ -33,38 +41,47 @@ class Calls:
 
     def __init__(self, typed: Typed, folder: str, out: str | None, is_kept: bool) -> None:
         self.typed, self.folder, self.out, self.is_kept = typed, folder, out, is_kept
-        self.running: set[subprocess.Popen[str]] = set()
+        self.running: dict[Call, Running] = {}
         self.is_stopped = False
+
+    def items(self) -> list[Item]:
+        """The pairs that are judged."""
+        return [one.item for one in self.running.values()]
 
     def path(self, item: Item) -> str:
         """The file of a pair's object."""
         return os.path.join(self.out or self.folder, shown(item.name) + ENDING)
 
-    def judge(self, item: Item) -> Row:
-        """Judges a pair by a call of this tool; its row."""
+    def begin(self, item: Item) -> Row | None:
+        """Begins to judge a pair; its row, where that is known at once."""
         path = self.path(item)
         if item.asked is None:
             return self.leave(item, item.reason or "")
         kept = ["-o", self.out, *["--keep"] * self.is_kept] if self.out else ["--json", path]
-        command = [*self.typed.call("qc"), f"--name={item.name}", *kept, "-p",
-                   self.typed.program_path, *words_of(item.asked)]
+        words = [f"--name={item.name}", *kept, "-p", self.typed.program_path,
+                 *words_of(item.asked)]
         if os.path.lexists(path):
             os.unlink(path)
         before = found(item.asked)
         try:
-            with subprocess.Popen(command, stdin=subprocess.DEVNULL, stdout=subprocess.DEVNULL,
-                                  stderr=subprocess.PIPE, encoding="utf-8", errors="replace",
-                                  start_new_session=True) as process:
-                self.running.add(process)
-                if self.is_stopped:  # while it began
-                    process.terminate()
-                told = process.communicate()[1].splitlines()
-                self.running.discard(process)
-        except OSError as error:
-            return self.leave(item, line_of(error))
-        if found(item.asked) != before:
+            with signals_held():
+                self.running[Call(lambda: qc(words))] = Running(item, before)
+        except Stop as reason:
+            return self.leave(item, str(reason))
+        return None
+
+    def rows(self, seconds: float) -> Iterator[Row]:
+        """The rows of pairs that are judged by now, or once one is, after some seconds at most."""
+        for call in ended_of(self.running, seconds):
+            yield self.end(call)
+
+    def end(self, call: Call) -> Row:
+        """Ends a call that is over; the row of its pair."""
+        item, before = self.running.pop(call)
+        status, told = call.end()
+        if item.asked and found(item.asked) != before:
             return self.leave(item, "a file was written to while it was judged")
-        known = left_by_call(path, item.name, process.returncode, told)
+        known = left_by_call(self.path(item), item.name, status, told)
         return self.leave(item, known["reason"]) if "asked" not in known else \
             row_of(known, item.name)
 
@@ -78,8 +95,10 @@ class Calls:
     def stop(self) -> None:
         """Ends the calls that run; their pairs have no object."""
         self.is_stopped = True
-        for process in list(self.running):
-            process.terminate()
+        for call in self.running:
+            call.stop()
+        while self.running:
+            self.end(next(iter(self.running)))
 
 
 def words_of(asked: Asked) -> list[str]:
@@ -142,27 +161,32 @@ def all_rows(calls: Calls, items: list[Item], kept: dict[str, Row], jobs: int) \
     """The rows of all pairs, with a line of progress; where a signal ends it, of those that were
     judged before."""
     progress, began, rows = Progress(), time.monotonic(), dict(kept)
-    with concurrent.futures.ThreadPoolExecutor(jobs) as pool:
-        waiting = {pool.submit(calls.judge, item): item for item in items if item.name not in kept}
-        try:
-            while waiting:
-                done, _ = concurrent.futures.wait(
-                    waiting, WAIT, concurrent.futures.FIRST_COMPLETED)
-                for one in done:
-                    rows[waiting[one].name] = one.result()
-                    del waiting[one]
-                progress.show(progress_line(rows, len(items), len(kept), began))
-        except BaseException as reason:
-            if isinstance(reason, KeyboardInterrupt):
-                ignore_signals()  # what is known is written now
-            rows |= {item.name: one.result() for one, item in waiting.items() if one.done()}
-            for one in waiting:
-                one.cancel()
-            calls.stop()
-            if not isinstance(reason, KeyboardInterrupt):
-                raise
+    waiting = collections.deque(item for item in items if item.name not in kept)
+    try:
+        while waiting or calls.running:
+            for row in judged_next(calls, waiting, jobs, WAIT):
+                rows[row.name] = row
+            progress.show(progress_line(rows, len(items), len(kept), began))
+    except BaseException as reason:
+        if isinstance(reason, KeyboardInterrupt):
+            ignore_signals()  # what is known is written now
+        rows |= {row.name: row for row in calls.rows(0.0)}
+        calls.stop()
+        if not isinstance(reason, KeyboardInterrupt):
+            raise
     progress.clear()
     return rows
+
+
+def judged_next(calls: Calls, waiting: collections.deque[Item], jobs: int, seconds: float) \
+        -> Iterator[Row]:
+    """Begins with pairs that are waited for, so many at a time; the rows of those that are judged
+    by then, or once one is, after some seconds at most."""
+    while waiting and len(calls.running) < jobs:
+        row = calls.begin(waiting.popleft())
+        if row:
+            yield row
+    yield from calls.rows(seconds)
 
 
 def progress_line(rows: dict[str, Row], count: int, kept: int, began: float) -> str:

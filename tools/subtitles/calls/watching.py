@@ -2,7 +2,7 @@
 from __future__ import annotations
 
 import argparse
-import concurrent.futures
+import collections
 import os
 import signal
 import time
@@ -12,9 +12,10 @@ from ..core.words import Stop, tell
 from ..qc.made_with import program_at
 from ..qc.typed import Typed
 from . import collecting
-from .batch import Calls
+from .batch import Calls, judged_next
 from .objects import ENDING, Row, found, is_current, object_at, objects_in, row_of
 from .pairs import Item, of_folder
+from .single import SIGNALS
 
 LOOK = 1.0  # seconds between two looks: no notice comes of what another machine writes
 DONE = ".done"  # after the name of a pair: both of its files are whole
@@ -25,8 +26,9 @@ class Stopping:
 
     def __init__(self) -> None:
         self.is_asked = False
-        for one in (signal.SIGTERM, signal.SIGINT, signal.SIGHUP):
-            signal.signal(one, self.take)
+        for one in SIGNALS:
+            if signal.getsignal(one) != signal.SIG_IGN:  # nohup lets a hang-up pass
+                signal.signal(one, self.take)
 
     def take(self, number: int, frame: object) -> None:
         """Takes a signal."""
@@ -92,12 +94,12 @@ class Watch:
         self.tried[item.name] = now_found
         return True
 
-    def end(self, item: Item, row: Row) -> None:
+    def end(self, row: Row) -> None:
         """Tells a verdict, and writes the page over all pairs."""
-        self.rows[item.name] = row
+        self.rows[row.name] = row
         line = collecting.first_fault(row)
         when = time.strftime("%Y-%m-%d %H:%M:%S")
-        print(f"{when}  {item.name}  {row.verdict}{': ' if line else ''}{line}", flush=True)
+        print(f"{when}  {row.name}  {row.verdict}{': ' if line else ''}{line}", flush=True)
         collecting.write_index(self.out, [self.rows[name] for name in sorted(self.rows)])
 
 
@@ -117,19 +119,17 @@ def watch(words: argparse.Namespace, called: str) -> int:
     refuse_folders(words)
     watching = Watch(words, Typed(called, words.program))
     stopping = Stopping()
-    running: dict[concurrent.futures.Future[Row], Item] = {}
-    with concurrent.futures.ThreadPoolExecutor(words.jobs or os.cpu_count() or 1) as pool:
-        try:
-            while running or not stopping.is_asked:
-                if not stopping.is_asked:
-                    busy = {item.name for item in running.values()}
-                    for item in watching.due(busy, time.monotonic()):
-                        running[pool.submit(watching.calls.judge, item)] = item
-                done = [one for one in running if one.done()]
-                for one in done:
-                    watching.end(running.pop(one), one.result())
-                time.sleep(LOOK / 10 if stopping.is_asked else LOOK)
-        except BaseException:
-            watching.calls.stop()
-            raise
+    calls, waiting, next_look = watching.calls, collections.deque[Item](), 0.0
+    try:
+        while waiting or calls.running or not stopping.is_asked:
+            if not stopping.is_asked and time.monotonic() >= next_look:
+                busy = {item.name for item in [*waiting, *calls.items()]}
+                waiting += watching.due(busy, time.monotonic())
+                next_look = time.monotonic() + LOOK
+            for row in judged_next(calls, waiting, words.jobs or os.cpu_count() or 1,
+                                   LOOK / 10 if stopping.is_asked else LOOK):
+                watching.end(row)
+    except BaseException:
+        calls.stop()
+        raise
     return 0

@@ -8,7 +8,7 @@ import re
 import shlex
 import sys
 import traceback
-from typing import IO, Callable, NoReturn, TextIO
+from typing import IO, Callable, NoReturn, Sequence, TextIO
 
 from .teletext import page_of
 from .times import CLOCK, frame_of
@@ -235,27 +235,32 @@ def tell(line: str) -> None:
 
 
 def run(main: Callable[[list[str]], int]) -> NoReturn:
-    """Calls `main` with the words and ends with the status that it answers. Whatever ends it early
-    is status 2, with one line."""
+    """Calls `main` with the words of this call, and ends with its status."""
+    sys.exit(ended(main, sys.argv[1:]))
+
+
+def ended(main: Callable[[list[str]], int], words: Sequence[str]) -> int:
+    """The status that `main` answers to these words; 0 after --help and --version. Whatever ends it
+    early is status 2, with one line."""
     try:
         if sys.stdout is None:
             raise Stop("standard output is closed")
-        status = answer(main)
+        status = answer(main, words)
         sys.stdout.flush()
     except (Exception, KeyboardInterrupt) as reason:
         with contextlib.suppress(OSError, AttributeError):
             tell(line_of(reason))
         silence()
         status = 2
-    sys.exit(status)
+    return status
 
 
-def answer(main: Callable[[list[str]], int]) -> int:
+def answer(main: Callable[[list[str]], int], words: Sequence[str]) -> int:
     """The status of `main`; 0 after --help and --version."""
     try:
-        return main(sys.argv[1:])
-    except SystemExit as ended:
-        return int(ended.code or 0)
+        return main([*words])
+    except SystemExit as end:
+        return int(end.code or 0)
 
 
 def line_of(reason: BaseException) -> str:
