@@ -8,8 +8,8 @@ from ..core.layout import text_of
 from ..core.times import time_of
 from ..qc.asked import Asked
 from ..qc.cause_words import Wording
+from ..qc.evidence import Choice
 from ..qc.faults import faults_of, words_of_subtitle
-from ..qc.layouts import Choice
 from ..qc.made_with import MadeWith
 from ..qc.naming import counts_of
 from ..qc.options import passed_members
@@ -50,9 +50,11 @@ def part_words(part: Part, is_kept: bool) -> dict[str, Value]:
 
 
 def layout_words(choice: Choice | None) -> dict[str, Value] | None:
-    """The layout that was found."""
+    """The layout that was found, on what its items rest, and which were not taken."""
     return choice and {"text": text_of(choice.layout), "drawn": choice.drawn,
-                       "found": choice.found}
+                       "found": choice.found,
+                       "items": [one._asdict() for one in choice.items],
+                       "left": [one._asdict() for one in choice.left]}
 
 
 def gap_words(gap: Gap) -> dict[str, Value]:

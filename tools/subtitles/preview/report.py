@@ -12,6 +12,7 @@ from ..core.teletext import page_name
 from ..core.times import FRAMES_OF_A_DAY, time_of
 from ..core.told import UNDECIDED, Told
 from ..core.words import counted, shown
+from ..qc.as_sent import told_of
 from ..qc.clock import START, TCP
 from ..qc.made_with import program_at
 from ..qc.part import Part
@@ -97,6 +98,7 @@ class Report:
         unread = [self.asked.recording] if self.asked.recording and self.part.pes is None else []
         self.notes = [*(f"{shown(one)} was not read" for one in unread), *subject.judged.notes,
                       *(one.said() for one in subject.judged.warnings),
+                      *([told_of(found)] if (found := subject.judged.layout) else []),
                       *[self.part.otherwise] * bool(self.part.otherwise)]
         self.reasons = Reasons(self.part.causes, self.asked.option) if self.part.causes else None
         self.looked = [looked_at(one, frames, self.asked.within)

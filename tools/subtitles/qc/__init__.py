@@ -43,7 +43,8 @@ beside        what is judged beside subtitles that are refused
 lettering     what a person reads on a page, and where two differ
 option_advice what to do about a letter that the national option lacks
 as_sent       the layout of a recording, looked for and told
-layouts       which layout draws subtitles as they were sent
+layouts       which layouts draw the most subtitles as they were sent
+evidence      which items of a layout are seen in what was sent, and may be taken
 headers       what is wrong with the control bits of headers
 keeping       headers that keep the page, and whether what is sent with them is whole
 hints         what to know of the first fault of some numbers, beside its place

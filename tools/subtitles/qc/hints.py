@@ -12,6 +12,7 @@ from ..reading.gaps import why_refused
 from ..reading.pace import rows_of
 from ..reading.packets import HEADER
 from ..reading.repeat import are_usual, edges_of, longest_gap, measured
+from .as_sent import BY_LAYOUT, left_lines
 from .asked import Asked
 from .cells import place_of
 from .headers import header_words
@@ -24,7 +25,7 @@ from .subtitle_file import SubtitleFile
 from .verdict import Verdict
 
 HINTED = {EMPTY_TIME, CHARACTER, OUT_OF_ORDER, OFF_FRAME, CONTROL, GAP, SILENT}
-NAMED = {DISPLAY, CONTENT}  # for which an option is named, where one helps
+NAMED = {DISPLAY, CONTENT, *BY_LAYOUT}  # for which an option is named, where one helps
 OF_HEADERS = {32, 35}  # of PES packets: their length, and that of their headers
 OF_ENDS = {BEGIN, END}  # where the page moves to another PID, or that has no more Teletext
 HINTS = HINTED | NAMED | OF_HEADERS | OF_ENDS
@@ -61,6 +62,8 @@ def words_of(told: Told, part: Part, verdict: Verdict) -> str:
         return end_words(told.number, part, asked.page_name)
     if told.number == CONTENT:
         return part.otherwise
+    if told.number in BY_LAYOUT:
+        return ", ".join(left_lines(verdict.layout)) if verdict.layout else ""
     if told.number in (EMPTY_TIME, OUT_OF_ORDER):
         return midnight_words(told, part.subtitle_file())
     if part.pes is None or part.origin is None:

@@ -9,7 +9,7 @@ from ..core.national import BY_WORD
 from ..core.told import CONTENT, CONTROL, LOSSES, WITH_CAUSE
 from ..reading.packets import HEADER
 from . import checks, warned
-from .as_sent import otherwise, sent_in
+from .as_sent import left_lines, otherwise, otherwise_words, sent_in
 from .beside import due_beside
 from .checking import Answer
 from .clocks import cut
@@ -77,6 +77,8 @@ def end(pair: Pair, part: Part, count: int) -> None:
             option = BY_WORD[asked.option]
             part.otherwise = otherwise(sent_in(part.due().subtitles, part.causes.held, option),
                                        option)
+        elif verdict.layout:
+            part.otherwise = otherwise_words(left_lines(verdict.layout))
     measure(pair, part, count)
     part.was_read = part.is_read()
     if CONTROL in answer.numbers:

@@ -36,19 +36,6 @@ class Sent(NamedTuple):
     rows: tuple[bytes, ...]
 
 
-class Choice(NamedTuple):
-    """A layout, and how many of how many found subtitles it draws as they were sent."""
-
-    layout: Layout
-    drawn: int
-    found: int
-
-    @property
-    def is_clear(self) -> bool:
-        """Whether it may be taken for the house's."""
-        return self.found >= FEWEST and self.drawn * 10 >= self.found * TENTHS
-
-
 class SentLine(NamedTuple):
     """A line with letters as it was sent: the subtitle's place, the line's number, all its cells
     with each code that stands there, its row of the page and the cells of that."""
@@ -266,7 +253,7 @@ def count_drawn(layout: Layout, found: Sequence[Sent], option: NationalOption) -
     return sum(draws(layout, one, option) for one in found)
 
 
-def simplest(layout: Layout, found: Sequence[Sent], option: NationalOption) -> Choice:
+def simplest(layout: Layout, found: Sequence[Sent], option: NationalOption) -> Layout:
     """A layout that draws as many, with each item left out that changes nothing."""
     count = count_drawn(layout, found, option)
     for names in (("strip",), ("before", "behind"), ("behind",), ("after",), *(
@@ -276,29 +263,26 @@ def simplest(layout: Layout, found: Sequence[Sent], option: NationalOption) -> C
             others = count_drawn(less, found, option)
             if others >= count:
                 layout, count = less, others
-    return Choice(layout, count, len(found))
+    return layout
 
 
-def layout_of_sent(sent: Sequence[Sent], option: NationalOption) -> Choice:
-    """The layout that draws the most of the found subtitles as they were sent, of several the
-    simplest."""
-    found = [one for one in sent if is_found(one, option)]
+def candidates(found: Sequence[Sent], option: NationalOption) -> list[Layout]:
+    """Some layouts of which one draws the most of the found subtitles as they were sent; the one
+    without an item is one of them."""
     all_lines = [raw_lines(one.text, option) for one in found]
     pairs = [pair for place, one in enumerate(found)
              for pair in pairs_of(place, all_lines[place], one.rows)]
     if not pairs:
-        return Choice(PLAIN, 0, len(found))
+        return [PLAIN]
     unknown = as_bits(range(len(found))) ^ as_bits({pair.place for pair in pairs})
-    candidates = Counter[Layout]()
+    counts = Counter[Layout]()
     for cells in ways_to_prepare(pairs):
         rows = list(placed(cells, pairs, all_lines, found))
         for column, wrong in justified(cells, pairs, found):
             for row, others in rows:
                 layout = column._replace(double=row.double, pack=row.pack, last=row.last,
                                          row=row.row)
-                candidates[layout] = len(found) - (wrong | others | unknown).bit_count()
-    best = max(candidates.values())
-    near = sorted((one for one in candidates if candidates[one] == best), key=simplicity)
-    choices = [simplest(one, found, option) for one in near[:MOST_KEPT]]
-    choices.append(Choice(PLAIN, count_drawn(PLAIN, found, option), len(found)))
-    return min(choices, key=lambda one: (-one.drawn, simplicity(one.layout)))
+                counts[layout] = len(found) - bin(wrong | others | unknown).count("1")
+    best = max(counts.values())
+    near = sorted((one for one in counts if counts[one] == best), key=simplicity)
+    return [PLAIN, *(simplest(one, found, option) for one in near[:MOST_KEPT])]

@@ -13,14 +13,14 @@ from ..core.told import EMPTY
 from ..core.words import Stop, counted
 from ..reading.timeline import timeline_near
 from . import checks, clocks, judging, names, warned
-from .as_sent import BY_LAYOUT, sent_in, told_of, why_none
+from .as_sent import BY_LAYOUT, left_lines, sent_in, told_of, why_none
 from .beside import beside_of, is_judged_beside
 from .checking import Answer
 from .clock import RECORDING, Clock, Found
 from .due_pages import subtitles_in
 from .ending import Ending
+from .evidence import choices_of
 from .hints import words_of
-from .layouts import layout_of_sent
 from .midnight import title_words
 from .missing import gap_of, gaps_in, is_in, unsent_in
 from .moved import found_on, moves_told
@@ -171,13 +171,14 @@ class Pair:
              if part.begin <= subtitle.begin and subtitle.end <= part.end),
             timeline_near(heard.recording.packets, asked.page, part.origin, asked.within,
                           Span(part.begin, part.end), asked.every, part.packets), option)]
-        choice = layout_of_sent(sent, option)
-        text = text_of(choice.layout)
+        closest, choice = choices_of(sent, option)
+        text = text_of(closest.layout)
         if not choice.is_clear:
-            raise Unclear(why_none(choice, sent, option), *(
-                [self.again(LAYOUT, text)] if text and choice.drawn else []))
-        asked.found_layout, self.verdict.layout = text, choice
-        self.speech.say(told_of(choice))
+            raise Unclear(why_none(closest, choice, sent, option), *(
+                [self.again(LAYOUT, text)] if text and closest.drawn else []))
+        asked.found_layout, self.verdict.layout = text_of(choice.layout), choice
+        for line in (told_of(choice), *left_lines(choice)):
+            self.speech.say(line)
 
     @functools.cached_property
     def heard(self) -> Located:

@@ -10,7 +10,7 @@ from .asked import Asked
 from .beside import Beside, Counts
 from .clock import FITTED, FITTED_LATER
 from .delays import Spread, spread_of
-from .layouts import Choice
+from .evidence import Choice
 from .part import Part
 from .sentence import Facts, sentence_of
 from .severity import Severity
