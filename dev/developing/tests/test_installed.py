@@ -6,6 +6,7 @@ import os
 import re
 import shutil
 import subprocess
+import sys
 import tarfile
 
 from subtitles.core.built import TOP, chosen, read
@@ -55,6 +56,22 @@ def proved_here(case: Case) -> str:
     return proved
 
 
+def is_compiled(folder: str) -> bool:
+    """Whether each module has a file that Python takes without a look at the times of that."""
+    for place, _, names in os.walk(folder):
+        for name in names:
+            if not name.endswith(".py"):
+                continue
+            made = os.path.join(place, "__pycache__",
+                                f"{name.removesuffix('.py')}.{sys.implementation.cache_tag}.pyc")
+            if not os.path.exists(made):
+                return False
+            with open(made, "rb") as file:
+                if file.read(8)[4:] != bytes([1, 0, 0, 0]):  # by its sum, which nobody compares
+                    return False
+    return True
+
+
 class Installed(Case):
     """What is installed and packed."""
 
@@ -68,6 +85,7 @@ class Installed(Case):
         self.must("each file that is told", paths and all(map(os.path.exists, paths)), paths)
         again = self.tool("install", "-p", self.bench.program, "moved")
         self.must("once more over it", again.status == 0, again)
+        self.must("compiled", is_compiled(self.path("moved/lib/subttx/tools/subtitles")))
         runs_the_whole_way(self, self.path("moved"))
 
     def test_removes(self) -> None:
@@ -198,6 +216,13 @@ class Installed(Case):
         documents = self.path("empty/usr/share/doc/subttx")
         self.must("the manual", os.path.isfile(os.path.join(documents, "manual", "qc.md")))
         self.must("what was proved", read(os.path.join(documents, "PROVED")) == read(proved))
+        self.call(["dpkg-deb", "-e", path, "control"])
+        shared = "/usr/lib/subttx/tools/subtitles"
+        for name, is_there in (("postinst", True), ("prerm", False)):
+            script = self.read(f"control/{name}").decode().replace(shared, f"empty{shared}")
+            done = self.call(["sh", "-c", script], env=os.environ | {"PYTHONPYCACHEPREFIX": ""})
+            self.must(name, done.status == 0 and is_compiled(self.path(f"empty{shared}"))
+                      == is_there, done)
         if shutil.which("lintian"):
             done = self.call(["lintian", "--allow-root", "--fail-on", "error", path])
             self.must("lintian", done.status == 0, done)
