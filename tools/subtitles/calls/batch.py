@@ -43,6 +43,7 @@ class Calls:
         self.typed, self.folder, self.out, self.is_kept = typed, folder, out, is_kept
         self.running: dict[Call, Running] = {}
         self.is_stopped = False
+        program_at(typed.program_path)  # whose sum is then known to each of them
 
     def items(self) -> list[Item]:
         """The pairs that are judged."""
