@@ -2,10 +2,11 @@
 files.
 
 `dev/vectors/calls.tsv` has what was said of each when somebody last looked at it: the words, the
-last line, and sums of all lines, of the JSON result, and of the other files. A change that is meant
-changes them; from dev/, `python3 -m developing.tests.at_random ../subttx 0 240` prints the table,
-and `.. NUMBER` all that a call says, to compare. A line `# NUMBER: ..` before a row says why it
-says something else than it once did; it stays where it is.
+last line, and sums of all lines, of the JSON result, which has to be as the schema has it, and of
+the other files. A change that is meant changes them; from dev/,
+`python3 -m developing.tests.at_random ../subttx 0 240` prints the table, and `.. NUMBER` all that a
+call says, to compare. A line `# NUMBER: ..` before a row says why it says something else than it
+once did; it stays where it is.
 """
 from __future__ import annotations
 
@@ -27,6 +28,7 @@ from subtitles.core.built import TOP
 from subtitles.core.words import run
 from subtitles.qc import checks
 from subtitles.qc.ending import Ending
+from .results import wrong_by_schema
 from .scenario import Scenario
 
 VECTORS = os.path.join(TOP, "dev", "vectors", "calls.tsv")
@@ -153,6 +155,8 @@ def called(words: list[str], program: str, more: Sequence[str] = ("-p", "PROGRAM
     for name in filter(os.path.exists, FILES):
         with open(name, encoding="utf-8") as file:
             files[name] = file.read()
+        wrong = wrong_by_schema(json.loads(files[name])) if name.endswith(".json") else []
+        assert not wrong, (words, name, wrong)
     return Said(words, status, [plain(line, program) for line in (out + told).splitlines()],
                 {name: plain(text, program) for name, text in files.items()},
                 files.get("one.json", ""))

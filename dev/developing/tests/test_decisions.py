@@ -12,7 +12,8 @@ from typing import Any
 from developing.pes import pes_packet
 from developing.stl import gsi_block, tti_block
 from subtitles.calls.batch import words_of
-from subtitles.calls.machine import asked_words, total
+from subtitles.calls.members import ASKED
+from subtitles.calls.result import total
 from subtitles.calls.objects import hint_in
 from subtitles.calls.pairs import of_folder
 from subtitles.calls.watching import Sighting, Watch
@@ -66,7 +67,7 @@ class Objects(Case):
                 ("not accepted, since TS packets are lost: waived: refused 5 X", "of none")):
             found = hint_in({"line": line, "hints": hints})
             self.must(f"{line}", found == wanted, found)
-        self.must("no hints", hint_in({"line": "refused 72 Content", "hints": None}) == "")
+        self.must("no hints", hint_in({"line": "refused 72 Content", "hints": []}) == "")
 
     def test_words_of_a_call(self) -> None:
         """A pair as words, read again, asks the same: with each option by itself, and with all."""
@@ -82,7 +83,7 @@ class Objects(Case):
         for words in [list[str](), *options, every]:
             asked = asked_for("one.stl", "one.pes", *words)
             again = asked_of_line(words_of(asked), defaults)
-            self.must(f"{words}", asked_words(again) == asked_words(asked), again)
+            self.must(f"{words}", ASKED.made(again) == ASKED.made(asked), again)
 
 
 class Folders(Case):

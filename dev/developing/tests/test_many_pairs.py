@@ -16,7 +16,7 @@ from unittest import mock
 from subtitles.calls import batch
 from subtitles.calls.batch import Calls, all_rows, kept_rows, progress_line, words_of
 from subtitles.calls.forked import Call, ended_of, qc, signals_held
-from subtitles.calls.machine import asked_words
+from subtitles.calls.members import ASKED
 from subtitles.calls.main import parser_of
 from subtitles.calls.objects import Row, found, object_at, row_of, unjudged
 from subtitles.calls.pairs import Item, OwnNames, no_file, pairs_at
@@ -27,6 +27,7 @@ from subtitles.qc.made_with import program_at
 from subtitles.qc.typed import Typed
 from .bench import SECONDS, Case, alone
 from .parts import asked_for
+from .results import result
 from .test_channel_tables import defaults
 
 # A call that writes the object of its pair, with the verdict that its subtitle file names, and ends
@@ -48,23 +49,18 @@ esac
 case $kind in other | changes) kind=accepted ends=9 ;; *) ends=$status ;; esac
 echo "qc: one" >&2; echo "qc: told last" >&2
 session=$(cut -d ' ' -f 6 /proc/$$/stat)
-[ "$kind" = silent ] || cat >"${object:-$out/$name.json}" <<END
-{"format": 3, "verdict": "$kind", "status": $status, "line": "line of $name", "reason": "why",
- "asked": {}, "words": "$words", "own": $((session == $$)),
- "files": "$files"}
-END
+[ "$kind" = silent ] ||
+    sed "s|WORDS|$words|; s|OWN|$((session == $$))|; s|FILES|$files|" "${0%/*}/$kind" \
+        >"${object:-$out/$name.json}"
 exit $ends
 """
-def known(verdict: str = "refused", **more: Any) -> dict[str, Any]:
-    """An object of a pair."""
-    status = {"accepted": 0, "waived": 0, "not judged": 2}.get(verdict, 1)
-    return {"format": 3, "verdict": verdict, "status": status, "line": f"{verdict} 72 Content",
-            "reason": None, "asked": {"stl": "one.stl", "recording": "one.ts"}, **more}
+TOLD = ["WORDS", "OWN", "FILES"]  # in whose place the call has how it was called
 
 
 def row(name: str, verdict: str, line: str = "", hint: str = "", faults: int = 0) -> Row:
     """A row of a table."""
-    return row_of(known(verdict, line=line, fault_count=faults), name)._replace(hint=hint)
+    made = row_of(result(verdict, fault_count=faults), name)
+    return made._replace(line=line, hint=hint)
 
 
 class Lists(Case):
@@ -144,6 +140,8 @@ class Judged(Case):
     def setUp(self) -> None:
         super().setUp()
         path = self.write_program("call", CALL)
+        for verdict in ("accepted", "refused", "not judged"):
+            self.write(verdict, json.dumps(result(verdict, notes=TOLD)).encode())
         self.typed = Typed("tools/qc", self.bench.program)
 
         def execute(words: list[str]) -> int:
@@ -177,11 +175,12 @@ class Judged(Case):
             self.must("row", self.judged(calls, item).name == "pair" and calls.path(item) == path)
             have = object_at(path)
             kept = f"-o {out}{' --keep' * is_kept}" if out else f"--json {path}"
-            self.must("words", have and have["words"].startswith(
+            called, own, files = have["notes"] if have else TOLD
+            self.must("words", called.startswith(
                 f"--name=pair {kept} -p {self.typed.program_path} --page 888 --every 50 ") and
-                have["words"].endswith(f" -- {self.path('one.stl')} {self.path('one.ts')}")
-                and have["own"] == 1
-                and have["files"].split() == [os.devnull, os.devnull] and not calls.running, have)
+                called.endswith(f" -- {self.path('one.stl')} {self.path('one.ts')}")
+                and own == "1" and files.split() == [os.devnull, os.devnull]
+                and not calls.running, have)
             shown = calls.path(Item("a\x1b", None, ""))
             self.must("as it is shown", shown.endswith("/a\\x1b.json"))
 
@@ -199,12 +198,13 @@ class Judged(Case):
         is left of an earlier call."""
         calls = Calls(self.typed, self.path("temporary"), self.path("out"), False)
         for kind, verdict, line in (
-                ("accepted", "accepted", "why"), ("refused", "refused", "why"),
+                ("accepted", "accepted", "accepted 72 Content"),
+                ("refused", "refused", "refused 72 Content"),
                 ("not judged", "not judged", "why"), ("silent", "not judged", "told last"),
                 ("other", "not judged", "told last"),
                 ("changes", "not judged", "a file was written to while it was judged")):
             item = self.item(kind)
-            self.write("out/one.json", json.dumps(known("accepted")).encode())
+            self.write("out/one.json", json.dumps(result("accepted")).encode())
             found_row = self.judged(calls, item)
             self.must(kind, (found_row.name, found_row.verdict, found_row.line) == (
                 "one", verdict, line), found_row)
@@ -272,7 +272,7 @@ class Judged(Case):
         self.must("verdicts", {name: one.verdict for name, one in rows.items()} == {
             "name0": "accepted", "name1": "refused", "name2": "waived", "name3": "not judged"},
             rows)
-        self.must("strict", ["--strict" in (object_at(calls.path(one)) or {})["words"]
+        self.must("strict", ["--strict" in (object_at(calls.path(one)) or {})["notes"][0]
                              for one in items[:2]] == [False, True])
         self.must("not called", not os.path.exists(calls.path(items[2])))
 
@@ -326,16 +326,15 @@ class Judged(Case):
         items.append(Item("five", None, "no pair"))
         program = program_at(self.typed.program_path)
         mores: list[dict[str, Any]] = [
-            {}, {}, {"program": {"sha256": "x", "version": program.version}}, {}, {"format": 2},
+            {}, {}, {"program": {**program._asdict(), "sha256": "1" * 64}}, {}, {"format": 2},
             {"found": None}, {"asked": None}]
         verdicts = ("refused", "not judged", "accepted", "waived", *["accepted"] * 3)
         for item, verdict, more in zip(items, verdicts, mores):
             assert item.asked
-            have = {**known(verdict), "asked": asked_words(item.asked), "found": found(item.asked),
-                    "program": {"sha256": program.sha256, "version": program.version},
-                    "reason": "why" if verdict == "not judged" else None, **more}
+            have = {**result(verdict), "asked": ASKED.made(item.asked), "found": found(item.asked),
+                    "program": program._asdict(), **more}
             self.write(f"out/{item.name}.json", json.dumps(have).encode())
-        self.write("out/five.json", json.dumps(known()).encode())
+        self.write("out/five.json", json.dumps(result()).encode())
         for text in (b"", b"{", b"[]"):
             self.write("out/eight.json", text)
             rows = kept_rows(calls, items)
@@ -379,7 +378,8 @@ class Batches(Case):
             rows = {}
             for item, verdict in reversed(list(zip(items, judged.split(", ")))):
                 with open(calls.path(item), "w", encoding="ascii") as file:
-                    json.dump(known(verdict, line=item.name, reason=item.name), file)
+                    json.dump(result(verdict, **{
+                        "reason" if verdict == "not judged" else "line": item.name}), file)
                 rows[item.name] = row(item.name, verdict, item.name)
             calls.is_stopped = is_stopped
             return rows
@@ -406,7 +406,8 @@ class Batches(Case):
                     line.split()[0] for line in lines[1:]] == ["one", "two", "three", "3"], lines)
                 self.must("at a time", self.seen[1:] == (["one", "two", "three"], {}, wanted))
                 have = json.loads(self.read("all"))
-                self.must("objects", ([one["line"] for one in have["pairs"]], have["status"]) == (
+                names = [one["line"] or one["reason"] for one in have["pairs"]]
+                self.must("objects", (names, have["status"]) == (
                     ["one", "two", "three"], status))
                 self.must("the folder went", not os.path.exists(self.seen[0].folder))
         for out, more in ((None, ""), (self.path("out"), "; --resume judges the others")):

@@ -9,8 +9,10 @@ from subtitles.calls.main import parser_of
 
 OWN: dict[str, dict[str, object]] = {
     "calls.batch": {"WAIT": 0.2}, "calls.index_page": {"MOST_CAUSES": 6},
-    "calls.machine": {"FORMAT": 3}, "calls.main": {"SETTLED": 5, "PATIENCE": 60},
-    "calls.objects": {"LINES": 100}, "calls.single": {"SUMMED": 100, "SIGNALS": (2, 15, 1)},
+    "calls.machine": {"MOST_BYTES": 67_108_864}, "calls.main": {"SETTLED": 5, "PATIENCE": 60},
+    "calls.objects": {"LINES": 100, "MOST_READ": 134_217_728, "MOST_DIGITS": 20},
+    "calls.result": {"FORMAT": 4, "MOST_LISTED": 20_000, "MOST_SUBTITLES": 100_000},
+    "calls.single": {"SUMMED": 100, "SIGNALS": (2, 15, 1)},
     "calls.watching": {"LOOK": 1.0, "DONE": ".done"},
     "calls.channel.awaited": {"IN_A_ROW": 5, "BEFORE": 12, "NEAR": 1800},
     "calls.channel.channel": {"LATER": 10_800_000, "MARGIN": 10_800_000, "LATELY": 20,

@@ -5,6 +5,8 @@ modes         which option goes with what
 single        one pair: judged, said and written
 claim         the files of a pair in a folder belong to one call
 
+result        the table of JSON results: what is written, read back, and stands in the schema
+members       what stands in a result, by what it is of
 machine       a verdict as a JSON object
 table         pairs and faults as lines of CSV
 overview      one page over all parts of a pair

@@ -5,14 +5,14 @@ import argparse
 import json
 import os
 import sys
-from typing import Callable, Iterator, Sequence
+from typing import Any, Callable, Iterator, Sequence
 
 from ..core.files import OWN_OUTPUT, refuse_input, refuse_name, whole_file
 from ..core.words import Stop, counted, line_of, shown, silence, tell
 from ..qc.status import ACCEPTED, of_all
 from . import index_page, junit, table
-from .machine import FORMAT
-from .objects import Row, object_at, objects_in, row_of
+from .objects import ENDING, Row, object_at, objects_in, row_of, unjudged
+from .result import FORMAT
 from .single import now
 
 HEADS = ("pair", "verdict", "faults", "first fault")
@@ -30,7 +30,7 @@ def collect(words: argparse.Namespace) -> int:
         if known is None:
             tell(f"{path} is no JSON result of a pair, and is skipped")
             continue
-        name = os.path.basename(path).removesuffix(".json")
+        name = os.path.basename(path).removesuffix(ENDING)
         rows.append(row_of(known, name))
         paths.append(path)
     if not rows:
@@ -52,7 +52,7 @@ def end(words: argparse.Namespace, rows: Sequence[Row], paths: Sequence[str],
 
     for path, pieces in ((words.csv, lambda: lines_of(paths)),
                          (words.junit, lambda: testcases(rows, date)),
-                         (words.json, lambda: objects(rows, paths, status(), date))):
+                         (words.json, lambda: objects(paths, status(), date))):
         try:
             put(path, pieces)
         except (Stop, OSError) as reason:
@@ -115,29 +115,31 @@ def put(path: str | None, pieces: Callable[[], Iterator[bytes]]) -> None:
                 file.write(piece)
 
 
-def objects(rows: Sequence[Row], paths: Sequence[str], status: int, date: str) -> Iterator[bytes]:
+def objects(paths: Sequence[str], status: int, date: str) -> Iterator[bytes]:
     """One object with those of all pairs."""
     head = {"format": FORMAT, "status": status, "date": date}
     yield json.dumps(head, indent=1).removesuffix("\n}").encode() + b',\n "pairs": ['
     before = b"\n"
-    for row, path in zip(rows, paths):
-        yield before + text_of(path, row)
+    for path in paths:
+        yield before + text_of(path)
         before = b",\n"
     yield b"]\n}\n"
 
 
-def text_of(path: str, row: Row) -> bytes:
-    """The object as it stands; that of a pair that is not judged, where it can't be read."""
-    known = object_at(path)
-    if known is None or not row.is_judged and "asked" not in known:
-        return json.dumps(known).encode()
-    with open(path, "rb") as file:
-        return file.read()
+def text_of(path: str) -> bytes:
+    """The object in a file, as it was read and fits."""
+    return json.dumps(known_at(path)).encode()
+
+
+def known_at(path: str) -> dict[str, Any]:
+    """The object in a file that had one."""
+    name = os.path.basename(path).removesuffix(ENDING)
+    return object_at(path) or unjudged(name, "its JSON result is gone: judge it again")
 
 
 def lines_of(paths: Sequence[str]) -> Iterator[bytes]:
     """The lines of all pairs under one head."""
-    yield from table.text_of(object_at(path) or {} for path in paths)
+    yield from table.text_of(map(known_at, paths))
 
 
 def testcases(rows: Sequence[Row], date: str) -> Iterator[bytes]:

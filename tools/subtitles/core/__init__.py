@@ -2,6 +2,7 @@
 
 words      the words of a tool, and how it ends
 files      files that are read as they come, and written whole or not at all
+shapes     what values of JSON may be: made, checked, and as a schema has them
 built      the built program, and the script that runs it
 times      times of the day, frames, PTS
 teletext   Teletext packets and their codes; the table of control bits
