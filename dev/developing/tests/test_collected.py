@@ -122,3 +122,9 @@ class Collected(Case):
         self.write("gone.json", b'{"status": 0, ' + json.dumps(known, indent=3).encode()[1:])
         self.must("as it was read", json.loads(collecting.text_of(path)) == known)
         self.must("lines", len(b"".join(collecting.lines_of([path, path])).splitlines()) == 5)
+        known["left_out"]["faults"] = 7
+        self.write("gone.json", json.dumps(known).encode())
+        with contextlib.redirect_stderr(io.StringIO()) as told:
+            self.must("lines of some", len(list(collecting.lines_of([path]))) == 3)
+        self.must("told", told.getvalue().endswith(
+            f": {path} leaves out 7 faults, and so do the lines\n"), told.getvalue())

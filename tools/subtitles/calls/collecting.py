@@ -139,7 +139,16 @@ def known_at(path: str) -> dict[str, Any]:
 
 def lines_of(paths: Sequence[str]) -> Iterator[bytes]:
     """The lines of all pairs under one head."""
-    yield from table.text_of(map(known_at, paths))
+    yield from table.text_of(map(all_told, paths))
+
+
+def all_told(path: str) -> dict[str, Any]:
+    """The object in a file; that some of its faults are left out is told."""
+    known = known_at(path)
+    left_out = known["left_out"]["faults"] if "asked" in known else 0
+    if left_out:
+        tell(f"{path} leaves out {counted(left_out, 'fault')}, and so do the lines")
+    return known
 
 
 def testcases(rows: Sequence[Row], date: str) -> Iterator[bytes]:
