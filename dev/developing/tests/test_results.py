@@ -82,6 +82,8 @@ def places_in(value: Any) -> Iterator[tuple[Any, Any]]:
 class Written(Case):
     """The schema, and what is written."""
 
+    is_alone = True  # it changes the table
+
     def test_schema_is_made(self) -> None:
         """It is what dev/make-pages makes of the table, and is a schema."""
         self.must("made", read(os.path.join(TOP, SCHEMA)) == laid_out(schema()) + "\n", "dev/make-pages")
