@@ -13,7 +13,7 @@ import sys
 from subtitles.core.built import TOP, read
 from subtitles.core.words import INSTALLED, Stop
 
-TOOLS = ["preview", "qc", "text", "ts2pes"]
+TOOLS = ["qc", "text", "ts2pes"]
 PAGES = ["subttx.1", "subttx-qc.1"]
 MANUAL = os.path.join("docs", "manual")
 READ = [os.path.join("docs", "MANUAL.md"), os.path.join("docs", "verdict.schema.json"), "VERSION"]

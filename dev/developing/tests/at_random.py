@@ -26,8 +26,10 @@ from typing import Any, Iterator, NamedTuple, Sequence
 from subtitles.calls.main import main
 from subtitles.core.built import TOP
 from subtitles.core.words import run
-from subtitles.qc import checks
+from subtitles.preview import report
+from subtitles.qc import beside, checks, faults
 from subtitles.qc.ending import Ending
+from .parts import MEANINGS
 from .results import wrong_by_schema
 from .scenario import Scenario
 
@@ -146,6 +148,8 @@ def in_folder() -> Iterator[None]:
 def called(words: list[str], program: str, more: Sequence[str] = ("-p", "PROGRAM")) -> Said:
     """All that a call of qc says."""
     setattr(checks, "subprocess", Here)
+    for module in (beside, faults, report):  # the manual's words may change
+        setattr(module, "meanings", lambda: MEANINGS)
     # Not by the time.
     setattr(Ending, "is_due", lambda self, packets: packets.count > 2 * self.count + 4)
     status, out, told = in_process(lambda line: main("", "tools/qc", line),

@@ -52,13 +52,14 @@ class Heard(Speech):
 
 
 class Judged(NamedTuple):
-    """A pair that was judged: its verdict, all that was said, its JSON result, and the lists of its
-    parts."""
+    """A pair that was judged: its verdict, all that was said, its JSON result, the lists of its
+    parts, and the files that commands may name."""
 
     verdict: Verdict
     said: list[str]
     result: dict[str, Any]
     listed: list[str]
+    files: set[str | None]
 
     @property
     def word(self) -> str:
@@ -79,8 +80,17 @@ class Judged(NamedTuple):
 
 
 def judged(case: Case, *words: str, by: str | None = None, heard: Heard | None = None) -> Judged:
-    """A pair judged by the words of a command line, and by the program or another one."""
-    program, heard = by or case.bench.program, heard or Heard()
+    """A pair judged by the words of a command line, and by the program or another one. The commands
+    that are printed name its files alone."""
+    found = judged_by(by or case.bench.program, *words, heard=heard)
+    for line in found.verdict.commands:
+        case.must(line, set(shown_files(line)) <= found.files, found.files)
+    return found
+
+
+def judged_by(program: str, *words: str, heard: Heard | None = None) -> Judged:
+    """A pair judged by the words of a command line, by a program."""
+    heard = heard or Heard()
     known = parser_of("").parse_args(["-p", program, *words])
     asked, typed = asked_of(known), Typed("tools/qc", program)
     verdict = Verdict(asked, Severity(asked.severity, asked.is_loss_allowed), now())
@@ -102,9 +112,7 @@ def judged(case: Case, *words: str, by: str | None = None, heard: Heard | None =
         known_files = {asked.stl, asked.recording, os.devnull}
         if pair.recording:
             known_files.add(pair.recording.shown)
-        for line in verdict.commands:
-            case.must(line, set(shown_files(line)) <= known_files, known_files)
-    return Judged(verdict, heard.lines, result, listed)
+    return Judged(verdict, heard.lines, result, listed, known_files)
 
 
 def shown_files(line: str) -> list[str]:

@@ -6,6 +6,7 @@ import os
 from typing import Sequence
 
 from developing.pes import packet
+from subtitles.core.manual import Meaning
 from subtitles.core.teletext import Page
 from subtitles.core.told import Told, told_of
 from subtitles.core.words import Words
@@ -20,6 +21,7 @@ from subtitles.reading.timeline import Timeline
 from .bench import Case
 
 PAGE = (0, 0x88)
+MEANINGS = {number: Meaning("", f"it means `{number}`", f"do {number}") for number in range(93)}
 HEADER = packet(0, 0, [8, 8, 0, 8, 0, 8, 1, 0], b" " * 32)  # of page 888, which it erases
 CLOSING = packet(0, 0, [15, 15, 15, 7, 15, 3, 0, 0], b" " * 32)
 

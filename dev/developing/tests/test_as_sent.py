@@ -254,12 +254,7 @@ class Open(Case):
             pes = self.schedule(stl, "open.pes", "--open", "--every", "20", "--layout", "after=0A")
             found = judged(self, stl, pes, "--open", "--layout", "auto", "-o", self.path("out"))
             self.must(f"{kind}: a pair", found.word == "accepted" and found.result["asked"]["open"]
-                      and b"Number" in self.read("out/one.html"), found.said)
+                      and b"12 subtitles" in self.read("out/one.html"), found.said)
             late = judged(self, stl, pes, "--open")
             self.must(f"{kind}: causes", late.word == "refused"
                       and len(late.result["causes"]) == 12, late.said)
-            drawn = self.tool("preview", stl, pes, "--open", "--layout", "after=0A", "-p",
-                              self.bench.program, "-o", self.path("preview.html"))
-            self.must(f"{kind}: preview", drawn.status == 0 and b"accepted" in drawn.out, drawn)
-            wrong = self.tool("preview", stl, pes, "--layout", "auto")
-            self.must("no layout", wrong.status == 2 and "'auto' is no layout" in wrong.told[0])

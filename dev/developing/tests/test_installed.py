@@ -35,12 +35,10 @@ def runs_the_whole_way(case: Case, prefix: str) -> None:
     case.must("check", done.out == b"accepted 226 frames 5 transmissions\n", done)
     done = run("subttx-text", stl)
     case.must("text", done.out.endswith(b"3 subtitles\n"), done)
-    done = run("subttx-preview", stl, pes, "-o", "report.html")
-    case.must("preview", (done.status, done.out) ==
-              (0, b"accepted 226 frames 5 transmissions\n"), done)
-    done = run("subttx-qc", stl, "story.ts")
+    done = run("subttx-qc", stl, "story.ts", "-o", "report")
     case.must("qc", done.out.endswith(b"accepted 226 frames 5 transmissions\n") and
-              os.path.join(prefix, "bin", "subttx").encode() in done.out, done)
+              os.path.join(prefix, "bin", "subttx").encode() in done.out and
+              os.path.exists(case.path("report/story.html")), done)
     done = run("subttx-text", "--help")
     case.must("its own names in the help", b"subttx-text STL" in done.out
               and b"tools/" not in done.out, done)

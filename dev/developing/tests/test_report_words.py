@@ -95,26 +95,24 @@ class Box(unittest.TestCase):
                              (count, is_unfolded))
 
     def test_subtitles(self) -> None:
-        """How many there are, how many with pictures, and which are not as due."""
+        """How many there are, how they are held, and which are not as due, with pictures."""
         for count, drawn, within, odd, links, words in (
-                (1, 1, 0, 0, 0, "1 subtitle, pictures at the first frame of each."),
-                (2, 2, 0, 1, 1, "2 subtitles, pictures at the first frame of each."),
-                (1200, 1100, 0, 100, 100,
-                 "1,200 subtitles, pictures at the first frame of 1,100 of them."),
-                (1200, 1, 0, 101, 1, "1,200 subtitles, pictures at the first frame of 1 of them."),
-                (200, 200, 1, 101, 100,
-                 "200 subtitles, pictures at the frame after which each is whole."),
-                (2000, 1001, 1, 0, 0, "2,000 subtitles, 1,001 of them with pictures at the frame "
-                 "after which each is whole.")):
+                (1, 0, 0, 0, 0, "1 subtitle. What a receiver holds at the first frame of each"),
+                (1200, 100, 0, 100, 100,
+                 "1,200 subtitles. What a receiver holds at the first frame of each"),
+                (1200, 101, 0, 101, 100,
+                 "1,200 subtitles. What a receiver holds at the first frame of each"),
+                (2000, 500, 1, 501, 100, "2,000 subtitles. What a receiver holds at the frame "
+                 "after which each is whole")):
             looks: Any = SimpleNamespace(entries=SimpleNamespace(
                 drawn=range(1, drawn + 1), odd=set(range(1, odd + 1)),
                 counted=lambda subtitles: "all as due"))
             said = subtitles_words(self.report(within=within, subtitles=[1] * count), looks)
-            with self.subTest(words):
-                self.assertIn(f"<p>{words} What a receiver holds then: all as due.", said)
+            with self.subTest(drawn=drawn):
+                self.assertIn(f"<p>{words}: all as due.", said)
                 self.assertEqual(said.count('href="#s'), links)
-                self.assertEqual(" ..." in said, min(odd, drawn) > 100)
-        looks.entries.drawn = []
+                self.assertEqual((" ..." in said, "The first 500 of them have pictures." in said),
+                                 (drawn > 100, odd > drawn))
         self.assertIn("no subtitle", subtitles_words(self.report(subtitles=[]), looks))
 
     def test_numbers(self) -> None:
@@ -244,12 +242,11 @@ class Reports(Case):
             asked = asked_for("a.stl", "a.pes", "--every", "25", *words)
             part = part_with(0, 10, 5)
             part.pes = 1, 2
-            made: Any = SimpleNamespace(judged=SimpleNamespace(asked=asked), part=part,
-                                        window=(0, 10))
+            made: Any = SimpleNamespace(judged=SimpleNamespace(asked=asked), part=part)
             complete = [] if "--no-complete" in words else ["--complete"]
             self.must(f"{words}", Subject.options(made) == " ".join([
                 "--page 888 --every 25 --origin 5 --option english", *complete, *more,
-                "--pes 1-2 --from 00:00:00:00 --to 00:00:00:10"]), Subject.options(made))
+                "--pes 1-2"]), Subject.options(made))
         file = File("a.ts", 9, "0" * 64)
         for count, source, is_fitted, clock in ((3, GIVEN, True, None), (1, START, False, "words")):
             subject = SimpleNamespace(parts=count, judged=SimpleNamespace(

@@ -16,7 +16,7 @@ from subtitles.qc.causes import (
     ATTRIBUTE, EARLY, LATE, NEVER, NOT_ERASED, OTHER, PLACE, TEXT, UNKNOWN)
 from subtitles.qc.clock import GIVEN, RECORDING, START, Clock, Found
 from subtitles.qc.clocks import found_in
-from subtitles.qc.off_frame import Off, off_of
+from subtitles.qc.off_frame import most_off, off_words
 from subtitles.qc.start import start_frame
 from subtitles.qc.subtitle_file import SubtitleFile
 from subtitles.qc.unclear import Unclear
@@ -276,47 +276,16 @@ class Grids(Case):
     def test_off(self) -> None:
         """By how many ticks at most, before and after; over half a frame it is the other one's."""
         for origin in (0, CLOCK - 3 * TICKS):
-            of_offs: list[tuple[list[int], int | None]] = [
-                ([0, 0], None), ([1, 0], 1), ([0, -1], 1), ([1799, 0], 1799), ([1800, 5], 1800),
-                ([1801], 1799), ([-1799, 3], 1799), ([], None), ([7, -9, 8], 9)]
+            of_offs: list[tuple[list[int], int]] = [
+                ([0, 0], 0), ([1, 0], 1), ([0, -1], 1), ([1799, 0], 1799), ([1800, 5], 1800),
+                ([1801], 1799), ([-1799, 3], 1799), ([], 0), ([7, -9, 8], 9)]
             for offs, most in of_offs:
                 several = [(origin + TICKS * (5 + at) + off) % CLOCK for at, off in enumerate(offs)]
-                found = off_of(several, origin)
-                self.assertEqual(found and found.most, most, offs)
-                self.assertIsNone(found and found.drift)
-
-    def test_drift(self) -> None:
-        """From ten PTS that rise, up to a thousandth, more than it jitters: over half a frame too.
-        """
-        def drifting(count: int, ppm: float, jitter: int = 0, step: int = 90_000) -> Off | None:
-            found = [off_of([(round(step * at * (1 + ppm / 1e6)) + jitter * (-1) ** at + origin)
-                             % CLOCK for at in range(count)], origin)
-                     for origin in (5, CLOCK - 5 * step)]
-            self.assertEqual(found[0], found[1])
-            return found[0]
-
-        for count, ppm, jitter, wanted in (
-                (10, 100, 0, 100), (9, 100, 0, None), (100, -100, 0, -100), (100, 1001, 0, 1000),
-                (100, 1002, 0, None), (100, -999, 0, -1000), (100, -1000, 0, None),
-                (2000, 50, 0, 50), (1000, 50, 550, 50), (1000, 50, 600, None),
-                (100, 50, 90, None), (100, 0, 90, None), (12, 1, 0, None),
-                (400, 0.4, 0, None)):
-            found = drifting(count, ppm, jitter)
-            self.assertEqual(found and found.drift, wanted, (count, ppm, jitter))
-            off = off_of([round(90_000 * at * (1 + 5e-5)) + 700 for at in range(50)], 0)
-            self.assertEqual(off and off.drift, 50)
-        rising = [90_000 * at + 9 * at for at in range(20)]
-        for several in (rising[:5] + rising[4:], rising[::-1],
-                        rising[:5] + rising[6:7] + rising[5:6] + rising[7:]):
-            found = off_of(several, 0)
-            self.assertTrue(found and found.drift is None)
-        for off, within, words in (
-                (Off(9, None), None, "PTS are up to 0.1 ms off the frame"),
-                (Off(900, None), 2, "PTS are up to 10.0 ms off the frame; --within 2 accepts that"),
-                (Off(9, -7), 1,
-                 "PTS drift by -7 ppm against whole frames; --within 1 accepts that"),
-                (Off(9, 0), None, "PTS drift by 0 ppm against whole frames")):
-            self.assertEqual(off.words(within), words)
+                self.assertEqual(most_off(several, origin), most, offs)
+        for most, within, words in (
+                (0, 1, ""), (9, None, "PTS are up to 0.1 ms off the frame"),
+                (900, 2, "PTS are up to 10.0 ms off the frame; --within 2 accepts that")):
+            self.assertEqual(off_words(most, within), words)
 
     def test_start_frames(self) -> None:
         """As it is given, and as the GSI block has it; what is none there."""

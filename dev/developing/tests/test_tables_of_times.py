@@ -12,7 +12,6 @@ from subtitles.core.times import CLOCK, TICKS
 from subtitles.qc.clock import RECORDING, Clock, Found
 from subtitles.qc.clocks import last_time
 from subtitles.reading.cutting import cut_of
-from subtitles.reading.finding import drift_of
 from subtitles.reading.gaps import SECOND, ClockJump, Place, jumps_of, line_of, places_of, what_of
 from subtitles.reading.packets import Clocked, Mark, Packets, Run
 from subtitles.reading.stretches import LACKED, Stretch, by_breaks
@@ -183,20 +182,6 @@ class Times(unittest.TestCase):
         self.assertEqual(line_of(Place(None, 3600, 0), None),
                          "before PTS 3600, 00:00:00:01 on: a break in the stream")
         self.assertEqual(line_of(Place(None, None, 1), None), "1 TS packet lost")
-
-    def test_drift_of_origins(self) -> None:
-        """Origins that go on by a frame each, as a drift lets them; breaks are none."""
-        cases: list[tuple[str, list[tuple[int, int]], int | None]] = [
-            ("50 ppm", [(0, 0), (9000, 3600), (29_000, 7200), (49_000, 10_800)], 50),
-            ("back", [(0, 0), (9000, -3600), (29_000, -7200)], -50),
-            ("over the clock", [(0, CLOCK - 3600), (9000, 0), (29_000, 3600)], 50),
-            ("two", [(0, 0), (9000, 3600)], None), ("one", [(0, 0)], None), ("none", [], None),
-            ("breaks", [(0, 0), (9000, 90_000), (29_000, 180_000)], None),
-            ("both ways", [(0, 0), (9000, 3600), (29_000, 0)], None),
-            ("uneven", [(0, 0), (9000, 3600), (10_500, 7200), (90_000, 10_800)], None)]
-        for name, parts, ppm in cases:
-            found = drift_of(parts)
-            self.assertEqual(found, ppm, name)
 
     def test_what_is_near_in_a_feed(self) -> None:
         """Of the time bases the last in which PES packets come near the time of the subtitles."""

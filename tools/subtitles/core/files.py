@@ -66,13 +66,6 @@ def naming(name: str) -> Iterator[None]:
         raise
 
 
-def as_file(name: str) -> str:
-    """A name that nothing takes for something else; it has to be UTF-8, as the program asks."""
-    if not is_utf_8(name):
-        raise Stop(f"{name}: a name of a file has to be UTF-8")
-    return plain_name(name)
-
-
 def plain_name(name: str) -> str:
     """A name that no tool takes for an option, no shell for a command, and no table for a formula.
     """

@@ -9,7 +9,6 @@ from ..core.teletext import CODE_WORDS, NUMBER
 from ..core.times import FRAMES_OF_A_DAY, TICKS, frame_at, pts_of, ticks_between, time_of, wrapped
 from ..core.told import Told
 from ..reading.receiver import HIT, STORED
-from .fits import frames_words
 from .program import Program
 from .seen import Seen
 
@@ -20,6 +19,10 @@ NAMED = ' class="named"'
 OFF_FRAME, ORDER = 61, 62
 HAS_PTS = range(37, 41)  # of PES packets that can't be read, but for their PTS
 BYTES_A_LINE = 14  # of a packet, at most
+
+
+def frames_words(count: int) -> str:
+    return f"{count:,} frame{'s' * (count != 1)}"
 
 
 def place_of_pts(pts: int, origin: int, within: int) -> str:

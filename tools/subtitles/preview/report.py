@@ -19,14 +19,11 @@ from ..qc.part import Part
 from ..qc.sums import File
 from ..qc.verdict import Verdict
 from ..reading.gaps import TOLD
-from ..reading.held import with_marks
-from ..reading.receiver import Rows
 from ..reading.timeline import Timeline
 from .counts import place_words
 from .fault_list import FaultList
 from .faults import Faults
 from .figures import Figures
-from .fits import Fits
 from .program import NoReport, Program
 from .reasons import Reasons
 from .scope import Scope
@@ -35,14 +32,12 @@ from .strips import Strips
 from .subtitles import Entries, looked_at
 
 EMPTY, ORDER = 60, 62
-ALL_DAY = 0, FRAMES_OF_A_DAY - 1
 
 
 class Subject(NamedTuple):
     """What a report is made of: a verdict on a part, which is one of so many, the program as it is
-    typed and where it stands, and the commands that judged it. `window` are the first and the last
-    frame of which subtitles get pictures; `files` were read, each with what it is; `folder` is for
-    what is needed meanwhile."""
+    typed and where it stands, and the commands that judged it; `files` were read, each with what it
+    is."""
 
     judged: Verdict
     part: Part
@@ -50,7 +45,6 @@ class Subject(NamedTuple):
     program: Program
     commands: Sequence[str]
     files: Sequence[tuple[str, File]]
-    window: tuple[int, int] = ALL_DAY
 
     def options(self) -> str:
         """All options as they hold."""
@@ -60,8 +54,7 @@ class Subject(NamedTuple):
         words += ["--complete"] * asked.is_complete
         words += [f"--within {asked.within}"] * (asked.within > 0)
         words += [f"--pes {part.pes_name}"] if part.pes else []
-        return " ".join([*words, *(part.asked.between.words() or map(
-            "{} {}".format, ("--from", "--to"), map(time_of, self.window)))])
+        return " ".join([*words, *part.asked.between.words()])
 
 
 class Report:
@@ -144,16 +137,13 @@ class Looks:
         header = bytes([0, 0, 0, 8, 0, 8, 1, option << 1])  # C4, C6 and C7
         due = report.part.due().timeline
         self.figures: Figures = Figures(due, seen, header, report.page, asked.is_complete)
-        self.fits: Fits = Fits(with_marks(due.states if due else ()), with_marks(seen.held.states),
-                               pages_of_content(faults, seen, self.figures))
         pes = report.first.pes if report.first else None
         broken = seen.last_before(pes) if pes is not None else \
             report.first.frame if report.first else None
         if report.is_beside:
             broken = next((frame for entry in faults.entries if entry.first.number != UNDECIDED
                            and (frame := entry.first.frame) is not None), None)
-        self.entries: Entries = Entries(self.figures, seen, report.subtitles, report.looked,
-                                        report.subject.window, faults, broken)
+        self.entries: Entries = Entries(self.figures, seen, report.subtitles, report.looked, faults)
         if report.reasons:
             report.reasons.drawn = self.entries.drawn
         self.fault_list = FaultList(report, self, seen)
@@ -169,19 +159,6 @@ def mark_unheard(faults: Faults, seen: Seen) -> None:
     last = seen.last_frame
     if last is not None and any(entry.first.pes == seen.stop for entry in faults.entries):
         faults.mark([(last, last)])
-
-
-def pages_of_content(faults: Faults, seen: Seen, figures: Figures) -> dict[int, tuple[Rows, Rows]]:
-    """The due and the held page at each frame at which the content is refused."""
-    found = {}
-    for entry in faults.entries:
-        frame = entry.first.frame
-        if entry.first.row is None or frame is None:
-            continue
-        state = seen.state_at(frame)
-        if state and state.is_heard:
-            found[frame] = figures.due_at(frame)[0], state.rows
-    return found
 
 
 def end_of_knowledge(seen: Seen, report: Report) -> int | None:

@@ -49,7 +49,7 @@ headers       what is wrong with the control bits of headers
 keeping       headers that keep the page, and whether what is sent with them is whole
 hints         what to know of the first fault of some numbers, beside its place
 midnight      times that fall at midnight, and what to do about them
-off_frame     PTS that are no whole frames: jitter, and drift
+off_frame     PTS that are no whole frames
 cause_words   causes in words, and as values
 delays        after how many frames each subtitle was whole
 within        within how many frames a part that is refused would be accepted

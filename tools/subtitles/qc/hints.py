@@ -17,7 +17,7 @@ from .asked import Asked
 from .cells import place_of
 from .headers import header_words
 from .midnight import midnight_words
-from .off_frame import off_of
+from .off_frame import most_off, off_words
 from .option_advice import OptionAdvice
 from .options import NONE, PACE
 from .part import Part
@@ -69,8 +69,7 @@ def words_of(told: Told, part: Part, verdict: Verdict) -> str:
     if part.pes is None or part.origin is None:
         return ""
     if told.number == OFF_FRAME:
-        off = off_of(part.pts(), part.origin)
-        return off.words(part.accepted_within) if off else ""
+        return off_words(most_off(part.pts(), part.origin), part.accepted_within)
     if told.number == SILENT:
         return silent_words(told, part)
     if told.number == GAP:

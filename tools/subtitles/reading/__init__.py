@@ -7,7 +7,6 @@ survey       what `survey` tells of a recording, as values
 timeline     what a receiver holds of a page when
 held         the pages, by frames
 order        the PES packets that are heard, by frames
-streams      the PES packets of a PID, for the tools that are told it
 moving       a page that moves to another PID, as the PMT says
 gaps         where something is missing, and where the clock jumps
 timing       PTS against the PCR

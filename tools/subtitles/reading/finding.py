@@ -18,7 +18,6 @@ from .subcodes import subcode_words, turns_of
 
 NEAR = 10 * FRAMES_A_SECOND  # to the origin 0
 NAMED = 5  # origins that are as good, or other pages
-MOST_PPM = 1000  # of a drift: more is no clock
 LISTED = 20  # places at which subtitles begin to be late
 
 
@@ -306,29 +305,10 @@ def shift_lines(row: Sequence[Stretch], parts: Sequence[FittedPart], known: int)
     left = lines[LISTED - 1:-1]
     lines = lines[:LISTED - 1] + [f"and so on, {counted(len(left), 'time')} more"] * bool(left) \
         + lines[LISTED - 1:][-1:]
-    drift = drift_of([(part.begin, part.origin) for part in parts])
-    if drift is not None:
-        lines[-1] += f"; PTS drift by {drift} ppm against whole frames"
-    elif len(by_breaks(row)) == len(row):
+    if len(by_breaks(row)) == len(row):
         breaks = "a break" if len(row) == 2 else "breaks"
         lines[-1] += f"; if the programme has {breaks} there, say --breaks {len(row) - 1}"
     return lines
-
-
-def drift_of(parts: Sequence[tuple[int, int]]) -> int | None:
-    """By how many millionths PTS drift, where the origins of three parts or more, each with its
-    first TCI, go on by a frame or two each in the time in which that comes together."""
-    steps = [(second[0] - first[0], ticks_between(first[1], second[1]))
-             for first, second in zip(parts, parts[1:])]
-    frames, ticks = (sum(several) for several in zip(*steps[1:])) if len(steps) > 1 else (0, 0)
-    if frames <= 0 or ticks == 0:
-        return None
-    rate = ticks / (frames * TICKS)
-    is_steady = all(length > 0 and 0.5 <= step / (length * TICKS * rate) <= 2
-                    for length, step in steps[1:])
-    are_small = all(0 < abs(step) <= 2 * TICKS and (step > 0) == (ticks > 0) for _, step in steps)
-    ppm = round(rate * 1e6)
-    return ppm if is_steady and are_small and 0 < abs(ppm) <= MOST_PPM else None
 
 
 def break_lines(parts: Sequence[FittedPart]) -> Iterator[str]:
