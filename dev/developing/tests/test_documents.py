@@ -94,7 +94,7 @@ class Documents(Case):
         done = self.call([os.path.join(TOP, "dev", "make-picture"), "-p", self.bench.program,
                           self.path("new.png")])
         self.must("made", done.status == 0, done)
-        for path in (self.path("new.png"), os.path.join(TOP, "docs", "refused.png")):
+        for path in (self.path("new.png"), os.path.join(TOP, "docs", "report.png")):
             with open(path, "rb") as file:
                 head = file.read(24)
             self.must(path, head[:8] == b"\x89PNG\r\n\x1a\n"
