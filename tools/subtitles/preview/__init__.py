@@ -10,6 +10,7 @@ figures    the pictures at a frame
 strips     strips of time with subtitles, sendings and faults
 subtitles  the subtitles by minute, with pictures of those that are not as due
 places     a place in a transmission: its PES packet, its Teletext packets
+packet_words what the bytes of one of these say, as `packet` prints it
 fault_list the list of faults, and the pictures of the first of them
 blocks     a refused subtitle file: its broken place, and its refused subtitles
 page       the whole report
