@@ -98,7 +98,6 @@ def judged_by(program: str, *words: str, heard: Heard | None = None) -> Judged:
         names = Names("one", folder, known.out)
         names.give(asked.stl)
         files = Files(known, verdict, typed, names)
-        files.prepare()
         verdict.found = found(asked)
         pair = Pair(verdict, typed, names, heard, True)
         if known.out:
@@ -107,7 +106,6 @@ def judged_by(program: str, *words: str, heard: Heard | None = None) -> Judged:
         end_pair(verdict, heard, files)
         result = json.loads("".join(object_of(verdict, MadeWith("1", "0" * 64, None))))
         listed = [line for part in verdict.parts for line in part.answer.lines()]
-        files.leave(pair)
         # Of a feed the PES packets that were kept stand for the recording.
         known_files = {asked.stl, asked.recording, os.devnull}
         if pair.recording:

@@ -57,7 +57,7 @@ class Collected(Case):
             with mock.patch.object(collecting, "put"):
                 self.must(f"{name} to -", self.end(**{name: "-"}) == (2, "", table))
         status, out, told = self.end(csv=self.path("no/x"), junit=self.path("no/y"))
-        self.must("failed", status == 2 and out == table and len(told.splitlines()) == 2 and
+        self.must("failed", status == 2 and out == f"{table.rstrip()}; not all was written\n" and len(told.splitlines()) == 2 and
                   "no/x" in told.splitlines()[0] and "no/y" in told.splitlines()[1], told)
         self.end(json=self.path("all"), csv=self.path("lines"), junit=self.path("cases"))
         have = json.loads(self.read("all"))

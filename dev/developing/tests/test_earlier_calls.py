@@ -22,7 +22,6 @@ from subtitles.calls.watching import Stopping, Watch, refuse_folders
 from subtitles.core.words import Stop
 from subtitles.qc.asked import Asked
 from subtitles.qc.made_with import MadeWith, program_at
-from subtitles.qc.names import Names
 from subtitles.qc.feed import Stall
 from subtitles.qc.typed import Typed
 from .bench import Case, example_bytes
@@ -94,30 +93,6 @@ class EarlierCalls(Case):
                         file.write(b" ")
                     os.utime(path, ns=(about.st_atime_ns, about.st_mtime_ns))
                 self.must(f"{name} {what}", not is_current(known, asked, PROGRAM))
-
-    def test_files_of_a_pair_in_a_folder(self) -> None:
-        """Those of the pair and of all its parts are its own; those of others stay."""
-        own = ["one.cut.pes", "one.recording.pes", "one.recording.ts", "one.txt", "one.html",
-               "one.json", "one.1.txt", "one.2.cut.pes", "one.3.txt", "one.12.html"]
-        others = ["one.two.html", "one.0.txt", "one.1.2.html", "two.html", "two.one.1.html",
-                  "one.1.pes", "one.stl", "one.pes", "xone.html", "one.1x.html",
-                  # Somebody's own subtitle files, and what was made of a pair of such a name.
-                  "one.1.stl", "one.4.stl", "one.5.stl", "one.5.txt", "one.5.html", "one.5.json"]
-        for name in own + others:
-            self.write(name, b"")
-        names = Names("one", self.folder, self.folder)
-        found_there = {os.path.basename(path) for path in names.kept()}
-        self.must("its own", found_there == {*own}, found_there ^ {*own})
-        written = {os.path.basename(path) for path in names.written()} - {*own}
-        self.must("may be written", written == {"one.5.txt", "one.5.html"}, written)
-
-    def test_names_with_marks(self) -> None:
-        """A name that a pattern would match otherwise."""
-        for name in ("a[1]", "a*", "a?"):
-            path = self.write(f"{name}.1.txt", b"")
-            self.write("a1.1.txt", b"")
-            kept = Names(name, self.folder, self.folder).kept()
-            self.must(name, path in kept and self.path("a1.1.txt") not in kept, kept)
 
     def test_feed_that_stands_still_twice(self) -> None:
         """Each time is told once, with how long it was."""

@@ -19,7 +19,7 @@ from subtitles.calls.forked import Call, ended_of, qc, signals_held
 from subtitles.calls.members import ASKED
 from subtitles.calls.main import parser_of
 from subtitles.calls.objects import Row, found, object_at, row_of, unjudged
-from subtitles.calls.pairs import Item, OwnNames, no_file, pairs_at
+from subtitles.calls.pairs import Item, no_file, pairs_at
 from subtitles.calls.single import SIGNALS
 from subtitles.core.words import Stop
 from subtitles.qc.asked import asked_of
@@ -85,8 +85,8 @@ class Lists(Case):
             made.bind(self.path("socket"))
         items = pairs_at(self.write("list", lines.encode() + b"caf\xe9.stl x.ts"), defaults())
         self.must("names", [item.name for item in items] == [
-            "one", "two", "one-2", "line 6", "line 7", "one-3", "none", "one-4", "line 11", "x",
-            "x-2", "caf\\xe9"],
+            "one", "two", "one~2", "line 6", "line 7", "one~3", "none", "one~4", "line 11", "x",
+            "x~2", "caf%E9"],
             [item.name for item in items])
         self.must("options", [item.asked.every for item in items if item.asked] == [50, 250, 250])
         reasons = [item.reason for item in items if item.reason]
@@ -96,20 +96,13 @@ class Lists(Case):
                 f"{self.path('none.stl')}: No such file or directory",
                 f"{self.path('pipe')} is a pipe",
                 f"{self.path('list')}, line 11: - is no recording", "/dev/null is a device",
-                f"{self.path('socket')} is no file", "caf\udce9.stl: No such file")):
+                f"{self.path('socket')} is a socket", "caf\udce9.stl: No such file")):
             self.must(words, reason.startswith(words), reason)
         self.must("reasons", len(reasons) == 9, reasons)
         self.must("a file", no_file(self.path("one.stl")) is None)
         for path in (self.write("empty", b"# none\n"), self.path("folder")):
             with self.assertRaises(Stop):
                 pairs_at(path, defaults())
-
-    def test_names(self) -> None:
-        """Each has its own, also where a number makes it that of another one."""
-        for given, wanted in (("a a a b", "a a-2 a-3 b"), ("a a a-2 a-2", "a a-2 a-2-2 a-2-3"),
-                              ("a-2 a a a", "a-2 a a-3 a-4")):
-            names = OwnNames()
-            self.must(given, [names.of(name) for name in given.split()] == wanted.split())
 
     def test_folder(self) -> None:
         """Names, what lacks its other half, what is more than one, in the order of the names."""
@@ -124,7 +117,7 @@ class Lists(Case):
             ("G", f"{at}/G.stl: no recording of that name"), ("g", None),
             ("c", f"more than one pair is possible: {at}/c.stl, {at}/c.pes, {at}/c.ts"),
             ("d", f"{at}/d.m2t: no subtitle file of that name"),
-            ("e", f"{at}/e.stl: no recording of that name"), ("h\\x1b", None)],
+            ("e", f"{at}/e.stl: no recording of that name"), ("h%1B", None)],
             [(item.name, item.reason) for item in items])
         self.must("files", [(item.asked.stl, item.asked.recording) for item in items if item.asked]
                   == [(f"{at}/{one}", f"{at}/{two}") for one, two in (
@@ -167,7 +160,7 @@ class Judged(Case):
         return calls.begin(item) or next(calls.rows(SECONDS))
 
     def test_words(self) -> None:
-        """Of the call for a pair: where its object goes, what is asked; the name as it is shown."""
+        """Of the call for a pair: where its object goes, and what is asked."""
         for out, is_kept in ((None, False), (self.path("out"), False), (self.path("out"), True)):
             calls = Calls(self.typed, self.path("temporary"), out, is_kept)
             item = self.item("refused", "one", "--every", "50")._replace(name="pair")
@@ -177,12 +170,11 @@ class Judged(Case):
             kept = f"-o {out}{' --keep' * is_kept}" if out else f"--json {path}"
             called, own, files = have["notes"] if have else TOLD
             self.must("words", called.startswith(
-                f"--name=pair {kept} -p {self.typed.program_path} --page 888 --every 50 ") and
+                f"--name=pair --claimed {kept} -p {self.typed.program_path} --page 888 "
+                "--every 50 ") and
                 called.endswith(f" -- {self.path('one.stl')} {self.path('one.ts')}")
                 and own == "1" and files.split() == [os.devnull, os.devnull]
                 and not calls.running, have)
-            shown = calls.path(Item("a\x1b", None, ""))
-            self.must("as it is shown", shown.endswith("/a\\x1b.json"))
 
     def test_all_words(self) -> None:
         """What is asked of a pair is asked of its call, also where it is 0."""

@@ -32,7 +32,7 @@ VALUES = {"--page": "801", "--every": "25", "--within": "1", "--option": "german
           "--jobs": "2", "--settled": "1", "--patience": "9", "--from": "00:00:01:00",
           "--to": "00:00:02:00", "--layout": "fit", "--pace": "9"}
 MANUAL = os.path.join(TOP, "docs", "manual", "qc.md")
-HIDDEN = {"--name", "--fitted", "--cut"}  # of calls that other ones make
+HIDDEN = {"--name", "--claimed", "--fitted", "--cut"}  # of calls that other ones make
 ASKING = {"--batch", "--watch", "--channel", "--collect", "--help", "-h", "--version"}
 
 

@@ -23,8 +23,10 @@ OWN: dict[str, dict[str, object]] = {
     "calls.channel.planned": {"MISSING": 60.0}, "calls.channel.queue": {"AT_ONCE": 4, "LOOK": 1.0},
     "qc.source": {"PART": 262_144, "PIPE": 524_288},
     "calls.channel.spool": {"PARTS": 20, "LEAST": 1_048_576, "BEHIND_TIME": 4},
-    "core.files": {"PIECE": 1_048_576, "OWN_OUTPUT": {"-", "/dev/stdout", "/dev/fd/1",
-                                                      "/proc/self/fd/1"}},
+    "core.files": {"PIECE": 1_048_576}, "core.lists": {"MOST_BYTES": 16_000_000,
+                                                       "MOST_OF_LINE": 65_536},
+    "core.outputs": {"OWN_OUTPUT": {"-", "/dev/stdout", "/dev/fd/1", "/proc/self/fd/1"}},
+    "core.stl": {"MOST_STL": 12_800_897}, "qc.names": {"LONGEST": 180, "BEGINNING": 120},
     "core.pes": {"AT_ONCE": 64}, "core.told": {"UNDECIDED": 78, "DISPLAY": 13},
     "core.words": {"MOST_EVERY": 2_160_000, "MOST_WITHIN": 50, "MOST_DIGITS": 3, "NO_PID": 8191},
     "preview.blocks": {"ORDER_FAULTS": (56, 57), "BYTE_FAULTS": (50, 51),
@@ -47,7 +49,7 @@ OWN: dict[str, dict[str, object]] = {
                          "FAULTS": 40, "HEIGHT": 54, "TRUSTED": 45, "THIN": 4, "NARROW": 4,
                          "FEW": 5000, "WORDS_WIDTH": 9},
     "qc.as_sent": {"BY_LAYOUT": {51, 52, 53, 54, 55}},
-    "qc.asked": {"MOST_TRIED": 5, "MOST_STL": 12_800_897},
+    "qc.asked": {"MOST_TRIED": 5},
     "qc.beside": {"NO_RECORD": {16, 18, 19, 20, 21}, "COMPARED": {56, 57}, "MOST_NAMED": 3},
     "qc.due_pages": {"NOTHING": 82, "EVERY": "1500"},
     "qc.ending": {"LAST": 999_999_999_999, "ENOUGH": 5, "WAIT": 5.0, "AGAIN": 8},
@@ -78,7 +80,7 @@ OWN: dict[str, dict[str, object]] = {
 NONE = ("batch", "channel", "collect", "csv", "found_layout", "json", "junit", "jobs", "name",
         "origin", "out", "patience", "pes", "pid", "program", "recording", "settled", "severity",
         "start", "stl", "watch")
-FALSE = ("is_cut", "is_fitted", "is_kept", "is_loss_allowed", "is_resumed", "is_strict")
+FALSE = ("is_claimed", "is_cut", "is_fitted", "is_kept", "is_loss_allowed", "is_resumed", "is_strict")
 
 
 class Numbers(unittest.TestCase):

@@ -3,12 +3,13 @@ from __future__ import annotations
 
 import argparse
 import collections
+import contextlib
 import os
 import time
-from typing import Iterator, NamedTuple
+from typing import Any, Iterable, Iterator, NamedTuple
 
-from ..core.files import temporary_folder
-from ..core.words import Stop, counted, shown, tell
+from ..core.outputs import NOTHING, Inputs, temporary_folder
+from ..core.words import Stop, counted, line_of, tell
 from ..qc.asked import Asked
 from ..qc.made_with import program_at
 from ..qc.options import passed_words
@@ -16,7 +17,7 @@ from ..qc.progress import Progress
 from ..qc.status import ACCEPTED, NOT_JUDGED, WAIVED
 from ..qc.typed import Typed
 from . import collecting
-from .claim import claimed_for_batch
+from .claim import InUse, claimed, claimed_for_batch, clear, refuse_files_of
 from .forked import Call, ended_of, qc, signals_held
 from .objects import (
     ENDING, Row, found, is_current, left_by_call, object_at, put, row_of, unjudged)
@@ -27,10 +28,12 @@ WAIT = 0.2  # seconds between two looks at what is done
 
 
 class Running(NamedTuple):
-    """A pair that is judged, and what its files were like when that began."""
+    """A pair that is judged, what its files were like when that began, and what keeps other calls
+    from writing its results."""
 
     item: Item
     found: dict[str, object]
+    claim: contextlib.ExitStack
 
 
 class Calls:
@@ -42,6 +45,9 @@ class Calls:
     def __init__(self, typed: Typed, folder: str, out: str | None, is_kept: bool) -> None:
         self.typed, self.folder, self.out, self.is_kept = typed, folder, out, is_kept
         self.running: dict[Call, Running] = {}
+        self.inputs = NOTHING  # of all pairs
+        self.unwritten: dict[str, dict[str, Any]] = {}  # objects that stand in no file
+        self.in_use: set[str] = set()  # pairs whose files another call was writing
         self.is_stopped = False
         program_at(typed.program_path)  # whose sum is then known to each of them
 
@@ -51,22 +57,42 @@ class Calls:
 
     def path(self, item: Item) -> str:
         """The file of a pair's object."""
-        return os.path.join(self.out or self.folder, shown(item.name) + ENDING)
+        return os.path.join(self.out or self.folder, item.name + ENDING)
 
     def begin(self, item: Item) -> Row | None:
-        """Begins to judge a pair; its row, where that is known at once."""
-        path = self.path(item)
+        """Begins to judge a pair; its row, where that is known at once. Where its files are inputs,
+        or no results, or another call writes them, nothing is done."""
+        self.unwritten.pop(item.name, None)
+        self.in_use.discard(item.name)
+        claim = contextlib.ExitStack()
+        try:
+            if self.out is not None:
+                refuse_files_of(self.out, item.name, self.inputs)
+            claim.enter_context(claimed(self.out, item.name))
+            return self.begin_claimed(item, claim)
+        except (Stop, OSError) as reason:
+            if isinstance(reason, InUse):
+                self.in_use.add(item.name)
+            self.unwritten[item.name] = known = unjudged(item.name, line_of(reason))
+            return row_of(known, item.name)
+        finally:
+            claim.close()  # unless it goes on with the call
+
+    def begin_claimed(self, item: Item, claim: contextlib.ExitStack) -> Row | None:
+        """Begins to judge a pair whose files no other call writes now."""
+        if self.out is not None:
+            clear(self.out, item.name)
         if item.asked is None:
             return self.leave(item, item.reason or "")
-        kept = ["-o", self.out, *["--keep"] * self.is_kept] if self.out else ["--json", path]
-        words = [f"--name={item.name}", *kept, "-p", self.typed.program_path,
+        kept = ["-o", self.out, *["--keep"] * self.is_kept] if self.out else \
+            ["--json", self.path(item)]
+        words = [f"--name={item.name}", "--claimed", *kept, "-p", self.typed.program_path,
                  *words_of(item.asked)]
-        if os.path.lexists(path):
-            os.unlink(path)
         before = found(item.asked)
         try:
             with signals_held():
-                self.running[Call(lambda: qc(words))] = Running(item, before)
+                call = Call(lambda: qc(words))
+                self.running[call] = Running(item, before, claim.pop_all())
         except Stop as reason:
             return self.leave(item, str(reason))
         return None
@@ -78,19 +104,25 @@ class Calls:
 
     def end(self, call: Call) -> Row:
         """Ends a call that is over; the row of its pair."""
-        item, before = self.running.pop(call)
-        status, told = call.end()
-        if item.asked and found(item.asked) != before:
-            return self.leave(item, "a file was written to while it was judged")
-        known = left_by_call(self.path(item), item.name, status, told)
-        return self.leave(item, known["reason"]) if "asked" not in known else \
-            row_of(known, item.name)
+        item, before, claim = self.running.pop(call)
+        try:
+            status, told = call.end()
+            if item.asked and found(item.asked) != before:
+                return self.leave(item, "a file was written to while it was judged")
+            known = left_by_call(self.path(item), item.name, status, told)
+            return self.leave(item, known["reason"]) if "asked" not in known else \
+                row_of(known, item.name)
+        finally:
+            claim.close()
 
     def leave(self, item: Item, reason: str) -> Row:
-        """The row and the object of what is not judged."""
+        """The row and the object of what is not judged; that may stand in no file."""
         known = unjudged(item.name, reason)
-        if not self.is_stopped:
-            put(self.path(item), known)
+        try:
+            if not self.is_stopped:
+                put(self.path(item), known)
+        except OSError as error:
+            self.unwritten[item.name] = known = unjudged(item.name, f"{reason}; {line_of(error)}")
         return row_of(known, item.name)
 
     def stop(self) -> None:
@@ -119,26 +151,31 @@ def words_of(asked: Asked) -> list[str]:
     return [*words, "--", asked.stl, *([asked.recording] if asked.recording else [])]
 
 
+def inputs_of(items: Iterable[Item], *more: str) -> Inputs:
+    """All files that are read of some pairs, and others."""
+    return Inputs(*more, *(name for item in items if item.asked for name in (
+        item.asked.stl, item.asked.recording, item.asked.severity)))
+
+
 def judge(words: argparse.Namespace, called: str) -> int:
     """Judges all pairs; answers the status."""
     typed = Typed(called, words.program)
     if words.is_resumed and words.out is None:
         raise Stop("--resume goes with -o, where the results of an earlier call are")
     items = pairs_at(words.batch, words)
-    collecting.refuse_names(words, [words.batch, *(
-        one for item in items if item.asked for one in (
-            item.asked.stl, item.asked.recording, item.asked.severity))])
+    inputs = inputs_of(items, words.batch)
+    collecting.refuse_names(words, inputs, words.out)
     with temporary_folder("subttx-qc-") as folder, \
             claimed_for_batch(words.out):
         calls = Calls(typed, folder, words.out, words.is_kept)
+        calls.inputs = inputs
         kept = kept_rows(calls, items) if words.is_resumed else {}
         known = all_rows(calls, items, kept, words.jobs or os.cpu_count() or 1)
         done = [item for item in items if item.name in known]
         rows = [known[item.name] for item in done]
-        if words.out is not None:
-            collecting.write_index(words.out, rows)
-        status = collecting.end(words, rows, [calls.path(item) for item in done],
-                                calls.is_stopped)
+        status = collecting.end(words, rows, [
+            calls.unwritten.get(item.name) or calls.path(item) for item in done],
+            calls.is_stopped, words.out)
         if calls.is_stopped:
             tell(f"stopped when {len(done)} of {counted(len(items), 'pair')} were judged"
                  + ("; --resume judges the others" if words.out is not None else ""))

@@ -7,8 +7,9 @@ import os
 import time
 from typing import Any, Iterator, NamedTuple, Sequence
 
-from ..core.files import is_replaced, whole_file
-from ..core.words import line_of
+from ..core.files import bounded_bytes, first_bytes
+from ..core.outputs import is_replaced, result_file
+from ..core.words import Stop, line_of
 from ..qc.asked import Asked
 from ..qc.beside import Counts
 from ..qc.made_with import MadeWith
@@ -68,14 +69,18 @@ def may_take(path: str, begins: bytes = b"{") -> bool:
     wrong: one that holds something else may be an input."""
     if not is_replaced(path) or not os.path.exists(path):
         return True
-    with open(path, "rb") as file:
-        return file.read(len(begins)) in (begins, b"")
+    return first_bytes(path, len(begins)) in (begins, b"")
+
+
+def text_of(known: dict[str, Any]) -> bytes:
+    """Such an object as the text of a file."""
+    return json.dumps(known).encode() + b"\n"
 
 
 def put(path: str, known: dict[str, Any]) -> None:
-    """Writes such an object whole, or not at all."""
-    with whole_file(path, []) as file:
-        file.write(json.dumps(known).encode() + b"\n")
+    """Writes such an object into a folder of results."""
+    with result_file(path) as file:
+        file.write(text_of(known))
 
 
 def object_at(path: str) -> dict[str, Any] | None:
@@ -84,7 +89,7 @@ def object_at(path: str) -> dict[str, Any] | None:
     name = os.path.basename(path).removesuffix(ENDING)
     try:
         known = value_at(path)
-    except (OSError, ValueError) as reason:
+    except (Stop, OSError, ValueError) as reason:
         return unjudged(name, f"its JSON result can't be read: {why(reason)}")
     except RecursionError:
         return unjudged(name, "its JSON result can't be read: it is too deep")
@@ -102,10 +107,7 @@ def object_at(path: str) -> dict[str, Any] | None:
 
 def value_at(path: str) -> object:
     """What a file holds as JSON."""
-    with open(path, "rb") as file:
-        data = file.read(MOST_READ + 1)
-    if len(data) > MOST_READ:
-        raise ValueError(f"it has more than {MOST_READ} bytes")
+    data = bounded_bytes(path, MOST_READ, is_followed=False)
     return json.loads(data.decode("utf-8"), parse_int=number_in, parse_constant=refuse)
 
 
@@ -121,7 +123,8 @@ def refuse(text: str) -> int:
 
 def why(reason: Exception) -> str:
     """Why something can't be read, in a line."""
-    return line_of(reason) if isinstance(reason, OSError) else " ".join(str(reason).split())
+    return line_of(reason) if isinstance(reason, (Stop, OSError)) else \
+        " ".join(str(reason).split())
 
 
 def left_by_call(path: str, name: str, ended: int, told: Sequence[str]) -> dict[str, Any]:

@@ -8,11 +8,13 @@ import signal
 import time
 from typing import NamedTuple
 
-from ..core.words import Stop, tell
+from ..core.outputs import NOTHING
+from ..core.words import Stop, line_of, say, tell
 from ..qc.made_with import program_at
 from ..qc.typed import Typed
 from . import collecting
-from .batch import Calls, judged_next
+from .batch import Calls, inputs_of, judged_next
+from .claim import refuse_files_of_all
 from .objects import ENDING, Row, found, is_current, object_at, objects_in, row_of
 from .pairs import Item, of_folder
 from .single import SIGNALS
@@ -62,7 +64,9 @@ class Watch:
 
     def due(self, busy: set[str], now: float) -> list[Item]:
         """The pairs that are whole and not yet judged as they are; tells what is no pair."""
-        items = [item for item in of_folder(self.folder, self.words) if item.name not in busy]
+        items = of_folder(self.folder, self.words)
+        self.calls.inputs = inputs_of(items)
+        items = [item for item in items if item.name not in busy]
         return [item for item in items if self.is_settled(item, now) and self.is_new(item)]
 
     def is_settled(self, item: Item, now: float) -> bool:
@@ -95,12 +99,20 @@ class Watch:
         return True
 
     def end(self, row: Row) -> None:
-        """Tells a verdict, and writes the page over all pairs."""
+        """Tells a verdict, and writes the page over all pairs. A pair whose files another call was
+        writing is judged again at the next look, which is told once."""
+        if row.name in self.calls.in_use:
+            self.tried.pop(row.name, None)
+            if self.rows.get(row.name) == row:
+                return
         self.rows[row.name] = row
         line = collecting.first_fault(row)
         when = time.strftime("%Y-%m-%d %H:%M:%S")
-        print(f"{when}  {row.name}  {row.verdict}{': ' if line else ''}{line}", flush=True)
-        collecting.write_index(self.out, [self.rows[name] for name in sorted(self.rows)])
+        say(f"{when}  {row.name}  {row.verdict}{': ' if line else ''}{line}")
+        try:
+            collecting.write_index(self.out, [self.rows[name] for name in sorted(self.rows)])
+        except OSError as reason:
+            tell(line_of(reason))
 
 
 def refuse_folders(words: argparse.Namespace) -> None:
@@ -112,6 +124,7 @@ def refuse_folders(words: argparse.Namespace) -> None:
     os.makedirs(words.out, exist_ok=True)
     if os.path.samefile(words.watch, words.out):
         raise Stop(f"{words.out} is the folder that is watched: give another one with -o")
+    refuse_files_of_all(words.out, NOTHING)
 
 
 def watch(words: argparse.Namespace, called: str) -> int:

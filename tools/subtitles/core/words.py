@@ -40,13 +40,15 @@ def version() -> str:
 
 
 class Words(argparse.ArgumentParser):
-    """A parser whose help is the tool's own text, and to which wrong words are a `Stop`."""
+    """A parser whose help is the tool's own text, and to which wrong words are a `Stop`. Without a
+    text it reads a line of a list, which asks for no help."""
 
     def __init__(self, text: str | None) -> None:
         super().__init__(description=text, usage=argparse.SUPPRESS, allow_abbrev=False,
-                         formatter_class=argparse.RawDescriptionHelpFormatter)
-        self.add_argument("--version", action="version", version=f"{self.prog} {version()}",
-                          help="show the version and exit")
+                         formatter_class=argparse.RawDescriptionHelpFormatter, add_help=bool(text))
+        if text:
+            self.add_argument("--version", action="version", version=f"{self.prog} {version()}",
+                              help="show the version and exit")
 
     def format_help(self) -> str:
         """The help; where the tools are installed, it calls them by the names that they have."""
@@ -225,6 +227,11 @@ def quoted(word: str) -> str:
     if not HIDDEN.search(word):
         return shlex.quote(word)
     return "$'" + shown(word.replace("\\", "\\\\").replace("'", "\\'")) + "'"
+
+
+def say(line: str) -> None:
+    """A line on standard output, at once."""
+    print(shown(line), flush=True)
 
 
 def tell(line: str) -> None:

@@ -4,11 +4,11 @@ from __future__ import annotations
 import copy
 import functools
 import os
-import shutil
 import stat
 import subprocess
-from typing import BinaryIO
+from typing import Iterator
 
+from ..core.files import first_bytes, pieces_of
 from ..core.pes import START
 from ..core.times import ticks_between
 from ..core.words import PACKET_SIZES, Stop, counted, shown, stream_words
@@ -34,8 +34,7 @@ STANDARD_INPUT = "-"
 
 def is_recording(path: str) -> bool:
     """Whether a file that should be a subtitle file begins as a recording does."""
-    with open(path, "rb") as file:
-        head = file.read(209)
+    head = first_bytes(path, 209)
     return head.startswith(START) or any(
         head[at:at + size + 1:size] == b"GG" for at in (0, 4) for size in PACKET_SIZES)
 
@@ -90,7 +89,7 @@ class Recording:
         self.size = size_of(self.name)
         self.is_feed = self.size is None
         self.is_piped = self.is_feed or self.name == STANDARD_INPUT
-        self.path = names.whole_path if self.is_piped else names.as_program(self.name)
+        self.path = names.whole_path if self.is_piped else names.as_program(self.name, "given")
         self.is_cut = False  # of a feed, by who calls this tool: it is read to its end
         self.survey, self.packets = Survey(), Packets(PES)
         self.stages: list[Stage] = []
@@ -210,24 +209,25 @@ class Recording:
             return self.name
         return self.names.typed(KEPT_STREAM if self.is_stream else KEPT)
 
-    def keep(self) -> None:
-        """Keeps what came through a pipe; else the PES packets, as `extract` gives them, those of
-        several PIDs one PID after another."""
-        if self.is_piped:
-            shutil.copyfile(self.path, self.names.place(KEPT_STREAM if self.is_stream else KEPT))
-        elif self.is_stream:
-            with open(self.names.place(KEPT), "wb") as kept:
-                for pid in dict.fromkeys(one.pid for one in self.stages) or [self.packets.pid]:
-                    self.extract(pid, kept)
+    @property
+    def kept_ending(self) -> str | None:
+        """How a file ends in which it is kept: all that came through a pipe, or the PES packets of
+        a transport stream; `None` of a file of PES packets, which is there."""
+        if self.is_piped and self.is_stream:
+            return KEPT_STREAM
+        return KEPT if self.is_piped or self.is_stream else None
 
-    def extract(self, pid: int, kept: BinaryIO) -> None:
-        """Writes the PES packets of a PID."""
-        own = self.names.temporary(f"{pid}.pes")
-        subprocess.run([self.typed.program_path, "extract",
-                        *stream_words(pid, self.survey.size or 0), "--", self.path, own],
-                       stdin=subprocess.DEVNULL, stdout=subprocess.DEVNULL, check=True)
-        with open(own, "rb") as file:
-            shutil.copyfileobj(file, kept)
+    def kept(self) -> Iterator[bytes]:
+        """What is kept of it; the PES packets of several PIDs one PID after another."""
+        if self.is_piped:
+            yield from pieces_of(self.path)
+            return
+        own = self.names.temporary("kept.pes")
+        for pid in dict.fromkeys(one.pid for one in self.stages) or [self.packets.pid]:
+            subprocess.run([self.typed.program_path, "extract",
+                            *stream_words(pid, self.survey.size or 0), "--", self.path, own],
+                           stdin=subprocess.DEVNULL, stdout=subprocess.DEVNULL, check=True)
+            yield from pieces_of(own)
 
     def places(self) -> list[Place]:
         """Where something is missing."""

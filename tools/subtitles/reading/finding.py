@@ -4,8 +4,7 @@ from __future__ import annotations
 import dataclasses
 from typing import Collection, Iterator, NamedTuple, Sequence
 
-from ..core.files import whole_bytes
-from ..core.stl import letters_on_page, readable, times_of
+from ..core.stl import letters_on_page, readable, stl_bytes, times_of
 from ..core.teletext import Page, page_name
 from ..core.times import (
     ALL_DAY, FRAMES_A_SECOND, FRAMES_OF_A_DAY, TICKS, Between, frame_in, pts_of, ticks_between,
@@ -83,7 +82,7 @@ def subtitles_of(path: str, option: str, between: Between,
                  left_out: Collection[int] = ()) -> list[Shown]:
     """The subtitles of a file that come in some frames, and go within the day."""
     found = []
-    for place, one in enumerate(readable(path, whole_bytes(path)), 1):
+    for place, one in enumerate(readable(path, stl_bytes(path)), 1):
         begin, end = times_of(one)
         is_one = begin is not None and between.has(begin) and place not in left_out
         if is_one and begin is not None and end is not None and begin < end:

@@ -9,8 +9,8 @@ import os
 import signal
 import time
 
-from ...core.files import temporary_folder, whole_bytes
-from ...core.stl import frames_of_all, readable
+from ...core.outputs import temporary_folder
+from ...core.stl import frames_of_all, readable, stl_bytes
 from ...core.times import FRAMES_OF_A_DAY, TICKS, time_of
 from ...core.words import Stop, counted, line_of, tell
 from ...qc.asked import AUTO_OF_FEED, Asked
@@ -259,7 +259,7 @@ class Channel(Results):
         """Of which of its subtitles all came."""
         path, between = running.asked.stl, running.asked.between
         return whole_in([(begin, end) for begin, end in frames_of_all(
-            readable(path, whole_bytes(path))) if between.has(begin)], came)
+            readable(path, stl_bytes(path))) if between.has(begin)], came)
 
     def end_running(self) -> None:
         """Takes the verdict of the programme that was judged."""
