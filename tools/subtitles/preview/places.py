@@ -9,11 +9,7 @@ from ..core.teletext import CODE_WORDS
 from ..core.times import FRAMES_OF_A_DAY, TICKS, frame_at, pts_of, ticks_between, time_of, wrapped
 from ..core.told import Told
 from ..reading.receiver import HIT, STORED
-<<<<<<< HEAD
-=======
-from .fits import frames_words
 from .packet_words import LAST_ROW, packet_lines, packet_number
->>>>>>> c4722657 (What a Teletext packet of a fault says is told without a call for each)
 from .program import Program
 from .seen import Seen
 
