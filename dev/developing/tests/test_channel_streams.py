@@ -131,12 +131,12 @@ class Streams(Case):
             BEFORE * FRAMES_A_SECOND + 55:][:16]}
         data = bytes_of([one for at, one in enumerate(sent) if at not in own])
         for more, line, word, pace in (
-                ((), "", "refused", 16), ((), "--pace none", "accepted", None),
+                ((), "", "refused", 2), ((), "--pace none", "accepted", None),
                 (("--pace", "none"), "--pace 9", "refused", 9), (("--pace", "17"), "", "accepted", 17)):
             status, lines, [known] = self.channel(data, *more, line=line)
             self.must(f"{more} {line}", (known["verdict"], status, known["parts"][0]["pace"]) == (
                 word, int(word == "refused"), pace) and known["asked"]["pace"] == (
-                    None if pace == 16 else str(pace or "none")), known)
+                    None if pace == 2 else str(pace or "none")), known)
             self.must(f"{more} {line}: told", (known["line"].startswith("refused 79 Silent frame "))
                       == (word == "refused"), lines)
 

@@ -33,7 +33,7 @@ class Row(NamedTuple):
 
     name: str
     one: One
-    count: int
+    times: int
     taken: str
     left: str = ""
     more: int = 0
@@ -141,11 +141,11 @@ class Taken(Case):
     def test_one_of_a_hundred(self) -> None:
         """The whole table."""
         for row in ROWS:
-            several = [row.one] * row.count + plain(100 - row.count)
+            several = [row.one] * row.times + plain(100 - row.times)
             closest, choice = choices_of(sent_of(several), ENGLISH)
             left = [(one.text, one.more) for one in choice.left]
             self.must(row.name, text_of(choice.layout) == row.taken and choice.found == 100
-                      and choice.drawn == 100 - (row.count if row.left else 0)
+                      and choice.drawn == 100 - (row.times if row.left else 0)
                       and left == ([(row.left, row.more)] if row.left else [])
                       and closest.drawn == 100, (closest, choice))
 

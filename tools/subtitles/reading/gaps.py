@@ -17,8 +17,9 @@ PAUSE = 10  # times as few packets as that time has usually are still a pause of
 class Place:
     """A place at which something is missing, between the PTS of two PES packets: `lost` TS packets
     by their counters, some that are `scrambled`, and those of `missing` ticks by the PCR. A counter
-    goes up to 15: of more packets it tells what is left of them behind 16, 32 and so on. `mark` is
-    the number of the mark that stands there, where one does."""
+    goes up to 15: of more packets it tells what is left of them behind 16, 32 and so on; where a
+    jump of it is announced it tells nothing. `mark` is the number of the mark that stands there,
+    where one does."""
 
     before: int | None
     after: int | None = None
@@ -26,6 +27,7 @@ class Place:
     scrambled: int = 0
     missing: int = 0
     mark: int | None = None
+    is_announced: bool = False
 
 
 class ClockJump(NamedTuple):
@@ -36,7 +38,8 @@ class ClockJump(NamedTuple):
 
 
 def places_of(packets: Packets) -> list[Place]:
-    """Where a mark stands, and where the PCR and the counters of other PIDs alone tell it."""
+    """Where a mark stands, where the PCR and the counters of other PIDs alone tell it, and where a
+    jump is announced that hides it."""
     after = {run.first: run.pts for run in packets.runs}
     following: dict[int, int | None] = {}
     pts = None
@@ -50,7 +53,9 @@ def places_of(packets: Packets) -> list[Place]:
         for one in known:
             if overlap(hole, one) and is_within(hole.missing, one):
                 one.missing = max(one.missing, hole.missing)
-    return known + [hole for hole in holes if not any(overlap(hole, one) for one in known)]
+    known += [hole for hole in holes if not any(overlap(hole, one) for one in known)]
+    jumps = [Place(before, after, is_announced=True) for before, after in packets.jumps]
+    return known + [jump for jump in jumps if not any(overlap(jump, one) for one in known)]
 
 
 def hole_of(one: Clocked) -> Place | None:
@@ -92,6 +97,8 @@ def what_of(place: Place) -> str:
     said += [f"TS packets of {place.missing / SECOND:.2f} s are missing, by the PCR"
              f"{'; ' if place.lost else ' '}{by}"] if place.missing else []
     said += [f"{counted(place.scrambled, 'TS packet')} scrambled"] if place.scrambled else []
+    said += ["more time passes than usual, and a jump of the counter is announced"] \
+        if place.is_announced else []
     return ", ".join(said) or "a break in the stream"
 
 
