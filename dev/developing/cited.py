@@ -1,23 +1,29 @@
 """Names that the documents cite in backquotes, and whether the sources have them; and how much has
-to be read for some of them."""
+to be read for some of them, and the numbers of the proof."""
 from __future__ import annotations
 
+import glob
 import os
 import re
 from typing import Iterator
 
+from subtitles.core.built import read
 from .definitions import Library, counts
 from .promises import ROW as INDEX, index_of
+from .proved import parsed
 
 # The documents, and with what a line begins that is looked at.
-DOCUMENTS = {"docs/HEADLINE.md": "", "docs/ASSURANCE.md": "", "docs/WRONG-PROGRAMS.md": "",
-             "docs/DECISIONS.md": "", "docs/GLOSSARY.md": "", "docs/ARCHITECTURE.md": "|"}
+DOCUMENTS = {"docs/HEADLINE.md": "", "docs/ASSURANCE.md": "", "docs/CLAUSES.md": "",
+             "docs/WRONG-PROGRAMS.md": "", "docs/DECISIONS.md": "", "docs/GLOSSARY.md": "",
+             "docs/ARCHITECTURE.md": "|"}
 # A row of the table of what has to be read: what is read, how it is printed, and the counts.
 ROW = re.compile(r"^\| (.*) \| `tools/reading-list (\S+)` \| (\d+) \| (\d+) \| (\d+) \|$", re.M)
+NUMBERS = re.compile(r"^## The proof in numbers$.*?(?=^## )", re.M | re.S)
+NUMBER = re.compile(r"^\| (.*) \| ([\d,]+) \|$", re.M)  # a row there: what is counted, how many
 PARTS = ("src", "specs", "must-fail", "release-edits")  # of a crate, whose words are taken
 LEFT_OUT = ("out", ".git", "__pycache__")
 TOOLS = ("tools", "dev")
-MADE = ("out/", "dist/")  # by the gate and by tools/release
+MADE = ("out/", "dist/")  # by the gate and by dev/release
 BLOCK = re.compile(r"^```.*?^```$", re.M | re.S)
 QUOTED = re.compile(r"(?<!`)`([^`]+)`(?!`)")
 PATH = re.compile(r"[\w.-]+(?:/[\w.-]+)+/?|[\w-]+/")
@@ -103,3 +109,31 @@ def rows_of_counts(top: str) -> Iterator[tuple[str, str]]:
         found = counts(*library.reading(row[2]))
         yield row[0], "| {} | `tools/reading-list {}` | {} | {} | {} |".format(
             row[1], row[2], *found)
+
+
+def numbers_of(top: str) -> list[int]:
+    """What the rows of ASSURANCE on the proof in numbers count, in their order."""
+    def files(*names: str) -> list[str]:
+        return glob.glob(os.path.join(glob.escape(top), *names), recursive=True)
+
+    def told(word: str) -> list[int]:
+        return [int(one) for line in lines for one in re.findall(rf"\b{word}=(\d+)", line)]
+
+    lines = [line for _, line in parsed(read(os.path.join(top, "dist", "PROVED"))).crates.values()]
+    code = [COMMENT[".rt"].sub("", read(path) or "") for path in files("crates", "*", "src", "**",
+                                                                       "*.rt")]
+    return [sum("logic=proved" in line for line in lines), sum(told("functions")),
+            sum("foreign=" in line for line in lines), sum(told("axioms")),
+            sum(len(re.findall(r"\bunsafe\b", text)) for text in code),
+            len(files("crates", "*", "must-fail", "*.edit")),
+            len(files("crates", "*", "release-edits", "*.edit")),
+            len(files("dev", "wrong-tools", "*.edit"))]
+
+
+def rows_of_numbers(top: str) -> Iterator[tuple[str, str]]:
+    """The rows of that table, each with the row that it has to be."""
+    found = NUMBERS.search(read(os.path.join(top, "docs", "ASSURANCE.md")) or "")
+    rows, numbers = list(NUMBER.finditer(found[0] if found else "")), numbers_of(top)
+    assert len(rows) == len(numbers), f"{len(rows)} rows of numbers in docs/ASSURANCE.md"
+    for row, number in zip(rows, numbers):
+        yield row[0], f"| {row[1]} | {number:,} |"

@@ -1,5 +1,5 @@
-"""Python's own compiled form of the tools, made once for the calls of many tests: a tool writes
-none, so each of its calls would compile all of its modules anew."""
+"""Python's own compiled form of the tools, made once for the calls of many tests: a tool that is no
+checkout's writes none, so each of its calls would compile all of its modules anew."""
 from __future__ import annotations
 
 import contextlib

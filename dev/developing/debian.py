@@ -29,6 +29,11 @@ Copyright 2026 the authors of subttx
 
 This package states no licence. Ask whoever gave it to you what you may do with it.
 """
+# What the tools share is compiled by the Python that is there, and taken away with them.
+FOLDER = f"/usr/lib/{NAME}/tools/subtitles"
+SCRIPTS = {
+    "postinst": f"python3 -m compileall -q --invalidation-mode unchecked-hash {FOLDER}",
+    "prerm": f"find {FOLDER} -depth -name __pycache__ -exec rm -r {{}} +"}
 # Without its symbols the program would not have the SHA-256 that PROVED names.
 OVERRIDES = f"{NAME}: unstripped-binary-or-object [usr/bin/subttx]\n"
 
@@ -81,6 +86,10 @@ def add_control(root: str, version: str) -> None:
     lines = "".join(f"{name}: {value}\n" for name, value in fields.items())
     write(os.path.join(root, "DEBIAN", "control"), f"{lines}{DESCRIPTION}\n")
     write(os.path.join(root, "DEBIAN", "md5sums"), sums)
+    for name, line in SCRIPTS.items():
+        path = os.path.join(root, "DEBIAN", name)
+        write(path, f"#!/bin/sh\nset -e\n{line}\n")
+        os.chmod(path, 0o755)
 
 
 def settle(root: str, time: int) -> None:

@@ -1,11 +1,13 @@
-"""Man pages and completion, made of what says it first: of the program the usage text of ./subttx
-and the table of options in docs/manual/all-commands.md, of the tools what --help prints.
+"""Man pages, completion and schema, made of what says it first: of the program the usage text of
+./subttx and the table of options in docs/manual/all-commands.md, of the tools what --help prints;
+the schema of JSON results of their table.
 
 What is made stands between a line `made: NAME` and a line `end`, both of them comments; what stands
 outside is written by hand.
 """
 from __future__ import annotations
 
+import json
 import os
 import re
 import subprocess
@@ -13,12 +15,14 @@ import sys
 import textwrap
 from typing import NamedTuple
 
+from subtitles.calls.result import schema
 from subtitles.core.built import TOP, read
 from subtitles.core.words import INSTALLED, Stop
 from .prefix import COMPLETION, TOOLS
 
 TABLE = os.path.join("docs", "manual", "all-commands.md")
 PROGRAM_PAGE, QC_PAGE = os.path.join("docs", "subttx.1"), os.path.join("docs", "subttx-qc.1")
+SCHEMA = os.path.join("docs", "verdict.schema.json")
 MADE = re.compile(r'^((?:\.\\"|#) made: (\w+)\n)(.*?)^((?:\.\\"|#) end\n)', re.M | re.S)
 COMMAND = re.compile(r"^  ([a-z]+) ([A-Z]\S*(?: (?:[A-Z]\S*|--\w+))*) +(?=[a-z])", re.M)
 ROW = re.compile(r"^\| `(--[\w-]+)(?: (\S+))?` \| (`.*?`) \| (.*) \| (.*) \|$", re.M)
@@ -196,6 +200,32 @@ def completed(usage: str, table: str, helps: list[str]) -> dict[str, str]:
             "commands": f"    local commands='{names}'\n", "options": listed}
 
 
+def laid_out(value: object, indent: str = "") -> str:
+    """A value as JSON: in one line where that is not long, else an item or a member in each."""
+    line = json.dumps(value)
+    if not isinstance(value, (dict, list)) or len(indent) + len(line) < WIDTH - 20:
+        return line
+    inner = indent + " "
+    if isinstance(value, list):
+        items = [laid_out(one, inner) for one in value]
+        if all(isinstance(one, str) for one in value):
+            items = filled_rows(items, WIDTH - 20 - len(inner))
+        return f"[\n{inner}" + f",\n{inner}".join(items) + f"\n{indent}]"
+    members = [f"{json.dumps(name)}: {laid_out(one, inner)}" for name, one in value.items()]
+    return f"{{\n{inner}" + f",\n{inner}".join(members) + f"\n{indent}}}"
+
+
+def filled_rows(words: list[str], width: int) -> list[str]:
+    """Words with commas between them, in rows that are not long."""
+    rows = [words[0]]
+    for word in words[1:]:
+        if len(rows[-1]) + len(word) < width:
+            rows[-1] += f", {word}"
+        else:
+            rows.append(word)
+    return rows
+
+
 def with_parts(text: str, parts: dict[str, str]) -> str:
     """A text in which each part stands between its two lines."""
     missing = set(parts) - {found[2] for found in MADE.finditer(text)}
@@ -213,4 +243,5 @@ def made() -> dict[str, str]:
     helps = [help_of(tool) for tool in TOOLS]
     parts = {PROGRAM_PAGE: of_program(usage, table), QC_PAGE: of_qc(helps[TOOLS.index("qc")]),
              COMPLETION: completed(usage, table, helps)}
-    return {name: with_parts(text(name), of) for name, of in parts.items()}
+    return {**{name: with_parts(text(name), of) for name, of in parts.items()},
+            SCHEMA: laid_out(schema()) + "\n"}

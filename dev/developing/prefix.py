@@ -1,16 +1,19 @@
 """What is installed under a folder: the program, its man page and the tools beside it."""
 from __future__ import annotations
 
+import compileall
 import glob
 import hashlib
 import os
+import py_compile
 import re
 import shutil
+import sys
 
 from subtitles.core.built import TOP, read
 from subtitles.core.words import INSTALLED, Stop
 
-TOOLS = ["cut", "origin", "preview", "qc", "text", "ts2pes"]
+TOOLS = ["qc", "text", "ts2pes"]
 PAGES = ["subttx.1", "subttx-qc.1"]
 MANUAL = os.path.join("docs", "manual")
 READ = [os.path.join("docs", "MANUAL.md"), os.path.join("docs", "verdict.schema.json"), "VERSION"]
@@ -59,6 +62,14 @@ def copy_tools(prefix: str) -> None:
                     ignore=shutil.ignore_patterns("__pycache__"))
     copy_manual(home)
     link(os.path.join("..", "..", "bin", "subttx"), os.path.join(home, "subttx"))
+
+
+def compile_tools(prefix: str) -> None:
+    """Compiles what the tools share, so that no call does so again. Nobody looks at the times of
+    these files, since what stands under PREFIX may be moved, copied and restored."""
+    sys.pycache_prefix = None  # beside the tools, wherever those of this call are
+    compileall.compile_dir(os.path.join(prefix, HOME, "tools", "subtitles"), quiet=1,
+                           invalidation_mode=py_compile.PycInvalidationMode.UNCHECKED_HASH)
 
 
 def copy_manual(home: str) -> None:
@@ -114,10 +125,11 @@ def shared_folders(prefix: str) -> list[str]:
 
 
 def install_and_note(program: str, prefix: str) -> list[str]:
-    """The same, and what `remove` has to know: which folders were not there before."""
+    """The same, compiled, and what `remove` has to know: which folders were not there before."""
     made = [os.path.relpath(path, prefix) for path in shared_folders(prefix)
             if not os.path.isdir(path)]
     paths = install(program, prefix)
+    compile_tools(prefix)
     note = os.path.join(prefix, HOME, FOLDERS)
     known = (read(note) or "").splitlines()
     write(note, "".join(f"{name}\n" for name in dict.fromkeys([*known, *made])))

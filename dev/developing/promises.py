@@ -1,4 +1,4 @@
-"""The index of clauses in docs/ASSURANCE.md: each promise, and the clauses of contracts that state
+"""The index of clauses in docs/CLAUSES.md: each promise, and the clauses of contracts that state
 it."""
 from __future__ import annotations
 

@@ -2,10 +2,11 @@
 files.
 
 `dev/vectors/calls.tsv` has what was said of each when somebody last looked at it: the words, the
-last line, and sums of all lines, of the JSON result, and of the other files. A change that is meant
-changes them; from dev/, `python3 -m developing.tests.at_random ../subttx 0 240` prints the table,
-and `.. NUMBER` all that a call says, to compare. A line `# NUMBER: ..` before a row says why it
-says something else than it once did; it stays where it is.
+last line, and sums of all lines, of the JSON result, which has to be as the schema has it, and of
+the other files. A change that is meant changes them; from dev/,
+`python3 -m developing.tests.at_random ../subttx 0 240` prints the table, and `.. NUMBER` all that a
+call says, to compare. A line `# NUMBER: ..` before a row says why it says something else than it
+once did; it stays where it is.
 """
 from __future__ import annotations
 
@@ -25,8 +26,11 @@ from typing import Any, Iterator, NamedTuple, Sequence
 from subtitles.calls.main import main
 from subtitles.core.built import TOP
 from subtitles.core.words import run
-from subtitles.qc import steps
+from subtitles.preview import report
+from subtitles.qc import beside, checks, faults
 from subtitles.qc.ending import Ending
+from .parts import MEANINGS
+from .results import wrong_by_schema
 from .scenario import Scenario
 
 VECTORS = os.path.join(TOP, "dev", "vectors", "calls.tsv")
@@ -143,7 +147,9 @@ def in_folder() -> Iterator[None]:
 
 def called(words: list[str], program: str, more: Sequence[str] = ("-p", "PROGRAM")) -> Said:
     """All that a call of qc says."""
-    setattr(steps, "subprocess", Here)
+    setattr(checks, "subprocess", Here)
+    for module in (beside, faults, report):  # the manual's words may change
+        setattr(module, "meanings", lambda: MEANINGS)
     # Not by the time.
     setattr(Ending, "is_due", lambda self, packets: packets.count > 2 * self.count + 4)
     status, out, told = in_process(lambda line: main("", "tools/qc", line),
@@ -153,6 +159,8 @@ def called(words: list[str], program: str, more: Sequence[str] = ("-p", "PROGRAM
     for name in filter(os.path.exists, FILES):
         with open(name, encoding="utf-8") as file:
             files[name] = file.read()
+        wrong = wrong_by_schema(json.loads(files[name])) if name.endswith(".json") else []
+        assert not wrong, (words, name, wrong)
     return Said(words, status, [plain(line, program) for line in (out + told).splitlines()],
                 {name: plain(text, program) for name, text in files.items()},
                 files.get("one.json", ""))

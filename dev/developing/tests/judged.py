@@ -21,8 +21,8 @@ from subtitles.calls.single import Files, draw, end_pair, judge_pair, now
 from subtitles.core.stl import NEW_LINE
 from subtitles.core.times import CLOCK, TICKS
 from subtitles.qc.asked import asked_of
-from subtitles.qc.made_with import Program
-from subtitles.qc.names import Names, of_pid
+from subtitles.qc.made_with import MadeWith
+from subtitles.qc.names import Names
 from subtitles.qc.pair import Pair
 from subtitles.qc.progress import Progress
 from subtitles.qc.severity import Severity
@@ -52,13 +52,14 @@ class Heard(Speech):
 
 
 class Judged(NamedTuple):
-    """A pair that was judged: its verdict, all that was said, its JSON result, and the lists of its
-    parts."""
+    """A pair that was judged: its verdict, all that was said, its JSON result, the lists of its
+    parts, and the files that commands may name."""
 
     verdict: Verdict
     said: list[str]
     result: dict[str, Any]
     listed: list[str]
+    files: set[str | None]
 
     @property
     def word(self) -> str:
@@ -79,8 +80,17 @@ class Judged(NamedTuple):
 
 
 def judged(case: Case, *words: str, by: str | None = None, heard: Heard | None = None) -> Judged:
-    """A pair judged by the words of a command line, and by the program or another one."""
-    program, heard = by or case.bench.program, heard or Heard()
+    """A pair judged by the words of a command line, and by the program or another one. The commands
+    that are printed name its files alone."""
+    found = judged_by(by or case.bench.program, *words, heard=heard)
+    for line in found.verdict.commands:
+        case.must(line, set(shown_files(line)) <= found.files, found.files)
+    return found
+
+
+def judged_by(program: str, *words: str, heard: Heard | None = None) -> Judged:
+    """A pair judged by the words of a command line, by a program."""
+    heard = heard or Heard()
     known = parser_of("").parse_args(["-p", program, *words])
     asked, typed = asked_of(known), Typed("tools/qc", program)
     verdict = Verdict(asked, Severity(asked.severity, asked.is_loss_allowed), now())
@@ -88,24 +98,19 @@ def judged(case: Case, *words: str, by: str | None = None, heard: Heard | None =
         names = Names("one", folder, known.out)
         names.give(asked.stl)
         files = Files(known, verdict, typed, names)
-        files.prepare()
         verdict.found = found(asked)
         pair = Pair(verdict, typed, names, heard, True)
         if known.out:
             pair.draw = functools.partial(draw, pair)
         judge_pair(pair, files)
         end_pair(verdict, heard, files)
-        result = json.loads("".join(object_of(verdict, Program("1", "0" * 64, None))))
+        result = json.loads("".join(object_of(verdict, MadeWith("1", "0" * 64, None))))
         listed = [line for part in verdict.parts for line in part.answer.lines()]
-        files.leave(pair)
         # Of a feed the PES packets that were kept stand for the recording.
         known_files = {asked.stl, asked.recording, os.devnull}
-        if pair.recording and not pair.recording.is_file:
-            known_files = {asked.stl, os.devnull, names.whole, *(
-                names.typed(of_pid(pid)) for pid in pair.recording.pids())}
-        for line in verdict.commands:
-            case.must(line, set(shown_files(line)) <= known_files, known_files)
-    return Judged(verdict, heard.lines, result, listed)
+        if pair.recording:
+            known_files.add(pair.recording.shown)
+    return Judged(verdict, heard.lines, result, listed, known_files)
 
 
 def shown_files(line: str) -> list[str]:

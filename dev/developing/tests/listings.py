@@ -13,6 +13,7 @@ from subtitles.core.teletext import Page
 from subtitles.core.times import CLOCK, FRAMES_A_SECOND, TICKS
 from subtitles.qc.typed import Typed
 from .bench import Case
+from .results import result
 from .test_channel_tables import EACH, FIRST, LASTS, defaults, programme
 
 SECOND = TICKS * FRAMES_A_SECOND
@@ -65,8 +66,7 @@ class Judging:
     made: list[Judging] = []
     is_quick = True  # it is over at once
     ended = 0  # its status
-    left: dict[str, Any] = {"format": 3, "verdict": "accepted", "status": 0, "asked": {},
-                            "line": "accepted 5 frames", "faults": [], "hints": []}
+    left = result("accepted", line="accepted 5 frames")
 
     def __init__(self, command: list[str], paths: list[str], folder: str) -> None:
         self.command, self.paths, self.is_done = command, paths, self.is_quick
@@ -85,7 +85,8 @@ class Judging:
         path = words[words.index("--json") + 1] if "--json" in words else \
             os.path.join(words[words.index("-o") + 1], f"{self.name}.json")
         stl = words[-2]
-        known = {**self.left, "asked": {"stl": stl}, "found": {"stl": found_at(stl)}}
+        known = {**self.left, "asked": {**self.left["asked"], "stl": stl},
+                 "found": {**self.left["found"], "stl": found_at(stl)}}
         with open(path, "w", encoding="ascii") as file:
             json.dump(known, file)
         return self.ended, ["qc: first", "qc: told: last"]

@@ -6,18 +6,22 @@ import os
 from typing import Sequence
 
 from developing.pes import packet
+from subtitles.core.manual import Meaning
+from subtitles.core.teletext import Page
 from subtitles.core.told import Told, told_of
 from subtitles.core.words import Words
 from subtitles.qc.asked import Asked, add_pair_options, asked_with
 from subtitles.qc.checking import Answer
-from subtitles.qc.clock import GIVEN, Clock
-from subtitles.qc.verdict import Part
+from subtitles.qc.clock import GIVEN, Clock, Found
+from subtitles.qc.names import Names
+from subtitles.qc.part import Part
 from subtitles.reading.packets import Packets
 from subtitles.reading.survey import survey
 from subtitles.reading.timeline import Timeline
 from .bench import Case
 
 PAGE = (0, 0x88)
+MEANINGS = {number: Meaning("", f"it means `{number}`", f"do {number}") for number in range(93)}
 HEADER = packet(0, 0, [8, 8, 0, 8, 0, 8, 1, 0], b" " * 32)  # of page 888, which it erases
 CLOSING = packet(0, 0, [15, 15, 15, 7, 15, 3, 0, 0], b" " * 32)
 
@@ -46,11 +50,15 @@ def answer(lines: Sequence[str] = ("accepted 10 frames 2 transmissions",),
 
 
 def part_with(begin: int | None, end: int | None, origin: int | None,
-              said: Answer | None = None, number: int = 1) -> Part:
+              said: Answer | None = None, number: int = 1, source: str = GIVEN) -> Part:
     """A part of some frames."""
-    clock = None if origin is None else Clock(origin, GIVEN)
-    return Part(number, "a.stl", "a.stl", None, origin, begin, end, None, said or answer(), clock,
-                was_read=True)
+    found = None if begin is None or end is None or origin is None else \
+        Found(begin, end, Clock(origin, source))
+    names = Names("a", "", None)
+    names.given = "a.stl"
+    part = Part(number, asked_for("a.stl", "a.pes"), names, found, was_read=True)
+    part.answer = said or answer()
+    return part
 
 
 def asked_for(stl: str, recording: str | None, *words: str) -> Asked:
@@ -61,9 +69,9 @@ def asked_for(stl: str, recording: str | None, *words: str) -> Asked:
     return asked_with(stl, recording, options)
 
 
-def packets_told(case: Case, data: bytes, name: str = "held.pes") -> Packets:
+def packets_told(case: Case, data: bytes, page: Page = PAGE) -> Packets:
     """What `survey` tells of a file of PES packets."""
-    return survey(case.bench.program, case.write(name, data), PAGE).by_pid.get(0, Packets(0))
+    return survey(case.bench.program, case.write("held.pes", data), page).by_pid.get(0, Packets(0))
 
 
 def timeline_of(case: Case, data: bytes, origin: int = 0, within: int = 0) -> Timeline:

@@ -275,12 +275,8 @@ class Scenario:
 
     def tools(self, recording: str) -> list[list[str]]:
         """The words of other tools on the same files."""
-        stream = ["--pid", "0x101"] if recording == "one.ts" else []
-        within = self.chance.choice(("0", "0", "2"))
-        more = ["-p", self.program, *stream, "--within", within, "--every", str(self.every)]
-        return [["origin", "one.stl", recording, *more[:-2], *self.words],
-                ["cut", recording, "--stl", "one.stl", "--origin", str(self.origin), *more],
-                ["text", "sent.stl"], *[["ts2pes", recording, "-p", self.program]] * bool(stream)]
+        return [["text", "sent.stl"],
+                *[["ts2pes", recording, "-p", self.program]] * (recording == "one.ts")]
 
 
 def send(path: str, data: bytes) -> None:

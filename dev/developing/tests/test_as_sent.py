@@ -31,6 +31,8 @@ HOUSES = [
     (False, b"\x8a", "text,after=0A", "after=0A,text"), (False, b"\x8a", "fit", None),
     (False, b"\x8a", "before=*0B0B,last", "before=*0B0B,last"), (False, b"\x8a", "free=2", None),
     (True, b"\x8a\x8a", "strip=0A0B0D,before=0D070B0B", "before=0D070B0B,strip=0A0B0D")]
+# What shows an item, where texts at random may not.
+SHOWS = {"fit": (b"abcdefghijklmnopqrstuvwxyzabcdefghijk", 2), "free=2": (b"Hi there", 0)}
 FAULTS = [
     ("left=40", "left=40 is no item: left takes 0 to 39"), ("fit,fit", "fit is there twice"),
     ("fit=1", "fit=1 is no item: fit takes no value"), ("pitch=1", "pitch=1 is no item"),
@@ -63,6 +65,17 @@ def texts_of(some: random.Random, has_codes: bool, between: bytes, count: int
              some.choice([2, 2, 2, 1, 3, 0])) for _ in range(count)]
 
 
+def has_layout(found: Judged, text: str, drawn: int, of: int) -> bool:
+    """Whether the JSON result has a layout that draws so many of so many, each item with as many
+    subtitles on which it rests as it needs."""
+    layout = found.result["layout"]
+    items = layout["items"]
+    return (layout["text"], layout["drawn"], layout["found"], layout["left"]) == (
+        text, drawn, of, []) and bool(items) == bool(text) and all(
+        one["decides"] >= 10 <= one["drawn"] and one["text"].partition("=")[0] in text
+        for one in items)
+
+
 class Houses(Case):
     """Pairs of which the recording is drawn as a house does."""
 
@@ -81,16 +94,15 @@ class Houses(Case):
         some = random.Random(82)
         for has_codes, between, text, simplest in HOUSES:
             texts = texts_of(some, has_codes, between, 30)
-            if text == "fit":
-                texts[3:6] = [(b"abcdefghijklmnopqrstuvwxyzabcdefghijk", 2)] * 3
+            texts[3:13] = [SHOWS[text]] * 10 if text in SHOWS else texts[3:13]
             for within in ("0", "1"):
                 found = self.judge(texts, text, "--layout", "auto", "--within", within)
                 layout = simplest or text
                 command = found.verdict.commands[-1]
                 self.must(f"{text} {within}", found.word == "accepted"
-                          and f"layout: {layout}, 30 of 30 subtitles as they were sent"
-                          in found.said and f" --layout {quoted(layout)} " in command
-                          and found.result["layout"] == {"text": layout, "drawn": 30, "found": 30}
+                          and found.lines("layout: ")[0].startswith(
+                              f"{layout}, 30 of 30 subtitles as they were sent; ") and f" --layout {quoted(layout)} " in command
+                          and has_layout(found, layout, 30, 30)
                           and found.result["asked"]["layout"] == "auto", found.said)
 
     def test_a_wrong_letter_is_refused(self) -> None:
@@ -102,7 +114,7 @@ class Houses(Case):
         found = self.judge(texts, "text,after=0A", "--layout", "auto", sent=sent)
         fault = found.result["faults"][0]
         self.must("refused there", found.word == "refused"
-                  and found.result["layout"] == {"text": "after=0A,text", "drawn": 29, "found": 29}
+                  and has_layout(found, "after=0A,text", 29, 29)
                   and (fault["number"], fault["row"], fault["due"]["character"],
                        fault["held"]["character"]) == (72, 18, "e", "E")
                   and {one["frame"] for one in found.result["faults"]} == {FIRST + 60 * 7},
@@ -242,12 +254,7 @@ class Open(Case):
             pes = self.schedule(stl, "open.pes", "--open", "--every", "20", "--layout", "after=0A")
             found = judged(self, stl, pes, "--open", "--layout", "auto", "-o", self.path("out"))
             self.must(f"{kind}: a pair", found.word == "accepted" and found.result["asked"]["open"]
-                      and b"Number" in self.read("out/one.html"), found.said)
+                      and b"12 subtitles" in self.read("out/one.html"), found.said)
             late = judged(self, stl, pes, "--open")
             self.must(f"{kind}: causes", late.word == "refused"
                       and len(late.result["causes"]) == 12, late.said)
-            drawn = self.tool("preview", stl, pes, "--open", "--layout", "after=0A", "-p",
-                              self.bench.program, "-o", self.path("preview.html"))
-            self.must(f"{kind}: preview", drawn.status == 0 and b"accepted" in drawn.out, drawn)
-            wrong = self.tool("preview", stl, pes, "--layout", "auto")
-            self.must("no layout", wrong.status == 2 and "'auto' is no layout" in wrong.told[0])

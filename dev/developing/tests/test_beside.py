@@ -165,16 +165,13 @@ class Beside(Case):
                       "each of them is as it is due" in found.verdict.sentence, found.said)
 
     def test_reports(self) -> None:
-        """The report draws the refused subtitles as undecided, beside the pictures of the others;
-        of tools/preview too. Each link leads somewhere, and each place has a name of its own."""
+        """The report draws the refused subtitles as undecided, and pictures of those of the others
+        that are not as due. Each link leads somewhere, and each place has a name of its own."""
         slow = self.write("slow.pes", joined(late(5, 3600 * 600, 3600 * 650)(self.sent)))
         for number, (bad, pes) in enumerate((((3,), self.pes), ((3, 4, 9), slow))):
             out, stl = self.path(f"out{number}"), self.file(*bad)
             self.judge(stl, pes, "-o", out)
-            done = self.tool("preview", stl, pes, "--every", "100", "--complete", "-o",
-                             self.path("alone.html"), "-p", self.bench.program)
-            self.must(f"{bad}: alone", done.status == 1, done)
-            for name in (f"{out}/one.html", "alone.html"):
+            for name in (f"{out}/one.html",):
                 page = self.read(name).decode()
                 tree.fromstring(page.partition("\n")[2])
                 names = re.findall(r' id="([^"]+)"', page)
@@ -187,8 +184,7 @@ class Beside(Case):
                     (3, 4, 9): ["00:00:10:10 to 00:00:19:24", "00:00:34:10 to 00:00:39:24"]}[bad],
                     spans)
                 drawn = set(re.findall(r'id="s(\d+)"', page))
-                self.must(f"{bad} {name}: drawn", drawn == {
-                    str(at) for at in range(1, 11) if at not in bad}, drawn)
+                self.must(f"{bad} {name}: drawn", drawn == ({"6"} if len(bad) > 1 else set()), drawn)
                 self.must(f"{bad} {name}: said", "other subtitles were judged: " in page and
                           "It is drawn as undecided" in page and "Refused subtitles" in page)
 

@@ -6,10 +6,12 @@ from unittest import mock
 
 from subtitles.calls.channel import channel as channels
 from subtitles.calls.channel.channel import BEFORE_IT
+from subtitles.calls.members import ASKED
 from subtitles.calls.objects import found, unjudged
 from subtitles.qc.clock import FITTED_SHORT
 from .listings import BEGIN, SECOND, Judging, Lines, Programmes, Told, texts_of
 from .parts import asked_for
+from .results import result
 
 
 @mock.patch.object(channels, "Call", Judging)
@@ -61,8 +63,7 @@ class Edits(Programmes):
             # The last line has no end.
             for name in names[:kept]:
                 asked = asked_for(self.files[name], None)
-                known = {"format": 3, "verdict": "refused", "status": 1, "line": "refused 72 X",
-                         "asked": {"stl": self.files[name]}, "found": found(asked)}
+                known = result(asked=ASKED.made(asked), found=found(asked))
                 self.write(f"out/{name}.json", json.dumps(known).encode())
             channel = Told(self, self.listed(*names).rstrip(), self.path("out"), is_resumed=True)
             self.must(f"{kept}", channel.verdicts == ["refused"] * kept and channel.said ==

@@ -16,7 +16,7 @@ from subtitles.core.words import Stop
 from subtitles.qc.unclear import Unclear
 from subtitles.reading.moving import way_of
 from subtitles.reading.packets import Run
-from subtitles.reading.survey import Announced, Programme
+from subtitles.reading.survey import Announced, ProgramMap
 from .bench import Case
 from .listings import SECOND, Lines
 from .parts import CLOSING, HEADER, PAGE, row
@@ -79,8 +79,8 @@ class Pids(Case):
 
     def test_moves_of_tables(self) -> None:
         """The last PMT of the programme that named the PID."""
-        def table(number: int, **pids: str) -> Programme:
-            found = Programme(number, PCR)
+        def table(number: int, **pids: str) -> ProgramMap:
+            found = ProgramMap(number, PCR)
             for pid, page in pids.items():
                 found.kinds[int(pid[1:])] = 6
                 if page:
@@ -88,7 +88,7 @@ class Pids(Case):
             return found
 
         first, second = table(1, p1="88", p9=""), table(1, p2="88")
-        rows: list[tuple[str, list[Programme], list[int]]] = [
+        rows: list[tuple[str, list[ProgramMap], list[int]]] = [
             ("moved", [first, second], [1, 2]),
             ("both", [first, table(1, p1="88", p2="88")], [1]),
             ("still there", [first, table(1, p1="", p2="88")], [1]),
@@ -126,7 +126,7 @@ class Pages(Case):
                 call.hand(b"")
                 while not call.has_ended:
                     collections.deque(call.lines.take(), 0)
-                call.refuse("-")
+                hearing.refuse("-")
             for page, letters in ((PAGE, b"%d"), ((0, 0x87), b"x%d")):
                 changes = hearing.by_page[page].changes[False]
                 self.must(f"{page}", changes.count == 2995 and changes.letters ==
@@ -155,7 +155,7 @@ class Pages(Case):
                 call.hand(b"")
                 while not call.has_ended:
                     collections.deque(call.lines.take(), 0)
-                call.refuse("-")
+                hearing.refuse("-")
                 said = ""
             except (Stop, Unclear) as reason:
                 said = str(reason) or getattr(reason, "reason", "")

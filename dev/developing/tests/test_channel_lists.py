@@ -7,7 +7,8 @@ from typing import Sequence
 from unittest import mock
 
 from subtitles.calls.channel.partial import ENDED, reason_of
-from subtitles.calls.channel.planned import MISSING, Line, Planned, Programme, edits_of, lines_in
+from subtitles.calls.channel.planned import MISSING, Planned, Programme, edits_of
+from subtitles.core.lists import Line, lines_in
 from subtitles.core.times import Between
 from subtitles.qc.status import ACCEPTED, NOT_JUDGED, REFUSED, WAIVED
 from subtitles.calls.channel.whole import Came, Whole, whole_in
@@ -89,9 +90,9 @@ class Lists(Case):
         planned, text = self.planned(""), ""
         rows: list[tuple[str, list[str]]] = [
             ("one.stl\n# none\n\ntwo.stl --every 50", ["one"]), ("", ["two"]), ("", []),
-            ("\none.stl\n", ["one-2"]), ("one.stl\nx/one.stl", ["one-3"]), ("", ["one-4"]),
-            ("\n--pid 5 two.stl\ntwo.stl --breaks 1\n\"\n", ["line-8", "line-9", "line-10"]),
-            ("two.stl\n", ["two-2"]), ("one-2.stl\nline-9.stl\n", ["one-2-2", "line-9-2"])]
+            ("\none.stl\n", ["one~2"]), ("one.stl\nx/one.stl", ["one~3"]), ("", ["one~4"]),
+            ("\n--pid 5 two.stl\ntwo.stl --breaks 1\n\"\n", ["line 8", "line 9", "line 10"]),
+            ("two.stl\n", ["two~2"]), ("one~2.stl\nline\\ 9.stl\n", ["one%7E2", "line%209"])]
         for more, names in rows:
             before, text = [one.name for one in planned.programmes], text + more
             found = self.look(planned, text)
@@ -99,9 +100,9 @@ class Lists(Case):
         known = {one.name: one for one in planned.programmes}
         two = known["two"].asked
         self.must("what is asked", two and (two.stl, two.every) == ("two.stl", 50))
-        self.must("why not", "list, line 8: --pid goes with" in (known["line-8"].reason or "") and
-                  "list, line 10: No closing quotation" in (known["line-10"].reason or ""),
-                  known["line-10"].reason)
+        self.must("why not", "list, line 8: --pid goes with" in (known["line 8"].reason or "") and
+                  "list, line 10: a quote does not end" in (known["line 10"].reason or ""),
+                  known["line 10"].reason)
 
     def test_list_that_is_being_written(self) -> None:
         """Less than before, or something else, counts once it stood there at two looks; what is
@@ -126,14 +127,14 @@ class Lists(Case):
         planned = self.planned("a\nb --breaks 1\nc\n")
         self.look(planned)
         a, b, c = planned.programmes
-        self.must("wrong", b.asked is None and b.name == "line-2")
+        self.must("wrong", b.asked is None and b.name == "line 2")
         c.has_ended = True
         self.look(planned, "c --every 7\nb\na --every 9\n", 2)
         self.must("rows", planned.programmes == [c, b, a] and planned.open() == [b, a])
         self.must("asked", a.asked and a.asked.every == 9 and b.asked and b.reason is None)
         self.must("as it was", c.asked and c.asked.every == 250)
         self.must("said", planned.said == [
-            f"{self.path('list')}: changed: c, line-2, a; in another order"], planned.said)
+            f"{self.path('list')}: changed: c, line 2, a; in another order"], planned.said)
 
     def test_list_that_is_missing(self) -> None:
         """It is waited for a minute, and then that is said, once; it may come back."""

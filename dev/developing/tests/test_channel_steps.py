@@ -16,6 +16,7 @@ from subtitles.calls.objects import unjudged
 from subtitles.core.times import CLOCK, TICKS
 from subtitles.qc.clock import FITTED_SHORT
 from .listings import BEGIN, LAST, SECOND, Judging, Lines, Programmes, Told, texts_of
+from .results import result
 from .test_channel_tables import FIRST
 
 
@@ -127,15 +128,13 @@ class Steps(Programmes):
     def test_what_a_call_left(self) -> None:
         """Its line, with what to know of its first fault; where it ended with another status, what
         it told last."""
-        refused: dict[str, Any] = {**Judging.left, "verdict": "refused", "status": 1,
-                                   "line": "refused 72 X"}
+        refused = result("refused", line="refused 72 X")
         for left, ended, said in (
                 (refused, 1, f"refused 72 X; {FITTED_SHORT}"),
                 ({**refused, "hints": ["72: why"]}, 1, f"refused 72 X; why; {FITTED_SHORT}"),
                 (refused, 0, "not judged: told: last"), (Judging.left, 1, "not judged: told: last"),
                 (Judging.left, -9, "not judged: it did not end by itself"),
-                ({**refused, "verdict": "not judged", "status": 2, "reason": "why\nmore"}, 2,
-                 "not judged: why")):
+                (result("not judged", reason="why\nmore"), 2, "not judged: why")):
             channel = Told(self, self.listed("one"), self.path("out"))
             with mock.patch.multiple(Judging, left=left, ended=ended):
                 channel.give(Lines().sent(texts_of("one"), BEGIN, 20))
@@ -218,8 +217,7 @@ class Steps(Programmes):
     def test_end_in_mid_programme(self) -> None:
         """It is not judged, and open; what came whole of it is, with --to: the feed ends, a signal
         comes, and the second subtitle is the last that was erased."""
-        refused: dict[str, Any] = {**Judging.left, "verdict": "refused", "status": 1,
-                                   "line": "refused 72 X"}
+        refused = result("refused", line="refused 72 X")
         for is_stopped, why in ((False, ENDED), (True, STOPPED)):
             for left, ended, what in ((Judging.left, 0, "as it is due"),
                                       (refused, 1, "refused 72 X")):

@@ -131,12 +131,12 @@ class Streams(Case):
             BEFORE * FRAMES_A_SECOND + 55:][:16]}
         data = bytes_of([one for at, one in enumerate(sent) if at not in own])
         for more, line, word, pace in (
-                ((), "", "refused", 16), ((), "--pace none", "accepted", None),
+                ((), "", "refused", 2), ((), "--pace none", "accepted", None),
                 (("--pace", "none"), "--pace 9", "refused", 9), (("--pace", "17"), "", "accepted", 17)):
             status, lines, [known] = self.channel(data, *more, line=line)
             self.must(f"{more} {line}", (known["verdict"], status, known["parts"][0]["pace"]) == (
                 word, int(word == "refused"), pace) and known["asked"]["pace"] == (
-                    None if pace == 16 else str(pace or "none")), known)
+                    None if pace == 2 else str(pace or "none")), known)
             self.must(f"{more} {line}: told", (known["line"].startswith("refused 79 Silent frame "))
                       == (word == "refused"), lines)
 
@@ -184,12 +184,8 @@ class Streams(Case):
                               self.bench.program, data=data)
             self.must(f"{name}: through a pipe", piped.status == status and
                       piped.out.splitlines()[-1].decode() == pair["line"], piped)
-            kept, came = (packets(self.read(f"piped/one.{pid:x}.recording.pes"))
-                          for pid in (TELETEXT_PID, OTHER_PID))
-            at = len(kept)
-            self.must(f"{name}: kept of the pipe", at == BEFORE * FRAMES_A_SECOND + frame and
-                      kept + came == feed.pes[:at] + feed.pes[at + gap:at + gap + len(came)],
-                      (at, len(came), len(feed.pes)))
+            kept = self.read("piped/one.recording.ts")
+            self.must(f"{name}: kept of the pipe", data.startswith(kept), len(kept))
             status, lines, [known] = self.channel(data)
             hint = "; page 888 moves to PID 0x102 then" * (word == "refused")
             self.must(f"{name}: a feed", known["verdict"] == word and lines == [

@@ -1,5 +1,5 @@
 """./subttx in a clone in which nothing is built: which program it runs, and why not another; and
-how tools/release brings a program there, with lines of the prover that a log tells."""
+how dev/release brings a program there, with lines of the prover that a log tells."""
 from __future__ import annotations
 
 import os
@@ -96,7 +96,7 @@ class Clone:
         return self.call([script or self.path("subttx"), *words], path_without_rt(), user)
 
     def release(self, *words: str) -> Done:
-        return self.call([self.path("tools", "release"), *words], self.give_toolchain())
+        return self.call([self.path("dev", "release"), *words], self.give_toolchain())
 
     def runs(self, name: str, done: Done | None = None) -> None:
         """The program is run, and nothing else is told."""

@@ -12,7 +12,8 @@ from subtitles.calls import collecting
 from subtitles.calls.objects import unjudged
 from subtitles.core.words import Stop
 from .bench import Case
-from .test_many_pairs import known, row
+from .results import FAULT, result
+from .test_many_pairs import row
 
 
 class Collected(Case):
@@ -40,9 +41,8 @@ class Collected(Case):
         vars(words).update(outputs)
         paths = [self.path(f"{one.name}.json") for one in self.ROWS]
         for one, path in zip(self.ROWS, paths):
-            have = known(one.verdict, line=one.line, name=one.name)
-            if one.name == "c":
-                have = unjudged("c", "why\nmore")
+            have = unjudged("c", "why\nmore") if one.name == "c" else \
+                result(one.verdict, line=one.line)
             self.write(os.path.basename(path), json.dumps(have).encode())
         out, told = io.StringIO(), io.StringIO()
         with contextlib.redirect_stdout(out), contextlib.redirect_stderr(told):
@@ -57,12 +57,12 @@ class Collected(Case):
             with mock.patch.object(collecting, "put"):
                 self.must(f"{name} to -", self.end(**{name: "-"}) == (2, "", table))
         status, out, told = self.end(csv=self.path("no/x"), junit=self.path("no/y"))
-        self.must("failed", status == 2 and out == table and len(told.splitlines()) == 2 and
+        self.must("failed", status == 2 and out == f"{table.rstrip()}; not all was written\n" and len(told.splitlines()) == 2 and
                   "no/x" in told.splitlines()[0] and "no/y" in told.splitlines()[1], told)
         self.end(json=self.path("all"), csv=self.path("lines"), junit=self.path("cases"))
         have = json.loads(self.read("all"))
         self.must("as it is written", self.read("all").startswith(
-            b'{\n "format": 3,\n "status": 2,\n "date": "'))
+            b'{\n "format": 4,\n "status": 2,\n "date": "'))
         self.must("objects", [one["verdict"] for one in have["pairs"]] ==
                   ["accepted", "refused", "not judged", "waived"] and have["status"] == 2, have)
         self.must("lines", len(self.read("lines").splitlines()) == 6)
@@ -97,25 +97,34 @@ class Collected(Case):
         self.assertRaises(Stop, collect)
         self.write("in/a.json", b"[]")
         self.write("in/x.json", b"[]")
-        self.write("in/one.json", json.dumps(known("accepted", line="accepted 5 frames")).encode())
+        self.write("in/one.json", json.dumps(result("accepted")).encode())
         status, out, told = collect()
         self.must("accepted", status == 0 and "1 pair: 1 accepted" in out and
                   told.count(".json is no JSON result of a pair, and is skipped") == 2, told)
         with self.assertRaises(Stop):
             collecting.refuse_names(argparse.Namespace(json=None, csv=self.path("in"), junit=None))
-        self.write("in/two.json", json.dumps(known()).encode())
+        self.write("in/two.json", json.dumps(result()).encode())
         self.must("refused", collect()[0] == 1)
         self.write("in/three.json", b"{")
         self.must("not judged", collect()[0] == 2)
         self.must("index", b"three" in self.read("in/index.html"))
 
     def test_objects_that_went(self) -> None:
-        """One that can't be read by then is not judged, in the object of all and in the lines."""
+        """One that can't be read by then is not judged, in the object of all and in the lines; of
+        one that can be what fits is written."""
         path = self.path("gone.json")
-        have = json.loads(collecting.text_of(path, self.ROWS[2]))
-        self.must("gone", have["verdict"] == "not judged" and have["name"] == "gone", have)
-        self.write("gone.json", json.dumps(known("not judged", reason="why")).encode())
-        self.must("a call's own", collecting.text_of(path, self.ROWS[2]) == self.read("gone.json"))
-        self.write("gone.json", b'{"format": 3, "verdict": "accepted", "status": 0,  "line": "x"}')
-        self.must("as it stands", collecting.text_of(path, self.ROWS[0]) == self.read("gone.json"))
-        self.must("lines", len(b"".join(collecting.lines_of([path, path])).splitlines()) == 3)
+        for data in (None, b"[]", b"{"):
+            if data is not None:
+                self.write("gone.json", data)
+            have = json.loads(collecting.text_of(path))
+            self.must("gone", have["verdict"] == "not judged" and have["name"] == "gone", have)
+        known = result(faults=[FAULT])
+        self.write("gone.json", b'{"status": 0, ' + json.dumps(known, indent=3).encode()[1:])
+        self.must("as it was read", json.loads(collecting.text_of(path)) == known)
+        self.must("lines", len(b"".join(collecting.lines_of([path, path])).splitlines()) == 5)
+        known["left_out"]["faults"] = 7
+        self.write("gone.json", json.dumps(known).encode())
+        with contextlib.redirect_stderr(io.StringIO()) as told:
+            self.must("lines of some", len(list(collecting.lines_of([path]))) == 3)
+        self.must("told", told.getvalue().endswith(
+            f": {path} leaves out 7 faults, and so do the lines\n"), told.getvalue())

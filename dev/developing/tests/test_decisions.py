@@ -12,18 +12,19 @@ from typing import Any
 from developing.pes import pes_packet
 from developing.stl import gsi_block, tti_block
 from subtitles.calls.batch import words_of
-from subtitles.calls.machine import asked_words, total
+from subtitles.calls.members import ASKED
+from subtitles.calls.result import total
 from subtitles.calls.objects import hint_in
 from subtitles.calls.pairs import of_folder
-from subtitles.calls.watching import Seen, Watch
+from subtitles.calls.watching import Sighting, Watch
 from subtitles.core.programme import Subtitle
 from subtitles.core.spans import Span
-from subtitles.core.times import TICKS, time_of
+from subtitles.core.times import TICKS, Between, time_of
 from subtitles.core.words import Words
 from subtitles.qc.asked import add_pair_options, asked_of_line
-from subtitles.qc.clock import START, Clock
+from subtitles.qc.clock import START, Clock, Found
 from subtitles.qc.delays import frames_until
-from subtitles.qc.fitting import Found, refuse, with_delay
+from subtitles.qc.clocks import unclear, with_delay
 from subtitles.reading.packets import Packets
 from subtitles.reading.order import FEW
 from subtitles.reading.timeline import Timeline
@@ -66,7 +67,7 @@ class Objects(Case):
                 ("not accepted, since TS packets are lost: waived: refused 5 X", "of none")):
             found = hint_in({"line": line, "hints": hints})
             self.must(f"{line}", found == wanted, found)
-        self.must("no hints", hint_in({"line": "refused 72 Content", "hints": None}) == "")
+        self.must("no hints", hint_in({"line": "refused 72 Content", "hints": []}) == "")
 
     def test_words_of_a_call(self) -> None:
         """A pair as words, read again, asks the same: with each option by itself, and with all."""
@@ -82,7 +83,7 @@ class Objects(Case):
         for words in [list[str](), *options, every]:
             asked = asked_for("one.stl", "one.pes", *words)
             again = asked_of_line(words_of(asked), defaults)
-            self.must(f"{words}", asked_words(again) == asked_words(asked), again)
+            self.must(f"{words}", ASKED.made(again) == ASKED.made(asked), again)
 
 
 class Folders(Case):
@@ -153,7 +154,7 @@ class Folders(Case):
         self.write("in/two.stl", b"2")
         self.write("in/two.done", b"")
         self.must("somebody says so", due(311) == ["two"])
-        self.must("what was seen", isinstance(watch.seen["one"], Seen))
+        self.must("what was seen", isinstance(watch.seen["one"], Sighting))
 
     def test_told_once(self) -> None:
         """What is no pair is told once, and again after it was one."""
@@ -258,9 +259,8 @@ class Fitted(Case):
         """With several runs, or other breaks than were said, the lines alone are the reason."""
         for runs, breaks, is_alone in ((0, None, False), (2, None, True), (0, 0, True),
                                        (0, 2, True), (3, 2, True)):
-            with self.assertRaises(Unclear) as raised:
-                refuse(Origin(runs=[(0, 9)] * runs, breaks=breaks, told=["one"]), [])
-            self.must(f"{runs} {breaks}", (raised.exception.reason == "one") == is_alone)
+            why = unclear(Origin(runs=[(0, 9)] * runs, breaks=breaks, told=["one"]), [])
+            self.must(f"{runs} {breaks}", (why.reason == "one") == is_alone)
 
 
 class Pages(Case):
@@ -385,10 +385,12 @@ class Parting(Case):
             typed, names = Typed("tools/qc", self.bench.program), Names("one", self.folder, None)
             pair = Pair(Verdict(asked, Severity(None), "now"), typed, names, Speech(Progress()),
                         False)
-            found = [self.FOUND._replace(begin=begin, end=end) for begin, end in parts]
-            recording: Any = SimpleNamespace(stages=[])
+            found = [self.FOUND._replace(begin=begin, end=end, between=Between(begin, end))
+                     for begin, end in parts]
+            recording: Any = SimpleNamespace(stages=[], packets=Packets(1))
             try:
-                made = pair.stretches(found, subtitles, recording)
+                pair.judged = subtitles
+                made = pair.parts(found, recording)
                 said = [(one.names.name, one.found) for one in made]
                 words = [passed_words(one.asked.passed_on) for one in made]
                 self.must(f"{name}: words", words == [

@@ -8,6 +8,7 @@ import shutil
 from typing import Iterator
 
 from subtitles.core.built import TOP, read
+from ..questions import Question, ask, count, link, page
 from .bench import Case
 
 NAMES = ["*.md", "docs/*.md", "docs/manual/*.md", "examples/*.md", "tools/*.md", "dev/*.md"]
@@ -74,6 +75,22 @@ class Documents(Case):
                         old.count(line + "\n") == 1 for line in gone), gone)
         self.must("blocks", count > 2, count)
 
+    def test_are_asked(self) -> None:
+        """How many words stand before an answer, by the way that a reader goes to it."""
+        self.write("A.md", b"# A\n\nOne two [three](B.md#the-answer) four.\n\n## C d!\n\nFive | - six.")
+        self.write("B.md", b"# B\n\nNot here: yes.\n\n## The answer\n\nIt is\nyes.\n")
+        for way, answer, words in (
+                (["A.md"], "two", 2), (["A.md"], "six", 8), (["A.md#c-d"], "six", 3),
+                (["A.md", "B.md#the-answer"], "is yes", 7), (["A.md", "B.md"], "yes", 7), (["B.md", "A.md"], "One", None),
+                (["A.md"], "seven", None), (["A.md#none"], "two", None)):
+            found = ask(Question("A1", "?", way, answer), self.folder)
+            self.must(f"{way} {answer}", found.words == words and (words is None) == bool(found.why),
+                      found)
+        self.must("words", count("a [b](c d) | - e`f`") == 3)
+        self.must("links", [link("docs/A.md", one) for one in (
+            "docs/B.md", "README.md#x", "docs/A.md#y")] == ["(B.md", "(../README.md#x)", "(#y)"])
+        self.must("a page", page("B.md#the-answer", self.folder).startswith("## The answer"))
+
     def test_tell_one_speed(self) -> None:
         """What README says of speed is what PERFORMANCE says, of one version."""
         readme = read(os.path.join(TOP, "README.md")) or ""
@@ -94,7 +111,7 @@ class Documents(Case):
         done = self.call([os.path.join(TOP, "dev", "make-picture"), "-p", self.bench.program,
                           self.path("new.png")])
         self.must("made", done.status == 0, done)
-        for path in (self.path("new.png"), os.path.join(TOP, "docs", "refused.png")):
+        for path in (self.path("new.png"), os.path.join(TOP, "docs", "report.png")):
             with open(path, "rb") as file:
                 head = file.read(24)
             self.must(path, head[:8] == b"\x89PNG\r\n\x1a\n"

@@ -2,18 +2,18 @@
 from __future__ import annotations
 
 import argparse
+import collections
 import contextlib
 import dataclasses
 import io
 import json
 import os
-import threading
 from types import SimpleNamespace
-from typing import Any
+from typing import Any, Iterator
 from unittest import mock
 
 from subtitles.calls import watching
-from subtitles.calls.machine import FORMAT, asked_words
+from subtitles.calls.members import ASKED
 from subtitles.calls.objects import (
     Row, found, found_at, has_had_its_turn, is_current, left_by_call, may_take, object_at,
     objects_in, row_of, unjudged)
@@ -21,18 +21,16 @@ from subtitles.calls.pairs import Item
 from subtitles.calls.watching import Stopping, Watch, refuse_folders
 from subtitles.core.words import Stop
 from subtitles.qc.asked import Asked
-from subtitles.qc.made_with import Program, program_at
-from subtitles.qc.names import Names
+from subtitles.qc.made_with import MadeWith, program_at
 from subtitles.qc.feed import Stall
 from subtitles.qc.typed import Typed
 from .bench import Case, example_bytes
 from .parts import asked_for
 from .test_channel_tables import defaults
-from .test_many_pairs import known, row
+from .results import FAULT, result
+from .test_many_pairs import row
 
-FAULT = {"line": "x", "number": 5, "name": "X", "cause": None, "subtitle": None, "due": None,
-         "held": None}
-PROGRAM = Program("1", "ab" * 32, None)
+PROGRAM = MadeWith("1", "ab" * 32, None)
 # What is asked otherwise than by the earlier call, each by itself.
 OTHERS: dict[str, object] = {
     "page": (0, 0x87), "every": 25, "option": "german", "origin": 5, "is_complete": False,
@@ -49,10 +47,8 @@ class EarlierCalls(Case):
             ("one.stl", example_bytes("story.stl")), ("one.pes", example_bytes("story.pes")),
             ("severity", b"72 warning\n"))]
         asked = dataclasses.replace(asked_for(*paths[:2]), severity=paths[2])
-        return asked, {"format": FORMAT, "verdict": "accepted", "status": 0, "reason": None,
-                       "line": "accepted 226 frames 5 transmissions",
-                       "asked": asked_words(asked), "found": found(asked),
-                       "program": PROGRAM._asdict()}
+        return asked, result("accepted", asked=ASKED.made(asked), found=found(asked),
+                             program=PROGRAM._asdict())
 
     def test_object_of_other_words(self) -> None:
         """An object is that of a pair with the very same words, files and program."""
@@ -79,8 +75,7 @@ class EarlierCalls(Case):
             self.must(name, not is_current(known, asked, other))
         self.must("the prover's line is no matter",
                   is_current(known, asked, PROGRAM._replace(proved="logic=proved")))
-        del known["program"]
-        self.must("none", not is_current(known, asked, PROGRAM))
+        self.must("none", not is_current(unjudged("one", "why"), asked, PROGRAM))
 
     def test_object_of_files_that_changed(self) -> None:
         """Of the first file, the second and the third: another size, another time, and none."""
@@ -99,30 +94,6 @@ class EarlierCalls(Case):
                     os.utime(path, ns=(about.st_atime_ns, about.st_mtime_ns))
                 self.must(f"{name} {what}", not is_current(known, asked, PROGRAM))
 
-    def test_files_of_a_pair_in_a_folder(self) -> None:
-        """Those of the pair and of all its parts are its own; those of others stay."""
-        own = ["one.cut.pes", "one.recording.pes", "one.txt", "one.html", "one.json", "one.1.txt",
-               "one.2.cut.pes", "one.3.txt", "one.12.html"]
-        others = ["one.two.html", "one.0.txt", "one.1.2.html", "two.html", "two.one.1.html",
-                  "one.1.pes", "one.stl", "one.pes", "xone.html", "one.1x.html",
-                  # Somebody's own subtitle files, and what was made of a pair of such a name.
-                  "one.1.stl", "one.4.stl", "one.5.stl", "one.5.txt", "one.5.html", "one.5.json"]
-        for name in own + others:
-            self.write(name, b"")
-        names = Names("one", self.folder, self.folder)
-        found_there = {os.path.basename(path) for path in names.kept()}
-        self.must("its own", found_there == {*own}, found_there ^ {*own})
-        written = {os.path.basename(path) for path in names.written()} - {*own}
-        self.must("may be written", written == {"one.5.txt", "one.5.html"}, written)
-
-    def test_names_with_marks(self) -> None:
-        """A name that a pattern would match otherwise."""
-        for name in ("a[1]", "a*", "a?"):
-            path = self.write(f"{name}.1.txt", b"")
-            self.write("a1.1.txt", b"")
-            kept = Names(name, self.folder, self.folder).kept()
-            self.must(name, path in kept and self.path("a1.1.txt") not in kept, kept)
-
     def test_feed_that_stands_still_twice(self) -> None:
         """Each time is told once, with how long it was."""
         said: list[str] = []
@@ -139,51 +110,54 @@ class Objects(Case):
 
     def test_rows(self) -> None:
         """All that a table takes of an object, and what stands there where it has none of it."""
-        faults = [{"line": f"refused {number}", "number": 5, "name": "X", "cause": None}
+        faults = [{**FAULT, "line": f"refused {number}", "number": 5, "name": "X"}
                   for number in range(120)]
         causes = {"late": 2, "early": 1}
-        found_row = row_of(known(faults=faults, fault_count=7, seconds=1.5,
-                                 cause_counts={**causes, "never": 0}, hints=["72: a hint"]), "name")
+        found_row = row_of(result(faults=faults, fault_count=7, seconds=1.5,
+                                  cause_counts={**causes, "never": 0}, hints=["72: a hint"]),
+                           "name")
         self.must("all", found_row == Row(
             "name", "one.stl one.ts", "refused", 1, "refused 72 Content", 7,
             {**causes, "5 X": 120}, [f"refused {number}" for number in range(100)], 1.5, "a hint"),
             found_row)
         self.must("none", row_of(unjudged("name", "why"), "name") == Row(
             "name", "name", "not judged", 2, "why", 0, {}, [], 0.0, ""))
-        none: dict[str, Any] = {"format": 3, "verdict": "not judged", "status": 2, "name": "a",
+        none: dict[str, Any] = {"format": 4, "verdict": "not judged", "status": 2, "name": "a",
                                 "reason": "why"}
         self.must("not judged", unjudged("a", "why") == none and
                   unjudged("a", "why", True) == {**none, "open": True})
-        self.must("reason first", row_of(known("refused", reason="why"), "x").line == "why")
-        self.must("judged", row_of(known(), "x").is_judged and not row_of(
+        self.must("reason", row_of(result("not judged"), "x").line == "why")
+        self.must("judged", row_of(result(), "x").is_judged and not row_of(
             unjudged("x", "why"), "x").is_judged)
 
     def test_shape(self) -> None:
-        """An object of another format or shape is not judged; something else is no object."""
+        """An object of another format or shape is not judged, by its name and with where it is so;
+        something else is no object."""
         path = self.path("one.json")
         changes: list[tuple[dict[str, Any], str]] = [
-                ({}, "refused"), ({"format": 2}, "not judged"), ({"format": None}, "not judged"),
-                ({"status": 0}, "not judged"), ({"status": True}, "not judged"),
-                ({"verdict": "accepted"}, "not judged"), ({"verdict": 5}, "not judged"),
-                ({"line": 5}, "not judged"), ({"line": ""}, "not judged"),
-                ({"line": None}, "not judged"), ({"reason": 5}, "not judged"),
-                ({"asked": []}, "not judged"), ({"asked": None}, "refused"),
-                ({"faults": {}}, "not judged"), ({"faults": [5]}, "not judged"),
-                ({"faults": [{"line": "x"}]}, "not judged"), ({"hints": {}}, "not judged"),
-                ({"faults": [FAULT, FAULT]}, "refused"), ({"faults": [FAULT, {}]}, "not judged"),
-                ({"cause_counts": []}, "not judged"), ({"fault_count": 1.5}, "not judged"),
-                ({"seconds": "x"}, "not judged"), ({"seconds": 5}, "refused"),
-                ({"verdict": "not judged", "status": 2}, "not judged")]
-        for change, wanted in changes:
-            self.write("one.json", json.dumps({**known(), **change}).encode())
-            got = object_at(path)
-            self.must(f"{change}", got is not None and got["verdict"] == wanted, got)
-            if "format" in change:
-                self.must("why", got == unjudged("one", "its JSON result is of format "
-                                                 f"{change['format']}: judge it again"), got)
-            elif change and got and "asked" not in got:
-                self.must("why", got == unjudged("one", "its JSON result is none that qc writes: "
-                                                 "judge it again"), got)
+            ({"format": 3}, ""), ({"format": None}, ".format"), ({"status": 0}, ".verdict"),
+            ({"status": True}, ".status"), ({"verdict": "accepted"}, ".verdict"),
+            ({"verdict": 5}, ".verdict"), ({"line": 5}, ".line"), ({"line": ""}, ".verdict"),
+            ({"line": None}, ".verdict"), ({"reason": 5}, ".reason"), ({"asked": []}, ".asked"),
+            ({"asked": None}, ".asked"), ({"faults": {}}, ".faults"), ({"faults": [5]}, ".faults[0]"),
+            ({"faults": [FAULT, {**FAULT, "row": 25}]}, ".faults[1].row"),
+            ({"faults": [{"line": "x"}]}, ".faults[0].block"), ({"hints": {}}, ".hints"),
+            ({"cause_counts": []}, ".cause_counts"), ({"fault_count": 1.5}, ".fault_count"),
+            ({"fault_count": True}, ".fault_count"), ({"seconds": "x"}, ".seconds"),
+            ({"more": 1}, ".more"), ({"date": "2026-01-02T03:04:05Z\n"}, ".date"),
+            ({"verdict": "not judged", "status": 2}, ".verdict")]
+        for change, where in changes:
+            self.write("one.json", json.dumps({**result(), **change}).encode())
+            told = f"is none that qc writes, by its {where}: judge it again" if where else \
+                "is of format 3: judge it again"
+            self.must(f"{change}", object_at(path) == unjudged("one", f"its JSON result {told}"),
+                      object_at(path))
+        goods: list[dict[str, Any]] = [{}, {"faults": [FAULT, FAULT]}, {"seconds": 5},
+                                       result("not judged"), result("waived"), result("lost")]
+        for change in goods:
+            known = {**result(), **change}
+            self.write("one.json", json.dumps(known).encode())
+            self.must(f"{change}", object_at(path) == known)
         for text, is_one in ((b"[]", False), (b"{}", False), (b"{", True), (b"\xff", True)):
             self.write("one.json", text)
             self.must(f"{text!r}", (object_at(path) is not None) == is_one)
@@ -192,7 +166,7 @@ class Objects(Case):
     def test_of_a_folder(self) -> None:
         """In the order of their names; other files, hidden ones and folders are passed over."""
         for name in ("b.json", "a.json", ".c.json", "d.txt", "e.jsonl"):
-            self.write(name, json.dumps(known()).encode())
+            self.write(name, json.dumps(result()).encode())
         os.mkdir(self.path("f.json"))
         names = [os.path.basename(path) for path, _ in objects_in(self.folder)]
         self.must("names", names == ["a.json", "b.json"], names)
@@ -206,12 +180,14 @@ class Objects(Case):
         self.must("of a file", found_at(stl) == {
             "size": 1, "modified": "2023-11-14T22:13:20.123456789Z"}, found_at(stl))
         self.must("of none", found_at(None) is None and found_at(self.folder) is None)
-        one: dict[str, Any] = {"asked": {"stl": stl}, "found": found(asked)}
+        one = result(asked=ASKED.made(asked), found=found(asked))
+        nothing, longer = ({**found(asked), "stl": size and {**size, "size": 2}}
+                           for size in (None, found_at(stl)))
         rows: list[tuple[str, dict[str, Any], Asked | None, bool]] = [
                 ("judged", one, asked, True), ("of another file", one, other, False),
                 ("no programme now", one, None, False),
-                ("nothing found", {**one, "found": None}, asked, False),
-                ("another size", {**one, "found": {"stl": {"size": 2}}}, asked, False),
+                ("nothing found", {**one, "found": nothing}, asked, False),
+                ("another size", {**one, "found": longer}, asked, False),
                 ("no pair", {}, asked, True), ("open", {"open": True}, asked, False)]
         for name, have, of, wanted in rows:
             self.must(name, has_had_its_turn(have, of) == wanted)
@@ -222,7 +198,7 @@ class Objects(Case):
         for verdict, ended, is_its in (("refused", 1, True), ("refused", 0, False),
                                        ("accepted", 0, True), ("accepted", 2, False),
                                        ("waived", 0, True), ("accepted", -9, False)):
-            self.write("one.json", json.dumps(known(verdict)).encode())
+            self.write("one.json", json.dumps(result(verdict)).encode())
             got = left_by_call(path, "one", ended, ["qc: first", "qc: last: more"])
             self.must(f"{verdict} {ended}", (got["verdict"] == verdict) == is_its, got)
             if not is_its:
@@ -269,14 +245,14 @@ class Watched(Case):
         for name in ("in", "out"):
             os.mkdir(self.path(name))
         for name in ("old", "older"):
-            self.write(f"out/{name}.json", json.dumps(known("accepted")).encode())
+            self.write(f"out/{name}.json", json.dumps(result("accepted")).encode())
         self.write("out/x.json", b"[]")
         watch = Watch(self.words(), Typed("tools/qc", self.bench.program))
         self.must("rows", list(watch.rows) == ["old", "older"])
         out = io.StringIO()
         with contextlib.redirect_stdout(out):
-            watch.end(Item("b", None, ""), row("b", "accepted", "accepted 5"))
-            watch.end(Item("a", None, ""), row("a", "refused", "refused 72 X", "a hint"))
+            watch.end(row("b", "accepted", "accepted 5"))
+            watch.end(row("a", "refused", "refused 72 X", "a hint"))
         self.must("lines", [line[21:] for line in out.getvalue().splitlines()] ==
                   ["b  accepted", "a  refused: 72 X: a hint"], out.getvalue())
         page = self.read("out/index.html").decode()
@@ -284,10 +260,9 @@ class Watched(Case):
         stl, ts = self.write("in/a.stl", b"1"), self.write("in/a.ts", b"1")
         item = Item("a", asked_for(stl, ts), None)
         program = program_at(watch.calls.typed.program_path)
-        have = {**known(), "asked": asked_words(item.asked or asked_for(stl, ts)),
-                "found": found(item.asked or asked_for(stl, ts)),
-                "program": {"sha256": program.sha256, "version": program.version}}
-        other: dict[str, Any] = {"found": {}}
+        asked = asked_for(stl, ts)
+        have = result(asked=ASKED.made(asked), found=found(asked), program=program._asdict())
+        other: dict[str, Any] = {"found": {**found(asked), "stl": None}}
         for change, is_new in ((dict[str, Any](), False), (other, True), (other, False)):
             self.write("out/a.json", json.dumps({**have, **change}).encode())
             self.must(f"{change}", watch.is_new(item) == is_new)
@@ -309,13 +284,16 @@ class Watched(Case):
         it is over."""
         for name in ("in", "out"):
             os.mkdir(self.path(name))
-        begun, looks, released = list[str](), list[int](), threading.Event()
+        begun, looks, running = list[str](), list[int](), list[Item]()
         stopping, due = SimpleNamespace(is_asked=False), Watch.due
 
-        def judge(_: object, item: Item) -> Row:
-            begun.append(item.name)
-            released.wait(9)
-            return row(item.name, "accepted")
+        def judged_next(_: object, waiting: collections.deque[Item], *more: object) \
+                -> Iterator[Row]:
+            while waiting:
+                running.append(waiting.popleft())
+                begun.append(running[-1].name)
+            while stopping.is_asked and running:
+                yield row(running.pop().name, "accepted")
 
         def look(watch: Watch, busy: set[str], now: float) -> list[Item]:
             looks.append(len(looks))
@@ -324,12 +302,12 @@ class Watched(Case):
                     self.write(f"in/{name}", b"x" * len(looks))
             if len(looks) == 7:
                 stopping.is_asked = True
-                released.set()
             return due(watch, busy, now)
 
         with mock.patch.object(watching, "Stopping", lambda: stopping), \
                 mock.patch.object(watching, "LOOK", 0.01), mock.patch.object(Watch, "due", look), \
-                mock.patch("subtitles.calls.batch.Calls.judge", judge), \
+                mock.patch.object(watching, "judged_next", judged_next), \
+                mock.patch("subtitles.calls.batch.Calls.items", lambda calls: running), \
                 contextlib.redirect_stdout(io.StringIO()) as out:
             watching.watch(self.words(program=self.bench.program, jobs=4), "tools/qc")
         self.must("once", sorted(begun) == ["a", "b"] and len(out.getvalue().splitlines()) == 2,

@@ -15,7 +15,7 @@ from unittest import mock
 
 from subtitles.calls.main import main
 from subtitles.core.built import TOP
-from subtitles.core.files import whole_bytes
+from subtitles.core.stl import stl_bytes
 from subtitles.core.words import Stop, run
 from .bench import Case, example, tool_path
 
@@ -201,8 +201,8 @@ class Words(Story):
         program = self.saying(ACCEPTED)
         os.mkdir(self.path("in"))
         for name, data in (("list", f"{HELLO[0]} {self.path('in/one.pes')}\n".encode()),
-                           ("in/one.stl", whole_bytes(HELLO[0])), ("severity", b"67 warning\n"),
-                           ("in/one.pes", whole_bytes(HELLO[1]))):
+                           ("in/one.stl", stl_bytes(HELLO[0])), ("severity", b"67 warning\n"),
+                           ("in/one.pes", stl_bytes(HELLO[1]))):
             self.write(name, data)
         pair = ["in/one.stl", "in/one.pes", "--severity", "severity", "--origin", "0"]
         self.assertEqual(self.qc(*pair, "-p", program, "--json", "in/one.json").status, 0)
@@ -280,8 +280,8 @@ class Mistakes(Story):
                       AssertionError("never"), IndexError("far"), OSError("read"), Stop("stopped")):
             with self.subTest(error=error):
                 self.failing("qc.pair.Pair.judge", error)
-        for place in ("qc.steps.Steps.check_alone", "qc.steps.find", "qc.judging.Judging.end",
-                      "qc.verdict.Part.is_read", "qc.checking.Answer.take"):
+        for place in ("qc.checks.check_alone", "qc.clocks.find", "qc.judging.end",
+                      "qc.part.Part.is_read", "qc.checking.Answer.take"):
             with self.subTest(place):
                 self.failing(place, ValueError("odd"))
 

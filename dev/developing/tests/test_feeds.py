@@ -10,56 +10,9 @@ from developing.pes import pes_packet
 from subtitles.core.times import CLOCK, TICKS
 from subtitles.qc import feed
 from subtitles.qc.ending import LAST, Ending
-from subtitles.qc.feed import Handing
 from subtitles.reading.finding import Agreement
 from .bench import Case
 from .parts import CLOSING, HEADER, asked_for, packets_told
-
-
-class Sink:
-    """Takes so many bytes at a time; or none any more."""
-
-    def __init__(self, most: int) -> None:
-        self.most, self.data = most, b""
-
-    def write(self, data: memoryview) -> int:
-        if not self.most:
-            raise BrokenPipeError
-        self.data += data[:self.most]
-        return min(self.most, len(data))
-
-
-class Handed(Case):
-    """What is handed on."""
-
-    def handing(self, *sinks: Sink) -> Any:
-        found: Any = Handing(self.write("feed", b""), False)
-        found.listening += sinks
-        self.addCleanup(found.file.close)
-        return found
-
-    def test_all_of_each(self) -> None:
-        """Each that listens gets all, at whatever pace; one that is gone is left out."""
-        slow, gone, fast = Sink(2), Sink(0), Sink(99)
-        handing = self.handing(slow, gone, fast)
-        self.assertLess(time.monotonic() - handing.came, 60)  # also before something came
-        for data in (b"abcde", b"", b"f"):
-            handing.hand(data)
-        self.assertEqual((slow.data, fast.data, handing.listening, handing.count),
-                         (b"abcdef", b"abcdef", [slow, fast], 6))
-
-    def test_what_is_kept(self) -> None:
-        """What came last, up to a bound, for one that begins to listen."""
-        for pieces, kept in (([b"ab", b"cde"], [b"ab", b"cde"]), ([b"ab", b"cde", b"f"], [
-                b"cde", b"f"]), ([b"a", b"b", b"c", b"defgh"], [b"defgh"])):
-            handing, late = self.handing(), Sink(99)
-            with mock.patch.object(feed, "KEPT", 5):
-                for data in pieces:
-                    handing.hand(data)
-            self.assertEqual([*handing.kept], kept)
-            handing.waiting.put(late)
-            handing.begin()
-            self.assertEqual((late.data, handing.listening), (b"".join(kept), [late]))
 
 
 class Ended(Case):

@@ -35,7 +35,7 @@ class Gate(Case):
         for folder in (".ci", "tools", "dev", "bin"):
             os.makedirs(self.path(folder), exist_ok=True)
         shutil.copy(os.path.join(TOP, ".ci", "run"), self.path(".ci/run"))
-        for name in ("tools/edits", "tools/release", "tools/sources", "tools/check-program",
+        for name in ("dev/edits", "dev/release", "tools/sources", "tools/check-program",
                      "dev/graph"):
             self.write_program(name, "#!/bin/sh\necho '1 passed, 0 failed'\n")
         called = self.path("called")

@@ -6,7 +6,7 @@ from typing import NamedTuple
 from developing.pes import pts_in
 from developing.stl import boxed, gsi_block, subtitle_blocks
 from subtitles.core.times import CLOCK, TICKS
-from subtitles.reading.gaps import Jump, Place, jumps_of, places_of
+from subtitles.reading.gaps import ClockJump, Place, jumps_of, places_of
 from subtitles.reading.survey import survey
 from developing.multiplex import PACKET
 from .bench import Case, packets
@@ -99,7 +99,7 @@ class Holes(Case):
         self.schedule(stl, "story.pes", "--every", str(every))
         return packets(self.read("story.pes"))
 
-    def heard(self, made: list[Sent]) -> tuple[list[Place], list[Jump]]:
+    def heard(self, made: list[Sent]) -> tuple[list[Place], list[ClockJump]]:
         """The places at which something is missing of a multiplex, and the jumps of its clock."""
         path = self.write("heard.ts", b"".join(one.data for one in made))
         found = survey(self.bench.program, path, PAGE).by_pid[TELETEXT_PID]

@@ -1,4 +1,4 @@
-"""tools/install and tools/dist: what they make is run from another folder."""
+"""tools/install and dev/dist: what they make is run from another folder."""
 from __future__ import annotations
 
 import glob
@@ -6,6 +6,7 @@ import os
 import re
 import shutil
 import subprocess
+import sys
 import tarfile
 
 from subtitles.core.built import TOP, chosen, read
@@ -13,7 +14,6 @@ from ..prefix import PAGES, without_dead_links
 from ..proved import lacking, parsed
 from .bench import Case, Done, example
 
-TIMES = ["--from", "20:15:00:00", "--to", "20:15:09:00"]
 COMPLETE = '''source "$1"
 COMP_WORDS=("${@:2}")
 COMP_CWORD=$((${#COMP_WORDS[@]} - 1))
@@ -31,23 +31,16 @@ def runs_the_whole_way(case: Case, prefix: str) -> None:
     stream = case.tool("pes2ts", example("story.pes"), "0x101")
     recording = run("subttx-ts2pes", case.write("story.ts", stream.out), "0x101")
     pes = case.write("recording.pes", recording.out)
-    origin = run("subttx-origin", stl, pes).out.decode().split()
-    case.must("origin", origin == ["--origin", "0"], origin)
-    done = run("subttx-cut", pes, *TIMES, *origin)
-    case.must("cut", done.status == 0, done)
-    some = done.out.decode().split()
-    done = run("subttx", "check", stl, pes, *origin, *some)
+    done = run("subttx", "check", stl, pes, "--pes", "0-4")
     case.must("check", done.out == b"accepted 226 frames 5 transmissions\n", done)
     done = run("subttx-text", stl)
     case.must("text", done.out.endswith(b"3 subtitles\n"), done)
-    done = run("subttx-preview", stl, pes, *origin, *some, "-o", "report.html")
-    case.must("preview", (done.status, done.out) ==
-              (0, b"accepted 226 frames 5 transmissions\n"), done)
-    done = run("subttx-qc", stl, "story.ts")
+    done = run("subttx-qc", stl, "story.ts", "-o", "report")
     case.must("qc", done.out.endswith(b"accepted 226 frames 5 transmissions\n") and
-              os.path.join(prefix, "bin", "subttx").encode() in done.out, done)
-    done = run("subttx-cut", "--help")
-    case.must("its own names in the help", b"subttx-cut PES" in done.out
+              os.path.join(prefix, "bin", "subttx").encode() in done.out and
+              os.path.exists(case.path("report/story.html")), done)
+    done = run("subttx-text", "--help")
+    case.must("its own names in the help", b"subttx-text STL" in done.out
               and b"tools/" not in done.out, done)
 
 
@@ -57,8 +50,24 @@ def proved_here(case: Case) -> str:
     program, _ = chosen(TOP)
     proved = os.path.join(os.path.dirname(program), "PROVED")
     if not program or lacking(parsed(read(proved))):
-        case.skipTest("tools/dist, since the gate has not proved the program here")
+        case.skipTest("dev/dist, since the gate has not proved the program here")
     return proved
+
+
+def is_compiled(folder: str) -> bool:
+    """Whether each module has a file that Python takes without a look at the times of that."""
+    for place, _, names in os.walk(folder):
+        for name in names:
+            if not name.endswith(".py"):
+                continue
+            made = os.path.join(place, "__pycache__",
+                                f"{name.removesuffix('.py')}.{sys.implementation.cache_tag}.pyc")
+            if not os.path.exists(made):
+                return False
+            with open(made, "rb") as file:
+                if file.read(8)[4:] != bytes([1, 0, 0, 0]):  # by its sum, which nobody compares
+                    return False
+    return True
 
 
 class Installed(Case):
@@ -74,6 +83,7 @@ class Installed(Case):
         self.must("each file that is told", paths and all(map(os.path.exists, paths)), paths)
         again = self.tool("install", "-p", self.bench.program, "moved")
         self.must("once more over it", again.status == 0, again)
+        self.must("compiled", is_compiled(self.path("moved/lib/subttx/tools/subtitles")))
         runs_the_whole_way(self, self.path("moved"))
 
     def test_removes(self) -> None:
@@ -147,9 +157,8 @@ class Installed(Case):
             options = set(re.findall(r"--[\w-]+", words))
             self.must(name, options <= offered("subttx", name, "-"), (options, name))
         self.must("values", offered("subttx", "check", "--option", "g") == {"german"})
-        tool = os.path.join(TOP, "tools", "cut")
-        self.must("a tool", {"--from", "--to", "--page", "--origin", "--pes"} <= offered(tool, "-"),
-                  offered(tool, "-"))
+        tool = os.path.join(TOP, "tools", "ts2pes")
+        self.must("a tool", {"--version", "-p"} <= offered(tool, "-"), offered(tool, "-"))
         tool = os.path.join(TOP, "tools", "qc")
         self.must("qc", {"--batch", "--allow-lost", "--severity", "-o"} <= offered(tool, "-"),
                   offered(tool, "-"))
@@ -159,8 +168,8 @@ class Installed(Case):
         for name in PAGES:
             page = read(os.path.join(TOP, "docs", name)) or ""
             self.must(name, re.search(rf'^\.TH .*"subttx {re.escape(version)}"', page, re.M))
-        log = re.search(r"^## (\S+)", read(os.path.join(TOP, "CHANGELOG.md")) or "", re.M)
-        self.must("the change log", log and log[1].rstrip(",") == version, log)
+        log = re.search(r"^## (\S+), \d", read(os.path.join(TOP, "CHANGELOG.md")) or "", re.M)
+        self.must("the first of the change log with a date", log and log[1] == version, log)
 
     def test_makes_an_archive(self) -> None:
         """The archive's sums are right, and what is in it runs; twice the same bytes."""
@@ -188,7 +197,7 @@ class Installed(Case):
         error."""
         proved = proved_here(self)
         if not shutil.which("dpkg-deb"):
-            self.skipTest("tools/dist --deb, since there is no dpkg-deb")
+            self.skipTest("dev/dist --deb, since there is no dpkg-deb")
         done = self.tool("dist", "--deb")
         path = self.path(done.out.decode().strip())
         self.must("status", done.status == 0, done)
@@ -205,6 +214,13 @@ class Installed(Case):
         documents = self.path("empty/usr/share/doc/subttx")
         self.must("the manual", os.path.isfile(os.path.join(documents, "manual", "qc.md")))
         self.must("what was proved", read(os.path.join(documents, "PROVED")) == read(proved))
+        self.call(["dpkg-deb", "-e", path, "control"])
+        shared = "/usr/lib/subttx/tools/subtitles"
+        for name, is_there in (("postinst", True), ("prerm", False)):
+            script = self.read(f"control/{name}").decode().replace(shared, f"empty{shared}")
+            done = self.call(["sh", "-c", script], env=os.environ | {"PYTHONPYCACHEPREFIX": ""})
+            self.must(name, done.status == 0 and is_compiled(self.path(f"empty{shared}"))
+                      == is_there, done)
         if shutil.which("lintian"):
             done = self.call(["lintian", "--allow-root", "--fail-on", "error", path])
             self.must("lintian", done.status == 0, done)

@@ -11,7 +11,8 @@ from subtitles.core.layout import (
     NAME_OF, PLAIN, Layout, Refused, drawn, layout_of, page_of, text_of)
 from subtitles.core.national import BY_WORD
 from subtitles.core.teletext import Page
-from subtitles.qc.layouts import Choice, Sent, count_drawn, is_found, layout_of_sent, simplicity
+from subtitles.qc.evidence import Choice, choices_of
+from subtitles.qc.layouts import Sent, count_drawn, is_found, simplicity
 from .. import DEV
 from ..every_place.on_air import Packet, rows_in, span_of
 from ..every_place.reading import header_of, pieces_of, sending_in
@@ -90,7 +91,7 @@ def line(some: random.Random, has_codes: bool) -> bytes:
 
 
 def programme(some: random.Random, has_codes: bool, leaves_room: bool, layout: Layout,
-              count: int = 40) -> list[Sent]:
+              count: int = 120) -> list[Sent]:
     """Subtitles, and what an inserter of this layout sends of them."""
     sent: list[Sent] = []
     while len(sent) < count:
@@ -137,7 +138,7 @@ class Searches(Case):
             layout = layout_of(text) if text else PLAIN
             assert layout is not None, text
             sent = programme(some, has_codes, leaves_room, layout)
-            found = layout_of_sent(sent, ENGLISH)
+            found = choices_of(sent, ENGLISH)[1]
             self.must(text, found.drawn == found.found == len(sent) and found.is_clear
                       and simplicity(found.layout) <= simplicity(layout), found)
 
@@ -148,7 +149,7 @@ class Searches(Case):
         wrong = sent[20]._replace(rows=tuple(row.replace(b"e", b"c") for row in sent[20].rows))
         moved = sent[30]._replace(rows=tuple(row[-3:] + row[:-3] for row in sent[30].rows))
         sent[20:21], sent[30:31] = [wrong], [moved]
-        found = layout_of_sent(sent, ENGLISH)
+        found = choices_of(sent, ENGLISH)[1]
         self.must("the house's", found.layout == Layout(text=True) and found.is_clear, found)
         self.must("counted", (found.found - found.drawn) == 1
                   and found.found == sum(is_found(one, ENGLISH) for one in sent), found)
@@ -161,22 +162,22 @@ class Searches(Case):
                            for one in (house, other))
         for place in (0, len(sent) - 1):
             mixed = [*sent[:place], otherwise[place], *sent[place + 1:]]
-            found = layout_of_sent(mixed, ENGLISH)
-            self.must(f"{place}", found == Choice(house, len(sent) - 1, len(sent)), found)
+            found = choices_of(mixed, ENGLISH)[1]
+            self.must(f"{place}", found[:3] == (house, len(sent) - 1, len(sent)), found)
 
     def test_guesses_nothing(self) -> None:
         """Of another programme, of fewer than ten subtitles, of pages that are drawn in turns."""
         some = random.Random(9)
         sent = programme(some, False, False, PLAIN)
         others = [one._replace(rows=other.rows) for one, other in zip(sent, sent[1:])]
-        self.must("another programme", not layout_of_sent(others, ENGLISH).is_clear)
-        self.must("nine", not layout_of_sent(sent[:9], ENGLISH).is_clear)
-        self.must("ten", layout_of_sent(sent[:10], ENGLISH) == Choice(PLAIN, 10, 10))
-        self.must("none", layout_of_sent([], ENGLISH) == Choice(PLAIN, 0, 0))
+        self.must("another programme", not choices_of(others, ENGLISH)[1].is_clear)
+        self.must("nine", not choices_of(sent[:9], ENGLISH)[1].is_clear)
+        self.must("ten", choices_of(sent[:10], ENGLISH)[1] == Choice(PLAIN, 10, 10))
+        self.must("none", choices_of([], ENGLISH)[1] == Choice(PLAIN, 0, 0))
         turns = [one for pair in zip(programme(some, False, False, PLAIN, 60),
                                      programme(some, False, False, Layout(row=-1), 60))
                  for one in pair]
-        found = layout_of_sent(turns, ENGLISH)
+        found = choices_of(turns, ENGLISH)[0]
         self.must("in turns", not found.is_clear and found.found == 120
                   and found.drawn >= count_drawn(PLAIN, turns, ENGLISH), found)
         self.must("nine in ten", Choice(PLAIN, 90, 100).is_clear

@@ -57,9 +57,9 @@ class Lists(Case):
 
     def test_are_those_of_the_clauses(self) -> None:
         """Each clause that the index names is one of the sources."""
-        text = read(os.path.join(TOP, "docs", "ASSURANCE.md")) or ""
+        text = read(os.path.join(TOP, "docs", "CLAUSES.md")) or ""
         unknown = unknown_clauses(text, Library(TOP))
-        self.must("docs/ASSURANCE.md", not unknown, unknown)
+        self.must("docs/CLAUSES.md", not unknown, unknown)
         self.must("rows", "sub_check/check_files.accepted" in clauses_in(text)
                   and len(clauses_in(text)) > 100, len(clauses_in(text)))
 

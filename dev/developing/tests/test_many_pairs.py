@@ -2,28 +2,32 @@
 from __future__ import annotations
 
 import argparse
-import concurrent.futures
 import contextlib
 import io
 import json
 import os
+import signal
 import socket
+import sys
 import time
-from typing import Any
+from typing import Any, Callable
 from unittest import mock
 
 from subtitles.calls import batch
 from subtitles.calls.batch import Calls, all_rows, kept_rows, progress_line, words_of
-from subtitles.calls.machine import asked_words
+from subtitles.calls.forked import Call, ended_of, qc, signals_held
+from subtitles.calls.members import ASKED
 from subtitles.calls.main import parser_of
 from subtitles.calls.objects import Row, found, object_at, row_of, unjudged
-from subtitles.calls.pairs import Item, OwnNames, no_file, pairs_at
+from subtitles.calls.pairs import Item, no_file, pairs_at
+from subtitles.calls.single import SIGNALS
 from subtitles.core.words import Stop
 from subtitles.qc.asked import asked_of
 from subtitles.qc.made_with import program_at
 from subtitles.qc.typed import Typed
-from .bench import Case, alone
+from .bench import SECONDS, Case, alone
 from .parts import asked_for
+from .results import result
 from .test_channel_tables import defaults
 
 # A call that writes the object of its pair, with the verdict that its subtitle file names, and ends
@@ -45,23 +49,18 @@ esac
 case $kind in other | changes) kind=accepted ends=9 ;; *) ends=$status ;; esac
 echo "qc: one" >&2; echo "qc: told last" >&2
 session=$(cut -d ' ' -f 6 /proc/$$/stat)
-[ "$kind" = silent ] || cat >"${object:-$out/$name.json}" <<END
-{"format": 3, "verdict": "$kind", "status": $status, "line": "line of $name", "reason": "why",
- "asked": {}, "words": "$words", "own": $((session == $$)),
- "files": "$files"}
-END
+[ "$kind" = silent ] ||
+    sed "s|WORDS|$words|; s|OWN|$((session == $$))|; s|FILES|$files|" "${0%/*}/$kind" \
+        >"${object:-$out/$name.json}"
 exit $ends
 """
-def known(verdict: str = "refused", **more: Any) -> dict[str, Any]:
-    """An object of a pair."""
-    status = {"accepted": 0, "waived": 0, "not judged": 2}.get(verdict, 1)
-    return {"format": 3, "verdict": verdict, "status": status, "line": f"{verdict} 72 Content",
-            "reason": None, "asked": {"stl": "one.stl", "recording": "one.ts"}, **more}
+TOLD = ["WORDS", "OWN", "FILES"]  # in whose place the call has how it was called
 
 
 def row(name: str, verdict: str, line: str = "", hint: str = "", faults: int = 0) -> Row:
     """A row of a table."""
-    return row_of(known(verdict, line=line, fault_count=faults), name)._replace(hint=hint)
+    made = row_of(result(verdict, fault_count=faults), name)
+    return made._replace(line=line, hint=hint)
 
 
 class Lists(Case):
@@ -86,8 +85,8 @@ class Lists(Case):
             made.bind(self.path("socket"))
         items = pairs_at(self.write("list", lines.encode() + b"caf\xe9.stl x.ts"), defaults())
         self.must("names", [item.name for item in items] == [
-            "one", "two", "one-2", "line 6", "line 7", "one-3", "none", "one-4", "line 11", "x",
-            "x-2", "caf\\xe9"],
+            "one", "two", "one~2", "line 6", "line 7", "one~3", "none", "one~4", "line 11", "x",
+            "x~2", "caf%E9"],
             [item.name for item in items])
         self.must("options", [item.asked.every for item in items if item.asked] == [50, 250, 250])
         reasons = [item.reason for item in items if item.reason]
@@ -97,20 +96,13 @@ class Lists(Case):
                 f"{self.path('none.stl')}: No such file or directory",
                 f"{self.path('pipe')} is a pipe",
                 f"{self.path('list')}, line 11: - is no recording", "/dev/null is a device",
-                f"{self.path('socket')} is no file", "caf\udce9.stl: No such file")):
+                f"{self.path('socket')} is a socket", "caf\udce9.stl: No such file")):
             self.must(words, reason.startswith(words), reason)
         self.must("reasons", len(reasons) == 9, reasons)
         self.must("a file", no_file(self.path("one.stl")) is None)
         for path in (self.write("empty", b"# none\n"), self.path("folder")):
             with self.assertRaises(Stop):
                 pairs_at(path, defaults())
-
-    def test_names(self) -> None:
-        """Each has its own, also where a number makes it that of another one."""
-        for given, wanted in (("a a a b", "a a-2 a-3 b"), ("a a a-2 a-2", "a a-2 a-2-2 a-2-3"),
-                              ("a-2 a a a", "a-2 a a-3 a-4")):
-            names = OwnNames()
-            self.must(given, [names.of(name) for name in given.split()] == wanted.split())
 
     def test_folder(self) -> None:
         """Names, what lacks its other half, what is more than one, in the order of the names."""
@@ -125,7 +117,7 @@ class Lists(Case):
             ("G", f"{at}/G.stl: no recording of that name"), ("g", None),
             ("c", f"more than one pair is possible: {at}/c.stl, {at}/c.pes, {at}/c.ts"),
             ("d", f"{at}/d.m2t: no subtitle file of that name"),
-            ("e", f"{at}/e.stl: no recording of that name"), ("h\\x1b", None)],
+            ("e", f"{at}/e.stl: no recording of that name"), ("h%1B", None)],
             [(item.name, item.reason) for item in items])
         self.must("files", [(item.asked.stl, item.asked.recording) for item in items if item.asked]
                   == [(f"{at}/{one}", f"{at}/{two}") for one, two in (
@@ -136,11 +128,24 @@ class Lists(Case):
 class Judged(Case):
     """Calls for pairs, side by side."""
 
+    is_alone = True  # its calls are forked from what has no other thread
+
     def setUp(self) -> None:
         super().setUp()
-        self.write_program("call", CALL)
+        path = self.write_program("call", CALL)
+        for verdict in ("accepted", "refused", "not judged"):
+            self.write(verdict, json.dumps(result(verdict, notes=TOLD)).encode())
         self.typed = Typed("tools/qc", self.bench.program)
-        vars(self.typed)["call"] = lambda name: [self.path("call")]
+
+        def execute(words: list[str]) -> int:
+            for file in os.listdir("/proc/self/fd"):  # that it goes on is known by one of them
+                with contextlib.suppress(OSError):
+                    os.set_inheritable(int(file), True)
+            os.execv(path, [path, *words])
+
+        asking = mock.patch.object(batch, "qc", execute)
+        asking.start()
+        self.addCleanup(asking.stop)
         os.mkdir(self.path("temporary"))
         os.mkdir(self.path("out"))
         self.write("one.ts", b"1")
@@ -150,22 +155,26 @@ class Judged(Case):
         stl = self.write(f"{name}.stl", kind.encode())
         return Item(name, asked_for(stl, self.path("one.ts"), *words), None)
 
+    def judged(self, calls: Calls, item: Item) -> Row:
+        """The row of a pair that is judged alone."""
+        return calls.begin(item) or next(calls.rows(SECONDS))
+
     def test_words(self) -> None:
-        """Of the call for a pair: where its object goes, what is asked; the name as it is shown."""
+        """Of the call for a pair: where its object goes, and what is asked."""
         for out, is_kept in ((None, False), (self.path("out"), False), (self.path("out"), True)):
             calls = Calls(self.typed, self.path("temporary"), out, is_kept)
             item = self.item("refused", "one", "--every", "50")._replace(name="pair")
             path = os.path.join(out or self.path("temporary"), "pair.json")
-            self.must("row", calls.judge(item).name == "pair" and calls.path(item) == path)
+            self.must("row", self.judged(calls, item).name == "pair" and calls.path(item) == path)
             have = object_at(path)
             kept = f"-o {out}{' --keep' * is_kept}" if out else f"--json {path}"
-            self.must("words", have and have["words"].startswith(
-                f"--name=pair {kept} -p {self.typed.program_path} --page 888 --every 50 ") and
-                have["words"].endswith(f" -- {self.path('one.stl')} {self.path('one.ts')}")
-                and have["own"] == 1
-                and have["files"].split() == [os.devnull, os.devnull] and not calls.running, have)
-            shown = calls.path(Item("a\x1b", None, ""))
-            self.must("as it is shown", shown.endswith("/a\\x1b.json"))
+            called, own, files = have["notes"] if have else TOLD
+            self.must("words", called.startswith(
+                f"--name=pair --claimed {kept} -p {self.typed.program_path} --page 888 "
+                "--every 50 ") and
+                called.endswith(f" -- {self.path('one.stl')} {self.path('one.ts')}")
+                and own == "1" and files.split() == [os.devnull, os.devnull]
+                and not calls.running, have)
 
     def test_all_words(self) -> None:
         """What is asked of a pair is asked of its call, also where it is 0."""
@@ -181,30 +190,69 @@ class Judged(Case):
         is left of an earlier call."""
         calls = Calls(self.typed, self.path("temporary"), self.path("out"), False)
         for kind, verdict, line in (
-                ("accepted", "accepted", "why"), ("refused", "refused", "why"),
+                ("accepted", "accepted", "accepted 72 Content"),
+                ("refused", "refused", "refused 72 Content"),
                 ("not judged", "not judged", "why"), ("silent", "not judged", "told last"),
                 ("other", "not judged", "told last"),
                 ("changes", "not judged", "a file was written to while it was judged")):
             item = self.item(kind)
-            self.write("out/one.json", json.dumps(known("accepted")).encode())
-            found_row = calls.judge(item)
+            self.write("out/one.json", json.dumps(result("accepted")).encode())
+            found_row = self.judged(calls, item)
             self.must(kind, (found_row.name, found_row.verdict, found_row.line) == (
                 "one", verdict, line), found_row)
             have = object_at(calls.path(item))
             self.must("its object", have is not None and have["verdict"] == verdict, have)
-        none = calls.judge(Item("two", None, "no pair"))
+        none = self.judged(calls, Item("two", None, "no pair"))
         self.must("no pair", (none.name, none.verdict, none.line) == (
             "two", "not judged", "no pair") and object_at(self.path("out/two.json")) == unjudged(
                 "two", "no pair"))
-        vars(self.typed)["call"] = lambda name: [self.path("none")]
-        gone = calls.judge(self.item("accepted"))
-        self.must("no call", gone.line == f"{self.path('none')}: No such file or directory", gone)
-        running = [mock.Mock(), mock.Mock()]
-        calls.running |= {*running}
+        with mock.patch("os.fork", side_effect=BlockingIOError(11, "Try again")):
+            gone = self.judged(calls, self.item("accepted"))
+        self.must("no call", gone.line == "no process was begun: Try again", gone)
+        for name in ("one", "two"):
+            calls.begin(self.item("waits", name))
         calls.stop()
-        self.must("all are ended", [one.terminate.call_count for one in running] == [1, 1])
+        self.must("all are ended", not calls.running)
         calls.leave(Item("three", None, "x"), "stopped")
         self.must("nothing is written then", not os.path.exists(self.path("out/three.json")))
+
+    def test_one_that_dies(self) -> None:
+        """It costs its own pair alone, however it ends; what it told last is its reason."""
+        kinds: list[tuple[str, Callable[[], object], str]] = [
+            ("killed", lambda: os.kill(os.getpid(), signal.SIGKILL), "it did not end by itself"),
+            ("an error", lambda: 1 // 0, "it did not end by itself"),
+            ("no memory", lambda: os.abort(), "it did not end by itself"),
+            ("no words", lambda: qc(["--none"]), "--none"),
+            ("a signal", lambda: signal.raise_signal(signal.SIGTERM), "it did not end by itself")]
+        for name, does, reason in kinds:
+            calls = Calls(self.typed, self.path("temporary"), self.path("out"), False)
+            with mock.patch.object(batch, "qc", lambda words: does()):
+                calls.begin(self.item("accepted", "dies"))
+            calls.begin(self.item("accepted", "other"))
+            rows: dict[str, Row] = {}
+            while calls.running:
+                rows.update((one.name, one) for one in calls.rows(SECONDS))
+            self.must(name, [rows[one].verdict for one in ("dies", "other")] == [
+                "not judged", "accepted"] and reason in rows["dies"].line, rows)
+
+    def test_what_a_call_has(self) -> None:
+        """Its own session, nothing to read, nobody who reads what it prints, and no file and lock
+        of who called it; signals end it as ever, though they are held when it begins."""
+        kept = open(self.write("kept", b""), "rb")
+        self.addCleanup(kept.close)
+
+        def look() -> int:
+            files = [os.path.realpath(f"/proc/self/fd/{file}") for file in range(2)]
+            told = [files == [os.devnull] * 2, os.getsid(0) == os.getpid(),
+                    not os.path.exists(f"/proc/self/fd/{kept.fileno()}"),
+                    not signal.pthread_sigmask(signal.SIG_BLOCK, []),
+                    all(signal.getsignal(one) == signal.default_int_handler for one in SIGNALS)]
+            print(told, file=sys.stderr)
+            return 7
+
+        with signals_held():
+            call = Call(look)
+        self.must("all", call.end() == (7, [str([True] * 5)]))
 
     def test_all(self) -> None:
         """Each once, what is kept not again; the words of each are its own."""
@@ -216,11 +264,10 @@ class Judged(Case):
         self.must("verdicts", {name: one.verdict for name, one in rows.items()} == {
             "name0": "accepted", "name1": "refused", "name2": "waived", "name3": "not judged"},
             rows)
-        self.must("strict", ["--strict" in (object_at(calls.path(one)) or {})["words"]
+        self.must("strict", ["--strict" in (object_at(calls.path(one)) or {})["notes"][0]
                              for one in items[:2]] == [False, True])
         self.must("not called", not os.path.exists(calls.path(items[2])))
 
-    @alone
     def test_stopped(self) -> None:
         """A signal ends the calls that run, and no other is begun: what was judged is kept. What
         else ends them is told."""
@@ -246,19 +293,18 @@ class Judged(Case):
                       ignored.called == isinstance(reason, KeyboardInterrupt))
             self.must("objects", os.listdir(self.path("out")) == ["name0.json"])
 
-    @alone
     def test_stopped_when_others_are_over(self) -> None:
         """What was judged by then counts, though nobody had looked at it yet."""
         calls = Calls(self.typed, self.path("temporary"), self.path("out"), False)
         items = [self.item("accepted", f"name{at}") for at in range(3)]
-        wait = concurrent.futures.wait
 
-        def one_of_all(waiting: Any, *_: object) -> Any:
-            wait(waiting)
-            return [next(iter(waiting))], []
+        def stopped(*_: object) -> None:
+            while not all(os.path.exists(calls.path(item)) for item in items) or \
+                    len(ended_of(calls.running, SECONDS)) < len(calls.running):
+                time.sleep(0.01)
+            raise KeyboardInterrupt
 
-        with mock.patch.object(concurrent.futures, "wait", one_of_all), \
-                mock.patch("subtitles.qc.progress.Progress.show", side_effect=KeyboardInterrupt), \
+        with mock.patch("subtitles.qc.progress.Progress.show", stopped), \
                 mock.patch.object(batch, "ignore_signals"):
             rows = all_rows(calls, items, {}, 3)
         self.must("all", sorted(rows) == ["name0", "name1", "name2"], rows)
@@ -272,16 +318,15 @@ class Judged(Case):
         items.append(Item("five", None, "no pair"))
         program = program_at(self.typed.program_path)
         mores: list[dict[str, Any]] = [
-            {}, {}, {"program": {"sha256": "x", "version": program.version}}, {}, {"format": 2},
+            {}, {}, {"program": {**program._asdict(), "sha256": "1" * 64}}, {}, {"format": 2},
             {"found": None}, {"asked": None}]
         verdicts = ("refused", "not judged", "accepted", "waived", *["accepted"] * 3)
         for item, verdict, more in zip(items, verdicts, mores):
             assert item.asked
-            have = {**known(verdict), "asked": asked_words(item.asked), "found": found(item.asked),
-                    "program": {"sha256": program.sha256, "version": program.version},
-                    "reason": "why" if verdict == "not judged" else None, **more}
+            have = {**result(verdict), "asked": ASKED.made(item.asked), "found": found(item.asked),
+                    "program": program._asdict(), **more}
             self.write(f"out/{item.name}.json", json.dumps(have).encode())
-        self.write("out/five.json", json.dumps(known()).encode())
+        self.write("out/five.json", json.dumps(result()).encode())
         for text in (b"", b"{", b"[]"):
             self.write("out/eight.json", text)
             rows = kept_rows(calls, items)
@@ -325,7 +370,8 @@ class Batches(Case):
             rows = {}
             for item, verdict in reversed(list(zip(items, judged.split(", ")))):
                 with open(calls.path(item), "w", encoding="ascii") as file:
-                    json.dump(known(verdict, line=item.name, reason=item.name), file)
+                    json.dump(result(verdict, **{
+                        "reason" if verdict == "not judged" else "line": item.name}), file)
                 rows[item.name] = row(item.name, verdict, item.name)
             calls.is_stopped = is_stopped
             return rows
@@ -352,7 +398,8 @@ class Batches(Case):
                     line.split()[0] for line in lines[1:]] == ["one", "two", "three", "3"], lines)
                 self.must("at a time", self.seen[1:] == (["one", "two", "three"], {}, wanted))
                 have = json.loads(self.read("all"))
-                self.must("objects", ([one["line"] for one in have["pairs"]], have["status"]) == (
+                names = [one["line"] or one["reason"] for one in have["pairs"]]
+                self.must("objects", (names, have["status"]) == (
                     ["one", "two", "three"], status))
                 self.must("the folder went", not os.path.exists(self.seen[0].folder))
         for out, more in ((None, ""), (self.path("out"), "; --resume judges the others")):

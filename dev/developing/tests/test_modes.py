@@ -32,7 +32,7 @@ VALUES = {"--page": "801", "--every": "25", "--within": "1", "--option": "german
           "--jobs": "2", "--settled": "1", "--patience": "9", "--from": "00:00:01:00",
           "--to": "00:00:02:00", "--layout": "fit", "--pace": "9"}
 MANUAL = os.path.join(TOP, "docs", "manual", "qc.md")
-HIDDEN = {"--name", "--fitted", "--cut"}  # of calls that other ones make
+HIDDEN = {"--name", "--claimed", "--fitted", "--cut"}  # of calls that other ones make
 ASKING = {"--batch", "--watch", "--channel", "--collect", "--help", "-h", "--version"}
 
 
@@ -159,13 +159,13 @@ class Modes(Case):
         program = self.bench.program
         with mock.patch.dict(os.environ, {"PATH": self.folder}):
             for called, tool, beside in (
-                    ("tools/qc", "tools/cut", "./subttx"), ("qc", "./cut", "../subttx"),
-                    ("/some/tools/qc", "/some/tools/cut", "/some/subttx"),
-                    ("/some/subttx-qc", "/some/subttx-cut", "/some/subttx"),
-                    (self.path("subttx-qc"), "subttx-cut", "subttx")):
+                    ("tools/qc", "tools/text", "./subttx"), ("qc", "./text", "../subttx"),
+                    ("/some/tools/qc", "/some/tools/text", "/some/subttx"),
+                    ("/some/subttx-qc", "/some/subttx-text", "/some/subttx"),
+                    (self.path("subttx-qc"), "subttx-text", "subttx")):
                 typed = Typed(called, program)
-                self.must(called, (typed.tool("cut"), typed.beside()) == (tool, beside), (
-                    typed.tool("cut"), typed.beside()))
+                self.must(called, (typed.tool("text"), typed.beside()) == (tool, beside), (
+                    typed.tool("text"), typed.beside()))
 
 
 class Words(unittest.TestCase):

@@ -6,9 +6,8 @@ from typing import Callable, Sequence
 from developing.pes import pts_in
 from subtitles.core.programme import Subtitle
 from subtitles.core.times import TICKS, Between
-from subtitles.qc.clock import RECORDING, Clock
-from subtitles.qc.fitting import Found
-from subtitles.qc.moved import Piece, moves_told, pieces_of
+from subtitles.qc.clock import RECORDING, Clock, Found
+from subtitles.qc.moved import found_on, moves_told
 from subtitles.reading.moving import Stage, joined, part_inside, stages_of
 from subtitles.reading.packets import Change, Mark, Packets, Run
 from subtitles.reading.survey import survey
@@ -234,8 +233,8 @@ class Pieces(Case):
             found = Found(own[0].begin, own[-1].end, Clock(0, RECORDING))
             silent = Stage(Packets(OLD, [Run(0, 1, None, 0, "m", "")]), (0, 0))
             for several in (stages, [stages[0], silent, stages[1]]):
-                made = [(one.stage.pid, one.found.begin, one.found.end, tuple(one.between),
-                         one.came, one.goes) for one in pieces_of(found, several, own, 0)]
+                made = [(one.pid, one.begin, one.end, tuple(one.between), one.came, one.goes)
+                        for one in found_on(found, several, own, 0)]
                 self.must(f"{name}, {len(several)}", made == wanted, made)
             self.must(f"{name}: each", all(any(Between(*one[3]).has(each.begin) for one in made)
                                            for each in own))
@@ -249,8 +248,8 @@ class Pieces(Case):
                 (120, 99, NEW, "at 00:00:03:24, where both carry it", "00:00:04:20"),
                 (99, 99, NEW, "at 00:00:03:24, where both carry it", "00:00:03:24"),
                 (99, 120, None, None, None)):
-            one, other = (Piece(Stage(Packets(pid), (0, 9)), Found(begin, end, Clock(0, RECORDING)),
-                                Between(), None, to) for pid, begin, end, to in (
+            one, other = (Found(begin, end, Clock(0, RECORDING), stage=Stage(Packets(pid), (0, 9)),
+                                goes=to) for pid, begin, end, to in (
                 (OLD, 0, last, goes), (NEW, first, 200, None)))
             told = [(each.line.partition("0x111 ")[2], each.time)
                     for each in moves_told([one, other], "888")]

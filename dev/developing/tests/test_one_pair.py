@@ -12,21 +12,25 @@ from unittest import mock
 
 from subtitles.calls import index_page, overview
 from subtitles.calls.objects import Row
-from subtitles.calls.single import Files, Output, end, end_pair, judge_pair, name_of
-from subtitles.core.words import Stop
+from subtitles.calls.claim import clear
+from subtitles.calls.single import (
+    Files, Output, end, end_pair, judge_pair, name_of, refuse_outputs)
+from subtitles.qc.asked import Asked
 from subtitles.qc.checking import Answer
-from subtitles.qc.clock import FITTED, GIVEN, RECORDING, Clock
+from subtitles.qc.clock import FITTED, GIVEN, RECORDING, Clock, Found
 from subtitles.qc.made_with import program_at
 from subtitles.qc.names import Names
 from subtitles.qc.severity import Severity
 from subtitles.qc.typed import Typed
 from subtitles.qc.unclear import Unclear
-from subtitles.qc.verdict import Gap, Part, Verdict
+from subtitles.qc.part import Part
+from subtitles.qc.verdict import Gap, Verdict
 from subtitles.qc.warned import Warned
 from subtitles.reading.gaps import Place
 from .bench import Case, example
 from .judged import Heard
 from .parts import answer, asked_for, part_with
+from .test_tables_of_files import refused
 
 REFUSED = ["refused 72 Content frame 00:00:01:00 row 1 column 2", "refused 68 Parity frame "
            "00:00:02:00 packet 1", "2 faults"]
@@ -63,7 +67,7 @@ class Ends(Case):
             "! a note", said[2], "a hint", "accepted 10 frames 2 transmissions"] and
             "strange" in said[2] and said[2].startswith("! "), said)
         fitted = part_with(0, 9, 0)
-        fitted.clock = Clock(0, RECORDING)
+        fitted.found = Found(0, 9, Clock(0, RECORDING))
         said = self.said(self.verdict([fitted, part_with(10, 19, 0, number=2)]))
         self.must("parts", said[1:3] == [
             "part 1, from 00:00:00:00 to 00:00:00:09: accepted 10 frames 2 transmissions",
@@ -145,7 +149,7 @@ class Writes(Case):
             said.take(line)
         said.end(1)
         made = part_with(0, 9, 0, said, number)
-        made.stl_path = example("story.stl")
+        made.names.given = example("story.stl")
         return made
 
     def verdict(self, lines: Sequence[str] = REFUSED) -> Verdict:
@@ -153,27 +157,61 @@ class Writes(Case):
         made.parts = [self.part(1, lines)]
         return made
 
+    def refused(self, asked: Asked, **words: str) -> str:
+        """Why the outputs of a call for a pair are refused."""
+        known = argparse.Namespace(json=None, csv=None, junit=None)
+        vars(known).update(words)
+        return refused(lambda: refuse_outputs(known, asked, words.get("out"), "one"))
+
     def test_before(self) -> None:
-        """What an earlier call left goes; an input is never written."""
-        for name in ("one.json", "one.html", "one.txt", "one.1.html", "two.json", "one.cut.pes"):
+        """What an earlier call left goes; an input is never written, by whatever name."""
+        for name in ("one.json", "one.html", "one.txt", "one.1.html", "two.json"):
             self.write(f"out/{name}", b"")
-        files = self.files(self.verdict(), out=self.path("out"))
-        files.prepare()
+        clear(self.path("out"), "one")
         self.must("left", sorted(os.listdir(self.path("out"))) == ["two.json"])
+        os.symlink(example("story.stl"), self.path("link"))
+        asked = self.verdict().asked
         for name in ("json", "csv", "junit"):
-            with self.assertRaises(Stop):
-                self.files(self.verdict(), **{name: self.path("one.pes")}).prepare()
-            with self.assertRaises(Stop):
-                self.files(self.verdict(), **{name: example("story.stl")}).prepare()
-        self.files(self.verdict(), json=self.path("new.json")).prepare()
-        for name in ("one.cut.pes", "one.recording.pes", "one.json", "one.2.txt"):
-            for at in ("stl", "recording"):
-                verdict, path = self.verdict(), self.write(f"out/{name}", b"input")
-                setattr(verdict.asked, at, path)
-                with self.assertRaises(Stop):
-                    self.files(verdict, out=self.path("out")).prepare()
-                self.must(f"{name} as {at}", self.read(f"out/{name}") == b"input")
+            for path in (self.path("one.pes"), example("story.stl"), self.path("link")):
+                self.must(f"{name} {path}", "is an input too" in self.refused(asked, **{name: path}))
+        self.must("none", not self.refused(asked, json=self.path("new.json")))
+        for name in ("one.cut.pes", "one.recording.pes", "one.json", "one.2.txt", ".one.lock"):
+            for at in ("stl", "recording", "severity"):
+                asked, path = self.verdict().asked, self.write(f"out/{name}", b"")
+                setattr(asked, at, path)
+                self.must(f"{name} as {at}", "is an input too" in self.refused(
+                    asked, out=self.path("out")))
                 os.unlink(path)
+
+    def test_what_is_no_result(self) -> None:
+        """It is refused, whatever it is; a link is taken away, and not what it leads to."""
+        asked, out = self.verdict().asked, self.path("out")
+        page = b'<!DOCTYPE html>\n<html lang="en"><head><meta charset="UTF-8"><title>'
+        rows: list[tuple[str, bytes, bool]] = [
+            ("one.json", b'{\n "format": 3,\n "verdict": "accepted",', True),
+            ("one.json", b'{"format": 2, "verdict": "refused"', True), ("one.json", b"{}", False),
+            ("one.txt", b"5 faults\n", True), ("one.txt", b"refused by me", False),
+            ("one.txt", b"refused 68 Parity frame 00:00:01:00 packet 9\n1 faults\n", True),
+            ("one.1.txt", b"a note", False), ("one.12.html", b"<p>a page</p>", False),
+            ("one.html", page + b"accepted 5 frames &#8211; a", True), ("one.json", b"", True),
+            ("one.html", page + b"Notes", False), (".one.lock", b"", True),
+            (".one.lock", b"1", False), ("one.recording.ts", b"", False)]
+        for name, data, is_own in rows:
+            path = self.write(f"out/{name}", data)
+            told = self.refused(asked, out=out)
+            self.must(f"{name} {data!r}", bool(told) != is_own and (is_own or told.startswith(
+                f"{path} is there, and is no result")) and self.read(f"out/{name}") == data, told)
+            os.unlink(path)
+            os.symlink(self.path("one.pes"), path)
+            self.must(f"{name}: a link", not self.refused(asked, out=out))
+            os.unlink(path)
+            for make in (os.mkdir, os.mkfifo):
+                make(path)
+                self.must(f"{name}: {make}", "no result" in self.refused(asked, out=out))
+                os.rmdir(path) if make is os.mkdir else os.unlink(path)
+        self.write("out/one.json", rows[0][1])
+        self.write("out/one.recording.ts", b"any")
+        self.must("beside a result", not self.refused(asked, out=out))
 
     def test_sums(self) -> None:
         """They are needed for a folder, an object and lines of CSV, not for a CI."""
@@ -237,7 +275,8 @@ class Writes(Case):
         for is_object in (True, False):
             files = self.files(self.verdict())
             path = self.path(f"{is_object}.json")
-            self.must("failed", not files.try_to_put(Output(path, fail, is_object)))
+            self.must("failed", not files.try_to_put(
+                Output(path, fail, is_object=is_object)))
             self.must(f"{is_object}", os.path.exists(path) == is_object and
                       "wrong" in files.verdict.failed[0], files.verdict.failed)
         self.must("why", "wrong" in json.loads(self.read("True.json"))["reason"])
@@ -267,6 +306,8 @@ class Writes(Case):
                     self.verdict, self.speech = verdict, Heard()
                     self.speech.commands.append("typed")
 
+                recording = None
+
                 def judge(self) -> None:
                     raise raising
 
@@ -287,7 +328,7 @@ class Writes(Case):
     def test_hints(self) -> None:
         """Parts may have the same: each stands there once, in their order."""
         verdict = self.verdict()
-        pair: Any = argparse.Namespace(verdict=verdict, judge=lambda: None,
+        pair: Any = argparse.Namespace(verdict=verdict, judge=lambda: None, recording=None,
                                        speech=argparse.Namespace(commands=[]))
         with mock.patch("subtitles.calls.single.hints_of", return_value=["b", "a", "b"]):
             judge_pair(pair, self.files(verdict))
@@ -319,13 +360,12 @@ class Overview(Case):
         names = Names("one", self.folder, self.path("out"))
         verdict = Verdict(asked_for(example("story.stl"), "one.pes"), Severity(None), "now")
         verdict.parts = [part_with(0, 9, 7), part_with(50, 99, 9, answer(REFUSED), 2),
-                         part_with(120, 149, None, number=3)]
+                         part_with(120, 149, 7, number=3)]
         for delay, words in ((None, "origin 7, given"), (0, "origin 7, given"),
                              (2, "origin 7, given, all 2 frames late"),
                              (-1, "origin 7, given, all 1 frame early")):
-            verdict.parts[0].clock = Clock(7, GIVEN, delay)
+            verdict.parts[0].found = Found(0, 9, Clock(7, GIVEN, delay))
             self.must(words, overview.clock_of(verdict.parts[0]) == words)
-        self.must("no clock", overview.clock_of(verdict.parts[2]) == "")
         table = overview.table(verdict, names)
         for number in (1, 2, 3):
             link = f'<a href="one.{number}.html">'
@@ -336,7 +376,7 @@ class Overview(Case):
         self.must("between", "between 00:00:00:09 and 00:00:02:00; between 00:00:03:24 and "
                   "00:00:04:20." in overview.between(verdict.parts))
         for part in verdict.parts:
-            part.stl_path = example("story.stl")
+            part.names.given = example("story.stl")
         verdict.gaps = [gap(True), gap(False)]
         verdict.warnings = [Warned("kind", "strange")]
         box = overview.box(verdict, "the <line>")

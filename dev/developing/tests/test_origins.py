@@ -1,4 +1,4 @@
-"""tools/origin, in process: the origin of transmissions that are known, what is said of them."""
+"""The origin of transmissions that are known, in process, and what is said of them."""
 from __future__ import annotations
 
 import random
@@ -8,13 +8,9 @@ from developing.pes import MARK, data_field, packet, pes_packet, pts_in, teletex
 from developing.stl import boxed, gsi_block, subtitle_blocks
 from subtitles.core.times import CLOCK, TICKS, time_of
 from subtitles.reading.finding import Agreement, Origin, Sought, find
-from subtitles.reading.streams import survey_of
-from .at_random import in_process
-from .bench import (
-    Case, alone, example, example_bytes, moved, packets, random_subtitles, script)
-from .parts import CLOSING, HEADER, row
+from .bench import Case, example, example_bytes, moved, packets, random_subtitles
+from .parts import CLOSING, HEADER, asked_for, packets_told, row
 
-TOOL = script("origin")
 FIRST, COUNT = 1_000_000, 12  # the frame of the first subtitle; how many there are
 Times = Sequence[tuple[int, int, bytes]]  # subtitles: when they come, when they go, their texts
 
@@ -41,10 +37,9 @@ class Origins(Case):
 
     def find(self, stl: str, pes: Sequence[bytes], *words: str) -> Origin:
         """What is found of a subtitle file and PES packets."""
-        path = self.write("one.pes", b"".join(pes))
-        asked = TOOL.read_words([*words, "--", stl, path])
-        return find(Sought(*(getattr(asked, name) for name in Sought._fields)),
-                    survey_of(path, asked.page, None, 188, self.bench.program))
+        asked = asked_for(stl, "one.pes", *words)
+        return find(Sought(stl, "one.pes", asked.page, asked.option, asked.origin, asked.within,
+                           asked.breaks, asked.pes), packets_told(self, b"".join(pes), asked.page))
 
     def test_of_the_examples(self) -> None:
         """Of each origin, also where PTS begin again."""
@@ -110,7 +105,7 @@ class Origins(Case):
         for some, printed in ((pes[2:3], [f"--origin {200 * TICKS}"]), (pes[1:2], [])):
             found = self.find(one, some)
             self.must("one sending", found.printed == printed, found)
-        line = f"there is no header of page 100 in {self.path('one.pes')}; other subtitle pages: 888"
+        line = f"there is no header of page 100 in one.pes; other subtitle pages: 888"
         found = self.find(one, pes, "--page", "100")
         self.must(line, (found.status, found.told, found.parts) == (1, [line], []), found)
         alike = self.stl(each(30, 100, 50, b"Again"))
@@ -248,18 +243,6 @@ class Origins(Case):
         found = self.find(self.own(), self.sent(0), "--breaks", "1")
         self.must("none", found.told[0] == "no break found, where --breaks 1 is said", found.told)
 
-    @alone
-    def test_prints(self) -> None:
-        """All lines of all parts, each told one behind the name of the tool."""
-        pes = self.sent(0, [0] * 6 + [1600] * 6)
-        found = self.find(self.own(), pes, "--breaks", "1")
-        words = ["origin", "-p", self.bench.program, "--breaks", "1", self.own(),
-                 self.write("one.pes", b"".join(pes))]
-        status, out, told = in_process(TOOL.main, words)
-        self.must("all", (status, out.splitlines(), told.splitlines()) == (
-            0, found.printed, [f"origin: {line}" for line in found.told]) and
-                  (len(found.printed), len(found.told)) == (2, 4), (out, told))
-
     def test_what_is_sent(self) -> None:
         """What has no PTS, marks, another page: each is told, with how many they are."""
         good = self.sent(0)[:3]
@@ -283,15 +266,6 @@ class Origins(Case):
                     "there is no header of page 888 in a.pes; other subtitle pages: none"])]
         for name, pes, is_page, told in rows:
             found = self.find(self.own(), pes)
-            lines = [line.replace(self.path("one.pes"), "a.pes") for line in found.told]
+            lines = [line.replace("one.pes", "a.pes") for line in found.told]
             self.must(name, all(line.startswith(begin) for line, begin in zip(lines, told)) and
                       len(lines) >= len(told) and (len(lines) > len(told)) == is_page, lines)
-
-    def test_reads_standard_input(self) -> None:
-        """A transport stream, as it reads it from a file."""
-        words = "--pid", "0x101", "-p", self.bench.program
-        name, data = example("recording.ts"), example_bytes("recording.ts")
-        done = self.tool("origin", example("story.stl"), name, *words)
-        self.must("a file", (done.status, done.out) == (0, b"--origin 5000000000\n"), done)
-        self.must("standard input", self.tool("origin", example("story.stl"), "-", *words,
-                                              data=data) == done)

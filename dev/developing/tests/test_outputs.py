@@ -18,8 +18,8 @@ from xml.etree import ElementTree
 
 from subtitles.calls import collecting
 from subtitles.calls.junit import TestCase, text_of as junit_of
-from subtitles.calls.machine import asked_words, file_words, gap_words, part_words
-from subtitles.calls.objects import Row, modified
+from subtitles.calls.members import ASKED, GAP, JUDGED_PART, PartOf
+from subtitles.calls.objects import Row, modified, unjudged
 from subtitles.calls.single import now
 from subtitles.calls.table import cell_words, of_part, said, text_of as csv_of
 from subtitles.core.words import shown
@@ -29,30 +29,28 @@ from subtitles.qc.verdict import Gap
 from subtitles.reading.gaps import Place
 from .bench import Case, alone
 from .parts import asked_for, part_with
+from .results import ASKED as PLAIN, FAULT, result
 
-ASKED = {"stl": "one.stl", "recording": "one.ts"}
 NO_CELL = {"code": "00", "character": ""}
 
 
 def fault(number: int, **more: Any) -> dict[str, Any]:
     """A fault of an object; what is not named does not apply."""
-    return {"subtitle": None, "cause": None, "due": None, "held": None, "number": number,
-            "part": 1, "line": f"refused {number}", **more}
+    return {**FAULT, "number": number, "line": f"refused {number}", **more}
 
 
 def subtitle(number: int, begin: str, end: str) -> dict[str, object]:
-    return {"number": number, "begin": begin, "end": end}
+    return {"position": number, "number": number, "begin": begin, "end": end}
 
 
 CAUSE = {"cause": "late", "frames": 3, "subtitle": subtitle(9, "3", "4"), "text": "due",
          "sent": "other", "words": "late by 3"}
 OBJECTS: list[dict[str, Any]] = [
-    {"asked": ASKED, "verdict": "refused", "status": 1, "line": "refused 72", "faults": [
+    result("refused", line="refused 72", faults=[
         fault(72, subtitle=subtitle(7, "1", "2"), cause=CAUSE,
-              due={"code": "41", "character": "A"}, held=NO_CELL), fault(38, pes=5)]},
-    {"name": "two", "verdict": "not judged", "status": 2, "reason": "no file\nat all"},
-    {"asked": {"stl": "three.stl", "recording": None}, "verdict": "accepted", "status": 0,
-     "line": "accepted", "faults": None}]
+              due={"code": "41", "character": "A"}, held=NO_CELL), fault(38, pes=5)]),
+    unjudged("two", "no file\nat all"),
+    result("accepted", asked={**PLAIN, "stl": "three.stl", "recording": None}, line="accepted")]
 
 
 class Tables(unittest.TestCase):
@@ -184,7 +182,7 @@ class Members(unittest.TestCase):
         place = Place(5, 9, 3, scrambled=2, missing=4, mark=7)
         for is_judged in (True, False):
             with self.subTest(is_judged=is_judged):
-                self.assertEqual(gap_words(Gap("00:00:01:00", None, "3 lost", place, is_judged)), {
+                self.assertEqual(GAP.made(Gap("00:00:01:00", None, "3 lost", place, is_judged)), {
                     "after": "00:00:01:00", "before": None, "after_pts": 5, "before_pts": 9,
                     "pes": 7, "ts_packets": 3, "scrambled": 2, "missing": 4,
                     "judged": is_judged})
@@ -202,31 +200,31 @@ class Members(unittest.TestCase):
                  "pace": None,
                  "from": None, "to": "10:00:00:00"}
         for asked in (own, dataclasses.replace(own, is_loss_allowed=False, is_strict=True)):
-            self.assertEqual(asked_words(asked), {**words, "strict": asked.is_strict,
+            self.assertEqual(ASKED.made(asked), {**words, "strict": asked.is_strict,
                                                   "allow_lost": not asked.is_strict})
         drawn = dataclasses.replace(own, passed_on={
             "--layout": "auto", "--open": "", "--to": "10:00:00:00"},
             found_layout="fit")
-        self.assertEqual(asked_words(drawn), {**words, "layout": "auto", "open": True})
+        self.assertEqual(ASKED.made(drawn), {**words, "layout": "auto", "open": True})
 
     def test_part(self) -> None:
         """What is judged of a recording, and by which clock; what was judged of a feed has a name
         where it is kept."""
         part = part_with(25, 49, 7, number=2)
-        bare = part_words(part, False)
+        bare = JUDGED_PART.made(PartOf(part, False))
         self.assertEqual([bare[name] for name in (
             "part", "origin", "from", "to", "verdict", "frames", "transmissions", "faults", "pid",
             "packet_size", "pes", "judged")], [
             2, 7, "00:00:01:00", "00:00:01:24", "accepted", 10, 2, 0, None, None, None, None])
         self.assertEqual(bare["clock"], {"origin": 7, "source": GIVEN, "delay_frames": None})
-        part.stream, part.pes = (0x101, 204), (3, 9)
-        part.judged, part.clock = File("a.cut.pes", 5, "sum"), None
+        recording: Any = SimpleNamespace(stream=lambda: (0x101, 204))
+        part.recording, part.pes = recording, (3, 9)
+        part.judged, part.found = File("a.cut.pes", 5, "sum"), None
         for is_kept, name in ((True, "a.cut.pes"), (False, None)):
-            words = part_words(part, is_kept)
+            words = JUDGED_PART.made(PartOf(part, is_kept))
             self.assertEqual([words[name] for name in ("pid", "packet_size", "pes", "judged",
                                                        "clock")],
                              [0x101, 204, "3-9", {"name": name, "size": 5, "sha256": "sum"}, None])
-        self.assertIsNone(file_words(None))
 
     def test_columns_of_parts(self) -> None:
         """What is judged, of the only part, or of that with a fault; of several a pair has none."""

@@ -31,6 +31,8 @@ class Row(NamedTuple):
     each: int = 1
     every: int = 250
     pauses: Pauses = ()
+    closer: int = 0
+    is_stream: bool = True
 
 
 def holed(frames: Sequence[int], *holes: tuple[int, int]) -> list[int]:
@@ -47,10 +49,16 @@ def repeated(steps: Sequence[int], times: int) -> list[int]:
     return found
 
 
-def regular(name: str, *rows: Sequence[int], frames: int = 16, each: int = 1, every: int = 250,
-            pauses: Pauses = ()) -> Row:
-    """Of which a pace is told."""
-    return Row(name, rows, REGULAR, frames, each, every, pauses)
+def regular(name: str, *rows: Sequence[int], frames: int = 2, each: int = 1, every: int = 250,
+            pauses: Pauses = (), closer: int = 0) -> Row:
+    """Of which a pace is told: where two PES packets are lost the third comes a frame later."""
+    return Row(name, rows, REGULAR, frames, each, every, pauses, closer)
+
+
+def of_pes(name: str, *rows: Sequence[int], frames: int = 1, every: int = 250, pauses: Pauses = (),
+           closer: int = 0) -> Row:
+    """The same of a file of PES packets: the one behind one that is missing comes later."""
+    return Row(name, rows, REGULAR, frames, 1, every, pauses, closer, False)
 
 
 TABLE = [
@@ -58,29 +66,34 @@ TABLE = [
     Row("one too few", [range(LEAST)], TOO_FEW), regular("just enough", range(LEAST + 1)),
     regular("as a list", list(range(LEAST + 1))), regular("late in the day", range(9000, 9500)),
     regular("a row for each mark", *[range(50 * at, 50 * at + 40) for at in range(9)]),
-    Row("short rows", [range(50 * at, 50 * at + 9) for at in range(99)], TOO_FEW),
-    # By the TS packets of a PES packet: 17 behind it, and two PES packets at least.
-    *(regular(f"{each} TS packets", FOUR, frames=frames, each=each)
-      for each, frames in enumerate((16, 8, 5, 4, 3, 2, 2, 2, 2), 1)),
+    regular("short rows", *[range(50 * at, 50 * at + 4) for at in range(99)]),
+    Row("rows of three", [range(50 * at, 50 * at + 3) for at in range(99)], TOO_FEW),
+    # Whatever its TS packets are: two PES packets at least are lost.
+    *(regular(f"{each} TS packets", FOUR, each=each) for each in range(1, 10)),
     # By the distance.
-    regular("each fifth frame", repeated([5], 200), frames=84),
+    regular("each fifth frame", repeated([5], 200), frames=14),
     regular("each fifth frame, large", repeated([5], 200), frames=14, each=9),
-    regular("once a second", repeated([25], 200), frames=224, each=2),
-    Row("once a second, small", [repeated([25], 200)], BY_EVERY),
-    regular("once a second, small, and another bound", repeated([25], 200), frames=424, every=500),
-    regular("up to the bound", repeated([25], 200), frames=424, every=425),
-    Row("over the bound", [repeated([25], 200)], BY_EVERY, every=424),
-    regular("two in a frame", repeated([0, 1], 200), frames=7),
-    Row("two in a frame, large", [repeated([0, 1], 200)], IRREGULAR, each=9),
+    regular("once a second", repeated([25], 200), frames=74, each=2),
+    regular("up to the bound", repeated([25], 200), frames=74, every=75),
+    Row("over the bound", [repeated([25], 200)], BY_EVERY, every=74),
+    regular("four in three frames", repeated([1, 1, 0, 1], 100), frames=1),
+    Row("two in a frame", [repeated([0, 1], 200)], IRREGULAR),
+    Row("three in two frames", [repeated([0, 1, 1, 0, 1], 200)], IRREGULAR),
     Row("all in one frame", [[5] * 400], IRREGULAR),
     # Jitter of a frame, changes between repeats, bursts at changes.
-    regular("jitter", repeated([1, 1, 2, 0, 1], 100), frames=15),
-    regular("jitter, large", repeated([1, 1, 2, 1, 1], 100), frames=2, each=9),
-    Row("more jitter, large", [repeated([1, 1, 3, 1, 0], 100)], IRREGULAR, each=9),
-    regular("changes between", repeated([25, 25, 7, 25, 25, 25, 12], 50), frames=175, each=2),
+    regular("jitter", repeated([1, 1, 2, 1, 1], 100)),
+    Row("more jitter", [repeated([1, 1, 2, 0, 1], 100)], IRREGULAR),
+    Row("a frame of three", [repeated([1, 1, 3, 1, 0], 100)], IRREGULAR, each=9),
+    regular("changes between", repeated([25, 25, 7, 25, 25, 25, 12], 50), frames=56, each=2),
+    regular("one change", [*repeated([25], 50), *range(1258, 4000, 25)], frames=57),
     Row("bursts", [repeated([1] * 20 + [100], 50)], IRREGULAR),
     Row("bursts of two TS packets", [repeated([1] * 10 + [60], 50)], IRREGULAR, each=2),
-    regular("few bursts", repeated([*[25] * 300, 1, 1, 1], 1), frames=224, each=2),
+    # As close as any three are, or where that is too close as all but a few.
+    regular("few bursts", repeated([*[25] * 300, 1, 1, 1], 1), frames=74, each=2, closer=3),
+    regular("one burst of two", repeated([*[25] * 300, 1, 1, *[25] * 100], 1), frames=26),
+    regular("one of three", repeated([*[5] * 300, 1, 1, 1, *[5] * 100], 1), frames=10, closer=3),
+    regular("one of five", repeated([*[25] * 100, *[1] * 5, *[25] * 100], 1), frames=26, closer=3),
+    Row("one of six", [repeated([*[25] * 100, *[1] * 6, *[25] * 100], 1)], IRREGULAR),
     # Holes, which are few: the first, a middle one, the last; long ones; as many as may be.
     *(regular(f"a hole of {count} behind {first}", holed(LONG, (first, count)))
       for first in (0, 2500, 4700) for count in (1, 15, 16, 17, 32, 160, 249)),
@@ -89,7 +102,7 @@ TABLE = [
     Row("four of 400", [holed(FOUR, (50, 20), (150, 20), (250, 20), (300, 20))], IRREGULAR),
     regular("five of 6000", holed(range(6000), *((1000 * at, 20) for at in range(5)))),
     Row("six of 6000", [holed(range(6000), *((900 * at, 20) for at in range(6)))], IRREGULAR),
-    regular("as many as a pace allows", holed(FOUR, *((9 * at, 1) for at in range(40))), frames=16),
+    regular("as many as a pace allows", holed(FOUR, *((9 * at, 1) for at in range(40)))),
     # Pauses of the programme, in which nothing is sent.
     *(Row(f"a pause to {end}", [holed(LONG, (999, 100))], PAUSED, pauses=[(999, end)])
       for end in (1095, 1100, 1105)),
@@ -127,6 +140,23 @@ TABLE = [
       for count, every in ((299, 300), (250, 1500), (1499, 1500), (1999, 9000))),
     *(regular(f"{count + 1} frames of {every}, which are none", holed(LONG, (999, count)),
               every=every) for count, every in ((300, 300), (249, 1500), (1500, 1500), (16, 9000))),
+    # Of a file of PES packets.
+    of_pes("a file", FOUR), of_pes("a file, one missing", holed(FOUR, (50, 1))),
+    of_pes("three missing", holed(FOUR, (50, 1), (150, 1), (250, 1))),
+    of_pes("four missing", holed(FOUR, (50, 1), (150, 1), (250, 1), (300, 1)), frames=2,
+           closer=386),
+    of_pes("a file, each fifth frame", repeated([5], 200), frames=5),
+    of_pes("a file, up to the bound", repeated([25], 200), frames=25, every=26),
+    Row("a file, over the bound", [repeated([25], 200)], BY_EVERY, every=25, is_stream=False),
+    of_pes("a file with changes", repeated([25, 25, 12, 25], 60), frames=25),
+    of_pes("a file with a change", repeated([*[25] * 99, 12, 13, *[25] * 99], 1), frames=25,
+           closer=1),
+    Row("a file, two in a frame", [[at // 2 for at in range(600)]], REGULAR, 1, closer=598,
+        is_stream=False),
+    Row("a file, all in one frame", [[5] * 400], IRREGULAR, is_stream=False),
+    Row("a file with a pause", [holed(LONG, (999, 100))], PAUSED, pauses=[(999, 1100)],
+        is_stream=False),
+    Row("a file, too few", [range(LEAST)], TOO_FEW, is_stream=False),
 ]
 
 
@@ -136,10 +166,11 @@ class Told(Case):
     def test_pace(self) -> None:
         """The whole table."""
         for row in TABLE:
-            pace = pace_of(row.rows, row.each, row.every, row.pauses)
-            self.must(row.name, (pace.kind, pace.frames) == (row.kind, row.frames), pace)
-        self.must("words", pace_of([holed(LONG, (9, 20))], 2, 250) == Pace(REGULAR, 1, 9) and
-                  pace_of([holed(LONG, (9, 300))], 1, 999, [(0, 9)]) == Pace(PAUSED, 301, 17))
+            pace = pace_of(row.rows, row.each, row.every, row.pauses, row.is_stream)
+            self.must(row.name, (pace.kind, pace.frames, pace.closer) == (
+                row.kind, row.frames, row.closer), pace)
+        self.must("words", pace_of([holed(LONG, (9, 20))], 2, 250) == Pace(REGULAR, 1, 3) and
+                  pace_of([holed(LONG, (9, 300))], 1, 999, [(0, 9)]) == Pace(PAUSED, 301, 3))
         self.must("few", FEW == 3 and LEAST == 100)
 
     def test_rows(self) -> None:
@@ -208,8 +239,8 @@ def alone(made: list[Packet], first: int, count: int) -> list[Packet]:
 
 UNSEEN = "a hole of 15, or of 16, 32, 48 .. TS packets of PID 0x101 alone may be unseen: "
 IRREGULAR_NOTE = UNSEEN + "its PES packets come at irregular distances"
-PACE_LINE = "a PES packet comes within 1 frame of the one before, and in 17 at best where 16 TS " \
-    "packets are lost: --pace 16"
+PACE_LINE = "a PES packet comes within 1 frame of the one before, and in 3 at best where 16 TS " \
+    "packets are lost: --pace 2"
 
 
 class Holes(Case):
@@ -237,15 +268,15 @@ class Holes(Case):
         made = self.multiplexed(filled(sendings(self, programme(self, TIMES))))
         whole = self.judge(made)
         self.is_told("whole", whole, "accepted")
-        self.must("said", whole.lines("pace: ") == [PACE_LINE] and whole.parts("pace") == [(16,)]
-                  and " --complete --pace 16 --all" in whole.verdict.commands[-1] and
+        self.must("said", whole.lines("pace: ") == [PACE_LINE] and whole.parts("pace") == [(2,)]
+                  and " --complete --pace 2 --all" in whole.verdict.commands[-1] and
                   whole.result["asked"]["pace"] is None, whole.said)
-        first, lost, silent = 660, "45 Lost pes 660", "79 Silent frame 10:00:27:00"
-        for count in (1, 14, 15, 16, 17):
-            faults = [*([lost] if count % 16 else []), *([silent] if count > 15 else [])]
+        first, lost, silent = 660, "45 Lost pes 660", "79 Silent frame 10:00:26:11"
+        for count in (1, 2, 14, 15, 16, 17):
+            faults = [*([lost] if count % 16 else []), *([silent] if count > 1 else [])]
             self.is_told(f"{count}", self.judge(alone(made, first, count)), "refused", *faults)
         for count in (1, 15, 16, 17):
-            faults = [*([lost] if count % 16 else []), *([silent] if count > 15 else [])]
+            faults = [*([lost] if count % 16 else []), *([silent] if count > 1 else [])]
             self.is_told(f"all of {count}", self.judge(without(made, first, count)), "refused",
                          *faults)
         for cut, count in ((alone, 32), (alone, 160), (without, 160)):
@@ -255,7 +286,7 @@ class Holes(Case):
                           line.startswith("refused 45") for line in told.listed), told.listed)
         told = self.judge(alone(made, first, 16))
         self.must("how long", told.verdict.sentence ==
-                  "Refused: at 10:00:27:00 no PES packet has come for as many frames as --pace "
+                  "Refused: at 10:00:26:11 no PES packet has come for as many frames as --pace "
                   "allows: none for 16 frames from 10:00:26:10 on; where nothing was sent then, "
                   "--pace none does not ask for it.", told.verdict.sentence)
 
@@ -263,10 +294,10 @@ class Holes(Case):
         """None, one that a hole of 16 keeps, one that it does not, and where losses are allowed;
         of a feed, and of PES packets."""
         made = self.multiplexed(filled(sendings(self, programme(self, TIMES))))
-        holed_then, silent = alone(made, 660, 16), "79 Silent frame 10:00:27:00"
+        holed_then, silent = alone(made, 660, 16), "79 Silent frame 10:00:26:11"
         for words, word, pace, lines in (
                 ("--pace=none", "accepted", None, []), ("--pace=17", "accepted", 17, []),
-                ("--pace=16", "refused", 16, []), ("--allow-lost", "waived", 16, [PACE_LINE])):
+                ("--pace=16", "refused", 16, []), ("--allow-lost", "waived", 2, [PACE_LINE])):
             told = self.judge(holed_then, words)
             self.must(words, told.word == word and told.lines("pace: ") == lines and
                       told.parts("pace") == [(pace,)], told.said)
@@ -278,7 +309,8 @@ class Holes(Case):
         sent = filled(sendings(self, self.path("one.stl")))
         self.write("one.pes", joined(sent[:660] + sent[676:]))
         self.is_told("PES packets", judged(self, self.path("one.stl"), self.path("one.pes"),
-                                           "--origin", "0"), "refused", silent)
+                                           "--origin", "0"), "refused",
+                     "79 Silent frame 10:00:26:10")
 
     def test_irregular(self) -> None:
         """A second of them at each edge, then none: a hole of 16 is not seen, and that is said;
@@ -335,7 +367,7 @@ class Holes(Case):
         for name, cut in (("alone", alone), ("all", without)):
             told = self.judge(cut(made, 1000, 48_000))
             self.must(name, told.word == "refused" and {
-                "refused 79 Silent frame 10:00:40:15", "refused 73 Gap frame 10:00:48:00"} <=
+                "refused 79 Silent frame 10:00:40:01", "refused 73 Gap frame 10:00:48:00"} <=
                 {*told.listed}, told.listed)
 
     def test_inserters_that_pause(self) -> None:

@@ -4,13 +4,13 @@ from __future__ import annotations
 import argparse
 
 from subtitles.calls.batch import words_of
-from subtitles.calls.machine import asked_words
+from subtitles.calls.members import ASKED
 from subtitles.calls.main import parser_of
 from subtitles.calls.objects import found, is_current
 from subtitles.calls.pairs import pairs_at
 from subtitles.core.words import Stop
 from subtitles.qc.asked import asked_of
-from subtitles.qc.made_with import Program
+from subtitles.qc.made_with import MadeWith
 from .bench import Case
 from .parts import asked_for
 
@@ -33,8 +33,8 @@ class Words(Case):
             given = ["--pace", str(pace)] if pace else []
             self.must(word, asked.check_words() == ["--complete", *given] and asked.pace == pace
                       and asked_of(self.options(*words_of(asked))) == asked)
-            self.must(f"{word}: result", asked_words(asked)["pace"] == str(pace or "none"))
-        self.must("left out", asked_words(asked_for("one.stl", "one.ts"))["pace"] is None)
+            self.must(f"{word}: result", ASKED.made(asked)["pace"] == str(pace or "none"))
+        self.must("left out", ASKED.made(asked_for("one.stl", "one.ts"))["pace"] is None)
         for word in ("0", "", "-1", "x", "None", "2160001", "9" * 5000, "1.5", "\u0661"):
             with self.assertRaises(Stop, msg=word):
                 asked_for("one.stl", "one.ts", "--pace", word)
@@ -52,11 +52,11 @@ class Words(Case):
 
     def test_goes_on(self) -> None:
         """What was judged by another pace, or by one that was measured, is judged again."""
-        program = Program("1", "0" * 64, None)
+        program = MadeWith("1", "0" * 64, None)
         asked = [asked_for(self.path("one.stl"), self.path("one.ts"), *words)
                  for words in ((), ("--pace", "none"), ("--pace", "16"))]
         for one in asked:
-            words = asked_words(one)
+            words = ASKED.made(one)
             known = {"asked": words, "found": found(one),
                      "program": {"sha256": program.sha256, "version": program.version}}
             self.must(f"{one.pace}", [is_current(known, other, program) for other in asked] ==

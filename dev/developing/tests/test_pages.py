@@ -25,7 +25,7 @@ TABLE = """| Option | Of | Is | Default |
 """
 HELP = """Cuts.
 
-    tools/cut PES [--from TIME]
+    tools/text PES [--from TIME]
               [-o OUT]
 
 It looks at `--from` first.

@@ -6,8 +6,8 @@ from typing import Any
 
 from subtitles.core.national import ENGLISH
 from subtitles.preview.drawing import (
-    LOW_ROWS, Span, cut_of, differences, frames_of, is_boxed, picture, row_drawing,
-    spans_of, text_of_code, words_of)
+    LOW_ROWS, CellStyle, cut_of, differences, frames_of, is_boxed, picture, row_drawing,
+    spans_of, text_of_code)
 from subtitles.reading.receiver import BLANK_PAGE, HIT, OLD, Rows
 
 SUBTITLE_HEADER, PLAIN_HEADER = bytes([8, 8, 0, 8, 0, 8, 1, 0]), bytes([8, 8, 0, 8, 0, 0, 1, 0])
@@ -21,13 +21,13 @@ def page(**rows: bytes) -> Rows:
 class Attributes(unittest.TestCase):
     """How cells look, by the spacing attributes before them (EN 300 706, 12.2)."""
 
-    def look(self, row: bytes, number: int = 20, is_boxed_page: bool = True) -> Span:
+    def look(self, row: bytes, number: int = 20, is_boxed_page: bool = True) -> CellStyle:
         """The look of the last cell of a row."""
         return spans_of(row, number, 0, is_boxed_page)[-1]
 
     def test_last(self) -> None:
         """White on black outside of a box at first; each attribute by itself, and what ends it."""
-        plain = Span("A", 7, 0, False, False, False)
+        plain = CellStyle("A", 7, 0, False, False, False)
         rows: list[tuple[bytes, dict[str, Any]]] = [
                 (b"A", {}), (b"\x0b\x0bA", {"boxed": True}), (b"\x0bA", {}), (b"\x0b \x0bA", {}),
                 (b"\x0b\x0b\x0a\x0aA", {}), (b"\x0b\x0b\x0aA", {"boxed": True}),
@@ -89,9 +89,9 @@ class Rowed(unittest.TestCase):
     def test_picture(self) -> None:
         """Rows in use, none that is below one of double height; letters in boxes and outside, frames
         and the place."""
-        rows = page(r20=b"\x0b\x0b\x0dtall", r21=b"\x0b\x0bhidden", r22=b"\x0b\x0b\1seen <")
-        drawn = picture(rows, SUBTITLE_HEADER, "label", (19, 23), [(22, 3), (22, 4)], (20, 5))
-        self.assertEqual(("tall" in drawn, "hidden" in drawn, "seen &lt;</text>" in drawn),
+        rows = page(r20=b"\x0b\x0b\x0dtall", r21=b"\x0b\x0bcovered", r22=b"\x0b\x0b\1seen <")
+        drawn = picture(rows, SUBTITLE_HEADER, (19, 23), [(22, 3), (22, 4)], (20, 5))
+        self.assertEqual(("tall" in drawn, "covered" in drawn, "seen &lt;</text>" in drawn),
                          (True, False, True))
         for part, count in (('class="n"', 2), ('<rect class="p0" x="12" width="468" height="30"/>',
                             1), ('<g transform="translate(0 315)"><rect class="p0" x="12"', 1),
@@ -101,9 +101,9 @@ class Rowed(unittest.TestCase):
                             ("M66 279l-6 -9h12z", 1)):
             self.assertEqual(drawn.count(part), count, part)
         for header, count in ((PLAIN_HEADER, 3), (SUBTITLE_HEADER, 1)):
-            self.assertEqual(picture(rows, header, "", (18, 20)).count('class="n"'), count)
+            self.assertEqual(picture(rows, header, (18, 20)).count('class="n"'), count)
         for last, is_there in ((21, False), (22, True)):
-            self.assertEqual("seen" in picture(rows, PLAIN_HEADER, "", (18, last)), is_there, last)
+            self.assertEqual("seen" in picture(rows, PLAIN_HEADER, (18, last)), is_there, last)
         marked = row_drawing(bytes([OLD] * 3 + [0x41, HIT, HIT]).ljust(40), 20, 0, True)[0]
         self.assertIn('<rect class="old" x="1" y="1" width="34" height="13"/>', marked)
         self.assertIn('<rect class="hit" x="49" y="1" width="22" height="13"/>', marked)
@@ -140,7 +140,7 @@ class Rowed(unittest.TestCase):
             self.assertEqual(differences(one, other), wanted)
 
     def test_words(self) -> None:
-        """What a cell holds, and a page for people who hear it."""
+        """What a cell holds."""
         names = dict(enumerate("black red green yellow blue magenta cyan white flash steady".split()))
         names |= {0x0A: "end box", 0x0B: "start box", 0x0C: "normal height", 0x0D: "double height",
                   0x18: "conceal", 0x1C: "black background", 0x1D: "new background"}
@@ -152,6 +152,3 @@ class Rowed(unittest.TestCase):
                             (0x3C, "<code>&lt;</code>")):
             self.assertEqual(text_of_code(byte, 0), words)
         self.assertEqual(text_of_code(0x5B, 4), "<code>\u00c4</code>")
-        for rows, words in ((BLANK_PAGE, "blank"), (page(r20=b"\x0b\x0b"), "blank"),
-                            (page(r20=b"\x0b\x0bone  two", r22=b"three"), "one two / three")):
-            self.assertEqual(words_of(rows, 0), words)

@@ -8,7 +8,7 @@ from developing.pes import MARK, pes_packet
 from subtitles.core.times import CLOCK, EARLY, TICKS, time_of
 from subtitles.core.words import counted
 from subtitles.qc.clock import FITTED, FITTED_LATER, GIVEN, RECORDING
-from subtitles.qc.steps import origin_in
+from subtitles.qc.clocks import origin_in
 from subtitles.reading.finding import Sought
 from .bench import Case, example
 from .parts import packets_told

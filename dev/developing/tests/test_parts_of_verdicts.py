@@ -11,13 +11,14 @@ from subtitles.core.times import CLOCK, TICKS
 from subtitles.core.told import ENDS_READING, STL_FAULTS
 from subtitles.qc.checking import Answer
 from subtitles.qc.counted import NO_END
-from subtitles.qc.clock import FITTED, FITTED_LATER, GIVEN, RECORDING, Clock
+from subtitles.qc.clock import FITTED, FITTED_LATER, GIVEN, RECORDING, Clock, Found
 from subtitles.qc.delays import MOVED, Spread, spread_of
 from subtitles.qc.ending import is_enough
-from subtitles.qc.judging import Judging
+from subtitles.qc.judging import measure
 from subtitles.qc.missing import gap_of, gaps_of
 from subtitles.qc.severity import ERROR, OTHERS, REFUSALS, WARNING, Severity
-from subtitles.qc.verdict import Gap, Part, Verdict
+from subtitles.qc.part import Part
+from subtitles.qc.verdict import Gap, Verdict
 from subtitles.qc.within import FIXED, OF_ENDS, OF_FRAMES, OF_PACKETS, Trying
 from subtitles.reading.finding import Agreement
 from subtitles.reading.gaps import Place
@@ -140,19 +141,17 @@ class Verdicts(Case):
     @alone
     def test_promises_nothing_of_what_is_lost(self) -> None:
         """Where a part lacks something, at a first place or a second, nothing is tried."""
-        steps: Any = None
-        judging = Judging(verdict_of([]), steps, 1, [], False)
+        pair: Any = SimpleNamespace(asked=asked_for("one.stl", "one.pes"), is_summed=False)
         inside, outside = (Place(TICKS * at, TICKS * (at + 1), missing=9) for at in (150, 250))
         tried: Any = SimpleNamespace(least=lambda numbers, causes: 2)
         for places, wanted in (([], 2), ([inside], None), ([outside], 2),
                                ([outside, inside], None)):
             part = part_with(100, 199, 0, answer(REFUSED))
             part.pes = 0, 9
-            recording = SimpleNamespace(places=lambda: places, is_feed=False)
-            one: Any = SimpleNamespace(found=SimpleNamespace(origin=0), stl_path="one.stl",
-                                       piece=None, recording=recording)
+            recording: Any = SimpleNamespace(places=lambda: places, is_feed=False)
+            part.recording = recording
             with mock.patch("subtitles.qc.judging.Trying", lambda *_: tried):
-                judging.measure(part, one)
+                measure(pair, part, 1)
             self.must(f"{places}", part.accepted_within == wanted, part.accepted_within)
 
     def test_accepted_within(self) -> None:
@@ -177,7 +176,7 @@ class Verdicts(Case):
                 ((GIVEN, GIVEN, GIVEN), None)):
             parts = [part_with(0, 9, 0) for _ in sources]
             for part, source in zip(parts, sources):
-                part.clock = Clock(0, source)
+                part.found = Found(0, 9, Clock(0, source))
             found = verdict_of(parts).fitted
             self.must(f"{sources}", found == wanted, found)
 

@@ -6,13 +6,12 @@ import os
 from unittest import mock
 
 from subtitles.calls.batch import words_of
-from subtitles.calls.machine import asked_words
 from subtitles.core.built import TOP
 from subtitles.core.words import Words
 from subtitles.qc import options
 from subtitles.qc.asked import add_pair_options, asked_with
 from subtitles.qc.names import again
-from subtitles.qc.options import PASSED_ON, PassedOn, passed_words
+from subtitles.qc.options import PASSED_ON, PassedOn, passed_members, passed_words
 from subtitles.qc.typed import Typed
 from .bench import Case
 
@@ -41,7 +40,7 @@ class PassedOnTo(Case):
                         words).replace("a b", "'a b'").split())
                 once_more = parser.parse_args([word for word in words_of(asked)[:-3]])
                 self.must(f"{line}: a call", asked_with("one.stl", "one.pes", once_more) == asked)
-                known = asked_words(asked)
+                known = passed_members(asked.passed_on)
                 self.must(f"{line}: result", (known["first"], known["second"], known["third_one"])
                           == (asked.passed_on.get("--first"), "--second" in words,
                               asked.passed_on.get("--third-one")), known)

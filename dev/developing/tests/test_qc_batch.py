@@ -2,7 +2,6 @@
 from __future__ import annotations
 
 import csv
-import importlib
 import io
 import json
 import os
@@ -10,11 +9,10 @@ import xml.etree.ElementTree as tree
 from typing import Any
 
 from subtitles.calls.claim import claimed_for_batch
-from subtitles.core.built import TOP, read
 from .bench import Case, Done, example, example_bytes
+from .results import second_reader, wrong_by_schema
 from .test_qc import ACCEPTED, RECORDING, STORY, lines_of, qc
 
-SCHEMA = os.path.join(TOP, "docs", "verdict.schema.json")
 FIVE = example("five-faults.pes")
 
 
@@ -23,17 +21,11 @@ def loaded(case: Case, name: str) -> Any:
 
 
 def agrees(case: Case, verdict: Any, name: str = "the schema") -> None:
-    """Tests an object against the schema, where there is what does that."""
-    try:
-        jsonschema = importlib.import_module("jsonschema")  # of which mypy need not know types
-    except ImportError:
-        over = "docs/verdict.schema.json, since there is no python3-jsonschema"
-        if over not in case.bench.over:
-            case.bench.over.append(over)
-        return
-    schema = json.loads(read(SCHEMA) or "")
-    jsonschema.Draft7Validator.check_schema(schema)
-    wrong = [error.message for error in jsonschema.Draft7Validator(schema).iter_errors(verdict)]
+    """Tests an object against the schema, by one reader of it, and by two where there is another."""
+    over = "a second reader of docs/verdict.schema.json, since there is no python3-jsonschema"
+    if second_reader() is None and over not in case.bench.over:
+        case.bench.over.append(over)
+    wrong = wrong_by_schema(verdict)
     case.must(name, not wrong, wrong)
 
 

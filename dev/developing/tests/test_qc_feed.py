@@ -180,27 +180,6 @@ class Feeds(Case):
         self.must("at once", running.ends() == 1, (running.lines, running.told))
         running.close()
 
-    def test_takes_what_comes_back_later(self) -> None:
-        """The PCR is behind the last TCO before `extract` has given back what came before."""
-        self.program_but("extract*", f"""for last; do :; done; mkfifo late
-            {{ head -c 1000; until [ -e go ]; do sleep 0.1; done; cat; }} <late >"$last" &
-            '{self.bench.program}' extract "$2" "$3" -- /dev/stdin late
-            status=$?; wait; exit $status""")
-        stl, pes = subtitles(self)
-        running = Running(self, stl, "-", "--every", str(EVERY), "--no-complete", "--origin",
-                          str(ORIGIN), "-p", "./program")
-        maker = Maker([(TELETEXT_PID, PRIVATE, teletext_descriptor())], TELETEXT_PID)
-        maker.put_tables()
-        for one in pes:
-            maker.put_pcr(pts_in(one) - 9000)
-            maker.put(TELETEXT_PID, one)
-        maker.put_pcr(ORIGIN + (LAST + EVERY + 5) * TICKS)
-        running.put(maker.data)
-        self.must("not before all is back", not running.waits_for("+ ", 1.0), running.lines)
-        self.write("go", b"")
-        self.must("accepted", running.ends() == 0, (running.lines, running.told))
-        running.close()
-
     def test_ends_after_the_last_part(self) -> None:
         """A programme with a break, of a feed that goes on behind it."""
         stl, pes = subtitles(self)

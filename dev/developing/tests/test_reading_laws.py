@@ -55,7 +55,7 @@ def packets_of(sendings: Sequence[Sending], every: int = 0, chance: random.Rando
 
 def found(shown: Sequence[Shown], packets: Packets, within: int = 0, known: int | None = None,
           breaks: int = 0, run: int | None = None) -> Origin:
-    """What tools/origin finds."""
+    """What is found."""
     asked = Sought("", "", origin=known, breaks=breaks)
     origin, bases = Origin(), bases_of(shown, packets, within)
     runs = runs_of(bases)

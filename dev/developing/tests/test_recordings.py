@@ -10,14 +10,13 @@ import time
 
 from developing.pes import pes_packet
 from subtitles.core.times import CLOCK, TICKS
-from subtitles.qc.recording import Recording
-from subtitles.reading.gaps import SECOND
+from subtitles.qc.recording import silent_in
+from subtitles.reading.gaps import SECOND, marks_told, why_refused
 from subtitles.reading.languages import names_of
 from subtitles.reading.packets import Mark, Packets, Run
 from developing.multiplex import Multiplex
 from subtitles.reading.survey import Survey, survey
 from .bench import SECONDS, Case, packets
-from .judged import Heard
 from .parts import HEADER, row
 
 PID = 0x101
@@ -54,31 +53,36 @@ class Written(Case):
     def test_places(self) -> None:
         """Where something is missing: twenty lines at most, the last of which counts the others."""
         for count in (1, 20, 21, 25):
-            one, made = Recording.__new__(Recording), Packets(PID)
+            made = Packets(PID)
             for number in range(0, 2 * count, 2):
                 made.runs += [Run(number, 1, SECOND * number, 0, "h", ""),
                               Run(number + 1, 1, None, 0, "m", "")]
                 made.marks.append(Mark(number + 1, SECOND * number, 1, 0))
-            one.packets, one.survey, one.speech = made, Survey(), Heard()
-            one.survey.size = 188
-            lines = one.say_read()
+            lines = marks_told(made)
             more = [f"and at {count - 19} more places"] * (count > 20)
             self.must(f"{count}", len(lines) == min(count, 20) and [
                 line for line in lines if not line.endswith("1 TS packet lost")] == more, lines)
 
     def test_why_nothing(self) -> None:
-        """Of each PID that has TS packets and no PES packet, in the order of the PIDs."""
-        one = Recording.__new__(Recording)
-        one.is_feed, one.survey = True, Survey()
-        one.survey.by_pid = {
-            pid: Packets(pid, packets=packets, scrambled=scrambled, refusal=refusal)
-            for pid, packets, scrambled, refusal in (
-                (5, 3, 3, 0), (4, 9, 0, 31), (3, 0, 0, 0), (2, 7, 0, 31), (1, 1, 0, 0))}
-        one.survey.by_pid[4].runs.append(Run(0, 1, 0, 0, "", ""))
-        self.must("words", one.why_nothing() == [
-            "PID 0x1 has no whole PES packet in 1 TS packet",
-            "PID 0x2 has no PES packets of private_stream_1, as Teletext has",
-            "PID 0x5 is scrambled: all 3 TS packets of it"], one.why_nothing())
+        """Why nothing is given of a PID, or nothing more; those of which nothing is are told in
+        the order of the PIDs."""
+        known = Survey()
+        for pid, packets, scrambled, refusal, count, words in (
+                (6, 3, 2, 0, 0, "PID 0x6 has no whole PES packet in 3 TS packets"),
+                (5, 3, 3, 0, 0, "PID 0x5 is scrambled: all 3 TS packets of it"),
+                (4, 9, 0, 31, 1, "PID 0x4 has other than PES packets of private_stream_1 from PES "
+                                 "packet 1 on: refused 31 Start pes 1"),
+                (7, 9, 1, 32, 2, "PID 0x7 has other than PES packets of 184 to 1656 bytes from PES "
+                                 "packet 2 on: refused 32 Length pes 2"),
+                (3, 0, 0, 0, 0, "PID 0x3 carries nothing"), (8, 9, 0, 0, 1, None),
+                (2, 7, 0, 31, 0, "PID 0x2 has no PES packets of private_stream_1, as Teletext has"),
+                (1, 1, 0, 0, 0, "PID 0x1 has no whole PES packet in 1 TS packet")):
+            one = Packets(pid, packets=packets, scrambled=scrambled, refusal=refusal)
+            one.runs += [Run(0, count, 0, 0, "", "")] * bool(count)
+            known.by_pid[pid] = one
+            self.must(f"{pid:#x}", why_refused(one) == words, why_refused(one))
+        silent = [one.pid for one in silent_in(known)]
+        self.must("silent", silent == [1, 2, 5, 6], silent)
 
     def test_languages(self) -> None:
         """EBU Tech 3264, appendix 3: those that national options are for, and others."""

@@ -53,8 +53,9 @@ class Recordings(Case):
                  "refused 72 Content frame 20:15:07:00 row 22 column 16")):
             whole = in_stream((TELETEXT_PID, data))
             lists = set[tuple[str, ...]]()
+            piped = in_pipe(self, whole)
             for recording in (self.write("one.pes", data), self.write("one.ts", whole),
-                              in_pipe(self, data), in_pipe(self, whole)):
+                              in_pipe(self, data), piped):
                 found = judged(self, STORY, recording, "--every", often, "--origin", "0")
                 lists.add(tuple(found.listed))
                 self.must(f"{name} {recording}", found.said[-1] == last and
@@ -64,8 +65,10 @@ class Recordings(Case):
                           [(0, "20:15:00:00", "20:15:09:00")], found.result["parts"])
                 if "feed" in recording:
                     every = f" --every {often}" * (often != "250")
-                    wanted = f"{self.bench.program} check {STORY} one.recording.pes --pes I-J" \
-                        f"{every} --complete --all"
+                    kept = "one.recording.ts --pid 0x101" if recording == piped else \
+                        "one.recording.pes"
+                    wanted = f"{self.bench.program} check {STORY} {kept} --pes I-J{every} " \
+                        "--complete --all"
                     self.must(f"{name} {recording}: command", [
                         re.sub(r"\d+-\d+", "I-J", one, 1) for one in found.lines("+ ")] == [wanted],
                         found.said)
@@ -231,7 +234,7 @@ class Recordings(Case):
             ([], path, ["html", "json", "txt"]),
             (["--keep"], path, ["html", "json", "recording.pes", "txt"]),
             ([], in_pipe(self, data), ["html", "json", "txt"]),
-            (["--keep"], in_pipe(self, data), ["html", "json", "recording.pes", "txt"])]
+            (["--keep"], in_pipe(self, data), ["html", "json", "recording.ts", "txt"])]
         for words, recording, kept in rows:
             out = self.path(f"out{len(os.listdir(self.folder))}")
             found = judged(self, STORY, recording, "-o", out, "--origin", "0", *words)

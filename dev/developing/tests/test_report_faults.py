@@ -6,7 +6,7 @@ import unittest
 from types import SimpleNamespace
 from typing import Any, Sequence
 
-from subtitles.core.programme import Programme, Subtitle
+from subtitles.core.programme import SubtitleList, Subtitle
 from subtitles.core.times import time_of
 from subtitles.preview.fault_list import FaultList
 from subtitles.preview.faults import Entry, Faults
@@ -20,7 +20,7 @@ from .parts import fault_of
 # Three subtitles, of which the second has another number than its place.
 SUBTITLES = [Subtitle(1, 1, 25, 50, 20, 2, b"one"), Subtitle(2, 7, 75, 100, 20, 2, b"two"),
              Subtitle(3, 3, 100, 125, 20, 2, b"three")]
-PROGRAMME = Programme(SUBTITLES)
+PROGRAMME = SubtitleList(SUBTITLES)
 
 
 def at(frame: int) -> str:

@@ -6,7 +6,7 @@ from types import SimpleNamespace
 from typing import Any, Sequence
 
 from developing.stl import gsi_block, tti_block
-from subtitles.core.programme import Programme, Subtitle
+from subtitles.core.programme import SubtitleList, Subtitle
 from subtitles.core.spans import Spans
 from subtitles.preview import blocks
 from subtitles.preview.figures import DIFFERENT, NOT_KNOWN, NOTHING, SAME, Figures
@@ -15,7 +15,7 @@ from subtitles.preview.strips import Strip, Strips, runs_of
 from subtitles.qc.subtitle_file import SubtitleFile
 from subtitles.reading.receiver import TUNED, State
 from .bench import Case
-from .parts import fault_of
+from .parts import fault_of, part_with
 from .test_report_faults import SUBTITLES, at, faults
 
 COUNT = 60
@@ -172,84 +172,51 @@ class Looks(unittest.TestCase):
 class Pictured(unittest.TestCase):
     """The subtitles that have pictures."""
 
-    def entries(self, kinds: dict[int, str], lines: Sequence[str] = (), size: int = 10,
-                window: tuple[int, int] = (0, 10 ** 6), broken: int | None = None,
+    def entries(self, kinds: dict[int, str], lines: Sequence[str] = (),
                 subtitles: Sequence[Subtitle] = MANY) -> Entries:
-        """Sixty subtitles, some not as due by their numbers; each picture has so many bytes."""
+        """Subtitles, some not as due by their numbers."""
         looked = [looked_at(one, 0, 0) for one in subtitles]
         by_frame = {look.frame: kinds.get(one.index, SAME)
                     for one, look in zip(subtitles, looked)}
-        figures: Any = SimpleNamespace(
-            kind_at=by_frame.__getitem__, at=lambda frame: f"<large {frame}>" + "x" * size,
-            small_at=lambda frame: f"<small {frame}>" + "x" * size)
+        figures: Any = SimpleNamespace(kind_at=by_frame.__getitem__,
+                                       at=lambda frame: f"<pictures {frame}>")
         held: Any = SimpleNamespace(last_before=lambda pes: 10 * pes,
                                     sendings_between=lambda first, end: len(range(first, end, 25)))
         made = faults(*lines)
-        made.programme = Programme(subtitles)
-        return Entries(figures, held, list(subtitles), looked, window, made, broken)
+        made.programme = SubtitleList(subtitles)
+        return Entries(figures, held, list(subtitles), looked, made)
 
-    def test_need(self) -> None:
-        """Those by the broken place come first, then those that differ, then the others."""
-        made = self.entries({50: DIFFERENT, 55: DIFFERENT})
-        order = [one.index for one in made.by_need(MANY, 3000)]
-        near = list(range(19, 43))
-        self.assertEqual(order[:len(near)], near)
-        self.assertEqual(order[len(near):len(near) + 2], [50, 55])
-        self.assertEqual(order[len(near) + 2:], [one for one in range(1, 61)
-                                                 if one not in (50, 55)])
-        self.assertEqual([one.index for one in made.by_need(MANY, 0)][:12],
-                         list(range(1, 13)))
-        self.assertEqual([one.index for one in made.by_need(MANY, None)][:3], [50, 55, 1])
-        self.assertEqual(list(self.entries({1: NOT_KNOWN}).by_need(MANY[:1], 0)), [])
-
-    def test_most(self) -> None:
-        """Of those that differ the first 500."""
+    def test_drawn(self) -> None:
+        """Those that are not as due, the first 500 of them; in order, and counted by kind."""
+        made = self.entries({50: DIFFERENT, 7: NOTHING, 9: NOT_KNOWN})
+        self.assertEqual((list(made.drawn), made.odd, made.unknown), ([7, 50], {7, 50}, {9}))
+        self.assertEqual([number in made.listed(MANY[:20]) for number in ("s7", "s50", "s9", "s1")],
+                         [True, False, False, False])
+        self.assertEqual(made.counted(MANY), "57 as due, 1 another page than the one that is due, "
+                         "1 no page yet, 1 not known, since the PES file ends, or can't be "
+                         "followed, before")
         many = [Subtitle(number + 1, 1, 100 * number, 100 * number + 50, 20, 2, b"")
                 for number in range(503)]
         made = self.entries({number: DIFFERENT for number in range(2, 504)}, subtitles=many)
-        self.assertEqual(sorted(made.drawn), list(range(1, 502)))
-
-    def test_room(self) -> None:
-        """As many as there is room for, to the last byte; others are counted."""
-        whole = self.entries({}, size=200_000)
-        self.assertEqual(sorted(whole.drawn), list(range(1, len(whole.drawn) + 1)))
-        used = [len(words.encode()) for words in whole.drawn.values()]
-        self.assertLessEqual(sum(used), 10_000_000)
-        self.assertGreater(sum(used) + used[-1] + 9, 10_000_000)
-        first = len(used) + 1
-        said = whole.left_out(MANY[first - 1:])
-        self.assertIn(f"Subtitles {first} to 60, {61 - first} of them: no pictures here. What is "
-                      f"held at the first frame: as due. <code>--from {at(100 * first - 100)} --to "
-                      f"{at(5900)}</code> draws them.", said)
-        self.assertIn("Subtitle 7: no pictures", whole.left_out(MANY[6:7]))
-        unknown = self.entries({4: NOT_KNOWN})
-        self.assertNotIn("draws them", unknown.left_out(MANY[3:4]))
-        self.assertIn("1 as due, 1 not known", unknown.left_out(MANY[3:5]))
-
-    def test_window(self) -> None:
-        """Of the frames that are asked for alone."""
-        for window, wanted in (((0, 0), [1]), ((49, 100), [1, 2]), ((50, 99), []),
-                               ((50, 100), [2]), ((149, 149), [2]), ((150, 250), [3])):
-            self.assertEqual(sorted(self.entries({}, window=window).drawn), wanted, window)
+        self.assertEqual((sorted(made.drawn), len(made.odd)), (list(range(2, 502)), 502))
 
     def test_words(self) -> None:
         """When it is due, how often it is sent, and the first fault in its time."""
-        made = self.entries({2: DIFFERENT}, ["refused 68 Parity frame @149", "refused 69 Row frame "
-                                             "@320", "refused 38 Unit pes 42"])
+        made = self.entries({2: DIFFERENT, 3: DIFFERENT}, [
+            "refused 68 Parity frame @149", "refused 69 Row frame @320", "refused 38 Unit pes 42"])
         self.assertEqual(made.entry_frames, [149, 320, 420])
         self.assertIn('<a class="bad" href="#e1"><b>fault 1</b></a>', made.drawn[2])
-        self.assertNotIn("fault", made.drawn[1])
+        self.assertNotIn("fault", made.drawn[3])
         self.assertIn("Subtitle 2 <code>00:00:04:00</code> to <code>00:00:06:00</code>",
                       made.drawn[2])
         self.assertIn("row 20, justification 2; sent 2 times while it is due, whole after 0 frames",
                       made.drawn[2])
-        self.assertIn('title="subtitle 1 to 00:00:02:00, row 20, sent 2 times, whole after 0 '
-                      'frames"', made.drawn[1])
         for begin, end, index in ((0, 149, None), (0, 150, 1), (149, 150, 1), (150, 320, None),
                                   (150, 321, 2), (400, 999, 3), (421, 999, None)):
             found = made.entry_in(begin, end)
             self.assertEqual(found and found.index, index, (begin, end))
-        two = self.entries({}, ["refused 68 Parity frame @149", "refused 69 Row frame @149"])
+        two = self.entries({2: DIFFERENT}, ["refused 68 Parity frame @149",
+                                            "refused 69 Row frame @149"])
         self.assertIn('href="#e1"><b>fault 1</b>', two.drawn[2])
         made.faults.spans = Spans([(520, 530)])
         self.assertEqual(made.faults_in(MANY[5]), ' <b class="bad">faults while it is due</b>')
@@ -370,7 +337,7 @@ class Blocks(Case):
         for count, left in ((3, 0), (200, 0), (220, 0), (221, 1), (500, 280)):
             lines = [f"line {at}" for at in range(count)]
             report: Any = SimpleNamespace(
-                part=SimpleNamespace(stl_path="one.stl"), asked=SimpleNamespace(is_open=False),
+                part=part_with(1, 2, 0), asked=SimpleNamespace(is_open=False),
                 program=SimpleNamespace(show=lambda path: lines))
             said = blocks.printed(report)
             words = f"Lines 201 to {200 + left}, {left} of them" if left else ""

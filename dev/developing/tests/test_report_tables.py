@@ -3,6 +3,7 @@ from __future__ import annotations
 
 import collections
 import itertools
+import random
 import unittest
 from types import SimpleNamespace
 from typing import Any
@@ -11,8 +12,10 @@ from subtitles.core.spans import Spans
 from subtitles.core.teletext import CODE_WORDS
 from subtitles.core.times import CLOCK, TICKS
 from subtitles.preview.page import navigation, pages_table, reading_words
+from subtitles.preview.packet_words import packet_lines
 from subtitles.preview.places import between, between_words, passed_words, units_table
 from subtitles.preview.program import Unit
+from .bench import Case
 from .parts import fault_of
 
 ORIGIN = CLOCK - 20 * TICKS
@@ -77,7 +80,7 @@ class Parts(unittest.TestCase):
             self.assertEqual(text.count(part), 1, (part, text))
 
 
-class Places(unittest.TestCase):
+class Places(Case):
     """Places in a transmission."""
 
     def test_passed_over(self) -> None:
@@ -112,17 +115,35 @@ class Places(unittest.TestCase):
                 " it:", " them:"))
             self.assertEqual((between_words(held, 5), between_words(held, 9)), (few, ""))
 
+    def test_packet(self) -> None:
+        """What the bytes of a packet say is what `packet` prints: of each packet number, of headers
+        with all control bits, of one wrong bit and of two in each byte."""
+        chance, bits = random.Random(5), [1 << bit for bit in range(8)]
+        coded = [[CODE_WORDS[chance.randrange(16)] for _ in range(10)] for _ in range(4)]
+        heads = [[CODE_WORDS[number << 3 & 15 | number % 8], CODE_WORDS[number >> 1], *coded[0][2:]]
+                 for number in range(32)]
+        header = [CODE_WORDS[0]] * 2
+        heads += [[*header, *some[2:]] for some in coded]
+        heads += [[*header, *[CODE_WORDS[15]] * 8]]
+        for at in range(10):
+            for wrong in (chance.choice(bits), sum(chance.sample(bits, 2))):
+                heads.append([*header, *coded[1][2:]])
+                heads[-1][at] ^= wrong
+        for head in heads:
+            data = bytes(head) + chance.randbytes(32)
+            lines = self.program("packet", data.hex())[1]
+            self.must(data.hex(), packet_lines(data) == lines, (packet_lines(data), lines))
+
     def test_packets(self) -> None:
         """All packets of a frame, or the one that is named."""
-        data = bytes([CODE_WORDS[0], CODE_WORDS[2]]) + b"\x20" * 40
+        data = bytes([CODE_WORDS[0], CODE_WORDS[2]]) + b"\xbcb>" + b"\x20" * 37
         units = [Unit(f"place {at}", data) for at in range(3)]
         for known, broken, has_all, count, named in (
                 ([4], None, True, 3, 0), ([4, 5], 1, True, 3, 1), ([4], 1, False, 1, 1),
                 ([4], 7, False, 0, 0), ([4], None, False, 0, 0)):
-            program: Any = SimpleNamespace(units=lambda some: units if some == known else [],
-                                           packet=lambda digits: ["a <b>", "c"])
+            program: Any = SimpleNamespace(units=lambda some: units if some == known else [])
             text = units_table(program, known, 30, broken, has_all)
-            self.assertEqual((text.count("<pre>a &lt;b&gt;\nc\n"), text.count("named by the refusal"),
+            self.assertEqual((text.count("<pre>magazine 8 packet 4\ntext |&lt;b&gt; "), text.count("named by the refusal"),
                               text.count('class="named"'), "no Teletext packet" in text,
                               "<details open=" in text), (count, named, named, count == 0,
                                                           broken is not None))

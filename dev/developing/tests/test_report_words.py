@@ -10,7 +10,7 @@ from typing import Any
 
 from developing.stl import gsi_block, tti_block
 from subtitles.core.manual import Meaning
-from subtitles.core.times import ALL_DAY, FRAMES_OF_A_DAY
+from subtitles.core.times import FRAMES_OF_A_DAY
 from subtitles.preview import page, program as asking
 from subtitles.preview.counts import (
     meaning_of_verdict, means_and_do, numbers_table, place_words)
@@ -19,13 +19,13 @@ from subtitles.preview.page import lost_places, subtitles_words, verdict_box
 from subtitles.preview.places import pes_words
 from subtitles.preview.report import Report, Subject, end_of_knowledge
 from subtitles.preview.scope import BETWEEN, DELAY, ROW_0, Scope
-from subtitles.qc.clock import GIVEN, START, Clock
-from subtitles.qc.made_with import Program
+from subtitles.qc.clock import GIVEN, START
+from subtitles.qc.made_with import MadeWith
 from subtitles.qc.midnight import AT_MIDNIGHT
 from subtitles.qc.subtitle_file import SubtitleFile
 from subtitles.qc.sums import File
 from .bench import Case, example
-from .parts import asked_for, fault_of
+from .parts import asked_for, fault_of, part_with
 from .test_report_faults import SUBTITLES, faults
 
 
@@ -95,26 +95,24 @@ class Box(unittest.TestCase):
                              (count, is_unfolded))
 
     def test_subtitles(self) -> None:
-        """How many there are, how many with pictures, and which are not as due."""
+        """How many there are, how they are held, and which are not as due, with pictures."""
         for count, drawn, within, odd, links, words in (
-                (1, 1, 0, 0, 0, "1 subtitle, pictures at the first frame of each."),
-                (2, 2, 0, 1, 1, "2 subtitles, pictures at the first frame of each."),
-                (1200, 1100, 0, 100, 100,
-                 "1,200 subtitles, pictures at the first frame of 1,100 of them."),
-                (1200, 1, 0, 101, 1, "1,200 subtitles, pictures at the first frame of 1 of them."),
-                (200, 200, 1, 101, 100,
-                 "200 subtitles, pictures at the frame after which each is whole."),
-                (2000, 1001, 1, 0, 0, "2,000 subtitles, 1,001 of them with pictures at the frame "
-                 "after which each is whole.")):
+                (1, 0, 0, 0, 0, "1 subtitle. What a receiver holds at the first frame of each"),
+                (1200, 100, 0, 100, 100,
+                 "1,200 subtitles. What a receiver holds at the first frame of each"),
+                (1200, 101, 0, 101, 100,
+                 "1,200 subtitles. What a receiver holds at the first frame of each"),
+                (2000, 500, 1, 501, 100, "2,000 subtitles. What a receiver holds at the frame "
+                 "after which each is whole")):
             looks: Any = SimpleNamespace(entries=SimpleNamespace(
                 drawn=range(1, drawn + 1), odd=set(range(1, odd + 1)),
                 counted=lambda subtitles: "all as due"))
             said = subtitles_words(self.report(within=within, subtitles=[1] * count), looks)
-            with self.subTest(words):
-                self.assertIn(f"<p>{words} What a receiver holds then: all as due.", said)
+            with self.subTest(drawn=drawn):
+                self.assertIn(f"<p>{words}: all as due.", said)
                 self.assertEqual(said.count('href="#s'), links)
-                self.assertEqual(" ..." in said, min(odd, drawn) > 100)
-        looks.entries.drawn = []
+                self.assertEqual((" ..." in said, "The first 500 of them have pictures." in said),
+                                 (drawn > 100, odd > drawn))
         self.assertIn("no subtitle", subtitles_words(self.report(subtitles=[]), looks))
 
     def test_numbers(self) -> None:
@@ -175,7 +173,7 @@ class Reports(Case):
         """What is made from files: each with its size and its sum, words by lines, the prover's."""
         file = File("a<b", 1234, "f" * 64)
         for proved, words in (("x & y", "x &amp; y</code>"), (None, "no file PROVED says")):
-            text = page.made_from([("STL", file), ("PES", file)], "a date", Program(
+            text = page.made_from([("STL", file), ("PES", file)], "a date", MadeWith(
                 "1.2.3", "", proved), [("One", "a\nb"), ("Two", "<")])
             self.must(words, text.count("<td>1,234 bytes</td>") == 2 and words in text and
                       text.count("a&lt;b</td>") == 2 and text.count("f" * 64) == 2, text)
@@ -242,18 +240,19 @@ class Reports(Case):
             (["--within", "2", "--no-complete"], ["--within 2"])]
         for words, more in rows:
             asked = asked_for("a.stl", "a.pes", "--every", "25", *words)
-            part = SimpleNamespace(origin=5, pes=(1, 2), pes_name="1-2", between=ALL_DAY)
-            made: Any = SimpleNamespace(judged=SimpleNamespace(asked=asked), part=part,
-                                        window=(0, 10))
+            part = part_with(0, 10, 5)
+            part.pes = 1, 2
+            made: Any = SimpleNamespace(judged=SimpleNamespace(asked=asked), part=part)
             complete = [] if "--no-complete" in words else ["--complete"]
             self.must(f"{words}", Subject.options(made) == " ".join([
                 "--page 888 --every 25 --origin 5 --option english", *complete, *more,
-                "--pes 1-2 --from 00:00:00:00 --to 00:00:00:10"]), Subject.options(made))
+                "--pes 1-2"]), Subject.options(made))
         file = File("a.ts", 9, "0" * 64)
         for count, source, is_fitted, clock in ((3, GIVEN, True, None), (1, START, False, "words")):
             subject = SimpleNamespace(parts=count, judged=SimpleNamespace(
                 recording=file, fitted=["1"] * is_fitted))
-            part = SimpleNamespace(clock=Clock(7, source), number=2, stl_path=example("story.stl"))
+            part = part_with(0, 10, 7, number=2, source=source)
+            part.names.given = example("story.stl")
             made = SimpleNamespace(is_refused_file=False, part=part, subject=subject, subtitles=[
                 SimpleNamespace(begin=25, end=30), SimpleNamespace(begin=40, end=50)])
             found = Report.scope(made)

@@ -6,7 +6,6 @@ prints the table anew, and `.. NUMBER` the page of a number, to compare.
 """
 from __future__ import annotations
 
-import argparse
 import contextlib
 import hashlib
 import os
@@ -18,18 +17,18 @@ import tempfile
 import unittest
 import xml.etree.ElementTree as tree
 from typing import Callable, Iterator
+from unittest import mock
 
 from developing.pes import DATA, UNIT, mirrored, packet, pts_bytes, pts_in, whole_in
 from developing.stl import boxed, gsi_block, subtitle_blocks, tti_block
-from subtitles.core.manual import Meaning
 from subtitles.core.stl import NEW_LINE, USER_DATA
 from subtitles.core.teletext import page_name
 from subtitles.core.times import CLOCK, FRAMES_OF_A_DAY, TICKS
-from subtitles.preview.alone import report_of
-from subtitles.preview.page import report_page
-from subtitles.preview.program import NoReport
+from subtitles.preview import report
 from .. import DEV
 from .bench import BENCH, example_bytes
+from .judged import Judged, judged_by
+from .parts import MEANINGS
 
 VECTORS = os.path.join(DEV, "vectors", "reports.tsv")
 COUNT, EACH = 240, 8  # rows, and how many a test has
@@ -39,7 +38,6 @@ HTML = "{http://www.w3.org/1999/xhtml}"
 FOREIGN = re.compile(r"<script|<link|<img|<iframe|@import|\burl\(|\bsrc=|\bon\w+="
                      r"|https?://(?!www\.w3\.org/1999/xhtml)")
 STYLE = re.compile("<style>.*?</style>", re.S)
-MEANINGS = {number: Meaning("", f"it means `{number}`", f"do {number}") for number in range(90)}
 MADE = "files"  # the part that names files and dates
 BYTES = {3: (0, 0xF0, 0xFE, 7), 4: (1, 9), 5: (24,), 8: (25, 0), 9: (0, 23), 10: (60, 1),
          13: (0, 23, 24), 14: (4,), 15: (1, 2), 19: (0x61, 0xC2, 0x8A, 0x0E), 2: (1,),
@@ -65,7 +63,7 @@ class Made:
     def subtitle_file(self) -> bytes:
         """Subtitles, some of which touch; a comment, and user data."""
         chance, frame, made = self.chance, self.begin, list[bytes]()
-        count = chance.choice((60, 300)) if self.is_long else chance.choice((0, 1, 3, 3, 5, 8))
+        count = chance.choice((60, 300)) if self.is_long else chance.choice((2, 1, 3, 3, 5, 8))
         gaps = (0, 20, 1000) if self.is_long else (0, 0, 5, 40, 120, 700)
         for number in range(1, count + 1):
             end = frame + chance.choice((1, 12, 30, 60, 90))
@@ -156,39 +154,43 @@ class Made:
         pes[at:] = [one[:self.chance.choice((20, 100))] for one in pes[at:at + self.chance.choice(
             (0, 1))]]
 
-    def asked(self) -> argparse.Namespace:
-        """What is asked, of files that are written here."""
-        chance, pes, some = self.chance, self.path_of_pes, None
+    def words(self) -> list[str]:
+        """The words of a call of qc, of files that are written here."""
+        chance = self.chance
         with open(self.path_of_stl, "wb") as file:
             file.write(self.stl)
+        words = [self.path_of_stl]
         if not self.is_refused_file:
             data = self.sent()
-            with open(pes, "wb") as file:
+            with open(self.path_of_pes, "wb") as file:
                 file.write(data)
-            some = (1, 4) if chance.random() < 0.1 else None
-        is_complete = [chance.random() < 0.25 for _ in range(8)][6]
-        chance.choice(range(4))
-        begin, end = chance.choice(((0, FRAMES_OF_A_DAY), (self.begin + 60, self.begin + 150)))
-        return argparse.Namespace(
-            stl=self.path_of_stl, recording=None if self.is_refused_file else pes,
-            program=BENCH.program, page=self.page, every=chance.choice(
-                (self.every, self.every, 25)), origin=self.origin, option=self.option,
-            is_complete=is_complete, begin=begin, end=end, within=self.within, passed_on={},
-            pes=some,
-            pid=None, packet_size=188)
+            words.append(self.path_of_pes)
+        words += ["--page", page_name(*self.page), "--origin", str(self.origin), "--option",
+                  self.option, "--within", str(self.within), "--every", str(chance.choice(
+                      (self.every, self.every, 25))), "--pace", "none"]
+        return words + ["--no-complete"] * (chance.random() < 0.75)
+
+
+def report_made(number: int, folder: str) -> tuple[Judged, str]:
+    """The pair of a number, judged, and its report; why, or its line, where there is none."""
+    out = os.path.join(folder, "out")
+    found = judged_by(BENCH.program, *Made(number, folder).words(), "-o", out)
+    path = os.path.join(out, "one.html")
+    if not os.path.exists(path):
+        said = found.result.get("reason") or found.result["line"]
+        return found, said.replace("\n", "; ")
+    with open(path, encoding="utf-8") as file:
+        return found, file.read()
 
 
 @contextlib.contextmanager
-def made(number: int) -> Iterator[tuple[argparse.Namespace, str]]:
-    """What is asked, of files that are there meanwhile; and the page, or why there is none."""
-    with tempfile.TemporaryDirectory() as folder:
-        asked = Made(number, folder).asked()
-        try:
-            report = report_of(asked, folder)
-            report.meanings = MEANINGS
-            yield asked, STYLE.sub("", report_page(report))
-        except NoReport as reason:
-            yield asked, str(reason).replace(folder, "FOLDER")
+def made(number: int) -> Iterator[tuple[Judged, str]]:
+    """The same while its files are there, without the style and with other words for the manual's.
+    """
+    with tempfile.TemporaryDirectory() as folder, \
+            mock.patch.object(report, "meanings", lambda: MEANINGS):
+        found, page = report_made(number, folder)
+        yield found, STYLE.sub("", page.replace(folder, "FOLDER"))
 
 
 def page_of(number: int) -> str:

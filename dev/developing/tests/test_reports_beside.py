@@ -2,7 +2,6 @@
 count, `listen` the rows of each picture, of the PES file and of the program's own schedule."""
 from __future__ import annotations
 
-import argparse
 import os
 import re
 import subprocess
@@ -17,6 +16,7 @@ from subtitles.core.times import frame_of
 from subtitles.core.told import PASSED_OVER
 from subtitles.core.words import within_words
 from .bench import BENCH
+from .judged import Judged
 from .test_reports_at_random import HTML, made
 
 COUNT, EACH = 120, 6  # pages, and how many a test has
@@ -52,13 +52,14 @@ def written(path: str, ending: str, is_kept: Callable[[int], bool]) -> str:
 class Beside:
     """What the program prints of a pair."""
 
-    def __init__(self, asked: argparse.Namespace) -> None:
-        self.asked = asked
+    def __init__(self, found: Judged) -> None:
+        self.asked, self.pes = found.verdict.asked, found.verdict.parts[0].pes
+        asked = self.asked
         self.receiver = ["--origin", str(asked.origin), "--page", page_name(*asked.page)]
         options = [*self.receiver, "--option", asked.option]
         within = within_words(asked.within)
         more = [*["--complete"] * asked.is_complete, *within]
-        pieces = ["--pes", "{}-{}".format(*asked.pes)] if asked.pes else []
+        pieces = ["--pes", "{}-{}".format(*self.pes)] if self.pes else []
         self.told = run("check", *options, "--every", str(asked.every), *more, *pieces, "--all",
                         "--", asked.stl, asked.recording or os.devnull)
         if not asked.recording:  # that there is no PES packet is no fault of a subtitle file alone
@@ -93,11 +94,13 @@ class Beside:
             if words[3:4] == ["pes"] and int(words[1]) in PASSED_OVER:
                 last = int(words[4])
                 passed |= set(range(last if words[0] == "refused" else max(passed), last + 1))
-        return written(self.asked.recording or os.devnull, ".heard", lambda number: number not in passed)
+        first, end = self.pes or (0, -1)
+        return written(self.asked.recording or os.devnull, ".heard",
+                       lambda number: first <= number <= end and number not in passed)
 
     def rows(self, kind: str | None, time: str) -> list[str]:
         """The rows of a picture; nothing where the file can't be followed up to there."""
-        if kind in ("due", "small"):
+        if kind == "due":
             lines = run("listen", self.due, *self.receiver, "--at", time)
             return ["blank"] if lines == ["heard no"] else lines[2:]  # before the first subtitle
         words = [*self.receiver, *["--complete"] * (kind == "screen"), "--at", time]
@@ -125,16 +128,13 @@ class Reports(unittest.TestCase):
                          if len(told) > 1 else [])
 
     def pictures(self, page: tree.Element, beside: Beside) -> None:
-        """Each large picture has its rows below it; a small one is of what is due and held."""
+        """Each picture has its rows below it."""
         for figure in list(page.iter(HTML + "figure"))[:MOST]:
             kind, rows = figure.get("class"), "".join(map(text_of, figure.iter(HTML + "pre")))
             found = TIME.search(text_of(figure[0]))
             assert found
             with self.subTest(kind=kind, time=found[0]):
-                if kind == "small":
-                    self.assertEqual(beside.rows(kind, found[0]), beside.rows("held", found[0]))
-                else:
-                    self.assertEqual(rows.splitlines(), beside.rows(kind, found[0]))
+                self.assertEqual(rows.splitlines(), beside.rows(kind, found[0]))
 
 
 def pages_from(first: int) -> Callable[[Reports], None]:
@@ -142,13 +142,12 @@ def pages_from(first: int) -> Callable[[Reports], None]:
 
     def test(self: Reports) -> None:
         for number in range(first, first + EACH):
-            with made(number) as (asked, page), self.subTest(number):
+            with made(number) as (found, page), self.subTest(number):
                 if not page.startswith("<"):
                     continue
-                beside, root = Beside(asked), tree.fromstring(page)
+                beside, root = Beside(found), tree.fromstring(page)
                 self.lists(root, beside)
-                if not asked.pes:
-                    self.pictures(root, beside)
+                self.pictures(root, beside)
 
     return test
 

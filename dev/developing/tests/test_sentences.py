@@ -10,7 +10,7 @@ from subtitles.core.told import told_of
 from subtitles.qc.causes import NAMES
 from subtitles.qc.fault_words import WORDS
 from subtitles.qc.headers import control_words
-from subtitles.qc.sentence import SAID, Seen, of_causes, sentence_of
+from subtitles.qc.sentence import SAID, Facts, of_causes, sentence_of
 from subtitles.qc.severity import REFUSALS
 from subtitles.qc.status import ACCEPTED, LOST, NOT_JUDGED, REFUSED, WAIVED, WARNED
 from .test_tables_of_faults import cause, causes_of
@@ -61,28 +61,28 @@ class Sentences(unittest.TestCase):
         fault, packet = told_of("refused 73 Gap frame 10:00:00:00"), told_of("refused 34 Pts pes 7")
         block = told_of("refused 24 Unfinished block 12")
         for seen, wanted in (
-                (Seen(NOT_JUDGED, 0, reason="no\nmore"), "Not judged: no."),
-                (Seen(NOT_JUDGED, 0), "Not judged: check was not answered."),
-                (Seen(ACCEPTED, 1), "Accepted: 1 subtitle, as it is due from the first frame on."),
-                (Seen(ACCEPTED, 1, within=1), "Accepted: 1 subtitle, as it is due within 1 frame."),
-                (Seen(LOST, 2, lost=["a", "b", "c"]),
+                (Facts(NOT_JUDGED, 0, reason="no\nmore"), "Not judged: no."),
+                (Facts(NOT_JUDGED, 0), "Not judged: check was not answered."),
+                (Facts(ACCEPTED, 1), "Accepted: 1 subtitle, as it is due from the first frame on."),
+                (Facts(ACCEPTED, 1, within=1), "Accepted: 1 subtitle, as it is due within 1 frame."),
+                (Facts(LOST, 2, lost=["a", "b", "c"]),
                  "Not accepted: a, and in 2 more places; what was seen is as it is due."),
-                (Seen(LOST, 2, first=fault, faults=1, lost=["a"]),
+                (Facts(LOST, 2, first=fault, faults=1, lost=["a"]),
                  "Not accepted: a; all faults that were seen are named warnings."),
-                (Seen(WARNED, 2, warnings=["page", "page", "fitted"]), "Not accepted: there are "
+                (Facts(WARNED, 2, warnings=["page", "page", "fitted"]), "Not accepted: there are "
                  "warnings, which count (page, fitted); what was seen is as it is due."),
-                (Seen(REFUSED, 2, first=fault, faults=1, hint="no header"),
+                (Facts(REFUSED, 2, first=fault, faults=1, hint="no header"),
                  "Refused: from 10:00:00:00 on no header."),
-                (Seen(REFUSED, 2, first=fault, faults=3, hint="no header", accepted_within=2),
+                (Facts(REFUSED, 2, first=fault, faults=3, hint="no header", accepted_within=2),
                  "Refused: from 10:00:00:00 on no header; in all 3 faults; --within 2 accepts it."),
-                (Seen(REFUSED, 2, first=fault, faults=1, hint="x: --within 1 accepts that",
+                (Facts(REFUSED, 2, first=fault, faults=1, hint="x: --within 1 accepts that",
                       accepted_within=1),
                  "Refused: from 10:00:00:00 on x: --within 1 accepts that.")):
             found = sentence_of(seen)
             self.assertEqual(found, wanted)
         for told, begin in ((packet, "Refused: in PES packet 7 "), (block, "Refused: in block 12 "),
                             (fault, "Refused: at 10:00:00:00 ")):
-            found = sentence_of(Seen(WAIVED if told is None else REFUSED, 1, first=told, faults=1))
+            found = sentence_of(Facts(WAIVED if told is None else REFUSED, 1, first=told, faults=1))
             self.assertTrue(found.startswith(begin) and found.endswith(".") and
                             found.count(".") == 1 and "`" not in found, found)
 
@@ -97,7 +97,7 @@ class Sentences(unittest.TestCase):
                                  ("pes 7", "in PES packet 7"), ("block 12", "in block 12"),
                                  ("", "")):
                 told = told_of(f"refused {number} Name {place}".rstrip())
-                found = sentence_of(Seen(REFUSED, 1, first=told, faults=1))
+                found = sentence_of(Facts(REFUSED, 1, first=told, faults=1))
                 with self.subTest(number=number, place=place):
                     self.assertEqual(found, " ".join(["Refused:", *begin.split(), words]) + ".")
                     self.assertRegex(words, VERB)

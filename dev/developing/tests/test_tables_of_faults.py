@@ -23,7 +23,7 @@ from subtitles.qc.hints import gap_words, hints_of
 from subtitles.qc.made_with import proved_line
 from subtitles.qc.pair import Pair
 from subtitles.qc.progress import CLEAR, Progress
-from subtitles.qc.sentence import Seen, of_causes, what_is_wrong
+from subtitles.qc.sentence import Facts, of_causes, what_is_wrong
 from subtitles.qc.speech import Speech
 from subtitles.qc.unclear import Unclear
 from subtitles.qc.why import tell
@@ -97,7 +97,7 @@ class Words(Case):
                                       ("refused 68 Parity frame 00:00:01:00 packet 1", 1, False),
                                       ("refused 72 Content frame 00:00:01:00 row 1 column 1", 2,
                                        False)):
-            words = what_is_wrong(Seen("refused", 9, told_of(line), count, "", causes_of(
+            words = what_is_wrong(Facts("refused", 9, told_of(line), count, "", causes_of(
                 cause(2, LATE, 3))))
             self.must(f"{line} {count}", words.endswith(
                 "; the first of 2 faults is 68 Parity at 00:00:01:00") == is_named ==

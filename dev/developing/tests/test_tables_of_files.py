@@ -14,7 +14,7 @@ from subtitles.core.characters import option_name
 from subtitles.core.files import Damaged
 from subtitles.core.gsi import titles_in
 from subtitles.core.letters import letters_of
-from subtitles.core.programme import Programme, Subtitle
+from subtitles.core.programme import SubtitleList, Subtitle
 from subtitles.core.words import Stop
 from .bench import Case, alone
 
@@ -187,7 +187,7 @@ class Order(unittest.TestCase):
         for times in of_times:
             all_of = [Subtitle(at, at + (at > 2), begin, end, 20, 2, b"")
                       for at, (begin, end) in enumerate(times, 1)]
-            programme = Programme(all_of)
+            programme = SubtitleList(all_of)
             for frame in range(18):
                 begun = [one for one in all_of if one.begin <= frame]
                 due = [one for one in all_of if one.begin <= frame < one.end]

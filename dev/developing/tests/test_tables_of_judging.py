@@ -14,9 +14,9 @@ from developing.stl import gsi_block, subtitle_blocks, tti_block
 from subtitles.core.times import CLOCK, TICKS
 from subtitles.qc.causes import (
     ATTRIBUTE, EARLY, LATE, NEVER, NOT_ERASED, OTHER, PLACE, TEXT, UNKNOWN)
-from subtitles.qc.clock import GIVEN, RECORDING, START, Clock
-from subtitles.qc.fitting import Found, found_in
-from subtitles.qc.off_frame import Off, off_of
+from subtitles.qc.clock import GIVEN, RECORDING, START, Clock, Found
+from subtitles.qc.clocks import found_in
+from subtitles.qc.off_frame import most_off, off_words
 from subtitles.qc.start import start_frame
 from subtitles.qc.subtitle_file import SubtitleFile
 from subtitles.qc.unclear import Unclear
@@ -24,10 +24,9 @@ from subtitles.qc.warned import (
     Warned, length_words, of_character_sets, of_counts, of_jumps, of_pauses, of_repeat, of_tables,
     there_are)
 from subtitles.qc.within import Trying, is_accepted, line_of
-from subtitles.reading.cutting import Cut
 from subtitles.reading.finding import OfPart, Origin, Sought
-from subtitles.reading.gaps import Jump
-from subtitles.reading.packets import Packets
+from subtitles.reading.gaps import ClockJump
+from subtitles.reading.packets import Packets, Range
 from subtitles.reading.survey import Announced
 from .bench import Case
 from .parts import CLOSING, HEADER, PAGE, asked_for, packets_told
@@ -39,6 +38,12 @@ AT_THE_END = ("refused 77 Repeat frame 00:00:01:00", 1)
 OTHERS = ("refused 61 OffFrame pes 1", 1)
 
 
+def part_of(found: Found, **more: Any) -> Any:
+    """A part of some frames."""
+    recording = SimpleNamespace(packets=None)
+    return SimpleNamespace(found=found, recorded=(recording, found), **more)
+
+
 class Tried(Trying):
     """A part tried within more frames, of which `check` says what a test says."""
 
@@ -46,17 +51,18 @@ class Tried(Trying):
                  asked: int = 0, is_cut: bool = True) -> None:
         self.said_within, self.clocks = said, clocks
         known = asked_for("one.stl", "one.pes", "--within", str(asked))
-        self.steps: Any = SimpleNamespace(asked=known, taken=lambda *_: Cut(
-            (0, 9) if is_cut else None, 10))
-        self.recording: Any = None
-        self.one: Any = SimpleNamespace(found=Found(0, 9, Clock(7, RECORDING)))
+        self.part: Any = part_of(Found(0, 9, Clock(7, RECORDING)), asked=known)
+        self.is_cut = is_cut
         self.checked: list[tuple[int, int]] = []
 
     def clocked(self, within: int) -> Found | None:
         origin = self.clocks.get(within, 7)
         return None if origin is None else Found(0, 9, Clock(origin, RECORDING))
 
-    def check(self, found: Found, cut: Cut, within: int) -> tuple[str, int]:
+    def taken(self, found: Found) -> Range | None:
+        return (0, 9) if self.is_cut else None
+
+    def check(self, found: Found, pes: Range, within: int) -> tuple[str, int]:
         self.checked.append((within, found.origin))
         return self.said_within[within - 1]
 
@@ -104,7 +110,7 @@ class Within(unittest.TestCase):
         and of one that was fitted."""
         for source, most in ((GIVEN, 5), (RECORDING, 10)):
             tried = Tried([], {})
-            tried.one = SimpleNamespace(found=Found(0, 9, Clock(7, source)))
+            tried.part = part_of(Found(0, 9, Clock(7, source)))
             for name, frames, wanted in (
                     (LATE, most, True), (LATE, most + 1, False), (LATE, 1, True),
                     (LATE, None, True), (EARLY, most, True), (EARLY, most + 1, False),
@@ -135,11 +141,10 @@ class Within(unittest.TestCase):
                 (2, 3, 10, 18, RECORDING, None), (2, 3, 9, 19, RECORDING, None),
                 (2, 3, 10, 19, GIVEN, 7), (1, 1, 0, 9, START, 7)):
             tried: Any = Trying.__new__(Trying)
-            tried.one = SimpleNamespace(found=Found(begin, end, Clock(7, source)))
-            tried.number, tried.count = number, count
-            tried.recording = SimpleNamespace(packets=None)
-            tried.steps = SimpleNamespace(sought=lambda *_: Sought("one.stl", "one.pes"))
-            with mock.patch("subtitles.qc.within.origin_in", ask):
+            tried.part = part_of(Found(begin, end, Clock(7, source)), number=number)
+            tried.count, tried.pair = count, None
+            with mock.patch("subtitles.qc.clocks.origin_in", ask), mock.patch(
+                    "subtitles.qc.clocks.sought", lambda *_: Sought("one.stl", "one.pes")):
                 found = tried.clocked(3)
             self.assertEqual(found and found.origin, wanted, (number, count, begin, end))
         self.assertEqual(set(asked), {Sought("one.stl", "one.pes", within=3)})
@@ -167,7 +172,7 @@ class Warnings(Case):
         """Those of the frames that are judged, the first and the last too, each in its direction.
         """
         for origin in (0, CLOCK - 5 * TICKS):
-            jumps = [Jump(None, 90_000), *(Jump((origin + TICKS * frame) % CLOCK, ticks)
+            jumps = [ClockJump(None, 90_000), *(ClockJump((origin + TICKS * frame) % CLOCK, ticks)
                                            for frame, ticks in (
                 (9, 1), (10, 90_000), (15, -90_000), (20, 8_640_000), (21, 5)))]
             with mock.patch("subtitles.qc.warned.jumps_of", lambda packets: jumps):
@@ -271,47 +276,16 @@ class Grids(Case):
     def test_off(self) -> None:
         """By how many ticks at most, before and after; over half a frame it is the other one's."""
         for origin in (0, CLOCK - 3 * TICKS):
-            of_offs: list[tuple[list[int], int | None]] = [
-                ([0, 0], None), ([1, 0], 1), ([0, -1], 1), ([1799, 0], 1799), ([1800, 5], 1800),
-                ([1801], 1799), ([-1799, 3], 1799), ([], None), ([7, -9, 8], 9)]
+            of_offs: list[tuple[list[int], int]] = [
+                ([0, 0], 0), ([1, 0], 1), ([0, -1], 1), ([1799, 0], 1799), ([1800, 5], 1800),
+                ([1801], 1799), ([-1799, 3], 1799), ([], 0), ([7, -9, 8], 9)]
             for offs, most in of_offs:
                 several = [(origin + TICKS * (5 + at) + off) % CLOCK for at, off in enumerate(offs)]
-                found = off_of(several, origin)
-                self.assertEqual(found and found.most, most, offs)
-                self.assertIsNone(found and found.drift)
-
-    def test_drift(self) -> None:
-        """From ten PTS that rise, up to a thousandth, more than it jitters: over half a frame too.
-        """
-        def drifting(count: int, ppm: float, jitter: int = 0, step: int = 90_000) -> Off | None:
-            found = [off_of([(round(step * at * (1 + ppm / 1e6)) + jitter * (-1) ** at + origin)
-                             % CLOCK for at in range(count)], origin)
-                     for origin in (5, CLOCK - 5 * step)]
-            self.assertEqual(found[0], found[1])
-            return found[0]
-
-        for count, ppm, jitter, wanted in (
-                (10, 100, 0, 100), (9, 100, 0, None), (100, -100, 0, -100), (100, 1001, 0, 1000),
-                (100, 1002, 0, None), (100, -999, 0, -1000), (100, -1000, 0, None),
-                (2000, 50, 0, 50), (1000, 50, 550, 50), (1000, 50, 600, None),
-                (100, 50, 90, None), (100, 0, 90, None), (12, 1, 0, None),
-                (400, 0.4, 0, None)):
-            found = drifting(count, ppm, jitter)
-            self.assertEqual(found and found.drift, wanted, (count, ppm, jitter))
-            off = off_of([round(90_000 * at * (1 + 5e-5)) + 700 for at in range(50)], 0)
-            self.assertEqual(off and off.drift, 50)
-        rising = [90_000 * at + 9 * at for at in range(20)]
-        for several in (rising[:5] + rising[4:], rising[::-1],
-                        rising[:5] + rising[6:7] + rising[5:6] + rising[7:]):
-            found = off_of(several, 0)
-            self.assertTrue(found and found.drift is None)
-        for off, within, words in (
-                (Off(9, None), None, "PTS are up to 0.1 ms off the frame"),
-                (Off(900, None), 2, "PTS are up to 10.0 ms off the frame; --within 2 accepts that"),
-                (Off(9, -7), 1,
-                 "PTS drift by -7 ppm against whole frames; --within 1 accepts that"),
-                (Off(9, 0), None, "PTS drift by 0 ppm against whole frames")):
-            self.assertEqual(off.words(within), words)
+                self.assertEqual(most_off(several, origin), most, offs)
+        for most, within, words in (
+                (0, 1, ""), (9, None, "PTS are up to 0.1 ms off the frame"),
+                (900, 2, "PTS are up to 10.0 ms off the frame; --within 2 accepts that")):
+            self.assertEqual(off_words(most, within), words)
 
     def test_start_frames(self) -> None:
         """As it is given, and as the GSI block has it; what is none there."""

@@ -2,14 +2,18 @@
 from __future__ import annotations
 
 import os
+import random
+import re
 import unittest
 
 from developing.pes import pes_packet
 from developing.stl import gsi_block, tti_block
+from subtitles.core.words import HIDDEN
 from subtitles.qc.headers import control_words
 from subtitles.qc.lettering import (
     ATTRIBUTES, attribute_words, code_words, is_moved, is_part, place_words, text_of, words_on)
-from subtitles.qc.names import Names, again
+from subtitles.qc.names import (
+    Names, NamesOfList, again, files_in, pair_name, part_name)
 from subtitles.qc.option_advice import OptionAdvice
 from subtitles.qc.recording import is_recording
 from subtitles.qc.subtitle_file import SubtitleFile
@@ -33,34 +37,64 @@ class Named(Case):
 
     def test_files(self) -> None:
         """Of a pair and of a part: as they are typed, and where they stand."""
-        for out, here in ((None, self.folder), ("out", "out")):
+        for out in (None, "out"):
             names = Names("one", self.folder, out)
             for one, name in ((names, "one"), (names.of_part(2), "one.2")):
                 typed = os.path.join(out or "", name)
-                self.must(f"{out} {name}: typed", [one.whole, one.report] == [
-                    f"{typed}.{ending}" for ending in ("recording.pes", "html")])
+                self.must(f"{out} {name}: typed", one.report == f"{typed}.html")
                 self.must(f"{out} {name}: here", (one.whole_path, one.list_path) == (
-                    os.path.join(self.folder, f"{name}.recording.pes"),
-                    os.path.join(here, f"{name}.txt")))
+                    os.path.join(self.folder, f"{name}.recording"),
+                    os.path.join(self.folder, f"{name}.txt")))
                 self.must(f"{out} {name}: object", one.machine == (f"{typed}.json" if out else
                                                                    None))
+
+    def test_names(self) -> None:
+        """No two have the same, of pairs, of their parts and of lines; none is that of the page
+        over all, begins with a point, or has what a terminal would obey."""
+        of_names = {"film": "film", "film.1": "film%2E1", "film.v2": "film.v2", "index": "%69ndex",
+                    "index.1": "index%2E1", ".film": "%2Efilm", "film~2": "film%7E2", "50%": "50%25",
+                    "caf\udce9": "caf%E9", "caf%E9": "caf%25E9", "caf\\xe9": "caf\\xe9",
+                    "a\x1b\n": "a%1B%0A", "line 5": "line%205", "line 5 ": "line 5 ", "-a": "-a",
+                    "a\u202eb": "a%E2%80%AEb", "": "%", "%": "%25", "Index": "Index"}
+        for stem, name in of_names.items():
+            self.must(f"{stem!r}", pair_name(f"a/{stem}.stl" if stem else "") == name,
+                      pair_name(f"a/{stem}.stl"))
+        chance, seen = random.Random(94), dict[str, object]()
+        for _ in range(20_000):
+            stem = "".join(chance.choice(["a", "1", ".", "~", "%", "2", "index", "line ", "\udce9",
+                                          "\n", "é" * 50]) for _ in range(chance.randrange(1, 7)))
+            copies, part, names = chance.randrange(1, 4), chance.randrange(3), NamesOfList()
+            name = [names.pair(f"{stem}.stl") for _ in range(copies)][-1]
+            name = part_name(name, part) if part else name
+            self.assertEqual(seen.setdefault(name, (stem, copies, part)), (stem, copies, part))
+            self.assertFalse(name == "index" or re.fullmatch("line [0-9]+(~[0-9]+)?", name) or HIDDEN.search(name)
+                             or name[0] == "." or len(os.fsencode(f".{name}.recording.pes")) > 255,
+                             name)
+        names = NamesOfList()
+        self.must("of a list", [names.pair(one) for one in (
+            "a.stl", "b/a.stl", "a~2.stl", "b.stl", "a.STL")] == ["a", "a~2", "a%7E2", "b", "a~3"])
+        self.must("of lines", [names.line(one) for one in (2, 3, 2)] ==
+                  ["line 2", "line 3", "line 2~2"])
 
     def test_what_an_earlier_call_left(self) -> None:
         """Files of the pair and of its parts, and of no other pair."""
         out = self.path("out")
         os.mkdir(out)
-        own = ["one.1.txt", "one.12.cut.pes", "one.3.txt", "one.9.html", "one.10f.recording.pes"]
+        own = ["one.1.txt", "one.12.cut.pes", "one.3.txt", "one.9.html", "one.5.html"]
         others = ["one.0.txt", "one.x.txt", "one.1x.txt", "two.1.txt", "one.1.a.txt", "one.01.txt",
-                  "one.txt.1", "one.1.stl", "one.5.html", "one.5.json", "one.5.recording.pes",
-                  "one.x.recording.pes"]
+                  "one.txt.1", "one.1.stl", "one.5.json", "one.x.recording.pes"]
         for name in [*own, *others]:
             with open(os.path.join(out, name), "wb"):
                 pass
-        names = Names("one", self.folder, out)
-        found = [os.path.basename(path) for path in names.kept()]
+        found = [os.path.basename(path) for path in files_in(out, "one")]
         self.must("own", sorted(found) == sorted([*own, "one.cut.pes", "one.recording.pes",
+                                                  "one.recording.ts",
                                                   "one.txt", "one.html", "one.json"]), found)
-        self.must("no folder", Names("one", self.folder, None).kept() == [])
+        for name in ("a[1]", "a*", "a?"):
+            path = self.write(f"out/{name}.1.txt", b"")
+            kept = files_in(out, name)
+            self.must(name, path in kept and os.path.join(out, "one.1.txt") not in kept, kept)
+        self.must("no folder", len(files_in(self.path("none"), "one")) == 6)
 
     def test_again(self) -> None:
         """The same call with more words: an option that is said anew stands once."""
@@ -83,13 +117,13 @@ class Named(Case):
                   "tools/qc one.stl --origin T")
         self.must("words", line_of("cat", "a b", ">", "c", "|", "d'e") ==
                   "cat 'a b' >c | 'd'\"'\"'e'")
-        for called, tool, program in (("tools/qc", "tools/cut", "subttx"), ("./qc", "./cut",
+        for called, tool, program in (("tools/qc", "tools/text", "subttx"), ("./qc", "./text",
                                                                            "../subttx"),
-                                      ("qc", "./cut", "../subttx"),
-                                      ("/a/tools/qc", "/a/tools/cut", "/a/subttx")):
+                                      ("qc", "./text", "../subttx"),
+                                      ("/a/tools/qc", "/a/tools/text", "/a/subttx")):
             made = Typed(called, self.bench.program)
-            self.must(called, made.tool("cut") == tool and made.program_words ==
-                      ["-p", self.bench.program], made.tool("cut"))
+            self.must(called, made.tool("text") == tool and made.program_words ==
+                      ["-p", self.bench.program], made.tool("text"))
             self.must(f"{called}: beside", os.path.normpath(made.beside()) ==
                       os.path.normpath(program), made.beside())
 

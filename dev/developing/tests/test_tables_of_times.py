@@ -9,12 +9,10 @@ from typing import Any, Sequence
 
 from subtitles.core.spans import Spans, joined
 from subtitles.core.times import CLOCK, TICKS
-from subtitles.qc.clock import RECORDING, Clock
-from subtitles.qc.fitting import Found
-from subtitles.qc.steps import Steps
+from subtitles.qc.clock import RECORDING, Clock, Found
+from subtitles.qc.clocks import last_time
 from subtitles.reading.cutting import cut_of
-from subtitles.reading.finding import drift_of
-from subtitles.reading.gaps import SECOND, Jump, Place, jumps_of, line_of, places_of, what_of
+from subtitles.reading.gaps import SECOND, ClockJump, Place, jumps_of, line_of, places_of, what_of
 from subtitles.reading.packets import Clocked, Mark, Packets, Run
 from subtitles.reading.stretches import LACKED, Stretch, by_breaks
 from subtitles.reading.survey import Survey
@@ -156,11 +154,11 @@ class Times(unittest.TestCase):
     def test_jumps(self) -> None:
         """Where nothing is missing, and more packets than a tenth of those of that time would be
         there: the clock was set anew."""
-        for one, wanted in ((clocked(5, 99_000, "whole"), [Jump(5, 90_000)]),
+        for one, wanted in ((clocked(5, 99_000, "whole"), [ClockJump(5, 90_000)]),
                             (clocked(5, 99_000, "broken"), []),
-                            (clocked(5, 99_000, "whole", 109), [Jump(5, 90_000)]),
+                            (clocked(5, 99_000, "whole", 109), [ClockJump(5, 90_000)]),
                             (clocked(5, 99_000, "whole", 110), []),
-                            (clocked(5, -99_000, "whole"), [Jump(5, -108_000)])):
+                            (clocked(5, -99_000, "whole"), [ClockJump(5, -108_000)])):
             self.assertEqual(list(jumps_of(packets_with([], clocked=[one]))), wanted, one)
 
     def test_words_of_places(self) -> None:
@@ -185,28 +183,14 @@ class Times(unittest.TestCase):
                          "before PTS 3600, 00:00:00:01 on: a break in the stream")
         self.assertEqual(line_of(Place(None, None, 1), None), "1 TS packet lost")
 
-    def test_drift_of_origins(self) -> None:
-        """Origins that go on by a frame each, as a drift lets them; breaks are none."""
-        cases: list[tuple[str, list[tuple[int, int]], int | None]] = [
-            ("50 ppm", [(0, 0), (9000, 3600), (29_000, 7200), (49_000, 10_800)], 50),
-            ("back", [(0, 0), (9000, -3600), (29_000, -7200)], -50),
-            ("over the clock", [(0, CLOCK - 3600), (9000, 0), (29_000, 3600)], 50),
-            ("two", [(0, 0), (9000, 3600)], None), ("one", [(0, 0)], None), ("none", [], None),
-            ("breaks", [(0, 0), (9000, 90_000), (29_000, 180_000)], None),
-            ("both ways", [(0, 0), (9000, 3600), (29_000, 0)], None),
-            ("uneven", [(0, 0), (9000, 3600), (10_500, 7200), (90_000, 10_800)], None)]
-        for name, parts, ppm in cases:
-            found = drift_of(parts)
-            self.assertEqual(found, ppm, name)
-
     def test_what_is_near_in_a_feed(self) -> None:
         """Of the time bases the last in which PES packets come near the time of the subtitles."""
-        steps = Steps.__new__(Steps)
-        steps.asked = asked_for("a.stl", "a.pes", "--every", "25")
+        pair: Any = SimpleNamespace(asked=asked_for("a.stl", "a.pes", "--every", "25"),
+                                    whole=Found(110, 120, Clock(0, RECORDING)))
         for frames, wanted in (([0, 110, 120, 600] * 2, (4, 6)), ([600, 700], None),
                                ([0, 110, 120, 600, -9, -8], (0, 2)),
                                ([600, 700, 800, 900, 50, 60], (4, 5)),
                                ([110, 120, 600, 700, 400, 410], (0, 1))):
             recording: Any = SimpleNamespace(packets=packets_with([TICKS * one for one in frames]))
-            found = steps.near(recording, Found(110, 120, Clock(0, RECORDING)), 0)
+            found = last_time(pair, recording, 0)
             self.assertEqual(found, wanted, frames)

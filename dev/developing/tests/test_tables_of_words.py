@@ -4,16 +4,22 @@ from __future__ import annotations
 import argparse
 import contextlib
 import os
+import random
 import shlex
 import shutil
+import socket
+import subprocess
 import sys
+import time
 from types import SimpleNamespace
 from typing import Any, Callable
 from unittest import mock
 
 from subtitles.core import manual, words
-from subtitles.core.files import (
-    Input, is_replaced, naming, plain_name, temporary_folder, whole_file)
+from subtitles.core.files import Input, bounded_bytes, first_bytes, naming, plain_name
+from subtitles.core.lists import MOST_BYTES, MOST_OF_LINE, lines_in, list_at, split
+from subtitles.core.outputs import (
+    Inputs, is_replaced, result_file, temporary_folder, whole_file)
 from subtitles.core.words import Stop
 from .bench import Case, alone
 from .test_tables_of_files import refused
@@ -123,8 +129,62 @@ class Words(Case):
             self.assertEqual((source.read(5), waited.call_count), (b"some", 2))
         for code, status in ((3, 3), (None, 0), (0, 0)):
             with mock.patch("sys.argv", ["tool", "word"]):
-                self.assertEqual(words.answer(lambda line: sys.exit(code)), status)
-                self.assertEqual(words.answer(len), 1)
+                self.assertEqual(words.answer(lambda line: sys.exit(code), []), status)
+                self.assertEqual(words.answer(len, ["one"]), 1)
+
+    def test_files(self) -> None:
+        """What is no file is refused at once, by what is open; a pipe, where there may be one, is
+        waited for; no link is followed where none may be; and nothing is read beyond the bound."""
+        self.write("file", b"12345")
+        os.mkdir(self.path("folder"))
+        os.mkfifo(self.path("pipe"))
+        os.symlink("file", self.path("link"))
+        with socket.socket(socket.AF_UNIX) as made:
+            made.bind(self.path("socket"))
+        for name, kind in (("folder", "a folder"), ("pipe", "a pipe"), ("socket", "a socket"),
+                           ("/dev/zero", "a device")):
+            for may_be_pipe in (False, True)[:1 + (name != "pipe")]:
+                told = refused(lambda: first_bytes(self.path(name), 5, may_be_pipe))
+                self.must(f"{name} {may_be_pipe}", told.startswith(f"{self.path(name)} is {kind}"),
+                          told)
+        self.must("followed", first_bytes(self.path("link"), 9) == b"12345")
+        self.must("a link", refused(lambda: first_bytes(self.path("link"), 9, is_followed=False))
+                  == f"{self.path('link')} is a link")
+        for most, wanted in ((4, b""), (5, b"12345"), (6, b"12345")):
+            told = refused(lambda: bounded_bytes(self.path("file"), most))
+            self.must(f"{most}", bool(told) == (not wanted) and (
+                told or bounded_bytes(self.path("file"), most)) == (
+                    wanted or f"{self.path('file')} has more than 4 bytes"), told)
+        with subprocess.Popen(["sh", "-c", "sleep 0.2; yes >\"$0\"", self.path("pipe")]):
+            self.must("a pipe", first_bytes(self.path("pipe"), 100_001, True) ==
+                      (b"y\n" * 50_001)[:100_001])
+
+    def test_lists(self) -> None:
+        """Words are those of `shlex`, in linear time; lists and lines have a bound."""
+        chance = random.Random(94)
+        for _ in range(20_000):
+            line = "".join(chance.choice("ab \t\\'\"#é\r=-") for _ in range(chance.randrange(12)))
+            try:
+                wanted: object = shlex.split(line, comments=True)
+            except ValueError:
+                wanted = "wrong"
+            try:
+                found: object = split(line)
+            except ValueError:
+                found = "wrong"
+            self.assertEqual(found, wanted, repr(line))
+        began = time.process_time()
+        for one in ("a", "'b'c", "\\d", '"\\e"'):
+            self.assertEqual(len(split(one * (MOST_OF_LINE // len(one)))), 1)
+        self.assertLess(time.process_time() - began, 5)
+        lines = lines_in(f"a\n{'b' * (MOST_OF_LINE + 1)}\nc 'd e'\n'")
+        self.assertEqual([(one.number, one.words[-1][:9], bool(one.fault)) for one in lines], [
+            (1, "a", False), (2, "b" * 9, True), (3, "d e", False), (4, "'", True)])
+        path = self.write("list", (b"#" * 63_999 + b"\n") * (MOST_BYTES // 64_000))
+        self.assertEqual(lines_in(list_at(path)), [])
+        with open(path, "ab") as file:
+            file.write(b"#")
+        self.assertIn("more than 16,000,000 bytes", refused(lambda: list_at(path)))
 
     def test_manual(self) -> None:
         """A row of which the cure is that of the one before, as it is or with more."""
@@ -150,7 +210,7 @@ class Words(Case):
             ([self.path("none")], False)]
         for inputs, is_refused in of_inputs:
             def write() -> None:
-                with whole_file(one, inputs) as file:
+                with whole_file(one, Inputs(*inputs)) as file:
                     file.write(b"new")
 
             self.write("one", b"old")
@@ -158,23 +218,56 @@ class Words(Case):
                              (is_refused, b"old" if is_refused else b"new"))
         os.symlink(one, self.path("link"))
         for path in (self.path("link"), os.path.join(self.folder, ".", "one")):
-            self.assertTrue(refused(lambda: whole_file(path, [one]).__enter__()))
+            self.assertTrue(refused(lambda: whole_file(path, Inputs(one)).__enter__()))
         self.assertEqual(self.read("one"), b"new")
-        with whole_file(self.path("link"), []) as file:
+        with whole_file(self.path("link")) as file:
             file.write(b"linked")
         self.assertEqual((self.read("one"), os.path.islink(self.path("link"))), (b"linked", True))
         mask = os.umask(0o027)
         for path in (one, self.path("new")):
-            with whole_file(path, []) as file:
+            with whole_file(path) as file:
                 file.write(b"new")
             self.assertEqual(os.stat(path).st_mode & 0o777, 0o640)
         os.umask(mask)
-        with self.assertRaises(KeyError), whole_file(one, []) as file:
+        with self.assertRaises(KeyError), whole_file(one) as file:
             file.write(b"half")
             raise KeyError
         self.assertEqual((self.read("one"), is_replaced(one), is_replaced("/dev/null"),
                           is_replaced(self.path("none")), is_replaced("-")),
                          (b"new", True, False, True, False))
+
+    def test_results(self) -> None:
+        """In a folder of results a link is replaced, and what it leads to stays, there or not."""
+        for target in (self.write("one", b"theirs"), self.path("none"), self.folder):
+            os.symlink(target, self.path("link"))
+            with result_file(self.path("link")) as file:
+                file.write(b"own")
+            self.must(target, not os.path.islink(self.path("link")) and
+                      self.read("link") == b"own" and self.read("one") == b"theirs" and
+                      not os.path.exists(self.path("none")))
+            os.unlink(self.path("link"))
+
+    def test_files_that_are_read(self) -> None:
+        """By any name, also a link by which one was named; what is gone is none any more."""
+        one, other = self.write("one", b"1"), self.write("other", b"2")
+        os.link(one, self.path("hard"))
+        os.symlink("one", self.path("link"))
+        inputs = Inputs(self.path("link"), None, "-", self.path("none"))
+        for name, is_followed, wanted in (
+                ("one", False, True), ("hard", False, True), ("link", False, True),
+                ("other", True, False), ("none", True, False)):
+            told = refused(lambda: inputs.refuse(self.path(name), is_followed))
+            self.must(f"{name}", bool(told) == wanted, told)
+        os.symlink("one", self.path("another"))
+        for is_followed in (False, True):
+            self.must(f"another link {is_followed}", bool(refused(
+                lambda: inputs.refuse(self.path("another"), is_followed))) == is_followed)
+        os.rename(self.path("one"), self.path("moved"))
+        self.must("it has another name", not refused(
+            lambda: Inputs(other).refuse(self.path("moved"), True)))
+        gone = Inputs(other)
+        os.rename(other, self.path("kept"))
+        self.must("gone", not refused(lambda: gone.refuse(self.path("kept"), True)))
 
 
 class Signals(Case):
@@ -194,8 +287,8 @@ class Signals(Case):
 
             told: BaseException | None = None
             try:
-                with mock.patch("subtitles.core.files.os.replace", replaced), \
-                        whole_file(path, []) as file:
+                with mock.patch("subtitles.core.outputs.os.replace", replaced), \
+                        whole_file(path) as file:
                     file.write(b"new")
             except (KeyboardInterrupt, OSError) as reason:
                 told = reason
@@ -219,7 +312,7 @@ class Signals(Case):
 
             seen: list[str] = []
             made: Any = os.mkdir if place == "os.mkdir" else shutil.rmtree
-            patched: Any = mock.patch(f"subtitles.core.files.{place}", interrupted) if place else \
+            patched: Any = mock.patch(f"subtitles.core.outputs.{place}", interrupted) if place else \
                 contextlib.nullcontext()
             with mock.patch("tempfile.tempdir", self.folder), self.assertRaises(KeyboardInterrupt):
                 with patched, temporary_folder("one-") as folder:

@@ -1,4 +1,5 @@
-"""tools/cut, ts2pes and pes2ts, called: what they write, print and tell."""
+"""Which PES packets are taken of a recording; ts2pes and pes2ts, called: what they write, print and
+tell."""
 from __future__ import annotations
 
 import os
@@ -8,30 +9,24 @@ import select
 import subprocess
 import sys
 import time
-from typing import Any, Sequence
+from typing import Any, NamedTuple, Sequence
 
 from developing.pes import MARK, pes_packet
-from subtitles.core.times import CLOCK, TICKS
+from subtitles.core.times import CLOCK, TICKS, frame_of
+from subtitles.reading.cutting import cut_of
 from ..every_place.recordings import carried
-from .at_random import tool_here
 from .bench import Case, Done, alone, example, example_bytes, moved, packets, tool_path
 from .muxed import spaced
-from .parts import CLOSING, HEADER, row
+from .parts import CLOSING, HEADER, packets_told, row
 
-STL, PES, TS = example("story.stl"), example("story.pes"), example("recording.ts")
+PES = example("story.pes")
 STORY = packets(example_bytes("story.pes"))  # at the seconds 0, 3, 5.5, 7 and 9
-TIMES = ["--from", "20:15:00:00", "--to", "20:15:09:00"]
+WHOLE = frame_of("20:15:00:00") or 0, frame_of("20:15:09:00") or 0
 PID, PAYLOAD = "0x101", 184
 SOON = 20  # seconds after which a PES packet has to have come
 # MB of transport stream a second of the processor: where --speed is asked for, and on a machine
 # that does other things too.
 FAST, ANYWHERE = 100, 30
-
-
-def here(name: str, *words: str) -> Done:
-    """A call of a tool in this process, which takes what is printed."""
-    done = tool_here([sys.executable, tool_path(name), *words])
-    return Done(done.returncode, done.stdout.encode(), done.stderr.splitlines())
 
 
 class Fed:
@@ -69,11 +64,23 @@ class Fed:
         self.process.stdin.close()
 
 
-class Cuts(Case):
-    """tools/cut."""
+class Taken(NamedTuple):
+    """What is asked of `cut_of`."""
 
-    def rows(self) -> list[tuple[str, list[bytes], list[str], tuple[int, int] | None, list[str]]]:
-        """PES packets and words; the numbers of those that are taken; what is told."""
+    begin: int = WHOLE[0]
+    end: int = WHOLE[1]
+    origin: int = 0
+    every: int | None = None
+    within: int = 0
+    inside: tuple[int, int] | None = None
+
+
+class Cuts(Case):
+    """Which PES packets are of some frames."""
+
+    @staticmethod
+    def rows() -> list[tuple[str, list[bytes], Taken, tuple[int, int] | None, str]]:
+        """PES packets and what is asked; the numbers of those that are taken; what is told."""
         broken = [STORY[0], moved(STORY[1], lambda _, pts: pts + 17),
                   STORY[2][:7] + b"\0" + STORY[2][8:], STORY[3][:100] + b"\0" * 84, STORY[4]]
         hidden = [one[:46] + b"\xff" + one[47:] if number in (0, 1, 3) else one
@@ -82,102 +89,47 @@ class Cuts(Case):
         early, first, none_of = (pes_packet(6561000000 - frames * TICKS, [HEADER, CLOSING])
                                  for frames in (20, 250, 251))
         last = moved(STORY[4], lambda _, pts: pts + TICKS)
-        whole, stl = "from 20:15:00:00 to 20:15:09:00", ["--stl", STL]
-        short = ["--stl", self.write("short.stl", example_bytes("story.stl")[:-1])]
+        whole, bound = "from 20:15:00:00 to 20:15:09:00", Taken(every=250)
+        some = "2 of 4 PES packets, from 20:15:03:00 to 20:15:05:12"
         none = "is of these frames and comes with, or after, a header of the page there"
         return [
-            ("all", STORY, TIMES, (0, 4), [f"5 of 5 PES packets, {whole}"]),
-            ("of a file", STORY, stl, (0, 4), [f"5 of 5 PES packets, {whole}"]),
-            ("some", STORY, ["--from", "20:15:02:24", "--to", "20:15:05:12"], (1, 2),
-             ["2 of 4 PES packets, from 20:15:03:00 to 20:15:05:12"]),
-            ("one", STORY, ["--from", "20:15:05:12", "--to", "20:15:05:12"], (2, 2),
-             ["1 of 4 PES packets, from 20:15:05:12 to 20:15:05:12"]),
-            ("numbers", STORY, [*TIMES, "--pes", "1-2"], (1, 2),
-             ["2 of 4 PES packets, from 20:15:03:00 to 20:15:05:12"]),
-            ("none", STORY, ["--from", "01:00:00:00", "--to", "02:00:00:00"], None,
-             [f"none of 5 PES packets {none}"]),
-            ("another page", STORY, [*TIMES, "--page", "100"], None,
-             [f"none of 5 PES packets {none}"]),
+            ("all", STORY, Taken(), (0, 4), f"5 of 5 PES packets, {whole}"),
+            ("with a bound", STORY, bound, (0, 4), f"5 of 5 PES packets, {whole}"),
+            ("some", STORY, Taken(WHOLE[0] + 74, WHOLE[0] + 137), (1, 2), some),
+            ("one", STORY, Taken(WHOLE[0] + 137, WHOLE[0] + 137), (2, 2),
+             "1 of 4 PES packets, from 20:15:05:12 to 20:15:05:12"),
+            ("numbers", STORY, Taken(inside=(1, 2)), (1, 2), some),
+            ("none", STORY, Taken(90_000, 180_000), None, f"none of 5 PES packets {none}"),
             ("an origin", [moved(one, lambda _, pts: pts + CLOCK - TICKS) for one in STORY],
-             [*TIMES, "--origin", str(CLOCK - TICKS)], (0, 4), [f"5 of 5 PES packets, {whole}"]),
-            ("another origin", STORY, ["--origin", "3600", *TIMES], (1, 4),
-             ["4 of 5 PES packets, from 20:15:02:24 to 20:15:08:24"]),
-            ("a bound", [early, *STORY], [*stl, "--every", "20"], (0, 5),
-             ["6 of 6 PES packets, from 20:14:59:05 to 20:15:09:00"]),
-            ("a bound too short", [early, *STORY], [*stl, "--every", "19"], (1, 5),
-             [f"5 of 6 PES packets, {whole}"]),
-            ("the bound left out", [first, *STORY], stl, (0, 5),
-             ["6 of 6 PES packets, from 20:14:50:00 to 20:15:09:00"]),
-            ("behind that", [none_of, *STORY], stl, (1, 5), [f"5 of 6 PES packets, {whole}"]),
-            ("a tick early", [moved(one, lambda _, pts: pts - 1) for one in STORY], TIMES, (1, 4),
-             ["4 of 5 PES packets, from 20:15:02:24 to 20:15:08:24"]),
+             Taken(origin=CLOCK - TICKS), (0, 4), f"5 of 5 PES packets, {whole}"),
+            ("another origin", STORY, Taken(origin=3600), (1, 4),
+             "4 of 5 PES packets, from 20:15:02:24 to 20:15:08:24"),
+            ("a bound of 20", [early, *STORY], Taken(every=20), (0, 5),
+             "6 of 6 PES packets, from 20:14:59:05 to 20:15:09:00"),
+            ("a bound too short", [early, *STORY], Taken(every=19), (1, 5),
+             f"5 of 6 PES packets, {whole}"),
+            ("a bound of 250", [first, *STORY], bound, (0, 5),
+             "6 of 6 PES packets, from 20:14:50:00 to 20:15:09:00"),
+            ("behind that", [none_of, *STORY], bound, (1, 5), f"5 of 6 PES packets, {whole}"),
+            ("a tick early", [moved(one, lambda _, pts: pts - 1) for one in STORY], Taken(), (1, 4),
+             "4 of 5 PES packets, from 20:15:02:24 to 20:15:08:24"),
             ("within", [moved(one, lambda _, pts: pts - 1) for one in STORY],
-             [*TIMES, "--within", "1"], (0, 4), [f"5 of 5 PES packets, {whole}"]),
-            ("broken", broken, TIMES, (0, 4), [f"5 of 5 PES packets, {whole}"]),
-            ("begins with a header", hidden, TIMES, (2, 4),
-             ["3 of 5 PES packets, from 20:15:05:12 to 20:15:09:00"]),
-            ("a wrong PTS alone", [STORY[0], far, *STORY[2:], last, last, b"no PES packet"], stl,
-             (0, 4), [f"5 of 6 PES packets, {whole}"]),
-            ("it is cut", [*STORY[:4], STORY[4][:-1]], TIMES, (0, 3),
-             ["4 of 4 PES packets, from 20:15:00:00 to 20:15:07:00",
-              "asked.pes: PES packet 4 is cut; it was read up to there"]),
-            ("a file that is cut", STORY, short, (0, 2), [
-                "short.stl: block 3 is cut; what stands before is used",
-                "3 of 4 PES packets, from 20:15:00:00 to 20:15:05:12"])]
+             Taken(within=1), (0, 4), f"5 of 5 PES packets, {whole}"),
+            ("broken", broken, Taken(), (0, 4), f"5 of 5 PES packets, {whole}"),
+            ("begins with a header", hidden, Taken(), (2, 4),
+             "3 of 5 PES packets, from 20:15:05:12 to 20:15:09:00"),
+            ("a wrong PTS alone", [STORY[0], far, *STORY[2:], last, last, b"no PES packet"], bound,
+             (0, 4), f"5 of 6 PES packets, {whole}"),
+            ("it is cut", [*STORY[:4], STORY[4][:-1]], Taken(), (0, 3),
+             "4 of 4 PES packets, from 20:15:00:00 to 20:15:07:00")]
 
-    @alone
-    def test_calls(self) -> None:
-        """The numbers of the PES packets that are taken; all options."""
-        for name, pes, words, wanted, told in self.rows():
-            own = self.write("asked.pes", b"".join(pes))
-            status = int(wanted is None or "it is cut" == name)
-            said = [f"cut: {line.replace('asked.pes', own)}".replace(
-                "short.stl", self.path("short.stl")) for line in told]
-            done = here("cut", own, *words, "-p", self.bench.program)
-            printed = b"--pes %d-%d\n" % wanted if wanted else b""
-            self.must(f"{name}: numbers", done == (status, printed, said), done)
-
-    @alone
-    def test_usage(self) -> None:
-        """Which words go with which, and times in their order."""
-        needed, many = "--from and --to are needed, or --stl", \
-            "--stl has the times: --from and --to are too many"
-        rows: list[tuple[list[str], str]] = [
-            ([], needed), (TIMES[:2], needed), (TIMES[2:], needed), ([*TIMES, "--stl", STL], many),
-            ([*TIMES[:2], "--stl", STL], many), ([*TIMES[2:], "--stl", STL], many),
-            ([*TIMES, "--every", "25"], "--every goes with --stl"),
-            (["--from", "20:15:09:01", *TIMES[2:]],
-             "--from 20:15:09:01 is after --to 20:15:09:00")]
-        for words, line in rows:
-            done = here("cut", PES, *words, "-p", self.bench.program)
-            self.must(f"{words}", done == (2, b"", [f"cut: {line}"]), done)
-
-    @alone
-    def test_recordings(self) -> None:
-        """Of a PID of a transport stream, and why there is none."""
-        wide = self.write("wide.ts", spaced(example_bytes("recording.ts"), 192))
-        bare = self.write("bare.ts", b"x" * 999)
-        whole = "5 of 7 PES packets, from 20:15:00:00 to 20:15:09:00"
-        rows: list[tuple[str, list[str], str]] = [
-            (TS, ["--pid", PID], whole), (wide, ["--pid", PID, "--packet-size", "192"], whole),
-            (wide, ["--pid", PID],
-             f"{wide}: its TS packets are 192 bytes apart: --packet-size 192"),
-            (TS, ["--pid", "0x102"], f"{TS}: PID 0x102 carries nothing"),
-            (TS, ["--pid", PID, "--packet-size", "204"],
-             f"{TS}: its TS packets are 188 bytes apart: --packet-size 188"),
-            (bare, ["--pid", PID], f"{bare}: PID 0x101 carries nothing")]
-        for path, words, line in rows:
-            done = here("cut", path, *words, "--origin", "5000000000", *TIMES, "-p",
-                        self.bench.program)
-            wanted = (0, b"--pes 2-6\n") if line == whole else (2, b"")
-            self.must(f"{path} {words}", done == (*wanted, [f"cut: {line}"]), done)
-        for script, line in (
-                ("exit 0", "it did not end, status 0"), ("kill -9 $$", "it did not end, status -9"),
-                ("echo survey 2; echo over 0 0", "survey 2, status 0"),
-                ("echo fault 41 Read pes 2; exit 2", "fault 41 Read pes 2, status 2")):
-            program = self.write_program("program", f"#!/bin/sh\n{script}\n")
-            done = here("cut", TS, *TIMES, "--pid", PID, "-p", program)
-            self.must(script, done == (2, b"", [f"cut: survey was not answered: {line}"]), done)
+    def test_are_taken(self) -> None:
+        """The numbers of the PES packets that are taken, and what is told of them."""
+        for name, pes, asked, wanted, told in self.rows():
+            found = cut_of(packets_told(self, b"".join(pes)), *asked)
+            self.must(name, (found.range, found.told()) == (wanted, told), found)
+        found = cut_of(packets_told(self, b"".join(STORY), (1, 0)), *Taken())
+        self.must("another page", found.range is None, found)
 
 
 class Streams(Case):

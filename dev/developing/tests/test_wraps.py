@@ -14,8 +14,7 @@ from subtitles.calls.channel.feed_clock import FeedClock
 from subtitles.core.spans import Span
 from subtitles.core.times import CLOCK, FRAMES_OF_A_DAY, TICKS
 from subtitles.preview.places import place_of_pts
-from subtitles.qc.clock import RECORDING, Clock
-from subtitles.qc.fitting import Found
+from subtitles.qc.clock import RECORDING, Clock, Found
 from subtitles.reading.packets import Packets
 from subtitles.qc.missing import is_in, time_at
 from subtitles.qc.why import reach, unseen

@@ -10,21 +10,8 @@ from subtitles.core.built import TOP
 from .bench import Case, example, tool_path
 
 STL, PES = example("hello.stl"), example("hello.pes")
-TIMES = ["--from", "10:00:00:00", "--to", "10:00:02:00"]
 WRONG: dict[str, list[list[str]]] = {
     "text": [[], ["none.stl"], [PES], [STL, STL], [TOP], [STL, "--colour"]],
-    "origin": [[], [STL], [STL, "none.pes"], ["none.stl", PES], [PES, PES],
-               [STL, PES, "--page", "8FF"], [STL, PES, "--option", "latin"],
-               [STL, PES, "--origin", "-1"], [STL, PES, "--origin", "8589934592"],
-               [STL, PES, "--origin", "9" * 5000], ["/dev/null", PES],
-               [STL, PES, "--breaks", "-1"], [STL, PES, "--breaks", "1000"],
-               [STL, PES, "--pes", "5-4"]],
-    "cut": [[], [PES], [PES, "--from", "10:00:00:25", *TIMES[2:]],
-            [PES, "--from", "10:00:03:00", *TIMES[2:]], [PES, *TIMES, "--every", "25"],
-            [PES, *TIMES, "--pes", "5-3"], [PES, *TIMES, "--pes", "5"],
-            [PES, *TIMES, "-o", "out.pes"], ["-", *TIMES], ["none.pes", *TIMES],
-            [PES, *TIMES, "--page", "9"], [PES, *TIMES, "--stl", STL], [PES, "--stl", PES], [PES, "--stl", "none.stl"],
-            [PES, *TIMES[:2]]],
     "poke": [[], ["none.stl"], [STL, "x"], [STL, "1=0"], [STL, "1=@3"], [STL, "1152=00"],
              [STL, "0=@1150+3"], [STL, "-c", "-1"], [STL, "-c", "x"], [STL, "1=00", "--colour"],
              [STL, "9" * 5000 + "=00"], [TOP]],
@@ -116,9 +103,9 @@ class WrongWords(Case):
     def test_tells_a_full_device(self) -> None:
         if not os.path.exists("/dev/full"):
             self.skipTest("a full device, since there is no /dev/full")
-        for name, *words in (["text", STL], ["origin", STL, PES, "-p", self.bench.program],
-                             ["pes2ts", PES, "0x101"], ["poke", STL], ["cut", "--version"],
-                             ["cut", PES, *TIMES, "-p", self.bench.program], ["ts2pes", "--help"]):
+        for name, *words in (["text", STL], ["qc", STL, PES, "-p", self.bench.program],
+                             ["pes2ts", PES, "0x101"], ["poke", STL], ["text", "--version"],
+                             ["ts2pes", "--help"]):
             done = self.call(["sh", "-c", 'exec "$@" >/dev/full', "sh",
                               tool_path(name), *words])
             self.must(name, done.status == 2 and done.told and "No space" in done.told[-1], done)
@@ -131,8 +118,6 @@ class WrongWords(Case):
                 self.bench.over.append(f"a device that does not end, since there is no {device}")
                 continue
             for words in (["poke", device], ["poke", device, "-c", "4"], ["text", device],
-                          ["origin", device, PES, "-p", self.bench.program],
-                          ["cut", PES, "--stl", device],
                           ["qc", STL, "--severity", device], ["qc", "--batch", device]):
                 done = self.tool(*words)
                 self.must(" ".join(words), done ==
@@ -165,12 +150,11 @@ class WrongWords(Case):
 
     def test_names_files_as_they_were_typed(self) -> None:
         """No part of a name, no number and no name that was made on the way."""
-        for words, named in ((["origin", STL, "/dev/null", "-p", self.bench.program], "/dev/null"),
-                             (["cut", "no/folder.pes", *TIMES], "no/folder.pes"),
+        for words, named in ((["qc", STL, "no/folder.pes"], "no/folder.pes"),
                              (["qc", "-"], "qc: - is"), (["qc", ""], "an empty name"),
                              (["qc", "--", "-x.stl"], "qc: -x.stl"),
                              (["text", ""], "an empty name"), (["text", "none.stl"], "none.stl"),
-                             (["cut", self.write("cut.pes", b"\0\0\1"), *TIMES, "-p",
+                             (["qc", STL, self.write("cut.pes", b"\0\0\1"), "-p",
                                self.bench.program], self.path("cut.pes")),
                              (["text", "/dev/null"], "/dev/null")):
             done = self.tool(*words)

@@ -2,13 +2,14 @@
 from __future__ import annotations
 
 import argparse
-import concurrent.futures
+import collections
+import contextlib
 import os
-import subprocess
 import time
+from typing import Any, Iterable, Iterator, NamedTuple
 
-from ..core.files import temporary_folder
-from ..core.words import Stop, counted, line_of, shown, tell
+from ..core.outputs import NOTHING, Inputs, temporary_folder
+from ..core.words import Stop, counted, line_of, tell
 from ..qc.asked import Asked
 from ..qc.made_with import program_at
 from ..qc.options import passed_words
@@ -16,13 +17,23 @@ from ..qc.progress import Progress
 from ..qc.status import ACCEPTED, NOT_JUDGED, WAIVED
 from ..qc.typed import Typed
 from . import collecting
-from .claim import claimed_for_batch
+from .claim import InUse, claimed, claimed_for_batch, clear, refuse_files_of
+from .forked import Call, ended_of, qc, signals_held
 from .objects import (
     ENDING, Row, found, is_current, left_by_call, object_at, put, row_of, unjudged)
 from .pairs import Item, pairs_at
 from .single import ignore_signals
 
 WAIT = 0.2  # seconds between two looks at what is done
+
+
+class Running(NamedTuple):
+    """A pair that is judged, what its files were like when that began, and what keeps other calls
+    from writing its results."""
+
+    item: Item
+    found: dict[str, object]
+    claim: contextlib.ExitStack
 
 
 class Calls:
@@ -33,53 +44,94 @@ class Calls:
 
     def __init__(self, typed: Typed, folder: str, out: str | None, is_kept: bool) -> None:
         self.typed, self.folder, self.out, self.is_kept = typed, folder, out, is_kept
-        self.running: set[subprocess.Popen[str]] = set()
+        self.running: dict[Call, Running] = {}
+        self.inputs = NOTHING  # of all pairs
+        self.unwritten: dict[str, dict[str, Any]] = {}  # objects that stand in no file
+        self.in_use: set[str] = set()  # pairs whose files another call was writing
         self.is_stopped = False
+        program_at(typed.program_path)  # whose sum is then known to each of them
+
+    def items(self) -> list[Item]:
+        """The pairs that are judged."""
+        return [one.item for one in self.running.values()]
 
     def path(self, item: Item) -> str:
         """The file of a pair's object."""
-        return os.path.join(self.out or self.folder, shown(item.name) + ENDING)
+        return os.path.join(self.out or self.folder, item.name + ENDING)
 
-    def judge(self, item: Item) -> Row:
-        """Judges a pair by a call of this tool; its row."""
-        path = self.path(item)
+    def begin(self, item: Item) -> Row | None:
+        """Begins to judge a pair; its row, where that is known at once. Where its files are inputs,
+        or no results, or another call writes them, nothing is done."""
+        self.unwritten.pop(item.name, None)
+        self.in_use.discard(item.name)
+        claim = contextlib.ExitStack()
+        try:
+            if self.out is not None:
+                refuse_files_of(self.out, item.name, self.inputs)
+            claim.enter_context(claimed(self.out, item.name))
+            return self.begin_claimed(item, claim)
+        except (Stop, OSError) as reason:
+            if isinstance(reason, InUse):
+                self.in_use.add(item.name)
+            self.unwritten[item.name] = known = unjudged(item.name, line_of(reason))
+            return row_of(known, item.name)
+        finally:
+            claim.close()  # unless it goes on with the call
+
+    def begin_claimed(self, item: Item, claim: contextlib.ExitStack) -> Row | None:
+        """Begins to judge a pair whose files no other call writes now."""
+        if self.out is not None:
+            clear(self.out, item.name)
         if item.asked is None:
             return self.leave(item, item.reason or "")
-        kept = ["-o", self.out, *["--keep"] * self.is_kept] if self.out else ["--json", path]
-        command = [*self.typed.call("qc"), f"--name={item.name}", *kept, "-p",
-                   self.typed.program_path, *words_of(item.asked)]
-        if os.path.lexists(path):
-            os.unlink(path)
+        kept = ["-o", self.out, *["--keep"] * self.is_kept] if self.out else \
+            ["--json", self.path(item)]
+        words = [f"--name={item.name}", "--claimed", *kept, "-p", self.typed.program_path,
+                 *words_of(item.asked)]
         before = found(item.asked)
         try:
-            with subprocess.Popen(command, stdin=subprocess.DEVNULL, stdout=subprocess.DEVNULL,
-                                  stderr=subprocess.PIPE, encoding="utf-8", errors="replace",
-                                  start_new_session=True) as process:
-                self.running.add(process)
-                if self.is_stopped:  # while it began
-                    process.terminate()
-                told = process.communicate()[1].splitlines()
-                self.running.discard(process)
-        except OSError as error:
-            return self.leave(item, line_of(error))
-        if found(item.asked) != before:
-            return self.leave(item, "a file was written to while it was judged")
-        known = left_by_call(path, item.name, process.returncode, told)
-        return self.leave(item, known["reason"]) if "asked" not in known else \
-            row_of(known, item.name)
+            with signals_held():
+                call = Call(lambda: qc(words))
+                self.running[call] = Running(item, before, claim.pop_all())
+        except Stop as reason:
+            return self.leave(item, str(reason))
+        return None
+
+    def rows(self, seconds: float) -> Iterator[Row]:
+        """The rows of pairs that are judged by now, or once one is, after some seconds at most."""
+        for call in ended_of(self.running, seconds):
+            yield self.end(call)
+
+    def end(self, call: Call) -> Row:
+        """Ends a call that is over; the row of its pair."""
+        item, before, claim = self.running.pop(call)
+        try:
+            status, told = call.end()
+            if item.asked and found(item.asked) != before:
+                return self.leave(item, "a file was written to while it was judged")
+            known = left_by_call(self.path(item), item.name, status, told)
+            return self.leave(item, known["reason"]) if "asked" not in known else \
+                row_of(known, item.name)
+        finally:
+            claim.close()
 
     def leave(self, item: Item, reason: str) -> Row:
-        """The row and the object of what is not judged."""
+        """The row and the object of what is not judged; that may stand in no file."""
         known = unjudged(item.name, reason)
-        if not self.is_stopped:
-            put(self.path(item), known)
+        try:
+            if not self.is_stopped:
+                put(self.path(item), known)
+        except OSError as error:
+            self.unwritten[item.name] = known = unjudged(item.name, f"{reason}; {line_of(error)}")
         return row_of(known, item.name)
 
     def stop(self) -> None:
         """Ends the calls that run; their pairs have no object."""
         self.is_stopped = True
-        for process in list(self.running):
-            process.terminate()
+        for call in self.running:
+            call.stop()
+        while self.running:
+            self.end(next(iter(self.running)))
 
 
 def words_of(asked: Asked) -> list[str]:
@@ -99,26 +151,31 @@ def words_of(asked: Asked) -> list[str]:
     return [*words, "--", asked.stl, *([asked.recording] if asked.recording else [])]
 
 
+def inputs_of(items: Iterable[Item], *more: str) -> Inputs:
+    """All files that are read of some pairs, and others."""
+    return Inputs(*more, *(name for item in items if item.asked for name in (
+        item.asked.stl, item.asked.recording, item.asked.severity)))
+
+
 def judge(words: argparse.Namespace, called: str) -> int:
     """Judges all pairs; answers the status."""
     typed = Typed(called, words.program)
     if words.is_resumed and words.out is None:
         raise Stop("--resume goes with -o, where the results of an earlier call are")
     items = pairs_at(words.batch, words)
-    collecting.refuse_names(words, [words.batch, *(
-        one for item in items if item.asked for one in (
-            item.asked.stl, item.asked.recording, item.asked.severity))])
+    inputs = inputs_of(items, words.batch)
+    collecting.refuse_names(words, inputs, words.out)
     with temporary_folder("subttx-qc-") as folder, \
             claimed_for_batch(words.out):
         calls = Calls(typed, folder, words.out, words.is_kept)
+        calls.inputs = inputs
         kept = kept_rows(calls, items) if words.is_resumed else {}
         known = all_rows(calls, items, kept, words.jobs or os.cpu_count() or 1)
         done = [item for item in items if item.name in known]
         rows = [known[item.name] for item in done]
-        if words.out is not None:
-            collecting.write_index(words.out, rows)
-        status = collecting.end(words, rows, [calls.path(item) for item in done],
-                                calls.is_stopped)
+        status = collecting.end(words, rows, [
+            calls.unwritten.get(item.name) or calls.path(item) for item in done],
+            calls.is_stopped, words.out)
         if calls.is_stopped:
             tell(f"stopped when {len(done)} of {counted(len(items), 'pair')} were judged"
                  + ("; --resume judges the others" if words.out is not None else ""))
@@ -142,27 +199,32 @@ def all_rows(calls: Calls, items: list[Item], kept: dict[str, Row], jobs: int) \
     """The rows of all pairs, with a line of progress; where a signal ends it, of those that were
     judged before."""
     progress, began, rows = Progress(), time.monotonic(), dict(kept)
-    with concurrent.futures.ThreadPoolExecutor(jobs) as pool:
-        waiting = {pool.submit(calls.judge, item): item for item in items if item.name not in kept}
-        try:
-            while waiting:
-                done, _ = concurrent.futures.wait(
-                    waiting, WAIT, concurrent.futures.FIRST_COMPLETED)
-                for one in done:
-                    rows[waiting[one].name] = one.result()
-                    del waiting[one]
-                progress.show(progress_line(rows, len(items), len(kept), began))
-        except BaseException as reason:
-            if isinstance(reason, KeyboardInterrupt):
-                ignore_signals()  # what is known is written now
-            rows |= {item.name: one.result() for one, item in waiting.items() if one.done()}
-            for one in waiting:
-                one.cancel()
-            calls.stop()
-            if not isinstance(reason, KeyboardInterrupt):
-                raise
+    waiting = collections.deque(item for item in items if item.name not in kept)
+    try:
+        while waiting or calls.running:
+            for row in judged_next(calls, waiting, jobs, WAIT):
+                rows[row.name] = row
+            progress.show(progress_line(rows, len(items), len(kept), began))
+    except BaseException as reason:
+        if isinstance(reason, KeyboardInterrupt):
+            ignore_signals()  # what is known is written now
+        rows |= {row.name: row for row in calls.rows(0.0)}
+        calls.stop()
+        if not isinstance(reason, KeyboardInterrupt):
+            raise
     progress.clear()
     return rows
+
+
+def judged_next(calls: Calls, waiting: collections.deque[Item], jobs: int, seconds: float) \
+        -> Iterator[Row]:
+    """Begins with pairs that are waited for, so many at a time; the rows of those that are judged
+    by then, or once one is, after some seconds at most."""
+    while waiting and len(calls.running) < jobs:
+        row = calls.begin(waiting.popleft())
+        if row:
+            yield row
+    yield from calls.rows(seconds)
 
 
 def progress_line(rows: dict[str, Row], count: int, kept: int, began: float) -> str:

@@ -5,18 +5,20 @@ import argparse
 import json
 import os
 import sys
-from typing import Callable, Iterator, Sequence
+from typing import Any, Callable, Iterator, Sequence, Union
 
-from ..core.files import OWN_OUTPUT, refuse_input, refuse_name, whole_file
+from ..core.outputs import NOTHING, OWN_OUTPUT, Inputs, refuse_name, result_file, whole_file
 from ..core.words import Stop, counted, line_of, shown, silence, tell
 from ..qc.status import ACCEPTED, of_all
+from ..qc.names import index_in
 from . import index_page, junit, table
-from .machine import FORMAT
-from .objects import Row, object_at, objects_in, row_of
+from .claim import refuse_files_of_all
+from .objects import ENDING, Row, object_at, objects_in, row_of, unjudged
+from .result import FORMAT
 from .single import now
 
+Place = Union[str, dict[str, Any]]  # of an object: its file, or itself where it has none
 HEADS = ("pair", "verdict", "faults", "first fault")
-INDEX = "index.html"
 
 
 def collect(words: argparse.Namespace) -> int:
@@ -30,38 +32,40 @@ def collect(words: argparse.Namespace) -> int:
         if known is None:
             tell(f"{path} is no JSON result of a pair, and is skipped")
             continue
-        name = os.path.basename(path).removesuffix(".json")
+        name = os.path.basename(path).removesuffix(ENDING)
         rows.append(row_of(known, name))
         paths.append(path)
     if not rows:
         raise Stop(f"{folder} has no JSON result of a pair")
-    refuse_names(words, paths)
-    write_index(folder, rows)
-    return end(words, rows, paths)
+    refuse_names(words, Inputs(*paths), folder)
+    return end(words, rows, paths, folder=folder)
 
 
-def end(words: argparse.Namespace, rows: Sequence[Row], paths: Sequence[str],
-        is_stopped: bool = False) -> int:
-    """Writes the files for machines, by the files of the objects, and prints the table; answers the
-    status, which is 2 where others were to be judged too, or a file could not be written. The
-    object comes last, and knows of that."""
+def end(words: argparse.Namespace, rows: Sequence[Row], places: Sequence[Place],
+        is_stopped: bool = False, folder: str | None = None) -> int:
+    """Writes the page over a folder, and the files for machines, by the objects, and prints the
+    table; answers the status, which is 2 where others were to be judged too, or a file could not be
+    written. The object comes last, and knows of that."""
     date, failed = now(), list[str]()
 
     def status() -> int:
         return of_all((row.verdict for row in rows), is_stopped or bool(failed))
 
-    for path, pieces in ((words.csv, lambda: lines_of(paths)),
-                         (words.junit, lambda: testcases(rows, date)),
-                         (words.json, lambda: objects(rows, paths, status(), date))):
+    written: list[Callable[[], None]] = [
+        lambda: write_index(folder, rows), lambda: put(words.csv, lambda: lines_of(places)),
+        lambda: put(words.junit, lambda: testcases(rows, date)),
+        lambda: put(words.json, lambda: objects(places, status(), date))]
+    for write in written:
         try:
-            put(path, pieces)
+            write()
         except (Stop, OSError) as reason:
             failed.append(line_of(reason))
             tell(failed[-1])
+    why = "stopped before the others" if is_stopped else "not all was written" if failed else ""
     is_output_taken = any(path in OWN_OUTPUT for path in (words.json, words.csv, words.junit))
     out = sys.stderr if is_output_taken else sys.stdout
     try:
-        for line in table_of(rows) if rows else ():
+        for line in table_of(rows, why) if rows else ():
             print(shown(line), file=out)
         out.flush()
     except BrokenPipeError:  # who reads it wants no more: what is written stays
@@ -69,23 +73,29 @@ def end(words: argparse.Namespace, rows: Sequence[Row], paths: Sequence[str],
     return status()
 
 
-def refuse_names(words: argparse.Namespace, inputs: Sequence[str | None] = ()) -> None:
+def refuse_names(words: argparse.Namespace, inputs: Inputs = NOTHING,
+                 folder: str | None = None) -> None:
     """Names under which nothing can be written, and those of inputs, are refused before anything is
-    done."""
+    done; also those of the files over all pairs of a folder."""
     for path in (words.json, words.csv, words.junit):
         if path is not None:
             refuse_name(path)
-            refuse_input(path, inputs)
+            inputs.refuse(path, True)
+    if folder is not None:
+        refuse_files_of_all(folder, inputs)
 
 
-def write_index(folder: str, rows: Sequence[Row]) -> None:
-    """The page over all pairs of a folder."""
-    with whole_file(os.path.join(folder, INDEX), []) as file:
+def write_index(folder: str | None, rows: Sequence[Row]) -> None:
+    """The page over all pairs of a folder, where there is one."""
+    if folder is None:
+        return
+    with result_file(index_in(folder)) as file:
         file.write(index_page.page_of(folder, rows, now()).encode("utf-8", "replace"))
 
 
-def table_of(rows: Sequence[Row]) -> Iterator[str]:
-    """The table, and a line of how many there are of which verdict."""
+def table_of(rows: Sequence[Row], why: str = "") -> Iterator[str]:
+    """The table, and a line of how many there are of which verdict; where more than these decides
+    the status, it says so."""
     lines = [HEADS, *((row.name, row.verdict, str(row.faults) if row.is_judged else "",
                        first_fault(row)) for row in rows)]
     widths = [max(len(line[column]) for line in lines) for column in range(3)]
@@ -94,7 +104,7 @@ def table_of(rows: Sequence[Row]) -> Iterator[str]:
                f"{first}").rstrip()
     counts = [f"{sum(row.verdict == verdict for row in rows)} {verdict}"
               for verdict in dict.fromkeys(row.verdict for row in rows)]
-    yield f"{counted(len(rows), 'pair')}: {', '.join(counts)}"
+    yield f"{counted(len(rows), 'pair')}: {', '.join(counts)}" + (f"; {why}" if why else "")
 
 
 def first_fault(row: Row) -> str:
@@ -110,34 +120,47 @@ def first_fault(row: Row) -> str:
 def put(path: str | None, pieces: Callable[[], Iterator[bytes]]) -> None:
     """Writes a file whole, or not at all."""
     if path is not None:
-        with whole_file(path, []) as file:
+        with whole_file(path) as file:
             for piece in pieces():
                 file.write(piece)
 
 
-def objects(rows: Sequence[Row], paths: Sequence[str], status: int, date: str) -> Iterator[bytes]:
+def objects(places: Sequence[Place], status: int, date: str) -> Iterator[bytes]:
     """One object with those of all pairs."""
     head = {"format": FORMAT, "status": status, "date": date}
     yield json.dumps(head, indent=1).removesuffix("\n}").encode() + b',\n "pairs": ['
     before = b"\n"
-    for row, path in zip(rows, paths):
-        yield before + text_of(path, row)
+    for place in places:
+        yield before + text_of(place)
         before = b",\n"
     yield b"]\n}\n"
 
 
-def text_of(path: str, row: Row) -> bytes:
-    """The object as it stands; that of a pair that is not judged, where it can't be read."""
-    known = object_at(path)
-    if known is None or not row.is_judged and "asked" not in known:
-        return json.dumps(known).encode()
-    with open(path, "rb") as file:
-        return file.read()
+def text_of(place: Place) -> bytes:
+    """An object, as it was read and fits."""
+    return json.dumps(known_at(place)).encode()
 
 
-def lines_of(paths: Sequence[str]) -> Iterator[bytes]:
+def known_at(place: Place) -> dict[str, Any]:
+    """The object of a pair, wherever it stands; its file may be gone by now."""
+    if isinstance(place, dict):
+        return place
+    name = os.path.basename(place).removesuffix(ENDING)
+    return object_at(place) or unjudged(name, "its JSON result is gone: judge it again")
+
+
+def lines_of(places: Sequence[Place]) -> Iterator[bytes]:
     """The lines of all pairs under one head."""
-    yield from table.text_of(object_at(path) or {} for path in paths)
+    yield from table.text_of(map(all_told, places))
+
+
+def all_told(place: Place) -> dict[str, Any]:
+    """An object; that some of its faults are left out is told."""
+    known = known_at(place)
+    left_out = known["left_out"]["faults"] if "asked" in known else 0
+    if left_out:
+        tell(f"{place} leaves out {counted(left_out, 'fault')}, and so do the lines")
+    return known
 
 
 def testcases(rows: Sequence[Row], date: str) -> Iterator[bytes]:

@@ -1,142 +1,65 @@
-"""A verdict as one JSON object, as docs/verdict.schema.json has it."""
+"""A verdict as one JSON object, made by the table of results and written a piece after another:
+there may be any number of faults, of which as many stand in it as are read back."""
 from __future__ import annotations
 
 import json
-from typing import Iterable, Iterator, Mapping
+from typing import Any, Iterator
 
-from ..core.layout import text_of
-from ..core.times import time_of
-from ..qc.asked import Asked
-from ..qc.cause_words import Wording
-from ..qc.faults import faults_of, words_of_subtitle
-from ..qc.layouts import Choice
-from ..qc.made_with import Program
-from ..qc.naming import counts_of
-from ..qc.options import passed_members
-from ..qc.sums import File
-from ..qc.verdict import Gap, Part, Verdict
+from ..core.shapes import Listed, Member, Shape
+from ..qc.made_with import MadeWith
+from ..qc.verdict import Verdict
+from .result import LEFT_OUT, LISTS, TOGETHER, VERDICT, Writing
 
-FORMAT = 3
-
-Value = object
+MOST_BYTES = 64 << 20  # of the items of all lists; what is read back may have twice as many
 
 
-def file_words(file: File | None) -> dict[str, Value] | None:
-    return None if file is None else file._asdict()
+class Room:
+    """How many bytes are left for items of lists, and how many of each list were left out."""
+
+    def __init__(self) -> None:
+        self.left = MOST_BYTES
+        self.left_out = {one.name: 0 for one in LISTS}
 
 
-def asked_words(asked: Asked) -> dict[str, Value]:
-    """What was asked; `origin` and `pid` are `None` where they were to be found."""
-    return {"stl": asked.stl, "recording": asked.recording,
-            "page": asked.page_name, "every": asked.every, "option": asked.option,
-            "origin": asked.origin, "complete": asked.is_complete, "pid": asked.pid,
-            "allow_lost": asked.is_loss_allowed, "severity": asked.severity,
-            "breaks": asked.breaks, "pes": asked.pes and list(asked.pes), "start": asked.start,
-            "within": asked.within, "strict": asked.is_strict, **passed_members(asked.passed_on)}
+def object_of(verdict: Verdict, program: MadeWith) -> Iterator[str]:
+    """The text of the object. What does not fit the table is a mistake of these tools, and no
+    result."""
+    known, room = Writing(verdict, program), Room()
+    head: dict[str, Any] = {}
+    before = "{"
+    for member in VERDICT.members:
+        yield f"{before}\n \"{member.name}\": "
+        if member in LISTS:
+            yield from listed(member, known, room)
+        else:
+            value = room.left_out if member.shape is LEFT_OUT else member.found(known)
+            head[member.name] = fitting(member.shape, value, member.name)
+            yield json.dumps(value, ensure_ascii=False)
+        before = ","
+    if TOGETHER.misfit(head) is not None:
+        raise ValueError("verdict, status, line and reason do not go together")
+    yield "\n}\n"
 
 
-def part_words(part: Part, is_kept: bool) -> dict[str, Value]:
-    """A part; what was judged of a feed has a name where it is kept."""
-    judged = part.judged and {**part.judged._asdict(), **({} if is_kept else {"name": None})}
-    answer, (begin, end) = part.answer, part.times()
-    pid, packet_size = part.stream or (None, None)
-    return {"part": part.number, "stl": part.stl, "origin": part.origin, "from": begin, "to": end,
-            "verdict": answer.verdict, "line": answer.line,
-            "frames": answer.frames, "transmissions": answer.transmissions,
-            "faults": answer.count, "pid": pid, "packet_size": packet_size,
-            "pes": part.pes_name, "pace": part.asked and part.asked.pace, "judged": judged,
-            "clock": part.clock and part.clock._asdict()}
+def listed(member: Member, known: Writing, room: Room) -> Iterator[str]:
+    """The items of a list, a line each, as many as there is room for."""
+    assert isinstance(member.shape, Listed) and member.of
+    items, before = iter(member.of(known)), "["
+    for count, item in enumerate(items):
+        shape = member.shape.shape
+        text = json.dumps(fitting(shape, shape.made(item), member.name), ensure_ascii=False)
+        room.left -= len(text.encode("utf-8", "surrogatepass"))
+        if count == member.shape.most or room.left < 0:
+            room.left_out[member.name] = 1 + sum(1 for _ in items)
+            break
+        yield f"{before}\n  {text}"
+        before = ","
+    yield "[]" if before == "[" else "]"
 
 
-def layout_words(choice: Choice | None) -> dict[str, Value] | None:
-    """The layout that was found."""
-    return choice and {"text": text_of(choice.layout), "drawn": choice.drawn,
-                       "found": choice.found}
-
-
-def gap_words(gap: Gap) -> dict[str, Value]:
-    place = gap.place
-    return {"after": gap.after, "before": gap.before, "after_pts": place.before,
-            "before_pts": place.after, "pes": place.mark, "ts_packets": place.lost,
-            "scrambled": place.scrambled, "missing": place.missing, "judged": gap.is_judged}
-
-
-def total(numbers: list[int | None]) -> int | None:
-    """A sum, where each number is known."""
-    known = [number for number in numbers if number is not None]
-    return sum(known) if known and len(known) == len(numbers) else None
-
-
-def head_of(verdict: Verdict, program: Program) -> dict[str, Value]:
-    """The object but for its faults and its trusted stretches."""
-    parts = verdict.parts
-    return {
-        "format": FORMAT,
-        "verdict": verdict.word,
-        "status": verdict.status,
-        "line": verdict.line,
-        "sentence": verdict.sentence,
-        "reason": verdict.why_not,
-        "judged": "subtitle file" if verdict.asked.recording is None else "transmission",
-        "frames": total([part.answer.frames for part in parts]),
-        "transmissions": total([part.answer.transmissions for part in parts]),
-        "fault_count": verdict.faults,
-        "subtitle_counts": verdict.counts and verdict.counts._asdict(),
-        "asked": asked_words(verdict.asked),
-        "found": verdict.found,
-        "parts": [part_words(part, verdict.is_kept) for part in parts],
-        "lost": [gap_words(gap) for gap in verdict.gaps],
-        "warnings": [warned._asdict() for warned in verdict.warnings],
-        "notes": verdict.said(),
-        "hints": verdict.hints,
-        "layout": layout_words(verdict.layout),
-        "inputs": {"stl": file_words(verdict.stl), "recording": file_words(verdict.recording)},
-        "program": program._asdict(),
-        "commands": verdict.commands,
-        "date": verdict.date,
-        "seconds": verdict.seconds,
-        "cause_counts": counts_of(part.causes for part in parts if part.causes),
-        "accepted_within": verdict.accepted_within,
-        "whole_after": verdict.delays and verdict.delays._asdict(),
-    }
-
-
-def object_of(verdict: Verdict, program: Program) -> Iterator[str]:
-    """The text of the object, a piece after another: there may be any number of faults."""
-    head = json.dumps(head_of(verdict, program), ensure_ascii=False, indent=1)
-    yield head.removesuffix("\n}") + ',\n "trusted": ['
-    trusted = ({"part": part.number, "from": time_of(begin), "to": time_of(end)}
-               for part in verdict.parts for begin, end in part.answer.trusted)
-    yield from listed(trusted)
-    yield '],\n "faults": ['
-    yield from listed(faults_of(verdict))
-    yield '],\n "causes": ['
-    yield from listed(causes_of(verdict))
-    yield '],\n "subtitles": ['
-    yield from listed(subtitles_of(verdict))
-    yield "]\n}\n"
-
-
-def causes_of(verdict: Verdict) -> Iterator[dict[str, Value]]:
-    """The causes of all parts, in the order of the subtitles."""
-    for part in verdict.parts:
-        if part.causes:
-            wording = Wording(part.causes, verdict.asked.option)
-            for cause in part.causes.all():
-                yield {"part": part.number, **wording.values(cause)}
-
-
-def subtitles_of(verdict: Verdict) -> Iterator[dict[str, Value]]:
-    """The subtitles of all parts, each with the number of frames after which it was whole."""
-    for part in verdict.parts:
-        if part.delays:
-            for one, frames in zip(part.subtitle_file().all(), part.delays):
-                yield {"part": part.number, **words_of_subtitle(one), "whole_after": frames}
-
-
-def listed(items: Iterable[Mapping[str, Value]]) -> Iterator[str]:
-    """The items of a list, a line each."""
-    before = "\n  "
-    for item in items:
-        yield before + json.dumps(item, ensure_ascii=False)
-        before = ",\n  "
+def fitting(shape: Shape, value: Any, name: str) -> Any:
+    """A value that fits."""
+    wrong = shape.misfit(value)
+    if wrong is not None:
+        raise ValueError(f"{name}{wrong} of the result is not what its table says")
+    return value

@@ -7,7 +7,8 @@ import os
 import sys
 from typing import Any, Sequence
 
-from ..core.files import IsInput, plain_name, whole_file
+from ..core.files import plain_name
+from ..core.outputs import IsInput, whole_file
 from ..core.words import Stop, Words, line_of
 from ..qc.asked import add_pair_options
 from . import junit, modes, objects, single, table
@@ -45,7 +46,8 @@ def parser_of(text: str) -> Words:
     add_pair_options(parser)
     parser.add_argument("-o", dest="out", metavar="DIR", help="the folder for report and list")
     parser.add_argument("--keep", dest="is_kept", action="store_true",
-                        help="keep in DIR the PES packets of the recording, NAME.recording.pes")
+                        help="keep in DIR the PES packets of the recording, NAME.recording.pes; of "
+                             "a feed all that came, NAME.recording.ts")
     parser.add_argument("--json", metavar="FILE", help="the verdict as a JSON result")
     parser.add_argument("--csv", metavar="FILE", help="a line for each fault")
     parser.add_argument("--junit", metavar="FILE", help="the verdict for a CI")
@@ -71,6 +73,8 @@ def parser_of(text: str) -> Words:
                         help="seconds after which a feed that stands still is reported")
     # For the calls that other ones make.
     parser.add_argument("--name", help=argparse.SUPPRESS)
+    parser.add_argument("--claimed", dest="is_claimed", action="store_true",
+                        help=argparse.SUPPRESS)
     parser.add_argument("--fitted", dest="is_fitted", action="store_true", help=argparse.SUPPRESS)
     parser.add_argument("--cut", dest="is_cut", action="store_true", help=argparse.SUPPRESS)
     return parser
@@ -101,7 +105,7 @@ def leave(line: Sequence[str], reason: str) -> None:
 
 def write_table(path: str, known: dict[str, Any]) -> None:
     """The CSV file of a pair by its object."""
-    with whole_file(path, []) as file:
+    with whole_file(path) as file:
         for piece in table.text_of([known]):
             file.write(piece)
 
@@ -110,11 +114,17 @@ def write_testcase(path: str, known: dict[str, Any]) -> None:
     """The file for a CI of a pair that is not judged."""
     case = junit.TestCase(known["name"], known["verdict"], known["status"], known["reason"], [],
                           0.0)
-    with whole_file(path, []) as file:
+    with whole_file(path) as file:
         file.write(junit.text_of([case], single.now()))
 
 
-OUTPUTS = {"--json": objects.put, "--csv": write_table, "--junit": write_testcase}
+def write_object(path: str, known: dict[str, Any]) -> None:
+    """The object of a pair."""
+    with whole_file(path) as file:
+        file.write(objects.text_of(known))
+
+
+OUTPUTS = {"--json": write_object, "--csv": write_table, "--junit": write_testcase}
 # What a file begins with that an earlier call wrote: another one may be an input.
 BEGINS = {"--json": b"{", "--csv": b"stl,recording,", "--junit": b"<?xml version='1.0' "}
 

@@ -7,16 +7,21 @@ import os
 import time
 from typing import Any, Iterator, NamedTuple, Sequence
 
-from ..core.files import is_replaced, whole_file
+from ..core.files import bounded_bytes, first_bytes
+from ..core.outputs import is_replaced, result_file
+from ..core.words import Stop, line_of
 from ..qc.asked import Asked
 from ..qc.beside import Counts
-from ..qc.made_with import Program
+from ..qc.made_with import MadeWith
 from ..qc.status import NOT_JUDGED, STATUSES, is_of_call
-from .machine import FORMAT, asked_words
+from .machine import MOST_BYTES
+from .members import ASKED
+from .result import FORMAT, NO_PAIR, misfit
 
 ENDING = ".json"
 LINES = 100  # of the faults of a pair, in a row
-OF_FAULT = {"line", "number", "name", "cause", "subtitle", "due", "held"}  # that tables take
+MOST_READ = 2 * MOST_BYTES  # bytes of an object
+MOST_DIGITS = 20  # of a number in it
 
 
 class Row(NamedTuple):
@@ -44,8 +49,10 @@ class Row(NamedTuple):
 def unjudged(name: str, reason: str, is_open: bool = False) -> dict[str, Any]:
     """The object of what is no pair, or of a call that did not end by itself. One that `is_open` is
     a programme of a channel that ended before its turn came."""
-    known = {"format": FORMAT, "verdict": NOT_JUDGED, "status": 2, "name": name, "reason": reason}
-    return {**known, "open": True} if is_open else known
+    known = {"format": FORMAT, "verdict": NOT_JUDGED, "status": STATUSES[NOT_JUDGED], "name": name,
+             "reason": reason or "nobody said why"}
+    made: dict[str, Any] = NO_PAIR.made({**known, "open": True} if is_open else known)
+    return made
 
 
 def has_had_its_turn(known: dict[str, Any], asked: Asked | None) -> bool:
@@ -53,9 +60,8 @@ def has_had_its_turn(known: dict[str, Any], asked: Asked | None) -> bool:
     no call need look for it once more."""
     if "asked" not in known:
         return not known.get("open")
-    found_then = known.get("found") or {}
     return asked is not None and known["asked"]["stl"] == asked.stl and \
-        found_then.get("stl") == found_at(asked.stl)
+        known["found"]["stl"] == found_at(asked.stl)
 
 
 def may_take(path: str, begins: bytes = b"{") -> bool:
@@ -63,45 +69,62 @@ def may_take(path: str, begins: bytes = b"{") -> bool:
     wrong: one that holds something else may be an input."""
     if not is_replaced(path) or not os.path.exists(path):
         return True
-    with open(path, "rb") as file:
-        return file.read(len(begins)) in (begins, b"")
+    return first_bytes(path, len(begins)) in (begins, b"")
+
+
+def text_of(known: dict[str, Any]) -> bytes:
+    """Such an object as the text of a file."""
+    return json.dumps(known).encode() + b"\n"
 
 
 def put(path: str, known: dict[str, Any]) -> None:
-    """Writes such an object whole, or not at all."""
-    with whole_file(path, []) as file:
-        file.write(json.dumps(known).encode() + b"\n")
+    """Writes such an object into a folder of results."""
+    with result_file(path) as file:
+        file.write(text_of(known))
 
 
 def object_at(path: str) -> dict[str, Any] | None:
-    """The object in a file; one that can't be read, or is of another format, as not judged. `None`
-    where the file holds something else."""
+    """The object in a file; one that can't be read, is of another format, or is not as a whole what
+    the table of results says, as not judged. `None` where the file holds something else."""
     name = os.path.basename(path).removesuffix(ENDING)
     try:
-        with open(path, encoding="utf-8") as file:
-            known = json.load(file)
-    except (OSError, ValueError) as reason:
-        return unjudged(name, f"its JSON result can't be read: {reason}")
+        known = value_at(path)
+    except (Stop, OSError, ValueError) as reason:
+        return unjudged(name, f"its JSON result can't be read: {why(reason)}")
+    except RecursionError:
+        return unjudged(name, "its JSON result can't be read: it is too deep")
+    except MemoryError:
+        return unjudged(name, "its JSON result can't be read: it is too large for this machine")
     if not isinstance(known, dict) or "verdict" not in known:
         return None
-    if known.get("format") != FORMAT:
-        return unjudged(name, f"its JSON result is of format {known.get('format')}: judge it again")
-    return known if has_shape(known) else \
-        unjudged(name, "its JSON result is none that qc writes: judge it again")
+    number = known.get("format")
+    if type(number) is int and number != FORMAT:
+        return unjudged(name, f"its JSON result is of format {number}: judge it again")
+    wrong = misfit(known)
+    return known if wrong is None else \
+        unjudged(name, f"its JSON result is none that qc writes, by its {wrong}: judge it again")
 
 
-def has_shape(known: dict[str, Any]) -> bool:
-    """Whether an object has what a row takes of it, and the status of its verdict."""
-    kinds = {"line": (str, type(None)), "reason": (str, type(None)), "asked": (dict, type(None)),
-             "faults": (list, type(None)), "cause_counts": (dict, type(None)),
-             "hints": (list, type(None)), "subtitle_counts": (dict, type(None)),
-             "fault_count": (int, type(None)), "seconds": (int, float, type(None))}
-    word, status = known["verdict"], known.get("status")
-    is_row = isinstance(word, str) and type(status) is int and STATUSES.get(word) == status and \
-        all(isinstance(known.get(name), kind) for name, kind in kinds.items())
-    told = known.get("reason" if word == NOT_JUDGED else "line")
-    return is_row and bool(told) and all(isinstance(fault, dict) and OF_FAULT <= fault.keys()
-                                         for fault in known.get("faults") or [])
+def value_at(path: str) -> object:
+    """What a file holds as JSON."""
+    data = bounded_bytes(path, MOST_READ, is_followed=False)
+    return json.loads(data.decode("utf-8"), parse_int=number_in, parse_constant=refuse)
+
+
+def number_in(digits: str) -> int:
+    """A whole number, of which a machine knows the greatest."""
+    return int(digits) if len(digits) <= MOST_DIGITS else refuse(digits)
+
+
+def refuse(text: str) -> int:
+    """No number of a result."""
+    raise ValueError(f"{text[:MOST_DIGITS]} is no number of a result")
+
+
+def why(reason: Exception) -> str:
+    """Why something can't be read, in a line."""
+    return line_of(reason) if isinstance(reason, (Stop, OSError)) else \
+        " ".join(str(reason).split())
 
 
 def left_by_call(path: str, name: str, ended: int, told: Sequence[str]) -> dict[str, Any]:
@@ -116,42 +139,35 @@ def left_by_call(path: str, name: str, ended: int, told: Sequence[str]) -> dict[
 
 def row_of(known: dict[str, Any], name: str) -> Row:
     """A row by an object."""
-    line = known.get("reason") or known.get("line") or ""
-    asked, faults = known.get("asked") or {}, known.get("faults") or []
-    title = " ".join(str(asked[word]) for word in ("stl", "recording") if asked.get(word))
-    return Row(name, title or name, known["verdict"], known["status"], line,
-               known.get("fault_count") or 0, causes_in(known),
-               [fault["line"] for fault in faults[:LINES]], known.get("seconds") or 0.0,
-               hint_in(known), counts_in(known))
+    if "asked" not in known:
+        return Row(name, name, known["verdict"], known["status"], known["reason"], 0, {}, [], 0.0,
+                   "")
+    title = " ".join(known["asked"][word] for word in ("stl", "recording") if known["asked"][word])
+    counts = known["subtitle_counts"]
+    return Row(name, title or name, known["verdict"], known["status"],
+               known["reason"] or known["line"], known["fault_count"], causes_in(known),
+               [fault["line"] for fault in known["faults"][:LINES]], known["seconds"],
+               hint_in(known), Counts(**counts).words() if counts else "")
 
 
 def hint_in(known: dict[str, Any]) -> str:
     """What to know of the fault that the line of an object names, where there is something."""
-    refused = (known.get("line") or "").partition("refused ")[2]
-    for hint in map(str, known.get("hints") or []):
+    refused = (known["line"] or "").partition("refused ")[2]
+    for hint in known["hints"]:
         number, _, words = hint.partition(": ")
         if refused.startswith(f"{number} "):
-            return words
+            return str(words)
     return ""
-
-
-def counts_in(known: dict[str, Any]) -> str:
-    """How many subtitles were judged, and how many are refused, where some are."""
-    counts = known.get("subtitle_counts") or {}
-    judged, refused = counts.get("judged"), counts.get("refused")
-    return Counts(judged, refused).words() if isinstance(judged, int) and isinstance(
-        refused, int) else ""
 
 
 def causes_in(known: dict[str, Any]) -> dict[str, int]:
     """How many subtitles there are with which cause; of faults without one how many, by number and
     name."""
     counts: collections.Counter[str] = collections.Counter()
-    for fault in known.get("faults") or []:
+    for fault in known["faults"]:
         if not fault["cause"]:
             counts[f"{fault['number']} {fault['name']}"] += 1
-    causes = {name: count for name, count in (known.get("cause_counts") or {}).items() if count}
-    return causes | dict(counts)
+    return {name: count for name, count in known["cause_counts"].items() if count} | dict(counts)
 
 
 def objects_in(folder: str) -> Iterator[tuple[str, dict[str, Any] | None]]:
@@ -184,10 +200,10 @@ def found(asked: Asked) -> dict[str, Any]:
             "severity": found_at(asked.severity)}
 
 
-def is_current(known: dict[str, Any], asked: Asked, program: Program) -> bool:
+def is_current(known: dict[str, Any], asked: Asked, program: MadeWith) -> bool:
     """Whether a pair would be judged with the same words, by the same program and tools, on files
     of the same size and time."""
-    made_with = known.get("program") or {}
-    return known.get("asked") == asked_words(asked) and known.get("found") == found(asked) \
-        and made_with.get("sha256") == program.sha256 \
-        and made_with.get("version") == program.version
+    return "asked" in known and known["asked"] == ASKED.made(asked) \
+        and known["found"] == found(asked) \
+        and known["program"]["sha256"] == program.sha256 \
+        and known["program"]["version"] == program.version

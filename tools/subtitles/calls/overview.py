@@ -12,17 +12,18 @@ from ..preview.counts import heads
 from ..preview.page import FRAMES, REFUSAL, document, lost_places, made_from
 from ..preview.scope import Scope
 from ..qc.cause_words import count_line, names_line
-from ..qc.made_with import Program
+from ..qc.made_with import MadeWith
 from ..qc.names import Names
+from ..qc.part import Part
 from ..qc.status import NOT_JUDGED
 from ..qc.sums import File
 from ..qc.typed import Typed
-from ..qc.verdict import Part, Verdict
+from ..qc.verdict import Verdict
 
 COLUMNS = ("From", "To", "Verdict", "Faults", "Causes", "Clock")
 
 
-def overview(verdict: Verdict, program: Program, names: Names, typed: Typed) -> Iterator[str]:
+def overview(verdict: Verdict, program: MadeWith, names: Names, typed: Typed) -> Iterator[str]:
     """The page."""
     asked = verdict.asked
     line = verdict.line or f"{NOT_JUDGED}: {verdict.why_not}"
@@ -88,10 +89,8 @@ def table(verdict: Verdict, names: Names) -> str:
 
 def clock_of(part: Part) -> str:
     """The clock of a part in words."""
-    if part.clock is None:
-        return ""
-    words = part.clock.words()
-    delay = part.clock.delay_frames
+    assert part.clock
+    words, delay = part.clock.words(), part.clock.delay_frames
     if delay:
         words += f", all {counted(abs(delay), 'frame')} {'late' if delay > 0 else 'early'}"
     return shown(words)
@@ -99,7 +98,6 @@ def clock_of(part: Part) -> str:
 
 def between(parts: Sequence[Part]) -> str:
     """The times between the parts, at which nobody looked."""
-    gaps = [f"{time_of(before.end)} and {time_of(after.begin)}"
-            for before, after in zip(parts, parts[1:])
-            if before.end is not None and after.begin is not None]
+    times = [part.times() for part in parts]
+    gaps = [f"{end} and {begin}" for (_, end), (begin, _) in zip(times, times[1:])]
     return f"<p>Nobody looked at what is sent between {shown('; between '.join(gaps))}.</p>"

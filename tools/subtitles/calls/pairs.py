@@ -4,13 +4,13 @@ from __future__ import annotations
 import argparse
 import collections
 import os
-import shlex
-import stat
 from typing import Iterable, NamedTuple
 
-from ..core.files import refuse_device
-from ..core.words import Stop, shown
+from ..core.files import kind_of
+from ..core.lists import lines_in, list_at
+from ..core.words import Stop
 from ..qc.asked import Asked, asked_of_line, asked_with
+from ..qc.names import NamesOfList, pair_name
 
 SUBTITLES = ".stl"
 # The endings of transport streams of all kinds of packets, and of files of PES packets.
@@ -25,29 +25,12 @@ class Item(NamedTuple):
     reason: str | None
 
 
-class OwnNames:
-    """Names of pairs, each of its own: one that is taken gets a number."""
-
-    def __init__(self) -> None:
-        self.taken: set[str] = set()
-
-    def of(self, name: str) -> str:
-        """The name of the next pair."""
-        own, number = name, 1
-        while own in self.taken:
-            number += 1
-            own = f"{name}-{number}"
-        self.taken.add(own)
-        return own
-
-
 def pairs_at(path: str, defaults: argparse.Namespace) -> list[Item]:
     """The pairs of a folder or a list, each with a name of its own."""
     items = of_folder(path, defaults) if os.path.isdir(path) else of_list(path, defaults)
     if not items:
         raise Stop(f"{path} has no pair")
-    names = OwnNames()
-    return [item._replace(name=names.of(shown(item.name))) for item in items]
+    return items
 
 
 def of_folder(folder: str, defaults: argparse.Namespace) -> list[Item]:
@@ -63,14 +46,12 @@ def of_folder(folder: str, defaults: argparse.Namespace) -> list[Item]:
 def no_file(path: str) -> str | None:
     """Why a name is none of a file that can be judged; a pipe would never end."""
     try:
-        mode = os.stat(path).st_mode
+        kind = kind_of(os.stat(path).st_mode)
     except OSError as error:
         return f"{path}: {error.strerror}"
-    if stat.S_ISREG(mode):
-        return None
-    kind = "a folder" if stat.S_ISDIR(mode) else "a pipe" if stat.S_ISFIFO(mode) else \
-        "a device" if stat.S_ISCHR(mode) or stat.S_ISBLK(mode) else "no file"
-    return f"{path} is {kind}"
+    except ValueError as error:
+        return f"{path}: {error}"
+    return kind and f"{path} is {kind}"
 
 
 def item_of(name: str, stl: str, recording: str, defaults: argparse.Namespace) -> Item:
@@ -98,7 +79,7 @@ def of_files(folder: str, files: list[str], defaults: argparse.Namespace) -> Ite
             same[os.path.splitext(file)[0]].append(file)
         if len(same) > 1:
             return [item for some in same.values() for item in of_files(folder, some, defaults)]
-    name = os.path.splitext(files[0])[0]
+    name = pair_name((subtitles or recordings)[0])
     paths = [os.path.join(folder, file) for file in subtitles + recordings]
     if not recordings:
         reason = f"{', '.join(paths)}: no recording of that name"
@@ -120,17 +101,15 @@ def sorted_out(files: list[str]) -> tuple[list[str], list[str]]:
 
 def of_list(path: str, defaults: argparse.Namespace) -> list[Item]:
     """The lines of a list: a subtitle file, a recording, and options of their own."""
-    items = []
-    with open(path, encoding="utf-8", errors="surrogateescape") as file:
-        refuse_device(file, path)
-        for at, line in enumerate(file, 1):
-            try:
-                words = shlex.split(line, comments=True)
-                if not words:
-                    continue
-                asked = asked_of_line(words, defaults)
-                name = os.path.splitext(os.path.basename(asked.stl))[0]
-                items.append(with_files(Item(name, asked, None)))
-            except (Stop, ValueError) as reason:
-                items.append(Item(f"line {at}", None, f"{path}, line {at}: {reason}"))
+    items, names = [], NamesOfList()
+    for line in lines_in(list_at(path, may_be_pipe=True)):
+        try:
+            if line.fault:
+                raise Stop(line.fault)
+            asked = asked_of_line(line.words, defaults)
+        except (Stop, ValueError) as reason:
+            items.append(Item(names.line(line.number), None,
+                              f"{path}, line {line.number}: {reason}"))
+            continue
+        items.append(with_files(Item(names.pair(asked.stl), asked, None)))
     return items

@@ -11,29 +11,30 @@ import signal
 import time
 from typing import Callable, Iterator, NamedTuple, Sequence
 
-from ..core.files import (
-    OWN_OUTPUT, is_replaced, refuse_input, refuse_name, temporary_folder, whole_file)
+from ..core.outputs import (
+    OWN_OUTPUT, Inputs, is_replaced, refuse_name, result_file, temporary_folder, whole_file)
 from ..core.words import Stop, counted, escaped, line_of, shown, silence, tell
 from ..qc.asked import AUTO_OF_FEED, Asked, asked_of, keep_stl
 from ..qc.cause_words import count_line
 from ..qc.faults import faults_of
 from ..qc.hints import hints_of
 from ..qc.made_with import program_at
-from ..qc.names import Names
+from ..qc.names import Names, pair_name
 from ..qc.pair import Pair
+from ..qc.part import Part
 from ..qc.progress import Progress
-from ..qc.recording import size_of
+from ..qc.recording import Recording, size_of
 from ..qc.severity import Severity
 from ..qc.speech import Speech
 from ..qc.status import NOT_JUDGED
 from ..qc.typed import Typed
 from ..qc.unclear import Unclear
-from ..qc.verdict import Gap, Part, Verdict
+from ..qc.verdict import Gap, Verdict
 from ..qc.within import line_of as line_of_within
 from ..reading.gaps import TOLD
 from . import junit, machine, table
-from .claim import claimed
-from .objects import found, put, unjudged
+from .claim import claimed, clear, refuse_files_of
+from .objects import found, text_of, unjudged
 from .overview import overview
 
 ESCAPED = re.compile("[\ud800-\udfff]")  # bytes of a name that is not UTF-8
@@ -57,24 +58,36 @@ def judge(words: argparse.Namespace, called: str) -> int:
     verdict = Verdict(asked, Severity(asked.severity, asked.is_loss_allowed), now(),
                       was_fitted=words.is_fitted)
     verdict.is_kept = words.is_kept
-    name = shown(words.name or os.path.splitext(os.path.basename(asked.stl))[0])
-    with temporary_folder("subttx-qc-") as folder, claimed(out, name):
+    name = words.name or pair_name(asked.stl)
+    refuse_outputs(words, asked, out, name)
+    with temporary_folder("subttx-qc-") as folder, claimed(
+            None if words.is_claimed else out, name):
+        if out is not None:
+            clear(out, name)
         names = Names(name, folder, out)
         keep_stl(asked, folder)
         names.give(asked.stl_path)
         files = Files(words, verdict, typed, names)
-        files.prepare()
         verdict.found = found(asked)
         pair = Pair(verdict, typed, names, speech, files.are_any())
         pair.stalled_after, pair.is_cut = words.stall, words.is_cut
         if out is not None:
             pair.draw = functools.partial(draw, pair)
-        try:
-            judge_pair(pair, files)
-            end_pair(verdict, speech, files)
-        finally:
-            files.leave(pair)
+        judge_pair(pair, files)
+        end_pair(verdict, speech, files)
     return verdict.status
+
+
+def refuse_outputs(words: argparse.Namespace, asked: Asked, out: str | None, name: str) -> None:
+    """`Stop` where a file that is asked for can't be written, or is an input; nothing is done yet.
+    """
+    inputs = Inputs(asked.stl, asked.recording, asked.severity)
+    for path in (words.json, words.csv, words.junit):
+        if path:
+            inputs.refuse(path, True)
+            refuse_name(path)
+    if out is not None:
+        refuse_files_of(out, name, inputs)
 
 
 def refuse_auto(asked: Asked) -> None:
@@ -88,15 +101,13 @@ def refuse_auto(asked: Asked) -> None:
             raise Stop(AUTO_OF_FEED)
 
 
-def draw(pair: Pair, part: Part, names: Names, gaps: Sequence[Gap], count: int) -> None:
+def draw(pair: Pair, part: Part, gaps: Sequence[Gap], count: int) -> None:
     """Draws the report of a part, one of so many, with what is missing there."""
     from ..preview import page, program as asking, report  # most calls need nothing of these
     verdict, typed = pair.verdict.of_part(part, [*gaps]), pair.typed
-    path, shown_name = pair.recording.judged() if pair.recording else (None, None)
-    program = asking.Program(typed.program_word, typed.program_path, path,
-                             pair.recording.stream() if pair.recording else None, names.folder)
-    if pair.recording and not pair.recording.is_file:
-        program.stream = None
+    program = asking.Program(typed.program_word, typed.program_path,
+                             part.recording.path if part.recording else None, part.stream,
+                             part.names.folder)
     files = [(kind, file) for kind, file in (
         ("STL", verdict.stl), ("PES", part.judged), ("Recording", verdict.recording)) if file]
     subject = report.Subject(verdict, part, count, program, pair.speech.commands, files)
@@ -104,7 +115,7 @@ def draw(pair: Pair, part: Part, names: Names, gaps: Sequence[Gap], count: int) 
         text = page.report_page(report.Report(subject))
     except asking.NoReport as reason:
         raise Unclear(f"no report was made: {reason}") from None
-    with whole_file(names.report, [pair.asked.stl, pair.asked.recording]) as file:
+    with result_file(part.names.report) as file:
         file.write(text.encode("utf-8", "replace"))
 
 
@@ -124,7 +135,7 @@ def judge_pair(pair: Pair, files: Files) -> None:
         verdict.reason = f"stopped at {pair.stop(now())}"
     verdict.commands = pair.speech.commands
     verdict.seconds = round(time.monotonic() - began, 3)
-    files.write()
+    files.write(pair.recording)
 
 
 def end_pair(verdict: Verdict, speech: Speech, files: Files) -> None:
@@ -185,22 +196,28 @@ def end(verdict: Verdict, speech: Speech) -> None:
 
 
 class Output(NamedTuple):
-    """A file that is asked for, and how its text is made; of an object what stands for it where
-    that can't be done."""
+    """A file that is asked for, and how its bytes are made; of an object what stands for it where
+    that can't be done. One that is a result stands in the folder; one that `is_raw` says nothing of
+    the verdict."""
 
     path: str
-    pieces: Callable[[], Iterator[str]]
+    pieces: Callable[[], Iterator[bytes]]
+    is_result: bool = False
     is_object: bool = False
+    is_raw: bool = False
+
+    @property
+    def is_replaced(self) -> bool:
+        """Whether it can be written once more."""
+        return self.is_result or is_replaced(self.path)
 
 
 class Files:
-    """The files that are asked for, none of which may be an input."""
+    """The files that are asked for."""
 
     def __init__(self, words: argparse.Namespace, verdict: Verdict, typed: Typed,
                  names: Names) -> None:
         self.words, self.verdict, self.typed, self.names = words, verdict, typed, names
-        self.of_pair, asked = names.kept(), verdict.asked
-        self.inputs = [asked.stl, asked.recording, asked.severity]
         self.written: list[Output] = []
 
     def are_any(self) -> bool:
@@ -208,22 +225,11 @@ class Files:
         words = self.words
         return bool(words.out or words.json or words.csv)
 
-    def prepare(self) -> None:
-        """Takes away what an earlier call left of this pair in the folder."""
-        written = [path for path in (self.words.json, self.words.csv, self.words.junit) if path]
-        for path in [*self.names.written(), *written]:
-            refuse_input(path, self.inputs)
-        for path in written:
-            refuse_name(path)
-        for path in self.of_pair:
-            if os.path.lexists(path):
-                os.unlink(path)
-
-    def write(self) -> None:
+    def write(self, recording: Recording | None = None) -> None:
         """Writes what is asked for. What could not be written stands in the verdict: so what was
         written before is written once more, where that can be. The object in the folder comes
         last, when all else is there, but for what can't be written once more."""
-        for output in sorted(self.wanted(), key=lambda one: not is_replaced(one.path)):
+        for output in sorted(self.wanted(recording), key=lambda one: not one.is_replaced):
             if self.try_to_put(output):
                 self.written.append(output)
             else:
@@ -232,48 +238,59 @@ class Files:
     def write_again(self) -> None:
         """Writes once more what was written, with what failed since then."""
         for output in self.written:
-            if is_replaced(output.path):
+            if output.is_replaced and not output.is_raw:
                 self.try_to_put(output)
 
     def try_to_put(self, output: Output) -> bool:
         """Writes a file; whether that was done. Else why not stands in the verdict."""
         try:
-            self.put(output.path, output.pieces())
+            self.put(output)
         except Exception as reason:
             self.verdict.failed.append(line_of(reason))
             if output.is_object and not isinstance(reason, (Stop, OSError)):
-                put(output.path, unjudged(self.names.name, self.verdict.why_not or ""))
+                known = unjudged(self.names.name, self.verdict.why_not or "")
+                self.put(output._replace(pieces=lambda: iter([text_of(known)])))
             return False
         return True
 
-    def wanted(self) -> list[Output]:
+    def wanted(self, recording: Recording | None) -> list[Output]:
         """What is asked for."""
-        words, verdict = self.words, self.verdict
+        words, verdict, names = self.words, self.verdict, self.names
         wanted = [Output(words.csv, self.table_lines)] if words.csv else []
         wanted += [Output(words.junit, self.testcase)] if words.junit else []
-        objects = [path for path in (words.json, self.names.machine) if path]
-        if objects:
-            program = program_at(self.typed.program_path)
-            if self.names.out and len(verdict.parts) > 1:
-                wanted.append(Output(self.names.report, lambda: overview(
-                    verdict, program, self.names, self.typed)))
-            wanted += [Output(path, lambda: machine.object_of(verdict, program), True)
-                       for path in objects]
+        wanted += self.raw(recording) if names.out else []
+        if not words.json and not names.machine:
+            return wanted
+        program = program_at(self.typed.program_path)
+
+        def page() -> Iterator[bytes]:
+            return map(str.encode, overview(verdict, program, names, self.typed))
+
+        def members() -> Iterator[bytes]:
+            return map(as_bytes, machine.object_of(verdict, program))
+
+        if names.out and len(verdict.parts) > 1:
+            wanted.append(Output(names.report, page, True))
+        wanted += [Output(words.json, members, is_object=True)] if words.json else []
+        wanted += [Output(names.machine, members, True, True)] if names.machine else []
         return wanted
 
-    def testcase(self) -> Iterator[str]:
+    def raw(self, recording: Recording | None) -> list[Output]:
+        """The list of each part as `check` told it, and what was recorded, where that is kept."""
+        lists = [Output(part.names.typed("txt"), part.answer.raw, True, is_raw=True)
+                 for part in self.verdict.parts]
+        ending = recording and recording.packets.count and recording.kept_ending
+        if self.words.is_kept and recording and ending:
+            lists.append(Output(self.names.typed(ending), recording.kept, True, is_raw=True))
+        return lists
+
+    def testcase(self) -> Iterator[bytes]:
         """The file for a CI."""
         verdict = self.verdict
         case = junit.TestCase(name_of(verdict.asked), verdict.word, verdict.status,
                               verdict.line or verdict.why_not or "", self.lines(), verdict.seconds,
                               verdict.counts.words() if verdict.counts else "")
-        yield junit.text_of([case], verdict.date).decode()
-
-    def leave(self, pair: Pair) -> None:
-        """Keeps the PES packets of the recording, where that is asked for."""
-        recording = pair.recording
-        if self.words.is_kept and recording and recording.packets.count:
-            recording.keep(self.names.place("recording.pes"))
+        yield junit.text_of([case], verdict.date)
 
     def lines(self) -> list[str]:
         """The first lines of the lists of all parts."""
@@ -281,18 +298,24 @@ class Files:
                  if part.answer.count)
         return list(itertools.islice(lines, SUMMED))
 
-    def table_lines(self) -> Iterator[str]:
+    def table_lines(self) -> Iterator[bytes]:
         """The lines of the CSV file: the names of the columns, the pair, its faults."""
-        return table.lines_of(itertools.chain(
+        return map(str.encode, table.lines_of(itertools.chain(
             [table.of_pair(self.verdict)], (table.of_fault(self.verdict, fault)
-                                            for fault in faults_of(self.verdict))))
+                                            for fault in faults_of(self.verdict)))))
 
-    def put(self, path: str, pieces: Iterator[str]) -> None:
+    @staticmethod
+    def put(output: Output) -> None:
         """Writes a file whole, or not at all."""
-        with whole_file(path, self.inputs) as file:
-            for piece in pieces:
-                # Only an object has such bytes still: the others have them escaped.
-                file.write(ESCAPED.sub(lambda found: "\\" + escaped(found[0]), piece).encode())
+        with result_file(output.path) if output.is_result else whole_file(output.path) as file:
+            for piece in output.pieces():
+                file.write(piece)
+
+
+def as_bytes(text: str) -> bytes:
+    """The text of an object; of a name that is not UTF-8 the bytes are escaped, which all other
+    texts have done."""
+    return ESCAPED.sub(lambda found: "\\" + escaped(found[0]), text).encode()
 
 
 def name_of(asked: Asked) -> str:

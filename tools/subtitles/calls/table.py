@@ -8,7 +8,8 @@ from typing import Any, Iterable, Iterator, Sequence
 
 from ..core.words import shown
 from ..qc.faults import Cell, Fault
-from ..qc.verdict import Part, Verdict
+from ..qc.part import Part
+from ..qc.verdict import Verdict
 
 OF_FAULT = ["part", "number", "name", "severity", "file", "block", "subtitle", "begin", "end",
             "byte", "character", "pes", "pes_time", "packet", "frame", "time", "row", "column",
@@ -42,7 +43,7 @@ def of_pair(verdict: Verdict) -> Known:
 
 def of_counts(counts: dict[str, Any] | None) -> Known:
     """The columns of how many subtitles were judged, and how many are refused."""
-    return {column: counts.get(name) for column, name in COUNTS.items()} if counts else {}
+    return {column: counts[name] for column, name in COUNTS.items()} if counts else {}
 
 
 def words_of(part: Part) -> dict[str, Any]:
@@ -55,21 +56,22 @@ def words_of(part: Part) -> dict[str, Any]:
 def of_part(parts: Sequence[dict[str, Any]], number: int | None) -> Known:
     """The columns of what is judged with a part, by its number; with the only one where none is
     given."""
-    found = [one for one in parts if one.get("part") == number or number is None]
+    found = [one for one in parts if one["part"] == number or number is None]
     if len(found) != 1:
         return {}
-    pid = found[0].get("pid")
-    return {"pid": pid if pid is None else f"0x{pid:X}", "range": found[0].get("pes"),
-            "packet_size": found[0].get("packet_size")}
+    pid = found[0]["pid"]
+    return {"pid": pid if pid is None else f"0x{pid:X}", "range": found[0]["pes"],
+            "packet_size": found[0]["packet_size"]}
 
 
 def of_object(known: dict[str, Any]) -> Known:
     """The same of a pair by its object; what is no pair has a name alone."""
-    asked = known.get("asked") or {"stl": known.get("name")}
-    return {"stl": asked.get("stl"), "recording": asked.get("recording"),
-            **{name: known.get(name) for name in (*OF_PAIR, "line", "sentence")},
-            **of_counts(known.get("subtitle_counts")),
-            **of_part(known.get("parts") or [], None)}
+    pair = {name: known[name] for name in OF_PAIR}
+    if "asked" not in known:
+        return {"stl": known["name"], **pair}
+    return {"stl": known["asked"]["stl"], "recording": known["asked"]["recording"], **pair,
+            "line": known["line"], "sentence": known["sentence"],
+            **of_counts(known["subtitle_counts"]), **of_part(known["parts"], None)}
 
 
 def of_fault(verdict: Verdict, fault: Fault) -> Known:
@@ -81,9 +83,9 @@ def with_fault(pair: Known, parts: Sequence[dict[str, Any]], fault: Fault) -> Kn
     """The columns of a fault of a pair with these parts."""
     subtitle, cause = fault["subtitle"], fault["cause"]
     known: Known = {
-        **pair, **of_part(parts, fault.get("part")), **fault,
+        **pair, **of_part(parts, fault["part"]), **fault,
         "subtitle": subtitle and subtitle["number"],
-        "position": subtitle and subtitle.get("position"), "begin": subtitle and subtitle["begin"],
+        "position": subtitle and subtitle["position"], "begin": subtitle and subtitle["begin"],
         "end": subtitle and subtitle["end"], "due": cell_words(fault["due"]),
         "held": cell_words(fault["held"]), "cause": cause and cause["cause"],
     }
@@ -91,7 +93,7 @@ def with_fault(pair: Known, parts: Sequence[dict[str, Any]], fault: Fault) -> Kn
         known |= {"cause_frames": cause["frames"], "cause_subtitle": cause["subtitle"]["number"],
                   "cause_text": cause["text"], "cause_sent": cause["sent"],
                   "cause_words": cause["words"],
-                  "cause_position": cause["subtitle"].get("position")}
+                  "cause_position": cause["subtitle"]["position"]}
     return known
 
 
@@ -124,5 +126,5 @@ def rows_of(known: dict[str, Any]) -> Iterator[Known]:
     """The columns of a pair, and of each of its faults, by its object."""
     pair = of_object(known)
     yield pair
-    for fault in known.get("faults") or []:
-        yield with_fault(pair, known.get("parts") or [], fault)
+    for fault in known["faults"] if "asked" in known else ():
+        yield with_fault(pair, known["parts"], fault)

@@ -2,19 +2,22 @@
 from __future__ import annotations
 
 import argparse
-import concurrent.futures
+import collections
 import os
 import signal
 import time
 from typing import NamedTuple
 
-from ..core.words import Stop, tell
+from ..core.outputs import NOTHING
+from ..core.words import Stop, line_of, say, tell
 from ..qc.made_with import program_at
 from ..qc.typed import Typed
 from . import collecting
-from .batch import Calls
+from .batch import Calls, inputs_of, judged_next
+from .claim import refuse_files_of_all
 from .objects import ENDING, Row, found, is_current, object_at, objects_in, row_of
 from .pairs import Item, of_folder
+from .single import SIGNALS
 
 LOOK = 1.0  # seconds between two looks: no notice comes of what another machine writes
 DONE = ".done"  # after the name of a pair: both of its files are whole
@@ -25,8 +28,9 @@ class Stopping:
 
     def __init__(self) -> None:
         self.is_asked = False
-        for one in (signal.SIGTERM, signal.SIGINT, signal.SIGHUP):
-            signal.signal(one, self.take)
+        for one in SIGNALS:
+            if signal.getsignal(one) != signal.SIG_IGN:  # nohup lets a hang-up pass
+                signal.signal(one, self.take)
 
     def take(self, number: int, frame: object) -> None:
         """Takes a signal."""
@@ -35,7 +39,7 @@ class Stopping:
         self.is_asked = True
 
 
-class Seen(NamedTuple):
+class Sighting(NamedTuple):
     """What files are like, or why they are no pair, and since when by this machine's clock."""
 
     is_like: object
@@ -49,7 +53,7 @@ class Watch:
         self.words, self.folder, self.out = words, words.watch, words.out
         self.calls = Calls(typed, words.out, words.out, words.is_kept)
         self.program = program_at(typed.program_path)
-        self.seen: dict[str, Seen] = {}
+        self.seen: dict[str, Sighting] = {}
         self.tried: dict[str, object] = {}  # what was found of pairs that were judged here
         self.named: dict[str, str] = {}  # what is no pair, and the reason that was told
         self.rows: dict[str, Row] = {}
@@ -60,7 +64,9 @@ class Watch:
 
     def due(self, busy: set[str], now: float) -> list[Item]:
         """The pairs that are whole and not yet judged as they are; tells what is no pair."""
-        items = [item for item in of_folder(self.folder, self.words) if item.name not in busy]
+        items = of_folder(self.folder, self.words)
+        self.calls.inputs = inputs_of(items)
+        items = [item for item in items if item.name not in busy]
         return [item for item in items if self.is_settled(item, now) and self.is_new(item)]
 
     def is_settled(self, item: Item, now: float) -> bool:
@@ -70,7 +76,7 @@ class Watch:
         is_like = found(item.asked) if item.asked else item.reason
         seen = self.seen.get(item.name)
         if seen is None or seen.is_like != is_like:
-            self.seen[item.name] = Seen(is_like, now)
+            self.seen[item.name] = Sighting(is_like, now)
             return False
         return bool(now - seen.since >= self.words.settled)
 
@@ -92,13 +98,21 @@ class Watch:
         self.tried[item.name] = now_found
         return True
 
-    def end(self, item: Item, row: Row) -> None:
-        """Tells a verdict, and writes the page over all pairs."""
-        self.rows[item.name] = row
+    def end(self, row: Row) -> None:
+        """Tells a verdict, and writes the page over all pairs. A pair whose files another call was
+        writing is judged again at the next look, which is told once."""
+        if row.name in self.calls.in_use:
+            self.tried.pop(row.name, None)
+            if self.rows.get(row.name) == row:
+                return
+        self.rows[row.name] = row
         line = collecting.first_fault(row)
         when = time.strftime("%Y-%m-%d %H:%M:%S")
-        print(f"{when}  {item.name}  {row.verdict}{': ' if line else ''}{line}", flush=True)
-        collecting.write_index(self.out, [self.rows[name] for name in sorted(self.rows)])
+        say(f"{when}  {row.name}  {row.verdict}{': ' if line else ''}{line}")
+        try:
+            collecting.write_index(self.out, [self.rows[name] for name in sorted(self.rows)])
+        except OSError as reason:
+            tell(line_of(reason))
 
 
 def refuse_folders(words: argparse.Namespace) -> None:
@@ -110,6 +124,7 @@ def refuse_folders(words: argparse.Namespace) -> None:
     os.makedirs(words.out, exist_ok=True)
     if os.path.samefile(words.watch, words.out):
         raise Stop(f"{words.out} is the folder that is watched: give another one with -o")
+    refuse_files_of_all(words.out, NOTHING)
 
 
 def watch(words: argparse.Namespace, called: str) -> int:
@@ -117,19 +132,17 @@ def watch(words: argparse.Namespace, called: str) -> int:
     refuse_folders(words)
     watching = Watch(words, Typed(called, words.program))
     stopping = Stopping()
-    running: dict[concurrent.futures.Future[Row], Item] = {}
-    with concurrent.futures.ThreadPoolExecutor(words.jobs or os.cpu_count() or 1) as pool:
-        try:
-            while running or not stopping.is_asked:
-                if not stopping.is_asked:
-                    busy = {item.name for item in running.values()}
-                    for item in watching.due(busy, time.monotonic()):
-                        running[pool.submit(watching.calls.judge, item)] = item
-                done = [one for one in running if one.done()]
-                for one in done:
-                    watching.end(running.pop(one), one.result())
-                time.sleep(LOOK / 10 if stopping.is_asked else LOOK)
-        except BaseException:
-            watching.calls.stop()
-            raise
+    calls, waiting, next_look = watching.calls, collections.deque[Item](), 0.0
+    try:
+        while waiting or calls.running or not stopping.is_asked:
+            if not stopping.is_asked and time.monotonic() >= next_look:
+                busy = {item.name for item in [*waiting, *calls.items()]}
+                waiting += watching.due(busy, time.monotonic())
+                next_look = time.monotonic() + LOOK
+            for row in judged_next(calls, waiting, words.jobs or os.cpu_count() or 1,
+                                   LOOK / 10 if stopping.is_asked else LOOK):
+                watching.end(row)
+    except BaseException:
+        calls.stop()
+        raise
     return 0

@@ -1,7 +1,10 @@
 """Bytes, codes, times, words and files, one idea each.
 
 words      the words of a tool, and how it ends
-files      files that are read as they come, and written whole or not at all
+files      files that are read: opened without waiting, and with a bound
+outputs    files that are written: whole, over no input, through no link
+lists      lists that people write, their lines as words
+shapes     what values of JSON may be: made, checked, and as a schema has them
 built      the built program, and the script that runs it
 times      times of the day, frames, PTS
 teletext   Teletext packets and their codes; the table of control bits

@@ -1,30 +1,26 @@
-"""Files that are read as they come, that can't be read on, or are written whole or not at all."""
+"""Files that are read: opened without waiting, looked at once they are open, read with a bound."""
 from __future__ import annotations
 
 import contextlib
 import errno
 import os
 import select
-import shutil
 import stat
-import sys
-import tempfile
-from typing import IO, Any, BinaryIO, Iterable, Iterator, TypeVar
+from typing import BinaryIO, Iterator, TypeVar
 
 from .words import Stop
 
 STANDARD = "-"  # standard input or output, as the name of a file
 PIECE = 1 << 20  # bytes that are read at once, at most
 SPECIAL = ("-", "=", "+", "@")  # with which a name begins that is taken for something else
-OWN_OUTPUT = {STANDARD, "/dev/stdout", "/dev/fd/1", "/proc/self/fd/1"}
+KINDS = ((stat.S_ISDIR, "a folder"), (stat.S_ISFIFO, "a pipe"), (stat.S_ISCHR, "a device"),
+         (stat.S_ISBLK, "a device"), (stat.S_ISLNK, "a link"), (stat.S_ISSOCK, "a socket"))
+
+OF_ERRORS = {errno.ENXIO: "a socket", errno.ELOOP: "a link", errno.EISDIR: "a folder"}
 
 
 class Damaged(Exception):
     """Bytes that can't be read on; the text says where and why."""
-
-
-class IsInput(Stop):
-    """A file that is to be written is read too; it stays as it is."""
 
 
 Own = TypeVar("Own", bound="Input")
@@ -35,10 +31,14 @@ class Input:
 
     def __init__(self, name: str) -> None:
         self.name = name
-        is_standard = name == STANDARD
-        with naming(name):
-            self.file = open(0 if is_standard else name, "rb", buffering=0,
-                             closefd=not is_standard)
+        self.file = self.open()
+
+    def open(self) -> BinaryIO:
+        """Opens it, whatever it is."""
+        is_standard = self.name == STANDARD
+        with naming(self.name):
+            return open(0 if is_standard else self.name, "rb", buffering=0,
+                        closefd=not is_standard)
 
     def __enter__(self: Own) -> Own:
         return self
@@ -66,11 +66,75 @@ def naming(name: str) -> Iterator[None]:
         raise
 
 
-def as_file(name: str) -> str:
-    """A name that nothing takes for something else; it has to be UTF-8, as the program asks."""
-    if not is_utf_8(name):
-        raise Stop(f"{name}: a name of a file has to be UTF-8")
-    return plain_name(name)
+def kind_of(mode: int) -> str | None:
+    """What it is that is no file; `None` for a file."""
+    return next((words for is_one, words in KINDS if is_one(mode)), None)
+
+
+class File(Input):
+    """A file to read from, by nothing but what is open: whatever had the name before may have been
+    another thing. Nothing is waited for to open it, and what is no file is refused. A pipe, where
+    there may be one, is waited for until somebody writes to it, which a signal ends."""
+
+    def __init__(self, name: str, may_be_pipe: bool = False, is_followed: bool = True) -> None:
+        self.flags = os.O_RDONLY | os.O_NONBLOCK | os.O_NOCTTY | os.O_CLOEXEC
+        self.flags |= 0 if is_followed else os.O_NOFOLLOW
+        super().__init__(name)
+        try:
+            self.look(may_be_pipe)
+        except BaseException:
+            self.file.close()
+            raise
+
+    def open(self) -> BinaryIO:
+        """Opens it, unless it is what can't be opened."""
+        if self.name == STANDARD:
+            return super().open()
+        try:
+            with naming(self.name):
+                return open(self.name, "rb", buffering=0, opener=lambda name, _: os.open(
+                    name, self.flags))
+        except OSError as error:
+            kind = OF_ERRORS.get(error.errno or 0)
+            if kind is None:
+                raise
+            raise Stop(f"{self.name} is {kind}") from None
+
+    def look(self, may_be_pipe: bool) -> None:
+        """Looks what it is."""
+        kind = kind_of(os.fstat(self.file.fileno()).st_mode)
+        is_endless = kind not in ("a pipe", "a socket") and not self.file.isatty()
+        if kind and (is_endless or not may_be_pipe):
+            raise Stop(f"{self.name} is {kind}: give a file{' or a pipe' * may_be_pipe}")
+        if kind and self.name != STANDARD:
+            ready = select.poll()
+            ready.register(self.file, select.POLLIN)
+            ready.poll()  # at its end, and before anybody writes to it, there is nothing to read
+
+
+def first_bytes(name: str, most: int, may_be_pipe: bool = False, is_followed: bool = True) -> bytes:
+    """The bytes of a file, as many of them at most."""
+    data, left = [], most
+    with File(name, may_be_pipe, is_followed) as file:
+        while left and (piece := file.read(min(left, PIECE))):
+            data.append(piece)
+            left -= len(piece)
+    return b"".join(data)
+
+
+def bounded_bytes(name: str, most: int, may_be_pipe: bool = False, is_followed: bool = True) \
+        -> bytes:
+    """All bytes of a file, which is refused where it has more than so many."""
+    data = first_bytes(name, most + 1, may_be_pipe, is_followed)
+    if len(data) > most:
+        raise Stop(f"{name} has more than {most:,} bytes")
+    return data
+
+
+def pieces_of(name: str, may_be_pipe: bool = False) -> Iterator[bytes]:
+    """All bytes of a file."""
+    with File(name, may_be_pipe) as file:
+        yield from iter(file.read, b"")
 
 
 def plain_name(name: str) -> str:
@@ -86,116 +150,3 @@ def is_utf_8(name: str) -> bool:
     except UnicodeEncodeError:
         return False
     return True
-
-
-def refuse_name(name: str) -> None:
-    """A name under which nothing can be written is refused, before anything is done for it."""
-    target = os.path.realpath(name)
-    if name != STANDARD and not os.path.isdir(os.path.dirname(target)):
-        raise Stop(f"{name}: {os.strerror(errno.ENOENT)}")
-    if name != STANDARD and os.path.isdir(target):
-        raise Stop(f"{name}: {os.strerror(errno.EISDIR)}")
-
-
-def whole_bytes(name: str) -> bytes:
-    """All bytes of a file or a pipe."""
-    with Input(name) as source:
-        refuse_device(source.file, name)
-        return b"".join(iter(source.read, b""))
-
-
-def refuse_device(file: IO[Any], name: str) -> None:
-    """Refuses a device where all of a file is read, since it may never end; but not a terminal and
-    /dev/null, which do."""
-    about = os.fstat(file.fileno())
-    is_device = stat.S_ISCHR(about.st_mode) or stat.S_ISBLK(about.st_mode)
-    if is_device and not file.isatty() and about.st_rdev != os.stat(os.devnull).st_rdev:
-        raise Stop(f"{name} is a device: give a file or a pipe")
-
-
-def refuse_input(path: str, inputs: Iterable[str | None]) -> None:
-    """A file that is read is not written to."""
-    for one in inputs:
-        if one and os.path.exists(path) and os.path.exists(one) and os.path.samefile(path, one):
-            raise IsInput(f"{path} is an input too")
-
-
-@contextlib.contextmanager
-def whole_file(path: str, inputs: Iterable[str | None]) -> Iterator[BinaryIO]:
-    """A file to write to, which takes the name `path` when all went well; else that is as it was.
-
-    A device, which has no other name, is written to as it is, and so is standard output, `-`. None
-    of the inputs may be `path`.
-    """
-    refuse_input(path, inputs)
-    if path in OWN_OUTPUT:
-        with own_output() as file:
-            yield file
-    elif os.path.exists(path) and not stat.S_ISREG(os.stat(path).st_mode):
-        with naming(path):
-            device = open(path, "wb")
-        with written(device, path):
-            yield device
-    else:
-        yield from replaced(path)
-
-
-def is_replaced(path: str) -> bool:
-    """Whether `whole_file` can write a file once more, in the place of what it wrote before: a
-    pipe, a device and standard output keep that."""
-    return path not in OWN_OUTPUT and (
-        not os.path.exists(path) or stat.S_ISREG(os.stat(path).st_mode))
-
-
-@contextlib.contextmanager
-def own_output() -> Iterator[BinaryIO]:
-    """Standard output for bytes: what is written goes out whole, whatever Python was told of it."""
-    sys.stdout.flush()
-    with open(sys.stdout.fileno(), "wb", closefd=False) as file:
-        yield file
-
-
-def replaced(path: str) -> Iterator[BinaryIO]:
-    """A file to write to, which takes the place of `path` at the end."""
-    target = os.path.realpath(path)
-    name = new_name(os.path.dirname(target), ".subttx-")
-    try:
-        with naming(path):
-            file = open(name, "xb")
-        with written(file, path):
-            yield file
-        with naming(path):
-            os.replace(name, target)
-    finally:
-        with contextlib.suppress(OSError):  # it has the other name by now
-            os.unlink(name)
-
-
-def new_name(folder: str, begin: str) -> str:
-    """A name that nothing has: it is known before anything has it, so that a signal finds it."""
-    return os.path.join(folder, begin + os.urandom(8).hex())
-
-
-@contextlib.contextmanager
-def temporary_folder(begin: str) -> Iterator[str]:
-    """A folder that is gone at the end, whenever a signal comes."""
-    path = new_name(tempfile.gettempdir(), begin)
-    try:
-        os.mkdir(path, 0o700)
-        yield path
-    finally:
-        try:
-            shutil.rmtree(path, ignore_errors=True)
-        finally:  # also where a signal came meanwhile
-            shutil.rmtree(path, ignore_errors=True)
-
-
-@contextlib.contextmanager
-def written(file: BinaryIO, path: str) -> Iterator[None]:
-    """Closes a file; an error that names no file is that of writing to it."""
-    try:
-        with file:
-            yield
-    except OSError as error:
-        error.filename = path if error.filename is None else error.filename
-        raise

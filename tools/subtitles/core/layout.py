@@ -65,7 +65,7 @@ class Refused(NamedTuple):
     at: int
 
 
-class Line(NamedTuple):
+class DrawnLine(NamedTuple):
     """A line as it is drawn: its number in the text, its row and column, and its cells."""
 
     number: int
@@ -221,17 +221,17 @@ def rows_of(lines: Sequence[bytes], first: int, layout: Layout) -> list[int]:
 
 
 def drawn(text: bytes, first: int, justify: int, layout: Layout, option: NationalOption
-          ) -> list[Line] | Refused:
+          ) -> list[DrawnLine] | Refused:
     """The lines of a subtitle's text that are not empty, as they are drawn; or its first fault."""
     cells = lines_of(text, option, layout.strip)
     return cells if isinstance(cells, Refused) else drawn_lines(cells, first, justify, layout)
 
 
 def drawn_lines(cells: Sequence[bytes], first: int, justify: int, layout: Layout
-                ) -> list[Line] | Refused:
+                ) -> list[DrawnLine] | Refused:
     """The lines of cells that are not empty, as they are drawn; or the first fault."""
     lines = [prepared(one, layout) for one in cells]
-    found: list[Line] = []
+    found: list[DrawnLine] = []
     above = b""  # the line that is numbered before this one
     for number, (line, row) in enumerate(zip(lines, rows_of(lines, first, layout))):
         is_under = DOUBLE in above and not layout.double
@@ -244,11 +244,11 @@ def drawn_lines(cells: Sequence[bytes], first: int, justify: int, layout: Layout
                              (HIDDEN, is_under)):
             if is_so:
                 return Refused(fault, number)
-        found.append(Line(number, row, column_of(line, justify, layout), line))
+        found.append(DrawnLine(number, row, column_of(line, justify, layout), line))
     return found
 
 
-def page_of(lines: Sequence[Line]) -> tuple[bytes, ...]:
+def page_of(lines: Sequence[DrawnLine]) -> tuple[bytes, ...]:
     """Rows 1 to 24 of the page that shows drawn lines."""
     rows = [b" " * COLUMNS] * 24
     for line in lines:

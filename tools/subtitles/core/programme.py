@@ -72,7 +72,7 @@ def subtitle_of(index: int, line: str) -> Subtitle:
                     int(found["justify"]), text)
 
 
-class Programme:
+class SubtitleList:
     """Subtitles in order, by their places from 0."""
 
     def __init__(self, subtitles: Iterable[Subtitle]) -> None:

@@ -3,13 +3,14 @@ from __future__ import annotations
 
 from typing import Iterable, Iterator, NamedTuple
 
-from .files import Damaged
+from .files import Damaged, first_bytes
 from .national import BY_WORD, codes_of
 from .times import frame_of_code
 from .words import Stop, tell
 
 GSI, TTI, TEXT = 1024, 128, 112  # bytes of the blocks, and of a TTI block's text field
 USER_DATA, LAST = 0xFE, 0xFF  # extension block numbers (EBN)
+MOST_STL = GSI + TTI * 99_999 + 1  # bytes of a subtitle file: `check` refuses one more
 UNUSED, NEW_LINE = b"\x8f", b"\x8a"
 LAST_OF_MORE = 0xEF  # the highest EBN of a block that others follow
 
@@ -68,6 +69,11 @@ def frames_of_all(subtitles: Iterable[StoredSubtitle]) -> Iterator[tuple[int, in
         begin, end = times_of(one)
         if begin is not None and end is not None and begin < end:
             yield begin, end
+
+
+def stl_bytes(path: str) -> bytes:
+    """The bytes of a subtitle file, which may come through a pipe, as far as `check` reads them."""
+    return first_bytes(path, MOST_STL, may_be_pipe=True)
 
 
 def readable(name: str, data: bytes) -> Iterator[StoredSubtitle]:

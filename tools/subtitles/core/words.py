@@ -8,7 +8,7 @@ import re
 import shlex
 import sys
 import traceback
-from typing import IO, Callable, NoReturn, TextIO
+from typing import IO, Callable, NoReturn, Sequence, TextIO
 
 from .teletext import page_of
 from .times import CLOCK, frame_of
@@ -40,13 +40,15 @@ def version() -> str:
 
 
 class Words(argparse.ArgumentParser):
-    """A parser whose help is the tool's own text, and to which wrong words are a `Stop`."""
+    """A parser whose help is the tool's own text, and to which wrong words are a `Stop`. Without a
+    text it reads a line of a list, which asks for no help."""
 
     def __init__(self, text: str | None) -> None:
         super().__init__(description=text, usage=argparse.SUPPRESS, allow_abbrev=False,
-                         formatter_class=argparse.RawDescriptionHelpFormatter)
-        self.add_argument("--version", action="version", version=f"{self.prog} {version()}",
-                          help="show the version and exit")
+                         formatter_class=argparse.RawDescriptionHelpFormatter, add_help=bool(text))
+        if text:
+            self.add_argument("--version", action="version", version=f"{self.prog} {version()}",
+                              help="show the version and exit")
 
     def format_help(self) -> str:
         """The help; where the tools are installed, it calls them by the names that they have."""
@@ -227,6 +229,11 @@ def quoted(word: str) -> str:
     return "$'" + shown(word.replace("\\", "\\\\").replace("'", "\\'")) + "'"
 
 
+def say(line: str) -> None:
+    """A line on standard output, at once."""
+    print(shown(line), flush=True)
+
+
 def tell(line: str) -> None:
     """A line on standard error, after what was printed before it."""
     with contextlib.suppress(OSError, AttributeError):  # it is closed
@@ -235,27 +242,32 @@ def tell(line: str) -> None:
 
 
 def run(main: Callable[[list[str]], int]) -> NoReturn:
-    """Calls `main` with the words and ends with the status that it answers. Whatever ends it early
-    is status 2, with one line."""
+    """Calls `main` with the words of this call, and ends with its status."""
+    sys.exit(ended(main, sys.argv[1:]))
+
+
+def ended(main: Callable[[list[str]], int], words: Sequence[str]) -> int:
+    """The status that `main` answers to these words; 0 after --help and --version. Whatever ends it
+    early is status 2, with one line."""
     try:
         if sys.stdout is None:
             raise Stop("standard output is closed")
-        status = answer(main)
+        status = answer(main, words)
         sys.stdout.flush()
     except (Exception, KeyboardInterrupt) as reason:
         with contextlib.suppress(OSError, AttributeError):
             tell(line_of(reason))
         silence()
         status = 2
-    sys.exit(status)
+    return status
 
 
-def answer(main: Callable[[list[str]], int]) -> int:
+def answer(main: Callable[[list[str]], int], words: Sequence[str]) -> int:
     """The status of `main`; 0 after --help and --version."""
     try:
-        return main(sys.argv[1:])
-    except SystemExit as ended:
-        return int(ended.code or 0)
+        return main([*words])
+    except SystemExit as end:
+        return int(end.code or 0)
 
 
 def line_of(reason: BaseException) -> str:

@@ -189,7 +189,7 @@ def printed(report: Report) -> str:
     """What `show` prints, the middle of it left out where it is long."""
     if report.asked.is_open:
         return ""  # it shows no open subtitles
-    lines = report.program.show(report.part.stl_path)
+    lines = report.program.show(report.part.names.given)
     last = lines[FIRST_LINES:][-LAST_LINES:]
     left = len(lines[FIRST_LINES:]) - len(last)
     parts = ["<details><summary>What <code>show</code> prints</summary>",

@@ -20,7 +20,8 @@ WIDTH, HEIGHT = 12, 15
 SPACE = 0x20
 BLANK_ROW = b" " * 40
 LOW_ROWS = 21, 23  # of a picture of a blank page
-HIDDEN = 'aria-hidden="true"'  # of a picture whose rows stand beside it as text
+HIDDEN = 'aria-hidden="true"'  # of a picture: its rows stand beside it as text
+NUMBERS = 22  # the room for row numbers
 
 Look = tuple[int, bool, bool, bool]  # the ink of letters, flash, boxed, double height
 Ground = tuple[int, bool]  # the paper, boxed
@@ -32,7 +33,7 @@ PARTS = re.compile(rb"[\0-\x1f\x80-\x9f]|[^\0-\x1f\x80-\x9f]+")  # a spacing att
 MARKED = re.compile(bytes([HIT]) + b"+|" + bytes([OLD]) + b"+")
 
 
-class Span(NamedTuple):
+class CellStyle(NamedTuple):
     """How neighbouring cells look; ink and paper are colours from 0 to 7."""
 
     letters: str
@@ -44,9 +45,9 @@ class Span(NamedTuple):
 
 
 # What neighbours are drawn together by.
-letters_of: Callable[[Span], str] = operator.attrgetter("letters")
-look_of: Callable[[Span], Look] = operator.attrgetter("ink", "flash", "boxed", "double")
-ground_of: Callable[[Span], Ground] = operator.attrgetter("paper", "boxed")
+letters_of: Callable[[CellStyle], str] = operator.attrgetter("letters")
+look_of: Callable[[CellStyle], Look] = operator.attrgetter("ink", "flash", "boxed", "double")
+ground_of: Callable[[CellStyle], Ground] = operator.attrgetter("paper", "boxed")
 
 
 @functools.lru_cache(maxsize=None)
@@ -62,10 +63,10 @@ def drawn_letters(cells: bytes, option: int, is_mosaic: bool = False) -> str:
     return codecs.charmap_decode(cells, "strict", letter_table(option, is_mosaic))[0]
 
 
-def spans_of(row: bytes, number: int, option: int, is_boxed_page: bool) -> list[Span]:
+def spans_of(row: bytes, number: int, option: int, is_boxed_page: bool) -> list[CellStyle]:
     """The look of the cells of a row, by the spacing attributes before them."""
     ink, paper, flash, boxed, double, mosaic = 7, 0, False, not is_boxed_page, False, False
-    spans: list[Span] = []
+    spans: list[CellStyle] = []
     last = SPACE
     for part in PARTS.findall(row):
         code = part[0] & 0x7F
@@ -83,7 +84,7 @@ def spans_of(row: bytes, number: int, option: int, is_boxed_page: bool) -> list[
         elif code in (0x0A, 0x0B) and code == last and is_boxed_page:
             boxed = code == 0x0B
         letters_ = drawn_letters(part, option, mosaic)
-        spans.append(Span(letters_, ink, paper, flash, boxed, double))
+        spans.append(CellStyle(letters_, ink, paper, flash, boxed, double))
         last = code
         # These hold from the next cell on.
         if code >= SPACE:
@@ -97,7 +98,7 @@ def spans_of(row: bytes, number: int, option: int, is_boxed_page: bool) -> list[
     return spans
 
 
-def grouped(spans: Iterable[Span], key: Callable[[Span], Key]) -> Iterator[tuple[Key, int, str]]:
+def grouped(spans: Iterable[CellStyle], key: Callable[[CellStyle], Key]) -> Iterator[tuple[Key, int, str]]:
     """Neighbours with the same key, as the first column and the letters."""
     column = 0
     for value, several in itertools.groupby(spans, key):
@@ -186,21 +187,17 @@ def cut_of(pages: Iterable[Rows], row: int | None = None) -> Cut:
     return max(1, min(used) - 1), min(24, max(used) + 1)
 
 
-def opened(kind: str, label: str, cut: Cut, left: int = 22) -> str:
-    """The begin of a picture of these rows, with its ground; `left` is room for row numbers."""
+def opened(kind: str, cut: Cut) -> str:
+    """The begin of a picture of these rows, with its ground, and room for row numbers."""
     top, height = (cut[0] - 1) * HEIGHT, (cut[1] - cut[0] + 1) * HEIGHT
-    return (f'<svg class="{kind}" viewBox="{-left} {top - 1} {482 + left} {height + 2}" {label} '
+    return (f'<svg class="{kind}" viewBox="{-NUMBERS} {top - 1} {482 + NUMBERS} {height + 2}" {HIDDEN} '
             f'xml:space="preserve"><rect class="v" y="{top}" width="480" height="{height}"/>')
 
 
-def picture(rows: Rows, header: bytes, label: str, cut: Cut, different: Iterable[Place] = (),
-            place: Place | None = None, kind: str = "page") -> str:
-    """A page as SVG: some of its rows, cells that differ framed, and the place marked.
-
-    `label` is the attribute that says to people who don't see it what it is, or that it says
-    nothing which does not stand beside it.
-    """
-    parts = [opened(kind, label, cut, 22 if kind == "page" else 2)]
+def picture(rows: Rows, header: bytes, cut: Cut, different: Iterable[Place] = (),
+            place: Place | None = None) -> str:
+    """A page as SVG: some of its rows, cells that differ framed, and the place marked."""
+    parts = [opened("page", cut)]
     tall: set[int] = set()
     option, has_boxes = national_option(header), is_boxed(header)
     for number, row in enumerate(rows[cut[0] - 1:cut[1]], cut[0]):
@@ -218,7 +215,7 @@ def picture(rows: Rows, header: bytes, label: str, cut: Cut, different: Iterable
 def empty_picture(words: str, cut: Cut) -> str:
     """The place of a picture where there is no page, with the reason."""
     middle = (cut[0] + cut[1] - 1) * HEIGHT // 2 + 7
-    return (f'{opened("page none", HIDDEN, cut)}<text class="w" x="240" y="{middle}">'
+    return (f'{opened("page none", cut)}<text class="w" x="240" y="{middle}">'
             f"{html.escape(words)}</text></svg>")
 
 
@@ -241,17 +238,6 @@ def text_of_code(byte: int, option: int) -> str:
         name = ATTRIBUTES.get(code)
         return f"code {code:02X}" + (f" ({name})" if name else "")
     return f"<code>{html.escape(letters(option)[code])}</code>"
-
-
-def label_of(words: str) -> str:
-    """The attributes of a picture that is told by words."""
-    return f'role="img" aria-label="{html.escape(words)}"'
-
-
-def words_of(rows: Rows, option: int) -> str:
-    """The letters of a page, row by row, for people who hear them."""
-    lines = (" ".join(drawn_letters(row, option).split()) for row in rows if row != BLANK_ROW)
-    return " / ".join(line for line in lines if line) or "blank"
 
 
 def differences(due: Rows, held: Rows) -> list[Place]:

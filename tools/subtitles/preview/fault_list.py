@@ -11,8 +11,7 @@ from .counts import place_words
 from .drawing import text_of_code
 from .faults import Entry
 from .figures import NOT_READ
-from .fits import frames_words
-from .places import around, between_words, pes_words, units_table
+from .places import around, between_words, frames_words, pes_words, units_table
 from .seen import Seen
 
 if TYPE_CHECKING:
@@ -75,8 +74,7 @@ class FaultList:
         if fault.number == CONTENT:
             words.append(self.cell_words(fault))
         words.append(self.subtitle_words(fault.frame))
-        fit = self.looks.fits.words(fault.frame) if fault.number == CONTENT else ""
-        return "; ".join([*words, fit] if fit else words)
+        return "; ".join(words)
 
     # The list
 

@@ -3,7 +3,7 @@ from __future__ import annotations
 
 from typing import Iterable
 
-from ..core.programme import Programme
+from ..core.programme import SubtitleList
 from ..core.spans import Spans, joined
 from ..core.told import ENDS_READING, UNDECIDED, Told, told_of
 from ..qc.checking import Answer
@@ -37,7 +37,7 @@ class Faults:
     told, or stands; at those that are `undecided` it is not known what is due.
     """
 
-    def __init__(self, answer: Answer, programme: Programme) -> None:
+    def __init__(self, answer: Answer, programme: SubtitleList) -> None:
         self.answer, self.programme = answer, programme
         self.count, self.counts, self.firsts = answer.count, answer.counts, answer.firsts
         self.passed, self.trusted = answer.passed, answer.trusted

@@ -9,7 +9,7 @@ from ..core.times import time_of
 from ..reading.receiver import (
     BLANK_PAGE, HIT, OLD, Rows, State, control_bits, lines_of, national_option)
 from .drawing import (
-    HIDDEN, Cut, Place, cut_of, differences, empty_picture, is_boxed, label_of, picture, words_of)
+    Cut, Place, cut_of, differences, empty_picture, is_boxed, picture)
 
 if TYPE_CHECKING:
     from ..reading.timeline import Timeline
@@ -63,7 +63,7 @@ class Figures:
             seen.append(state.screen[0])
         cut = cut_of(seen, place[0] if place else None)
         parts = [figure("due", f"Due at {time}", option_name(national_option(header)),
-                        picture(due, header, HIDDEN, cut, (), place), lines_of(due))]
+                        picture(due, header, cut, (), place), lines_of(due))]
         held = f"A receiver at the end of {time}"
         if state is None:
             parts.append(figure("held", held, NOT_READ, empty_picture("not known", cut), []))
@@ -90,12 +90,6 @@ class Figures:
             return figure("screen", caption, told, empty_picture("nothing yet", cut), lines)
         return page_figure("screen", caption, told, due, state.screen, cut, place)
 
-    def small_at(self, frame: int) -> str:
-        """One small picture, of the page that is held as it is due."""
-        rows, header = self.due_at(frame)
-        label = label_of(words_of(rows, national_option(header)))
-        return picture(rows, header, label, cut_of([rows]), kind="page small")
-
 
 def page_figure(kind: str, caption: str, told: str, due: Rows, page: tuple[Rows, bytes], cut: Cut,
                 place: Place | None) -> str:
@@ -106,7 +100,7 @@ def page_figure(kind: str, caption: str, told: str, due: Rows, page: tuple[Rows,
     cells = f"<b>{count} cells differ</b>" if count > 1 else \
         "<b>1 cell differs</b>" if count else "no cell differs"
     words = ", ".join([cells, *marks_words(header, rows)])
-    return figure(kind, caption, words, picture(rows, header, HIDDEN, cut, different, place),
+    return figure(kind, caption, words, picture(rows, header, cut, different, place),
                   lines_of(rows), f"{told}; {header_words(header)}")
 
 

@@ -15,7 +15,7 @@ from .places import place_of_pts
 from .scope import listed
 
 if TYPE_CHECKING:
-    from ..qc.made_with import Program as Made
+    from ..qc.made_with import MadeWith
     from ..qc.sums import File
     from ..qc.asked import Asked
     from .report import Looks, Report
@@ -48,22 +48,21 @@ ACCEPTED_WORDS = ("Frames are counted from the first PES packet's to the last on
                   "transmissions by the headers of the page.")
 
 KEYS = """<h2 id="key">How to read this page</h2>
-<p><b>Strips.</b> Bars are subtitles from TCI to TCO with their numbers, and lead to their pictures.
-A higher bar with a red rim is held otherwise than it is due at its first frame; a dashed one can't
+<p><b>Strips.</b> Bars are subtitles from TCI to TCO with their numbers. A higher bar with a red rim
+is held otherwise than it is due at its first frame, and leads to its pictures; a dashed one can't
 be seen. The lines below are frames with a header of the page; where such frames are close to each
 other they are drawn as a block. Red marks below the line are faults, each as long as it stands, and
 lead to the list; a PES packet that can't be read is marked from the frame before it up to the next
 one. The red line is the first fault. A receiver hears nothing of what is hatched: the transmission
 has ended there, or it can't be read or followed any longer.</p>
-<p><b>Pictures.</b> Small ones show a page that is held as it is due. Of large ones the left is the
-page that is due at the end of the frame, from <code>subttx schedule</code> of the subtitle file,
-and the right the page that a receiver holds then, which has heard the PES file from its first
-packet. They are cut to the rows in use. The grey ground is where the programme's picture is seen: a
+<p><b>Pictures.</b> On the left is the page that is due at the end of the frame, from
+<code>subttx schedule</code> of the subtitle file, and on the right the page that a receiver holds
+then, which has heard the PES file from its first packet. They are cut to the rows in use. The grey ground is where the programme's picture is seen: a
 receiver shows what stands in boxes alone, and what stands outside of them is faint here. Flashing
 letters are underlined with dots. Cells whose code differs from the due page's are framed in orange
 and black. Dotted cells are those of the receiver's old page which nobody sent or erased since it
 was tuned in; dashed ones came with even parity. Mosaics are drawn as &#9618;, and what is concealed
-is shown. Under each large picture are folded away its rows, as <code>subttx listen --at</code>
+is shown. Under each picture are folded away its rows, as <code>subttx listen --at</code>
 prints them (codes as ASCII, and spacing attributes as dots), and what its header says.</p>"""
 
 
@@ -249,7 +248,7 @@ def foot(report: Report) -> str:
         f'<p class="says">{SAYS}</p>'
 
 
-def made_from(files: Iterable[tuple[str, File]], date: str, program: Made,
+def made_from(files: Iterable[tuple[str, File]], date: str, program: MadeWith,
               words: Iterable[tuple[str, str]]) -> str:
     """The files of a page, each with what it is, the program, and commands."""
     rows = "".join(
@@ -314,23 +313,21 @@ def reading_words(seen: Seen) -> str:
 
 
 def subtitles_words(report: Report, looks: Looks) -> str:
-    """How many subtitles there are, and which have pictures."""
-    entries = looks.entries
-    count, drawn = len(report.subtitles), len(entries.drawn)
+    """How many subtitles there are, how they are held, and which have pictures."""
+    entries, count = looks.entries, len(report.subtitles)
     if not count:
         return ("<p>There is no subtitle, as <code>schedule</code> says by 82 NoSubtitles: the "
                 "due page is blank at each frame.</p>")
     within = report.asked.within
     when = "the frame after which each is whole" if within else "the first frame of each"
-    words = f"pictures at {when}" if drawn == count else \
-        f"{drawn:,} of them with pictures at {when}" if within else \
-        f"pictures at the first frame of {drawn:,} of them"
-    words = f"{count:,} subtitle{'s' * (count != 1)}, {words}."
-    kinds = entries.counted(report.subtitles)
-    odd = sorted(entries.odd & set(entries.drawn))
-    links = " ".join(f'<a href="#s{index}">{index}</a>' for index in odd[:MOST_LINKS])
-    more = " ..." if len(odd) > MOST_LINKS else ""
-    where = f" Not as due: {links}{more}" if links else ""
+    words = f"{count:,} subtitle{'s' * (count != 1)}. What a receiver holds at {when}: " \
+        f"{entries.counted(report.subtitles)}."
+    drawn = sorted(entries.drawn)
+    links = " ".join(f'<a href="#s{index}">{index}</a>' for index in drawn[:MOST_LINKS])
+    more = " ..." if len(drawn) > MOST_LINKS else ""
+    where = f" Not as due: {links}{more}." if links else ""
+    if len(drawn) < len(entries.odd):
+        where += f" The first {len(drawn)} of them have pictures."
     spread = spread_of(report.part.delays)
     where += f" {spread.words().capitalize()}." if spread else ""
-    return f"<p>{words} What a receiver holds then: {kinds}.{where}</p>"
+    return f"<p>{words}{where}</p>"

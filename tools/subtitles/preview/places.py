@@ -5,11 +5,11 @@ import bisect
 from typing import TYPE_CHECKING
 
 from ..core.manual import shown
-from ..core.teletext import CODE_WORDS, NUMBER
+from ..core.teletext import CODE_WORDS
 from ..core.times import FRAMES_OF_A_DAY, TICKS, frame_at, pts_of, ticks_between, time_of, wrapped
 from ..core.told import Told
 from ..reading.receiver import HIT, STORED
-from .fits import frames_words
+from .packet_words import LAST_ROW, packet_lines, packet_number
 from .program import Program
 from .seen import Seen
 
@@ -20,6 +20,10 @@ NAMED = ' class="named"'
 OFF_FRAME, ORDER = 61, 62
 HAS_PTS = range(37, 41)  # of PES packets that can't be read, but for their PTS
 BYTES_A_LINE = 14  # of a packet, at most
+
+
+def frames_words(count: int) -> str:
+    return f"{count:,} frame{'s' * (count != 1)}"
 
 
 def place_of_pts(pts: int, origin: int, within: int) -> str:
@@ -125,7 +129,7 @@ def units_table(program: Program, known: list[int], frame: int, broken: int | No
     for index, (place, data) in enumerate(program.units(known)):
         if not has_all and index != broken:
             continue
-        said = program.packet(data.hex())
+        said = packet_lines(data)
         name = f"<b>packet {index} &#9664; named by the refusal</b>" if index == broken \
             else f"packet {index}"
         rows.append(f'<tr{NAMED if index == broken else ""}><th scope="row">{name}<br/>'
@@ -143,10 +147,9 @@ def marked_bytes(data: bytes) -> str:
 
     There is room for a new line after some of them.
     """
-    low, high = NUMBER[data[0]], NUMBER[data[1]]
-    number = None if low is None or high is None else low + 16 * high >> 3
+    number = packet_number(data)
     coded = 10 if number == 0 else 2
-    is_text = number is not None and number <= 24
+    is_text = number is not None and number <= LAST_ROW
     wrong = [byte not in CODE_WORDS if at < coded else is_text and STORED[byte] == HIT
              for at, byte in enumerate(data)]
     shown_bytes = [f"<u>{byte:02x}</u>" if is_wrong else f"{byte:02x}"

@@ -46,10 +46,6 @@ class Program:
         """The lines of `show`."""
         return self.answered("show", "--", stl)
 
-    def packet(self, digits: str) -> list[str]:
-        """What `packet` says of 84 hexadecimal digits, as lines."""
-        return self.answered("packet", digits)
-
     def units(self, numbers: Sequence[int]) -> list[Unit]:
         """The Teletext packets of some PES packets, which follow one another."""
         if self.recording is None:

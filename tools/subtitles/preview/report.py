@@ -7,24 +7,23 @@ from typing import NamedTuple, Sequence
 from ..core.gsi import titles_in
 from ..core.manual import meanings
 from ..core.national import BY_WORD
-from ..core.programme import Programme
+from ..core.programme import SubtitleList
 from ..core.teletext import page_name
 from ..core.times import FRAMES_OF_A_DAY, time_of
 from ..core.told import UNDECIDED, Told
 from ..core.words import counted, shown
+from ..qc.as_sent import told_of
 from ..qc.clock import START, TCP
 from ..qc.made_with import program_at
+from ..qc.part import Part
 from ..qc.sums import File
-from ..qc.verdict import Part, Verdict
+from ..qc.verdict import Verdict
 from ..reading.gaps import TOLD
-from ..reading.held import with_marks
-from ..reading.receiver import Rows
 from ..reading.timeline import Timeline
 from .counts import place_words
 from .fault_list import FaultList
 from .faults import Faults
 from .figures import Figures
-from .fits import Fits
 from .program import NoReport, Program
 from .reasons import Reasons
 from .scope import Scope
@@ -33,14 +32,12 @@ from .strips import Strips
 from .subtitles import Entries, looked_at
 
 EMPTY, ORDER = 60, 62
-ALL_DAY = 0, FRAMES_OF_A_DAY - 1
 
 
 class Subject(NamedTuple):
     """What a report is made of: a verdict on a part, which is one of so many, the program as it is
-    typed and where it stands, and the commands that judged it. `window` are the first and the last
-    frame of which subtitles get pictures; `files` were read, each with what it is; `folder` is for
-    what is needed meanwhile."""
+    typed and where it stands, and the commands that judged it; `files` were read, each with what it
+    is."""
 
     judged: Verdict
     part: Part
@@ -48,7 +45,6 @@ class Subject(NamedTuple):
     program: Program
     commands: Sequence[str]
     files: Sequence[tuple[str, File]]
-    window: tuple[int, int] = ALL_DAY
 
     def options(self) -> str:
         """All options as they hold."""
@@ -58,8 +54,7 @@ class Subject(NamedTuple):
         words += ["--complete"] * asked.is_complete
         words += [f"--within {asked.within}"] * (asked.within > 0)
         words += [f"--pes {part.pes_name}"] if part.pes else []
-        return " ".join([*words, *(part.between.words() or map(
-            "{} {}".format, ("--from", "--to"), map(time_of, self.window)))])
+        return " ".join([*words, *part.asked.between.words()])
 
 
 class Report:
@@ -69,7 +64,7 @@ class Report:
         self.subject, self.asked = subject, subject.judged.asked
         self.part, self.program = subject.part, subject.program
         answer = self.part.answer
-        self.stl, self.page = self.part.stl, page_name(*self.asked.page)
+        self.stl, self.page = self.part.asked.stl, page_name(*self.asked.page)
         self.origin = self.part.origin or 0
         self.date = subject.judged.date.replace("T", " ").replace("Z", " UTC")
         self.made_with = program_at(self.program.path)
@@ -83,7 +78,7 @@ class Report:
         self.is_refused_file = is_of_file and not self.is_beside
         due = self.part.due()
         self.subtitles = due.subtitles
-        self.programme: Programme = due
+        self.programme: SubtitleList = due
         if self.part.pes is None and self.first and self.first.number == EMPTY:
             raise NoReport(f"nothing is wrong with {self.stl}, "
                            f"{counted(len(self.subtitles), 'subtitle')}: give the PES file, which "
@@ -96,6 +91,7 @@ class Report:
         unread = [self.asked.recording] if self.asked.recording and self.part.pes is None else []
         self.notes = [*(f"{shown(one)} was not read" for one in unread), *subject.judged.notes,
                       *(one.said() for one in subject.judged.warnings),
+                      *([told_of(found)] if (found := subject.judged.layout) else []),
                       *[self.part.otherwise] * bool(self.part.otherwise)]
         self.reasons = Reasons(self.part.causes, self.asked.option) if self.part.causes else None
         self.looked = [looked_at(one, frames, self.asked.within)
@@ -114,7 +110,7 @@ class Report:
         clock, count, recording = self.part.clock, self.subject.parts, self.subject.judged.recording
         words = clock.words() if clock and clock.source in (START, TCP) else None
         part = (self.part.number, count) if count > 1 else None
-        return Scope(titles_in(self.part.stl_path), recording, self.subtitles[0].begin,
+        return Scope(titles_in(self.part.names.given), recording, self.subtitles[0].begin,
                      self.subtitles[-1].end, len(self.subtitles), part,
                      bool(self.subject.judged.fitted), part is not None, words)
 
@@ -141,16 +137,13 @@ class Looks:
         header = bytes([0, 0, 0, 8, 0, 8, 1, option << 1])  # C4, C6 and C7
         due = report.part.due().timeline
         self.figures: Figures = Figures(due, seen, header, report.page, asked.is_complete)
-        self.fits: Fits = Fits(with_marks(due.states if due else ()), with_marks(seen.held.states),
-                               pages_of_content(faults, seen, self.figures))
         pes = report.first.pes if report.first else None
         broken = seen.last_before(pes) if pes is not None else \
             report.first.frame if report.first else None
         if report.is_beside:
             broken = next((frame for entry in faults.entries if entry.first.number != UNDECIDED
                            and (frame := entry.first.frame) is not None), None)
-        self.entries: Entries = Entries(self.figures, seen, report.subtitles, report.looked,
-                                        report.subject.window, faults, broken)
+        self.entries: Entries = Entries(self.figures, seen, report.subtitles, report.looked, faults)
         if report.reasons:
             report.reasons.drawn = self.entries.drawn
         self.fault_list = FaultList(report, self, seen)
@@ -166,19 +159,6 @@ def mark_unheard(faults: Faults, seen: Seen) -> None:
     last = seen.last_frame
     if last is not None and any(entry.first.pes == seen.stop for entry in faults.entries):
         faults.mark([(last, last)])
-
-
-def pages_of_content(faults: Faults, seen: Seen, figures: Figures) -> dict[int, tuple[Rows, Rows]]:
-    """The due and the held page at each frame at which the content is refused."""
-    found = {}
-    for entry in faults.entries:
-        frame = entry.first.frame
-        if entry.first.row is None or frame is None:
-            continue
-        state = seen.state_at(frame)
-        if state and state.is_heard:
-            found[frame] = figures.due_at(frame)[0], state.rows
-    return found
 
 
 def end_of_knowledge(seen: Seen, report: Report) -> int | None:

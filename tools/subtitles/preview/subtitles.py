@@ -1,10 +1,10 @@
-"""The subtitles: a grid of small pictures, and large ones where something else is held than due."""
+"""The subtitles, minute by minute, with two pictures of each that is held otherwise than due."""
 from __future__ import annotations
 
 import bisect
 import collections
 import itertools
-from typing import Iterable, Iterator, NamedTuple
+from typing import Iterable, NamedTuple
 
 from ..core.programme import Subtitle
 from ..core.times import time_of
@@ -14,8 +14,7 @@ from .figures import DIFFERENT, KINDS, NOTHING, SAME, Figures
 from .seen import Seen
 from .strips import MINUTE, Strips
 
-ROOM = 10_000_000  # bytes of pictures in a report
-NEAR, MOST_LARGE = 25, 500  # subtitles by the broken place, and with other cells, that come first
+MOST_DRAWN = 500  # subtitles with pictures, the first that are not as due
 
 
 class Looked(NamedTuple):
@@ -40,15 +39,13 @@ def looked_at(subtitle: Subtitle, frames: int | None, within: int) -> Looked:
 
 
 class Entries:
-    """The entries of subtitles: those with pictures, as many as there is room for."""
+    """The entries of subtitles that are not held as they are due, with their pictures."""
 
     def __init__(self, figures: Figures, held: Seen, subtitles: list[Subtitle],
-                 looked: list[Looked], window: tuple[int, int], faults: Faults,
-                 broken: int | None) -> None:
+                 looked: list[Looked], faults: Faults) -> None:
         self.figures, self.held, self.faults = figures, held, faults
         self.subtitles = subtitles
         self.looked = {one.index: look for one, look in zip(subtitles, looked)}
-        self.drawn: dict[int, str] = {}
         self.kinds = {one.index: figures.kind_at(look.frame)
                       for one, look in zip(subtitles, looked)}
         self.odd = {index for index, kind in self.kinds.items() if kind in (DIFFERENT, NOTHING)}
@@ -58,40 +55,13 @@ class Entries:
                   if (frame := self.frame_of(entry)) is not None]
         self.entry_frames = sorted(frame for frame, _ in listed)
         self.entry_at = dict(reversed(listed))
-        self.fill([one for one in subtitles if one.end > window[0] and one.begin <= window[1]],
-                  broken)
+        odd = (one for one in subtitles if one.index in self.odd)
+        self.drawn = {one.index: self.entry(one) for one in itertools.islice(odd, MOST_DRAWN)}
 
     def frame_of(self, entry: Entry) -> int | None:
         """The frame whose pictures belong to an entry, `None` where there is none."""
         pes = entry.first.pes
         return entry.first.frame if pes is None else self.held.last_before(pes)
-
-    def fill(self, inside: list[Subtitle], broken: int | None) -> None:
-        """Draws subtitles as long as there is room."""
-        room = ROOM
-        for subtitle in self.by_need(inside, broken):
-            if subtitle.index not in self.drawn:
-                entry = self.small(subtitle) if self.is_small(subtitle) else self.large(subtitle)
-                room -= len(entry.encode())
-                if room < 0:
-                    break
-                self.drawn[subtitle.index] = entry
-
-    def is_small(self, subtitle: Subtitle) -> bool:
-        return self.kinds[subtitle.index] == SAME
-
-    def by_need(self, inside: list[Subtitle], broken: int | None) -> Iterator[Subtitle]:
-        """First those by the broken place, then some that differ, then all that are as due.
-
-        Of a subtitle at which nothing can be seen there is no picture.
-        """
-        inside = [one for one in inside if one.index not in self.unknown]
-        if broken is not None:
-            near = bisect.bisect_left([one.begin for one in inside], broken)
-            yield from inside[max(0, near - NEAR // 2):near + NEAR // 2]
-        differing = (one for one in inside if one.index in self.odd)
-        yield from itertools.islice(differing, MOST_LARGE)
-        yield from (one for one in inside if self.is_small(one))
 
     def faults_in(self, subtitle: Subtitle) -> str:
         """Words for the faults while it is due, with a link to the first that is listed."""
@@ -108,17 +78,8 @@ class Entries:
         is_one = at < len(self.entry_frames) and self.entry_frames[at] < end
         return self.entry_at[self.entry_frames[at]] if is_one else None
 
-    def small(self, subtitle: Subtitle) -> str:
-        looked = self.looked[subtitle.index]
-        first, end = time_of(looked.frame), time_of(subtitle.end)
-        sent = counted(self.held.sendings_between(subtitle.begin, subtitle.end), "time")
-        return (f'<figure class="small" id="s{subtitle.index}"><figcaption title="{subtitle.name} '
-                f'to {end}, row {subtitle.row}, sent {sent}, {looked.words()}">'
-                f"<b>{subtitle.index}</b>"
-                f" {first}{self.faults_in(subtitle)}</figcaption>"
-                f"{self.figures.small_at(looked.frame)}</figure>")
-
-    def large(self, subtitle: Subtitle) -> str:
+    def entry(self, subtitle: Subtitle) -> str:
+        """A subtitle with its pictures."""
         looked = self.looked[subtitle.index]
         first, end = time_of(subtitle.begin), time_of(subtitle.end)
         sent = self.held.sendings_between(subtitle.begin, subtitle.end)
@@ -142,29 +103,8 @@ class Entries:
         return "".join(parts)
 
     def listed(self, subtitles: Iterable[Subtitle]) -> str:
-        """Entries in order: small ones in a grid, neighbours without pictures as a count."""
-        parts = []
-        for kind, several in itertools.groupby(subtitles, self.look):
-            group = list(several)
-            drawn = "".join(self.drawn.get(one.index, "") for one in group)
-            parts.append(f'<div class="grid">{drawn}</div>' if kind == "small" else
-                         drawn if kind == "large" else self.left_out(group))
-        return "".join(parts)
-
-    def look(self, subtitle: Subtitle) -> str:
-        if subtitle.index not in self.drawn:
-            return "left out"
-        return "small" if self.is_small(subtitle) else "large"
-
-    def left_out(self, group: list[Subtitle]) -> str:
-        first, last = group[0], group[-1]
-        times = f"{time_of(first.begin)} --to {time_of(last.begin)}"
-        names = f"Subtitle {first.index}" if first is last else \
-            f"Subtitles {first.index} to {last.index}, {len(group)} of them"
-        words = f" <code>--from {times}</code> draws them." if \
-            {one.index for one in group} - self.unknown else ""
-        return (f'<p class="left" id="s{first.index}">{names}: no pictures here. What is held at '
-                f"the first frame: {self.counted(group)}.{words}</p>")
+        """Those with pictures, in order."""
+        return "".join(self.drawn.get(one.index, "") for one in subtitles)
 
     def counted(self, group: Iterable[Subtitle]) -> str:
         """How many subtitles of a group are of which kind."""

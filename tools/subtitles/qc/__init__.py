@@ -3,16 +3,18 @@
 asked         what is asked of a pair
 options       options that `check` gets as they are: one table
 pair          a pair judged, from a recording to a verdict
+part          a part of a pair: what is judged by itself
 judging       a part judged, and what follows of it
-steps         the steps: what is asked of the program, and said
+checks        each call of `check` for a pair
 verdict       a verdict, its parts, and what is missing
 unclear       why a pair can't be judged
 
 recording     what is told of a recording, and how the program reads it once more
-feed          a recording that comes through a pipe
+feed          a recording that comes through a pipe, which is kept as it comes
+source        its bytes
 ending        when a feed has all that is judged
 pes_header    the first PES header of a PID, where it is not one of Teletext
-fitting       what is found of its origin: parts with their clocks
+clocks        the clocks of its parts, and which of its PES packets are judged
 moved         a page that moves to another PID: what is judged on each
 missing       places at which something is missing, and of which parts
 paced         the pace by which a part is judged, or which holes may be unseen
@@ -41,12 +43,13 @@ beside        what is judged beside subtitles that are refused
 lettering     what a person reads on a page, and where two differ
 option_advice what to do about a letter that the national option lacks
 as_sent       the layout of a recording, looked for and told
-layouts       which layout draws subtitles as they were sent
+layouts       which layouts draw the most subtitles as they were sent
+evidence      which items of a layout are seen in what was sent, and may be taken
 headers       what is wrong with the control bits of headers
 keeping       headers that keep the page, and whether what is sent with them is whole
 hints         what to know of the first fault of some numbers, beside its place
 midnight      times that fall at midnight, and what to do about them
-off_frame     PTS that are no whole frames: jitter, and drift
+off_frame     PTS that are no whole frames
 cause_words   causes in words, and as values
 delays        after how many frames each subtitle was whole
 within        within how many frames a part that is refused would be accepted

@@ -10,7 +10,8 @@ from ..core.programme import Subtitle
 from ..core.words import counted, quoted
 from ..reading.receiver import Rows
 from ..reading.timeline import Timeline
-from .layouts import FEWEST, TENTHS, Choice, Sent, count_drawn, draws, layout_of_sent
+from .evidence import Choice, choices_of
+from .layouts import FEWEST, TENTHS, Sent, count_drawn, draws
 
 BY_LAYOUT = {51, 52, 53, 54, 55}  # what is wrong with a text by one layout need not be by another
 BOXES = {0: "nothing", 1: "one end box", 2: "two end boxes"}
@@ -83,30 +84,50 @@ def otherwise(sent: Sequence[Sent], option: NationalOption) -> str:
     all is drawn as it was sent, or where it is not clear."""
     if len(sent) < FEWEST or count_drawn(PLAIN, sent, option) == len(sent):
         return ""
-    choice = layout_of_sent(sent, option)
-    if not choice.is_clear or choice.layout == PLAIN:
-        return ""
-    return (f"the letters are right and drawn otherwise, {words_of_layout(choice.layout)}: "
-            f"--layout {quoted(text_of(choice.layout))} draws {counts_words(choice)}")
+    choice = choices_of(sent, option)[1]
+    words = left_lines(choice)
+    if choice.is_clear and choice.layout != PLAIN:
+        words.insert(0, f"{words_of_layout(choice.layout)}: --layout "
+                        f"{quoted(text_of(choice.layout))} draws {counts_words(choice)}")
+    return otherwise_words(words)
+
+
+def otherwise_words(words: Sequence[str]) -> str:
+    """What is drawn otherwise, as a hint; nothing where nothing is known of it."""
+    return ", ".join(["the letters are right and drawn otherwise", *words]) if words else ""
+
+
+def left_lines(choice: Choice) -> list[str]:
+    """Which items are not taken that would draw more, a line each, with the TEXT that says so."""
+    return [f"{one.text} would draw {one.more} more of {choice.found}: say it by --layout "
+            f"{quoted(one.whole)} if your inserter draws so" for one in choice.left]
 
 
 def told_of(choice: Choice) -> str:
-    """The layout that is taken."""
+    """The layout that is taken, and on how many subtitles each of its items rests."""
     text = text_of(choice.layout)
-    return f"layout: {text or 'as it is without --layout'}, {counts_words(choice)}"
+    rests = ", ".join(f"{one.text} rests on {one.decides}" for one in choice.items)
+    return f"layout: {text or 'as it is without --layout'}, {counts_words(choice)}" + \
+        f"; {rests}" * bool(rests)
 
 
-def why_none(choice: Choice, sent: Sequence[Sent], option: NationalOption) -> str:
-    """Why no layout is taken, in lines: the closest one, and what it draws beside what was sent."""
-    if choice.found < FEWEST:
-        return (f"--layout auto guesses nothing: {counted(choice.found, 'subtitle')} with their "
+def why_none(closest: Choice, choice: Choice, sent: Sequence[Sent], option: NationalOption) -> str:
+    """Why no layout is taken, in lines: the closest one, and what it draws beside what was sent; or
+    which of its items a person has to say."""
+    if closest.found < FEWEST:
+        return (f"--layout auto guesses nothing: {counted(closest.found, 'subtitle')} with their "
                 f"letters were found, and {FEWEST} say how a house draws")
-    text = text_of(choice.layout)
+    text = text_of(closest.layout)
     lines = [f"--layout auto guesses nothing: the closest, {text or 'no --layout'}, draws "
-             f"{counts_words(choice)}, and {TENTHS} in 10 have to be"]
-    other = next((one for one in sent if not draws(choice.layout, one, option)), None)
+             f"{counts_words(closest)}, and {TENTHS} in 10 have to be"]
+    if closest.is_clear:
+        lines = [f"--layout auto guesses nothing: what is seen in {FEWEST} subtitles at least, and "
+                 f"takes nothing from a page, {text_of(choice.layout) or 'no --layout'}, draws "
+                 f"{counts_words(choice)}, and {TENTHS} in 10 have to be", *left_lines(choice)]
+    layout = choice.layout if closest.is_clear else closest.layout
+    other = next((one for one in sent if not draws(layout, one, option)), None)
     if other:
-        found = drawn(other.text, other.row, other.justify, choice.layout, option)
+        found = drawn(other.text, other.row, other.justify, layout, option)
         page = f"refused {found.number}" if isinstance(found, Refused) else rows_words(
             page_of(found))
         lines += [f"sent: {rows_words(other.rows)}", f"drawn: {page}"]

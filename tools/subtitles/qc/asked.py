@@ -8,9 +8,9 @@ import os
 import stat
 from typing import Sequence
 
-from ..core.files import plain_name
+from ..core.files import first_bytes, plain_name
 from ..core.national import WORDS, named_by
-from ..core.stl import GSI, TTI
+from ..core.stl import stl_bytes
 from ..core.teletext import page_name
 from ..core.times import FRAMES_OF_A_DAY, Between, frame_of, time_of
 from ..core.words import (
@@ -24,7 +24,6 @@ AUTO_OF_FEED = ("--layout auto reads all that was sent before it judges: try a r
 MOST_TRIED = 5  # frames within which a recording is tried, where it is not judged or refused
 LC = slice(14, 16)  # the field in the GSI block
 KEPT = "subtitles.stl"  # in the temporary folder
-MOST_STL = GSI + TTI * 99_999 + 1  # bytes of a subtitle file: `check` refuses one more
 
 
 @dataclasses.dataclass
@@ -202,11 +201,9 @@ def keep_stl(asked: Asked, folder: str) -> None:
     if not is_pipe(asked.stl):
         return
     asked.kept_stl = os.path.join(folder, KEPT)
-    with open(asked.stl, "rb") as pipe, open(asked.kept_stl, "wb") as file:
-        left = MOST_STL
-        while left and (data := pipe.read(min(left, 1 << 20))):
-            file.write(data)
-            left -= len(data)
+    data = stl_bytes(asked.stl)
+    with open(asked.kept_stl, "wb") as file:
+        file.write(data)
     if asked.option == AUTO:
         asked.option = option_named_in(asked.kept_stl)
 
@@ -214,9 +211,8 @@ def keep_stl(asked: Asked, folder: str) -> None:
 def option_named_in(stl: str) -> str:
     """The national option of a subtitle file, by its language (GSI block, field LC)."""
     language = b""
-    if os.path.isfile(stl):
-        with contextlib.suppress(OSError), open(stl, "rb") as file:
-            language = file.read(LC.stop)[LC]
+    with contextlib.suppress(Stop, OSError):  # that it is none is told later
+        language = first_bytes(stl, LC.stop)[LC]
     return named_by(language).word
 
 

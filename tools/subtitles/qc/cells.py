@@ -11,7 +11,7 @@ from ..reading.timeline import Timeline
 from .headers import Headed, headed
 
 
-class Place(NamedTuple):
+class FaultPlace(NamedTuple):
     """A PES packet, `None` in a gap between two, its PTS, and the page that is held then; of one
     whose control bits are refused (67) each header of the page."""
 
@@ -21,26 +21,26 @@ class Place(NamedTuple):
     headers: Sequence[Headed] = ()
 
 
-NOWHERE = Place(None, None, None)
+NOWHERE = FaultPlace(None, None, None)
 
 
 def place_of(fault: Told, packets: Packets, held: Timeline | None,
-             due: Rows | None = None) -> Place:
+             due: Rows | None = None) -> FaultPlace:
     """The place of a fault of a transmission; of a cell that is not as it is due."""
     if fault.pes is not None:
-        return Place(fault.pes, packets.pts_at(fault.pes), None)
+        return FaultPlace(fault.pes, packets.pts_at(fault.pes), None)
     if fault.frame is None or held is None:
         return NOWHERE
     members = held.members(fault.frame)
     if not members:
-        return Place(None, None, held.state_at(fault.frame).rows)
+        return FaultPlace(None, None, held.state_at(fault.frame).rows)
     if not held.within and fault.number == GAP:  # told before others of that frame, which are 62
         members = members[:1]
     if due:
         members = [next((one for one in reversed(members) if code_of(fault, due) != code_of(
             fault, held.state_after(one.first).rows)), members[-1])]
     one = members[-1] if fault.packet is None else member_of(members, fault.packet)
-    return Place(one.first, one.pts, held.state_after(members[-1].first).rows,
+    return FaultPlace(one.first, one.pts, held.state_after(members[-1].first).rows,
                  headed(one, held.state_after(one.first - 1)) if fault.number == CONTROL else ())
 
 

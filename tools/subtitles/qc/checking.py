@@ -8,7 +8,7 @@ import shutil
 import subprocess
 from typing import BinaryIO, Callable, Iterator
 
-from ..core.files import naming
+from ..core.files import naming, pieces_of
 from ..core.times import FRAMES_OF_A_DAY
 from ..core.told import (
     ENDED, REFUSED, Told, accepted_of, count_of, frame_of_place, is_line, number_of, told_of,
@@ -123,6 +123,10 @@ class Answer(Counted):
     def line(self) -> str:
         """The line of `check` without `--all`."""
         return self.first.line if self.first else self.last
+
+    def raw(self) -> Iterator[bytes]:
+        """All that is told, as it is."""
+        return pieces_of(self.path)
 
     def lines(self) -> Iterator[str]:
         """All lines once more."""

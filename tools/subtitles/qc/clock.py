@@ -3,6 +3,10 @@ from __future__ import annotations
 
 from typing import NamedTuple
 
+from ..core.times import ALL_DAY, Between
+from ..reading.moving import Stage
+from ..reading.packets import Range
+
 RECORDING, GIVEN, START, TCP = "recording", "given", "start", "tcp"
 SOURCES = {RECORDING: "fitted to the recording", GIVEN: "given", START: "by the first picture",
            TCP: "by the first picture, TCP"}
@@ -30,3 +34,27 @@ class Clock(NamedTuple):
     def words(self) -> str:
         """The origin, and where it is from."""
         return f"origin {self.origin}, {SOURCES[self.source]}"
+
+
+class Found(NamedTuple):
+    """What is judged by one clock: its frames, its PES packets where PTS go back, and the frames in
+    which its subtitles come. Where the page moves to another PID it is what one of these carries,
+    `stage`; `came` and `goes` are the PIDs from which the page comes, and to which it goes."""
+
+    begin: int
+    end: int
+    clock: Clock
+    packets: Range | None = None
+    between: Between = ALL_DAY
+    stage: Stage | None = None
+    came: int | None = None
+    goes: int | None = None
+
+    @property
+    def origin(self) -> int:
+        return self.clock.origin
+
+    @property
+    def pid(self) -> int | None:
+        """The PID, where the page moves to another one."""
+        return self.stage and self.stage.pid

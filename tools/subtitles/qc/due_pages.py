@@ -8,8 +8,9 @@ import os
 import subprocess
 from typing import Sequence
 
-from ..core.files import temporary_folder, whole_bytes
-from ..core.programme import Programme, Subtitle, subtitles_read, subtitles_shown
+from ..core.outputs import temporary_folder
+from ..core.programme import SubtitleList, Subtitle, subtitles_read, subtitles_shown
+from ..core.stl import stl_bytes
 from ..core.teletext import Page, page_name
 from ..core.times import ALL_DAY, Between
 from ..reading.packets import PES, Packets
@@ -23,7 +24,7 @@ NOTHING = 82  # the number where there is no subtitle
 EVERY = "1500"  # frames: the fewest repeats
 
 
-class DuePages(Programme):
+class DuePages(SubtitleList):
     """A programme with the page that is due of each subtitle; which have the same page or words.
     `timeline` is what a receiver holds of it, `None` where there is no subtitle."""
 
@@ -64,12 +65,12 @@ def subtitles_in(program: str, stl: str, between: Between = ALL_DAY,
     """The subtitles of a file that come in some frames, as the program shows them. It shows a whole
     file or none, and no open one: where another subtitle is refused they are read here."""
     try:
-        found = subtitles_read(whole_bytes(stl)) if is_open else \
+        found = subtitles_read(stl_bytes(stl)) if is_open else \
             subtitles_shown(asked_of(program, "show", "--", stl))
     except Unclear:
         if between == ALL_DAY:
             raise
-        found = subtitles_read(whole_bytes(stl))
+        found = subtitles_read(stl_bytes(stl))
     return [one for one in found if between.has(one.begin)]
 
 

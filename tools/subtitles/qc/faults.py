@@ -11,14 +11,15 @@ from ..core.times import frame_at, time_of
 from ..core.told import CHARACTER, CONTENT, DISPLAY, LETTERS, STL_FAULTS, WITH_CAUSE, Told
 from ..reading.receiver import Rows
 from .cause_words import CauseWords, SubtitleWords, Wording
-from .cells import NOWHERE, Place, code_at, place_of
+from .cells import NOWHERE, FaultPlace, code_at, place_of
 from .counted import End
 from .headers import header_words
 from .hints import open_words
 from .midnight import midnight_words
 from .option_advice import OptionAdvice
+from .part import Part
 from .subtitle_file import NamedSubtitle
-from .verdict import Part, Verdict
+from .verdict import Verdict
 
 
 class Cell(TypedDict):
@@ -126,7 +127,7 @@ class PartFaults:
         frame = frame_at(pts, self.part.origin, self.asked.within)
         return None if frame is None else time_of(frame)
 
-    def held_cell(self, told: Told, place: Place) -> Cell | None:
+    def held_cell(self, told: Told, place: FaultPlace) -> Cell | None:
         """The cell of a 72 as it is held."""
         return self.cell(place.rows, told) if told.number == CONTENT else None
 

@@ -12,18 +12,20 @@ from ..reading.gaps import why_refused
 from ..reading.pace import rows_of
 from ..reading.packets import HEADER
 from ..reading.repeat import are_usual, edges_of, longest_gap, measured
+from .as_sent import BY_LAYOUT, left_lines
 from .asked import Asked
 from .cells import place_of
 from .headers import header_words
 from .midnight import midnight_words
-from .off_frame import off_of
+from .off_frame import most_off, off_words
 from .option_advice import OptionAdvice
 from .options import NONE, PACE
+from .part import Part
 from .subtitle_file import SubtitleFile
-from .verdict import Part, Verdict
+from .verdict import Verdict
 
 HINTED = {EMPTY_TIME, CHARACTER, OUT_OF_ORDER, OFF_FRAME, CONTROL, GAP, SILENT}
-NAMED = {DISPLAY, CONTENT}  # for which an option is named, where one helps
+NAMED = {DISPLAY, CONTENT, *BY_LAYOUT}  # for which an option is named, where one helps
 OF_HEADERS = {32, 35}  # of PES packets: their length, and that of their headers
 OF_ENDS = {BEGIN, END}  # where the page moves to another PID, or that has no more Teletext
 HINTS = HINTED | NAMED | OF_HEADERS | OF_ENDS
@@ -60,13 +62,14 @@ def words_of(told: Told, part: Part, verdict: Verdict) -> str:
         return end_words(told.number, part, asked.page_name)
     if told.number == CONTENT:
         return part.otherwise
+    if told.number in BY_LAYOUT:
+        return ", ".join(left_lines(verdict.layout)) if verdict.layout else ""
     if told.number in (EMPTY_TIME, OUT_OF_ORDER):
         return midnight_words(told, part.subtitle_file())
     if part.pes is None or part.origin is None:
         return ""
     if told.number == OFF_FRAME:
-        off = off_of(part.pts(), part.origin)
-        return off.words(part.accepted_within) if off else ""
+        return off_words(most_off(part.pts(), part.origin), part.accepted_within)
     if told.number == SILENT:
         return silent_words(told, part)
     if told.number == GAP:
@@ -81,7 +84,7 @@ def words_of(told: Told, part: Part, verdict: Verdict) -> str:
 def end_words(number: int, part: Part, page: str) -> str:
     """That the page comes from another PID, or goes to one, or that its PID goes on with what is
     no Teletext, where that is why a subtitle is not whole."""
-    came, goes = (part.piece.came, part.piece.goes) if part.piece else (None, None)
+    came, goes = (part.found.came, part.found.goes) if part.found else (None, None)
     if number == BEGIN and came is not None:
         return f"page {page} was on {pid_name(came)} before"
     if number == END and goes is not None:

@@ -36,20 +36,7 @@ class Sent(NamedTuple):
     rows: tuple[bytes, ...]
 
 
-class Choice(NamedTuple):
-    """A layout, and how many of how many found subtitles it draws as they were sent."""
-
-    layout: Layout
-    drawn: int
-    found: int
-
-    @property
-    def is_clear(self) -> bool:
-        """Whether it may be taken for the house's."""
-        return self.found >= FEWEST and self.drawn * 10 >= self.found * TENTHS
-
-
-class Pair(NamedTuple):
+class SentLine(NamedTuple):
     """A line with letters as it was sent: the subtitle's place, the line's number, all its cells
     with each code that stands there, its row of the page and the cells of that."""
 
@@ -82,13 +69,13 @@ def letters(cells: bytes) -> bytes:
     return bytes(cell for cell in cells if cell > SPACE)
 
 
-def pairs_of(place: int, lines: Sequence[bytes], rows: Sequence[bytes]) -> list[Pair]:
+def pairs_of(place: int, lines: Sequence[bytes], rows: Sequence[bytes]) -> list[SentLine]:
     """The lines with letters of a found subtitle; none where they are other lines on the page."""
     said = [(number, line) for number, line in enumerate(lines) if letters(line)]
     shown = [(number, row) for number, row in enumerate(rows, 1) if letters(row)]
     if [letters(line) for _, line in said] != [letters(row) for _, row in shown]:
         return []
-    return [Pair(place, number, line, row, sent)
+    return [SentLine(place, number, line, row, sent)
             for (number, line), (row, sent) in zip(said, shown)]
 
 
@@ -103,7 +90,7 @@ def stripped(cells: bytes, strip: Iterable[int]) -> bytes:
     return cells.translate(None, bytes(strip))
 
 
-def strips(pairs: Sequence[Pair]) -> Iterator[bytes]:
+def strips(pairs: Sequence[SentLine]) -> Iterator[bytes]:
     """The codes that may be left out of texts: all that a page can't have, those that lines lack
     between their letters, and of the others at the ends of lines each choice or the usual ones."""
     lacks, has, ends = set[int](), set[int](), set[int]()
@@ -168,7 +155,7 @@ def afters(lines: Counter[tuple[bytes, bytes]]) -> list[bytes]:
             if len(one) <= MOST_AFTER and all(code in DRAWN_CODES for code in one)]
 
 
-def ways_to_prepare(pairs: Sequence[Pair]) -> list[Layout]:
+def ways_to_prepare(pairs: Sequence[SentLine]) -> list[Layout]:
     """Layouts that say what a line becomes, those first that give most lines as they were sent."""
     scores = Counter[Layout]()
     for strip, trim in itertools.product(strips(pairs), (False, True)):
@@ -204,7 +191,7 @@ def as_bits(places: Iterable[int]) -> int:
     return bits
 
 
-def placed(layout: Layout, pairs: Sequence[Pair], all_lines: Sequence[Sequence[bytes]],
+def placed(layout: Layout, pairs: Sequence[SentLine], all_lines: Sequence[Sequence[bytes]],
            found: Sequence[Sent]) -> Iterator[tuple[Layout, int]]:
     """Layouts with these cells that say where rows are, each with the subtitles of which no line
     stands elsewhere."""
@@ -226,7 +213,7 @@ def spaces_before(cells: bytes) -> int:
     return len(cells) - len(cells.lstrip(b" "))
 
 
-def justified(layout: Layout, pairs: Sequence[Pair], found: Sequence[Sent]
+def justified(layout: Layout, pairs: Sequence[SentLine], found: Sequence[Sent]
               ) -> Iterator[tuple[Layout, int]]:
     """Layouts with these cells that say where columns are, each with the subtitles of which a line
     stands elsewhere or has other cells."""
@@ -266,7 +253,7 @@ def count_drawn(layout: Layout, found: Sequence[Sent], option: NationalOption) -
     return sum(draws(layout, one, option) for one in found)
 
 
-def simplest(layout: Layout, found: Sequence[Sent], option: NationalOption) -> Choice:
+def simplest(layout: Layout, found: Sequence[Sent], option: NationalOption) -> Layout:
     """A layout that draws as many, with each item left out that changes nothing."""
     count = count_drawn(layout, found, option)
     for names in (("strip",), ("before", "behind"), ("behind",), ("after",), *(
@@ -276,29 +263,26 @@ def simplest(layout: Layout, found: Sequence[Sent], option: NationalOption) -> C
             others = count_drawn(less, found, option)
             if others >= count:
                 layout, count = less, others
-    return Choice(layout, count, len(found))
+    return layout
 
 
-def layout_of_sent(sent: Sequence[Sent], option: NationalOption) -> Choice:
-    """The layout that draws the most of the found subtitles as they were sent, of several the
-    simplest."""
-    found = [one for one in sent if is_found(one, option)]
+def candidates(found: Sequence[Sent], option: NationalOption) -> list[Layout]:
+    """Some layouts of which one draws the most of the found subtitles as they were sent; the one
+    without an item is one of them."""
     all_lines = [raw_lines(one.text, option) for one in found]
     pairs = [pair for place, one in enumerate(found)
              for pair in pairs_of(place, all_lines[place], one.rows)]
     if not pairs:
-        return Choice(PLAIN, 0, len(found))
+        return [PLAIN]
     unknown = as_bits(range(len(found))) ^ as_bits({pair.place for pair in pairs})
-    candidates = Counter[Layout]()
+    counts = Counter[Layout]()
     for cells in ways_to_prepare(pairs):
         rows = list(placed(cells, pairs, all_lines, found))
         for column, wrong in justified(cells, pairs, found):
             for row, others in rows:
                 layout = column._replace(double=row.double, pack=row.pack, last=row.last,
                                          row=row.row)
-                candidates[layout] = len(found) - (wrong | others | unknown).bit_count()
-    best = max(candidates.values())
-    near = sorted((one for one in candidates if candidates[one] == best), key=simplicity)
-    choices = [simplest(one, found, option) for one in near[:MOST_KEPT]]
-    choices.append(Choice(PLAIN, count_drawn(PLAIN, found, option), len(found)))
-    return min(choices, key=lambda one: (-one.drawn, simplicity(one.layout)))
+                counts[layout] = len(found) - bin(wrong | others | unknown).count("1")
+    best = max(counts.values())
+    near = sorted((one for one in counts if counts[one] == best), key=simplicity)
+    return [PLAIN, *(simplest(one, found, option) for one in near[:MOST_KEPT])]

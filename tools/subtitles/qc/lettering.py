@@ -19,7 +19,7 @@ SPACE = 0x20
 SPACES = bytes(max(code, SPACE) for code in range(256))  # spacing attributes are spaces
 
 
-class Line(NamedTuple):
+class LetteredRow(NamedTuple):
     """A row that has letters: its number, the column of the first, its words, its attributes."""
 
     row: int
@@ -29,7 +29,7 @@ class Line(NamedTuple):
 
 
 @functools.lru_cache(maxsize=1 << 12)
-def lines_of(rows: Rows) -> tuple[Line, ...]:
+def lines_of(rows: Rows) -> tuple[LetteredRow, ...]:
     """The rows of a page that have letters."""
     found = []
     for number, row in enumerate(rows, 1):
@@ -37,7 +37,7 @@ def lines_of(rows: Rows) -> tuple[Line, ...]:
         if words.strip():
             column = len(words) - len(words.lstrip())
             attributes = bytes(code for code in row if code < SPACE)
-            found.append(Line(number, column, words.strip(), attributes))
+            found.append(LetteredRow(number, column, words.strip(), attributes))
     return tuple(found)
 
 

@@ -1,11 +1,13 @@
 """The program that a verdict is made with: its version, its sum, the prover's line."""
 from __future__ import annotations
 
+import functools
 import os
 import re
 from typing import NamedTuple
 
 from ..core.built import TOP, behind_script, read
+from ..core.files import naming
 from ..core.words import version
 from .sums import file_of
 
@@ -13,7 +15,7 @@ PROVED = "PROVED"  # lies beside a program, or over the folder of one that is in
 OF_PROGRAM = re.compile(r"crate subttx \S+ (logic=proved .*)")
 
 
-class Program(NamedTuple):
+class MadeWith(NamedTuple):
     """The version of the tools, and the program's SHA-256 and line of the prover."""
 
     version: str
@@ -21,11 +23,20 @@ class Program(NamedTuple):
     proved: str | None
 
 
-def program_at(path: str) -> Program:
+def program_at(path: str) -> MadeWith:
     """What there is to say of the program at a path."""
     real = os.path.realpath(behind_script(path))
-    sha256 = file_of(real, path).sha256
-    return Program(version(), sha256, proved_line(real, sha256))
+    with naming(path):
+        about = os.stat(real)
+    sha256 = sum_of(real, (about.st_dev, about.st_ino, about.st_size, about.st_mtime_ns,
+                           about.st_ctime_ns))
+    return MadeWith(version(), sha256, proved_line(real, sha256))
+
+
+@functools.lru_cache(maxsize=None)
+def sum_of(path: str, like: tuple[int, ...]) -> str:
+    """The sum of a file, which stays while the file is like that: a batch works it out once."""
+    return file_of(path, path).sha256
 
 
 def proved_line(program: str, sha256: str) -> str | None:

@@ -6,9 +6,9 @@ from typing import Iterator, Sequence
 
 from ..core.times import FRAMES_OF_A_DAY, TICKS, frame_in, pts_of, ticks_between, time_of
 from ..reading.gaps import Place, what_of
+from .part import Part
 from .recording import Recording
-from .steps import Stretch
-from .verdict import Gap, Part
+from .verdict import Gap
 
 
 def gap_of(place: Place, origin: int, is_judged: bool) -> Gap:
@@ -17,24 +17,24 @@ def gap_of(place: Place, origin: int, is_judged: bool) -> Gap:
     return Gap(*times, what_of(place), place, is_judged)
 
 
-def gaps_in(recording: Recording, stretches: Sequence[Stretch], parts: Sequence[Part]) -> list[Gap]:
+def gaps_in(recording: Recording, parts: Sequence[Part]) -> list[Gap]:
     """Where something is missing; on a PID to which the page moved, or from which, what is of none
     of its parts is left out."""
     if not recording.stages:
         return gaps_of(recording.places(), parts)
-    return [gap_of(place, part.origin or 0, True)
-            for one, other, part in zip(stretches, [*stretches[1:], None], parts)
-            for place in places_on(one, other) if is_in(place, part) or is_in_move(place, one)]
+    return [gap_of(place, one.origin or 0, True) for one, other in zip(parts, [*parts[1:], None])
+            for place in places_on(one, other) if is_in(place, one) or is_in_move(place, one)]
 
 
-def places_on(one: Stretch, other: Stretch | None) -> Iterator[Place]:
-    """Where something is missing on a PID; what is where the page goes to the one of another
-    stretch is told here, and not there."""
-    assert one.piece
-    for place in one.recording.places():
+def places_on(one: Part, other: Part | None) -> Iterator[Place]:
+    """Where something is missing on a PID; what is where the page goes to the one of another part
+    is told here, and not there."""
+    recording, its = one.recorded
+    for place in recording.places():
         if other and is_in_move(place, one):
-            yield dataclasses.replace(place, after=pts_of(other.found.begin, other.found.origin))
-        elif place.mark is not None or place.before is not None or one.piece.came is None:
+            _, found = other.recorded
+            yield dataclasses.replace(place, after=pts_of(found.begin, found.origin))
+        elif place.mark is not None or place.before is not None or its.came is None:
             yield place
 
 
@@ -47,20 +47,21 @@ def gaps_of(places: Sequence[Place], parts: Sequence[Part]) -> list[Gap]:
     return found
 
 
-def is_in_move(place: Place, one: Stretch) -> bool:
+def is_in_move(place: Place, one: Part) -> bool:
     """Whether something is missing where the page goes to another PID."""
-    return bool(one.piece and one.piece.goes is not None and place.mark is None
-                and place.before == one.piece.stage.last())
+    found = one.found
+    return bool(found and found.stage and found.goes is not None and place.mark is None
+                and place.before == found.stage.last())
 
 
 def is_in(place: Place, part: Part) -> bool:
     """Whether a mark is one of those that are judged with a part; or where none stands, whether
     frames of the part may lack what is missing there."""
-    if part.begin is None or part.end is None or part.origin is None:
+    if part.found is None:
         return False
     if place.mark is not None and part.pes is not None:
         return part.pes[0] <= place.mark <= part.pes[1]
-    first, last = (part.origin + TICKS * frame for frame in (part.begin, part.end))
+    first, last = (part.found.origin + TICKS * frame for frame in part.found[:2])
     is_before = place.after is not None and ticks_between(first, place.after) <= 0
     is_after = place.before is not None and ticks_between(last, place.before) >= 0
     return not is_before and not is_after

@@ -6,33 +6,22 @@ header on the other nothing is said.
 """
 from __future__ import annotations
 
-from typing import Iterator, NamedTuple, Sequence
+from typing import Iterator, Sequence
 
 from ..core.programme import Subtitle
 from ..core.times import Between, frame_in, time_of
 from ..reading.moving import Stage, part_inside, words_of
-from .fitting import Found
+from .clock import Found
 from .warned import Warned
 
 PID = "pid"  # the word for machines
 
 
-class Piece(NamedTuple):
-    """What is judged on one PID: the frames, and those in which its subtitles come. `came` and
-    `goes` are the PIDs from which the page comes, and to which it goes."""
-
-    stage: Stage
-    found: Found
-    between: Between
-    came: int | None = None
-    goes: int | None = None
-
-
-def pieces_of(found: Found, stages: Sequence[Stage], subtitles: Sequence[Subtitle], within: int) \
-        -> list[Piece]:
-    """The pieces of a part, those that have subtitles, one after another."""
+def found_on(found: Found, stages: Sequence[Stage], subtitles: Sequence[Subtitle], within: int) \
+        -> list[Found]:
+    """What each PID carries of what is judged by a clock, where subtitles come on it."""
     own = [one for one in subtitles if found.begin <= one.begin < found.end]
-    pieces: list[Piece] = []
+    parts: list[Found] = []
     before = -1  # the last frame of the stage before
     for place, stage in enumerate(stages):
         stage = stage._replace(inside=part_inside(stages, place, found.packets))
@@ -47,32 +36,29 @@ def pieces_of(found: Found, stages: Sequence[Stage], subtitles: Sequence[Subtitl
         begin = min([one.begin for one in own if one.begin <= before < one.end] + [before + 1])
         between = Between(begin, found.end if is_last else min(last + 1, found.end))
         if any(between.has(one.begin) for one in own):
-            pieces.append(Piece(stage, found._replace(
-                begin=first, end=last, packets=stage.inside), between))
+            parts.append(Found(first, last, found.clock, stage.inside, between, stage))
         before = last
-    return [linked(pieces, place, found) for place in range(len(pieces))]
+    return [linked(parts, place, found) for place in range(len(parts))]
 
 
-def linked(pieces: Sequence[Piece], place: int, found: Found) -> Piece:
-    """A piece with those beside it. The first begins as the part does, and the last ends as it
-    does."""
-    one, is_first, is_last = pieces[place], place == 0, place == len(pieces) - 1
-    begin = found.begin if is_first else one.found.begin
-    end = found.end if is_last else one.found.end
-    between = Between(found.begin if is_first else one.between.begin,
-                      found.end if is_last else one.between.end)
-    return Piece(one.stage, one.found._replace(begin=begin, end=end), between,
-                 None if is_first else pieces[place - 1].stage.pid,
-                 None if is_last else pieces[place + 1].stage.pid)
+def linked(parts: Sequence[Found], place: int, found: Found) -> Found:
+    """One with those beside it. The first begins as all of them do, and the last ends so."""
+    one, is_first, is_last = parts[place], place == 0, place == len(parts) - 1
+    return one._replace(
+        begin=found.begin if is_first else one.begin, end=found.end if is_last else one.end,
+        between=Between(found.begin if is_first else one.between.begin,
+                        found.end if is_last else one.between.end),
+        came=None if is_first else parts[place - 1].pid,
+        goes=None if is_last else parts[place + 1].pid)
 
 
-def moves_told(pieces: Sequence[Piece], page: str) -> Iterator[Warned]:
-    """What is said of each move between pieces that are judged."""
-    for one, other in zip(pieces, pieces[1:]):
-        if one.goes != other.stage.pid:
+def moves_told(parts: Sequence[Found], page: str) -> Iterator[Warned]:
+    """What is said of each move between PIDs of which something is judged."""
+    for one, other in zip(parts, parts[1:]):
+        if one.pid is None or one.goes is None or one.goes != other.pid:
             continue  # a break stands between them
-        last, first = one.found.end, other.found.begin
+        last, first = one.end, other.begin
         where = f"between {time_of(last)} and {time_of(first)}: what was sent between is not " \
             "trusted" if last < first else f"at {time_of(first)}, where both carry it"
-        yield Warned(PID, f"{words_of(page, one.stage.pid, other.stage.pid)} {where}",
+        yield Warned(PID, f"{words_of(page, one.pid, one.goes)} {where}",
                      time_of(max(last, first)))

@@ -1,46 +1,106 @@
-"""The files that the steps make, and the call of this tool, as a person types them."""
+"""The names of the files that a call makes, and the call of this tool, as a person types them.
+
+The name of a file is a function of its pair and its part alone, whatever else is judged, and no two
+have the same: what ends as the number of a part does, or of a line, is escaped where it is of a
+pair's own name.
+
+    film.json       of the pair of film.stl        film~2.json     of the second one of a list
+    film.1.html     of its first part              line 7.json     of line 7, where that is no pair
+    film%2E1.json   of the pair of film.1.stl      %69ndex.json    of the pair of index.stl
+"""
 from __future__ import annotations
 
-import glob
+import collections
+import hashlib
 import os
 import re
-from typing import Iterator
 
 from ..core.files import is_utf_8
-from ..core.words import shown
+from ..core.words import HIDDEN
 from .asked import Asked
 from .options import passed_options
 from .typed import Typed, line_of
 
 
-LINK = ".out"  # in the temporary folder
 ENDINGS = ("cut.pes", "txt", "html")  # of what is made of a part
-KEPT = "recording.pes"  # the PES packets of a recording
-PID = re.compile(rf"[0-9a-f]+\.{re.escape(KEPT)}")
+KEPT, KEPT_STREAM = "recording.pes", "recording.ts"  # of a recording that is kept
+OF_PAIR = (*ENDINGS, KEPT, KEPT_STREAM, "json")
+LOCK = "lock"  # of the file that says that a pair is judged now
+INDEX = "index"  # of the page over all pairs of a folder
+ESCAPE = "%"
+# What can't stand in the name of a file as it is: what begins a hidden one, what is no letter, and
+# what another pair, its part or a line has there.
+ESCAPED = re.compile(rf"^\.|{ESCAPE}|{HIDDEN.pattern}|[.~](?=[0-9]+$)|(?<=^line) (?=[0-9]+$)"
+                     rf"|^i(?=ndex$)")
+LONGEST, BEGINNING = 180, 120  # bytes of a name; the beginning of a longer one
 
 
-def of_pid(pid: int) -> str:
-    """What the file with the PES packets of a PID ends with, where the page moves."""
-    return f"{pid:x}.{KEPT}"
+def pair_name(stl: str) -> str:
+    """The name of a pair by its subtitle file."""
+    stem = os.path.splitext(os.path.basename(stl))[0]
+    name = ESCAPED.sub(lambda found: "".join(
+        f"{ESCAPE}{byte:02X}" for byte in os.fsencode(found[0])), stem) or ESCAPE
+    if len(os.fsencode(name)) > LONGEST:
+        digest = hashlib.sha256(os.fsencode(stem)).hexdigest()[:32]
+        begin = name.encode()[:BEGINNING].decode("utf-8", "ignore")
+        name = f"{begin}{ESCAPE}~{digest}"
+    return name
+
+
+def part_name(name: str, number: int) -> str:
+    """The name of a part of a pair."""
+    return f"{name}.{number}"
+
+
+class NamesOfList:
+    """The names of the lines of a list, in its order."""
+
+    def __init__(self) -> None:
+        self.counts: collections.Counter[str] = collections.Counter()
+
+    def pair(self, stl: str) -> str:
+        """The name of the next pair."""
+        return self.numbered(pair_name(stl))
+
+    def line(self, number: int) -> str:
+        """The name of a line that is no pair; in a list that is edited there may be others."""
+        return self.numbered(f"line {number}")
+
+    def numbered(self, name: str) -> str:
+        """A name, from the second one on with its number."""
+        self.counts[name] += 1
+        return name if self.counts[name] == 1 else f"{name}~{self.counts[name]}"
+
+
+def files_in(folder: str, name: str) -> list[str]:
+    """The files of a pair in a folder of results: all that a call may write or take away."""
+    of_part = re.compile(rf"\.[1-9][0-9]*\.({'|'.join(map(re.escape, ENDINGS))})")
+    there = os.listdir(folder) if os.path.isdir(folder) else []
+    parts = sorted(one for one in there if one.startswith(name)
+                   and of_part.fullmatch(one, len(name)))
+    return [os.path.join(folder, one)
+            for one in (*(f"{name}.{ending}" for ending in OF_PAIR), *parts)]
+
+
+def lock_of(folder: str, name: str) -> str:
+    """The file that says that a pair is judged, or all pairs of a folder: its name is ``."""
+    return os.path.join(folder, f".{name}.{LOCK}" if name else f".{LOCK}")
+
+
+def index_in(folder: str) -> str:
+    """The page over all pairs of a folder."""
+    return os.path.join(folder, f"{INDEX}.html")
 
 
 class Names:
-    """The files that the steps make: as a person types them, and where they stand here.
-
-    What is judged of a feed stands in the folder that was asked for; the rest is temporary, under
-    the names that a person would type. The program asks for names that are UTF-8: `here` is another
-    one of that folder, where its own is none.
-    """
+    """The files that the steps make: as a person types them, in the folder that was asked for, and
+    where they stand here, which is temporary, until each is whole."""
 
     def __init__(self, name: str, folder: str, out: str | None) -> None:
-        self.name, self.folder, self.out, self.here = name, folder, out, out
-        if out is not None and not is_utf_8(out):
-            self.here = os.path.join(folder, LINK)
-            if not os.path.lexists(self.here):
-                os.symlink(os.path.abspath(out), self.here)
+        self.name, self.folder, self.out = name, folder, out
         self.given = ""  # the subtitle file, for the program
-        self.whole, self.whole_path = self.typed(KEPT), self.temporary(KEPT)
-        self.list_path = self.place("txt")
+        self.whole_path = self.temporary("recording")  # of what comes through a pipe
+        self.list_path = self.temporary("txt")
         self.report = self.typed("html")
         self.machine = self.typed("json") if out else None
 
@@ -49,57 +109,24 @@ class Names:
         return os.path.join(self.out or "", f"{self.name}.{ending}")
 
     def temporary(self, ending: str) -> str:
-        """Where it stands, if it is not kept."""
+        """Where it stands here."""
         return os.path.join(self.folder, f"{self.name}.{ending}")
-
-    def place(self, ending: str) -> str:
-        """Where it stands, if it is kept where a folder is asked for."""
-        return os.path.join(self.here, f"{self.name}.{ending}") if self.here else \
-            self.temporary(ending)
 
     def of_part(self, number: int) -> Names:
         """The files of a part."""
-        return Names(f"{self.name}.{number}", self.folder, self.out)
-
-    def kept(self) -> list[str]:
-        """What an earlier call may have left in the folder: files of the pair, and of its parts.
-        One beside a JSON result is of another pair."""
-        if self.out is None:
-            return []
-        own = [self.place("cut.pes"), self.place(KEPT), self.list_path, self.report,
-               self.typed("json"), *self.of_pids()]
-        return own + [path for ending in ENDINGS for path, stem in self.of_parts(ending)
-                      if not os.path.exists(f"{stem}.json")]
-
-    def of_parts(self, ending: str) -> Iterator[tuple[str, str]]:
-        """Files in the folder that are named as one of a part, each with its name without the
-        ending."""
-        if self.out is not None:
-            begin = self.typed("")
-            for path in glob.glob(f"{glob.escape(begin)}[1-9]*.{ending}"):
-                stem = path.removesuffix(f".{ending}")
-                if stem.removeprefix(begin).isdecimal():
-                    yield path, stem
-
-    def of_pids(self) -> list[str]:
-        """Files in the folder with the PES packets of a PID of a feed whose page moves."""
-        begin = glob.escape(self.typed(""))
-        return [path for path in glob.glob(f"{begin}*.{KEPT}") if PID.fullmatch(
-            path[len(self.typed("")):]) and not os.path.exists(f"{path[:-len(KEPT)]}json")]
-
-    def written(self) -> list[str]:
-        """What is there of the files that may be written."""
-        return self.kept() + [path for ending in ENDINGS for path, _ in self.of_parts(ending)]
+        part = Names(part_name(self.name, number), self.folder, self.out)
+        part.given = self.given
+        return part
 
     def give(self, stl: str) -> None:
         """Takes the subtitle file."""
-        self.given = self.as_program(stl)
+        self.given = self.as_program(stl, "given.stl")
 
-    def as_program(self, name: str) -> str:
+    def as_program(self, name: str, ending: str) -> str:
         """A file by a name that is UTF-8, as the program asks."""
         if is_utf_8(name):
             return name
-        path = os.path.join(self.folder, shown(os.path.basename(name)))
+        path = self.temporary(ending)
         if not os.path.lexists(path):
             os.symlink(os.path.abspath(name), path)
         return path

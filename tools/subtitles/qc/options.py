@@ -98,20 +98,6 @@ def add_passed_on(parser: argparse.ArgumentParser) -> None:
                                 type=one.read, help=one.help, default={})
 
 
-def add_for_reports(parser: argparse.ArgumentParser) -> None:
-    """Those of a report of a pair, where nothing is looked for."""
-    parser.set_defaults(passed_on={})
-    parser.add_argument(LAYOUT, action=Keep, dest="passed_on", metavar="TEXT", type=layout_word,
-                        default={}, help="how the house draws its subtitles")
-    parser.add_argument(PACE, action=Keep, dest="passed_on", metavar="K", default={},
-                        type=lambda text: str(pace_word(text)),
-                        help="frames from a PES packet to the next one at most")
-    for name in (OPEN, KEEPING):
-        one = next(one for one in PASSED_ON if one.name == name)
-        parser.add_argument(name, action=Keep, dest="passed_on", nargs=0, default={},
-                            help=one.help)
-
-
 def passed_options(given: dict[str, str], is_file: bool = False) -> list[list[str]]:
     """Those that are given, each as words; of a subtitle file alone those that change its verdict.
     """

@@ -1,69 +1,72 @@
-"""The pace by which a part is judged, where its PES packets are regular; else what may be unseen."""
+"""The pace by which a part is judged, where its PES packets are regular; else what is unseen."""
 from __future__ import annotations
 
 import os
 from typing import Sequence
 
-from ..core.programme import Subtitle
 from ..core.words import counted, pid_name
+from ..reading.announced import PACKET, jumps_at
 from ..reading.pace import (
     BY_EVERY, IRREGULAR, PAUSED, REGULAR, Pace, each_of, pace_of, pauses_of, rows_of)
 from ..reading.packets import Range
 from .options import NONE, PACE
+from .part import Part
 from .recording import Recording
 from .speech import Speech
-from .steps import Stretch
 from .verdict import Verdict
 
 HOLES = "a hole of 15, or of 16, 32, 48 .. TS packets"  # that a counter of 4 bits may not show
 
 
-def paced(one: Stretch, pes: Range, subtitles: Sequence[Subtitle], verdict: Verdict,
-          speech: Speech) -> Stretch:
-    """A stretch with the pace of the PES packets that are judged, where they are regular and none
-    is asked for. Where holes may be unseen the verdict has a note."""
-    asked, recording = one.asked, one.recording
-    if PACE not in asked.passed_on:
-        pace = measured(one, pes, subtitles)
-        if pace.frames:
-            speech.say(regular_words(pace))
-            return one._replace(asked=asked.paced(pace.frames))
-        note = unseen_words(pace, recording)
-    else:
+def set_pace(part: Part, pes: Range, verdict: Verdict, speech: Speech,
+             times: Sequence[tuple[int, int]]) -> None:
+    """Asks for the pace of the PES packets that are judged, where they are regular and none is
+    asked for, by the frames of the subtitles. Where holes may be unseen the verdict has a note."""
+    asked, (recording, _) = part.asked, part.recorded
+    pace = measured(part, pes, times)
+    if recording.is_stream and pace.apart:
+        part.packets.jumps = jumps_at(part.packets, pes, pace.apart, recording.path,
+                                      recording.survey.size or PACKET)
+    if PACE in asked.passed_on:
         note = clock_words(recording) if asked.passed_on[PACE] == NONE else ""
+    else:
+        note = unseen_words(pace, recording)
+        if pace.frames:
+            speech.say(regular_words(pace, recording.is_stream))
+            part.asked = asked.paced(pace.frames)
     if note and note not in verdict.notes:
         verdict.notes.append(note)
-    return one
 
 
-def measured(one: Stretch, pes: Range, subtitles: Sequence[Subtitle]) -> Pace:
-    """How far apart the PES packets of a stretch come."""
-    packets, asked = one.recording.packets, one.asked
-    size = None if one.recording.is_file and one.recording.is_stream else \
-        os.path.getsize(one.recording.judged()[0])
-    times = [(subtitle.begin, subtitle.end) for subtitle in subtitles
-             if asked.between.has(subtitle.begin)]
-    return pace_of(rows_of(packets, pes, one.found.origin, asked.within),
-                   each_of(packets, pes, size), asked.every, pauses_of(times))
+def measured(part: Part, pes: Range, times: Sequence[tuple[int, int]]) -> Pace:
+    """How far apart the PES packets of a part come."""
+    packets, asked, (recording, found) = part.packets, part.asked, part.recorded
+    size = None if recording.is_stream else os.path.getsize(recording.path)
+    return pace_of(rows_of(packets, pes, found.origin, asked.within),
+                   each_of(packets, pes, size), asked.every, pauses_of(times), recording.is_stream)
 
 
-def regular_words(pace: Pace) -> str:
+def regular_words(pace: Pace, is_stream: bool) -> str:
     """What PES packets are like that are regular, and the pace that comes of it."""
-    return f"pace: a PES packet comes within {counted(pace.apart, 'frame')} of the one before, " \
-        f"and in {pace.lost} at best where 16 TS packets are lost: {PACE} {pace.frames}"
+    lost = f", and in {pace.lost} at best where 16 TS packets are lost" if is_stream else ""
+    return f"pace: a PES packet comes within {counted(pace.apart, 'frame')} of the one before" \
+        f"{lost}: {PACE} {pace.frames}"
 
 
 def unseen_words(pace: Pace, recording: Recording) -> str:
-    """Which holes may be unseen; nothing where `--every` tells them, or they are of a file that has
-    no TS packets, or has too few PES packets to tell."""
-    without = clock_words(recording)
-    if pace.kind == BY_EVERY or without:
-        return "" if pace.kind == BY_EVERY else without
-    why = {IRREGULAR: "its PES packets come at irregular distances",
+    """Which holes may be unseen; nothing where `--every` or the pace tells them, or where there are
+    too few PES packets to say."""
+    if pace.kind == BY_EVERY or pace.kind == REGULAR and not pace.closer:
+        return ""
+    if without := clock_words(recording):
+        return without
+    why = {REGULAR: f"at {counted(pace.closer, 'place')} its PES packets come closer",
+           IRREGULAR: "its PES packets come at irregular distances",
            PAUSED: "none of its PES packets came in pauses, of up to "
                    f"{counted(pace.apart, 'frame')}"}.get(pace.kind)
-    return f"{HOLES} of {pid_name(recording.packets.pid)} alone may be unseen: {why}" \
-        if why and recording.is_stream else ""
+    holes = f"{HOLES} of {pid_name(recording.packets.pid)} alone" if recording.is_stream else \
+        f"PES packets that are missing from {recording.name}"
+    return f"{holes} may be unseen: {why}" if why else ""
 
 
 def clock_words(recording: Recording) -> str:

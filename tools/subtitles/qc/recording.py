@@ -4,26 +4,27 @@ from __future__ import annotations
 import copy
 import functools
 import os
-import shutil
 import stat
 import subprocess
+from typing import Iterator
 
+from ..core.files import first_bytes, pieces_of
 from ..core.pes import START
 from ..core.times import ticks_between
 from ..core.words import PACKET_SIZES, Stop, counted, shown, stream_words
-from ..reading.gaps import TOLD, Place, line_of, places_of, why_refused
+from ..reading.gaps import Place, marks_told, places_of, why_refused
 from ..reading.moving import Stage, joined, stages_of
 from ..reading.packets import PES, Packets
 from ..reading.survey import Survey, survey
 from ..reading.timing import reach_of
+from . import feed
 from .asked import Asked
 from .ending import Ending
-from .feed import Feed
-from .names import Names, again, of_pid
+from .names import KEPT, KEPT_STREAM, Names, again
 from .pes_header import first_of, header_words
 from .speech import Speech
 from .start import NoFirst
-from .sums import File, Files
+from .sums import File, Sums
 from .typed import Typed
 from .unclear import Unclear
 from .warned import Warned
@@ -33,8 +34,7 @@ STANDARD_INPUT = "-"
 
 def is_recording(path: str) -> bool:
     """Whether a file that should be a subtitle file begins as a recording does."""
-    with open(path, "rb") as file:
-        head = file.read(209)
+    head = first_bytes(path, 209)
     return head.startswith(START) or any(
         head[at:at + size + 1:size] == b"GG" for at in (0, 4) for size in PACKET_SIZES)
 
@@ -64,18 +64,22 @@ def refuse(survey: Survey, name: str) -> None:
         raise Stop(f"{name} is empty")
     if head[3:6] == b"STL":
         raise Stop(f"{name} is a subtitle file: the recording stands after the subtitle file")
-    if survey.size is None and head.startswith(START[:3]) and head[3:4] != START[3:]:
+    if survey.size is None and head.startswith(START[:3]) and head[3:4] not in (b"", START[3:]):
         raise Stop(f"{name} has PES packets of another kind than Teletext's: stream_id "
                    f"{head[3]:02X} instead of BD")
     if survey.size is None:
         raise Unclear(f"{name}: no transport stream: packets of 188 bytes that begin with 47")
 
 
+def silent_in(survey: Survey) -> list[Packets]:
+    """The PIDs of which nothing is given though there are TS packets of them, in their order."""
+    return [one for _, one in sorted(survey.by_pid.items()) if not one.count and one.packets]
+
+
 class Recording:
     """A recording that is read: `packets` are those of the PID with the page; `stages` are the PIDs
-    where it moves to another one, and `packets` then stand for all of them. What is judged of a
-    file is a range of the recording itself; the PES packets of what comes through a pipe are kept
-    in a file."""
+    where it moves to another one, and `packets` then stand for all of them. What is judged is a
+    range of the recording itself; what comes through a pipe is kept in a file, at `path`."""
 
     def __init__(self, asked: Asked, typed: Typed, names: Names, speech: Speech,
                  stalled_after: int) -> None:
@@ -84,31 +88,31 @@ class Recording:
         self.name, self.stalled_after = asked.recording, stalled_after
         self.size = size_of(self.name)
         self.is_feed = self.size is None
+        self.is_piped = self.is_feed or self.name == STANDARD_INPUT
+        self.path = names.whole_path if self.is_piped else names.as_program(self.name, "given")
         self.is_cut = False  # of a feed, by who calls this tool: it is read to its end
         self.survey, self.packets = Survey(), Packets(PES)
         self.stages: list[Stage] = []
         self.file: File | None = None
-        self.kept = names.whole_path, names.whole  # the PES packets of a pipe
 
     def read(self, is_summed: bool, ending: Ending) -> None:
         """Reads it: a file to its end, a feed up to the last subtitle at least."""
         try:
-            if self.is_file:
-                self.read_file(is_summed)
+            if self.is_piped:
+                self.read_feed(None if self.is_cut or not self.is_feed else ending)
             else:
-                self.read_feed(is_summed, ending)
+                self.read_file(is_summed)
         except NoFirst as reason:
             raise self.without_first(reason) from None
-        for place in self.say_read()[:TOLD]:
-            self.speech.say(place)
+        refuse(self.survey, self.name)
+        self.packets = self.chosen()
+        self.say_read()
 
     def read_file(self, is_summed: bool) -> None:
         """Takes all that is told of a file."""
-        files = Files([self.name]) if is_summed else None
-        self.survey = survey(self.typed.program_path, self.names.as_program(self.name),
-                             self.asked.page, self.asked.pid, look=self.show)
-        refuse(self.survey, self.name)
-        self.packets = self.chosen()
+        files = Sums([self.name]) if is_summed else None
+        self.survey = survey(self.typed.program_path, self.path, self.asked.page, self.asked.pid,
+                             look=self.show)
         self.file = files.all()[0] if files else None
 
     def show(self) -> None:
@@ -116,23 +120,10 @@ class Recording:
         if self.speech.progress.is_due():
             self.speech.show(self.name)
 
-    def read_feed(self, is_summed: bool, ending: Ending) -> None:
-        """Takes what comes through a pipe, as long as more is needed, and keeps the PES packets."""
-        feed = Feed(self.name, self.asked, self.typed.program_path, self.names.folder, is_summed)
-        feed.survey = self.survey
-        with feed:
-            feed.follow(ending if self.is_feed and not self.is_cut else None, self.speech,
-                        self.stalled_after)
-            refuse(self.survey, self.name)
-            self.packets = self.chosen()
-            if not self.stages:
-                self.packets = feed.keep(self.packets, self.names.whole_path)
-            for pid in self.pids():
-                self.survey.by_pid[pid] = feed.keep(
-                    self.survey.by_pid[pid], self.names.temporary(of_pid(pid)))
-            if self.stages:  # by the numbers of what is kept
-                self.packets = self.chosen()
-        self.file = feed.summed()
+    def read_feed(self, ending: Ending | None) -> None:
+        """Takes what comes through a pipe, as long as more is needed."""
+        self.file = feed.read(self.name, self.path, self.asked, self.typed.program_path,
+                              self.survey, ending, self.speech, self.stalled_after)
 
     def chosen(self) -> Packets:
         """The only PID that carries the page, or the one that was asked for."""
@@ -163,36 +154,31 @@ class Recording:
     def why_nothing(self) -> list[str]:
         """Why nothing is given of each PID that should carry Teletext: scrambled, or not as it is.
         """
-        silent = [one for pid, one in sorted(self.survey.by_pid.items())
-                  if not one.count and one.packets]
-        return [words for one in silent for words in (why_refused(one), self.header_words(one))
-                if words]
+        return [words for one in silent_in(self.survey)
+                for words in (why_refused(one), self.header_words(one)) if words]
 
     def header_words(self, packets: Packets) -> str:
-        """What is wrong with the PES header of a PID, where the file can be read once more."""
-        if not self.is_file or packets.pid != PES and not packets.packets:
+        """What is wrong with the PES header of a PID."""
+        if packets.pid != PES and not packets.packets:
             return ""
         begun = self.survey.head if packets.pid == PES else first_of(
-            self.typed.program_path, self.names.as_program(self.name), packets.pid,
-            self.survey.size or 0)
+            self.typed.program_path, self.path, packets.pid, self.survey.size or 0)
         return header_words(begun, packets.pid)
 
-    def say_read(self) -> list[str]:
-        """What was read, and where something is missing."""
-        packets, first = self.packets, next(self.packets.pts(), None)
+    def say_read(self) -> None:
+        """Says what was read, and where something is missing."""
+        packets = self.packets
         if packets.damage:
             self.speech.say(f"{self.name}: {packets.damage}; it was read up to there")
         if not self.is_stream:
-            return []
+            return
         why = why_refused(packets)
         if why:
             self.speech.say(why)
-        places = [line_of(place, first) for place in self.places() if place.mark is not None]
-        if len(places) > TOLD:
-            places[TOLD - 1:] = [f"and at {counted(len(places) - TOLD + 1, 'more place')}"]
         if self.survey.skipped:
             self.speech.say(f"{counted(self.survey.skipped, 'byte')} of no TS packet skipped")
-        return places
+        for line in marks_told(packets):
+            self.speech.say(line)
 
     # What it is.
 
@@ -201,63 +187,47 @@ class Recording:
         """Whether it is a transport stream."""
         return bool(self.survey.size)
 
-    @property
-    def is_file(self) -> bool:
-        """Whether the program can read the recording once more."""
-        return not self.is_feed and self.name != STANDARD_INPUT
-
     def stream(self) -> tuple[int, int] | None:
         """The PID, and the bytes from a TS packet to the next one, of a transport stream."""
         return (self.packets.pid, self.survey.size or 0) if self.is_stream else None
 
     def words(self) -> list[str]:
         """The options by which the program reads what is judged."""
-        stream = self.stream() if self.is_file else None
+        stream = self.stream()
         return stream_words(*stream) if stream else []
 
     def of(self, stage: Stage) -> Recording:
         """The same of one PID, where the page moves to another one."""
-        one, ending = copy.copy(self), of_pid(stage.pid)
+        one = copy.copy(self)
         one.packets = stage.packets
-        one.kept = self.names.temporary(ending), self.names.typed(ending)
         return one
 
-    def pids(self) -> list[int]:
-        """The PIDs between which the page moves."""
-        return [*dict.fromkeys(one.pid for one in self.stages)]
+    @property
+    def shown(self) -> str:
+        """The file that is judged, as it is typed."""
+        if not self.is_piped:
+            return self.name
+        return self.names.typed(KEPT_STREAM if self.is_stream else KEPT)
 
-    def judged(self) -> tuple[str, str]:
-        """The file that is judged, as it is given to the program and as it is typed."""
-        if self.is_file:
-            return self.names.as_program(self.name), self.name
-        return self.kept
+    @property
+    def kept_ending(self) -> str | None:
+        """How a file ends in which it is kept: all that came through a pipe, or the PES packets of
+        a transport stream; `None` of a file of PES packets, which is there."""
+        if self.is_piped and self.is_stream:
+            return KEPT_STREAM
+        return KEPT if self.is_piped or self.is_stream else None
 
-    def keep(self, path: str) -> None:
-        """Keeps the PES packets in a file, as `extract` gives them: of a file those of several PIDs
-        one PID after another, of a pipe each of them in a file of its own, as it is judged."""
-        pids = self.pids()
-        if not self.is_file:
-            for pid in pids:
-                ending = of_pid(pid)
-                shutil.copyfile(self.names.temporary(ending), self.names.place(ending))
-            if not pids:
-                shutil.copyfile(self.names.whole_path, path)
-        elif len(pids) > 1:
-            with open(path, "wb") as kept:
-                for pid in pids:
-                    own = self.names.temporary(f"{pid}.pes")
-                    self.extract(pid, own)
-                    with open(own, "rb") as file:
-                        shutil.copyfileobj(file, kept)
-        elif self.is_stream:
-            self.extract(self.packets.pid, path)
-
-    def extract(self, pid: int, path: str) -> None:
-        """Writes the PES packets of a PID."""
-        subprocess.run([self.typed.program_path, "extract",
-                        *stream_words(pid, self.survey.size or 0), "--",
-                        self.names.as_program(self.name), path], stdin=subprocess.DEVNULL,
-                       stdout=subprocess.DEVNULL, check=True)
+    def kept(self) -> Iterator[bytes]:
+        """What is kept of it; the PES packets of several PIDs one PID after another."""
+        if self.is_piped:
+            yield from pieces_of(self.path)
+            return
+        own = self.names.temporary("kept.pes")
+        for pid in dict.fromkeys(one.pid for one in self.stages) or [self.packets.pid]:
+            subprocess.run([self.typed.program_path, "extract",
+                            *stream_words(pid, self.survey.size or 0), "--", self.path, own],
+                           stdin=subprocess.DEVNULL, stdout=subprocess.DEVNULL, check=True)
+            yield from pieces_of(own)
 
     def places(self) -> list[Place]:
         """Where something is missing."""
@@ -309,7 +279,6 @@ class Recording:
 
     def said(self, reason: str) -> str:
         """A reason, and what there is."""
-        if self.asked.pid is not None and self.is_file:
-            self.survey = survey(self.typed.program_path, self.names.as_program(self.name),
-                                 self.asked.page)
+        if self.asked.pid is not None:
+            self.survey = survey(self.typed.program_path, self.path, self.asked.page)
         return "\n".join([reason, *(self.survey.lines() or ["there is no PID with Teletext"])])

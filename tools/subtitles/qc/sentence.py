@@ -29,7 +29,7 @@ SAID = {
 OF_ALL = {GAP, OFF_FRAME}  # of which what is known is said of all that is judged
 
 
-class Seen(NamedTuple):
+class Facts(NamedTuple):
     """All that the sentence is made of: the verdict in one word, how many subtitles there are, the
     first fault and how many there are, what to know of that, and the causes; `lost` are the lines
     of what is missing, `warnings` the kinds of those that count."""
@@ -50,7 +50,7 @@ class Seen(NamedTuple):
     accepted_within: int | None = None
 
 
-def sentence_of(seen: Seen) -> str:
+def sentence_of(seen: Facts) -> str:
     """The sentence."""
     if seen.word == NOT_JUDGED:
         return f"Not judged: {(seen.reason or 'check was not answered').splitlines()[0]}."
@@ -71,7 +71,7 @@ def sentence_of(seen: Seen) -> str:
     return f"Accepted: {what_is_good(seen)}."
 
 
-def what_is_good(seen: Seen) -> str:
+def what_is_good(seen: Facts) -> str:
     """What is said of subtitles of which nothing is wrong."""
     subtitles = counted(seen.subtitles, "subtitle")
     if seen.is_file:
@@ -80,7 +80,7 @@ def what_is_good(seen: Seen) -> str:
     return f"{subtitles}, {each}as it is due {since(seen)}"
 
 
-def beside_refused(seen: Seen) -> str:
+def beside_refused(seen: Facts) -> str:
     """Which subtitles are refused, and how the others stand, which are judged."""
     others = f"{counted(seen.subtitles, 'other subtitle')} " \
         f"{'was' if seen.subtitles == 1 else 'were'} judged"
@@ -93,12 +93,12 @@ def beside_refused(seen: Seen) -> str:
     return f"{seen.refused}; {others}: {how}"
 
 
-def since(seen: Seen) -> str:
+def since(seen: Facts) -> str:
     """From when on a subtitle has to be as it is due."""
     return f"within {counted(seen.within, 'frame')}" if seen.within else "from the first frame on"
 
 
-def what_is_wrong(seen: Seen) -> str:
+def what_is_wrong(seen: Facts) -> str:
     """What is wrong: the cause that most subtitles have, else the first fault; and what accepts
     it."""
     if seen.refused:
@@ -116,7 +116,7 @@ def what_is_wrong(seen: Seen) -> str:
     return words if is_said else f"{words}; --within {seen.accepted_within} accepts it"
 
 
-def of_fault(seen: Seen) -> str:
+def of_fault(seen: Facts) -> str:
     """The first fault, with its place, in the words for it alone or those of the manual."""
     told = seen.first
     if told is None:

@@ -1,7 +1,7 @@
 """Which faults count for the exit status."""
 from __future__ import annotations
 
-from ..core.files import refuse_device
+from ..core.lists import list_at
 from ..core.told import ENDS_READING, LOST_PACKETS, SILENT
 from ..core.words import Stop
 
@@ -22,10 +22,8 @@ class Severity:
         self.others = ERROR
         self.is_loss_allowed = is_loss_allowed
         if path is not None:
-            with open(path, encoding="utf-8", errors="replace") as file:
-                refuse_device(file, path)
-                for at, line in enumerate(file, 1):
-                    self.take(path, at, line.partition("#")[0].split())
+            for at, line in enumerate(list_at(path).split("\n"), 1):
+                self.take(path, at, line.partition("#")[0].split())
 
     def take(self, path: str, at: int, words: list[str]) -> None:
         """Takes a line; an empty one says nothing."""

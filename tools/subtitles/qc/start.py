@@ -4,6 +4,7 @@ from __future__ import annotations
 import collections
 from typing import NamedTuple
 
+from ..core.files import first_bytes
 from ..core.stl import GSI
 from ..core.times import (
     EARLY, TICKS, frame_in, frame_of, frame_of_code, ticks_between, time_of, wrapped)
@@ -138,8 +139,7 @@ def start_frame(asked: Asked) -> int:
         frame = frame_of(asked.start or "")
         assert frame is not None  # the words of the command line were looked at
         return frame
-    with open(asked.stl_path, "rb") as file:
-        code = file.read(GSI)[TCP_PLACE].decode("latin-1")
+    code = first_bytes(asked.stl_path, GSI)[TCP_PLACE].decode("latin-1")
     is_code = code.isascii() and code.isdecimal() and len(code) == 8
     found = frame_of_code(int(code[at:at + 2]) for at in range(0, 8, 2)) if is_code else None
     if found is None:

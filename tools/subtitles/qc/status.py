@@ -1,9 +1,10 @@
 """The verdict in one word and its exit status: this is the one place that decides them."""
 from __future__ import annotations
 
-from typing import Collection, Iterable, NamedTuple, Protocol, Sequence
+from typing import Collection, Iterable, NamedTuple, Sequence
 
 from ..core.told import LOST_PACKETS
+from .severity import Severity
 
 ACCEPTED, WAIVED = "accepted", "waived"  # waived: refused by nothing but warnings
 REFUSED = "refused"
@@ -14,13 +15,6 @@ STATUSES = {ACCEPTED: 0, WAIVED: 0, REFUSED: 1, LOST: 1, WARNED: 1, NOT_JUDGED: 
 
 UNSAID = "check was not answered"
 UNREAD = "nothing of the recording was read, and --severity leaves no fault an error"
-
-
-class Severity(Protocol):
-    """Which numbers count."""
-
-    def is_error(self, number: int) -> bool:
-        """Whether a fault of this number is an error; else it is a warning."""
 
 
 class Said(NamedTuple):
@@ -40,7 +34,7 @@ class Said(NamedTuple):
     is_read: bool = True
 
 
-class Seen(NamedTuple):
+class Evidence(NamedTuple):
     """All that decides a verdict.
 
     `losses` are the places at which TS packets are lost by the PCR alone: for each, whether the
@@ -80,7 +74,7 @@ def word_of(said: Said) -> str:
     return NOT_JUDGED
 
 
-def decide(seen: Seen) -> Decision:
+def decide(seen: Evidence) -> Decision:
     """The verdict on all parts. What nobody said or read, or could write, is not judged; then an
     error counts before a loss, and a loss before a warning."""
     words = [word_of(part) for part in seen.parts]

@@ -6,7 +6,7 @@ import bisect
 from typing import Collection, Iterator, NamedTuple
 
 from ..core.letters import ACCENTS, letters_of
-from ..core.stl import GSI, LAST, TTI, UNUSED, USER_DATA
+from ..core.stl import GSI, LAST, TTI, UNUSED, USER_DATA, stl_bytes
 from ..core.times import ALL_DAY, Between, frame_of_code, time_of_code
 
 COMMENT = 1  # CF
@@ -29,8 +29,7 @@ class SubtitleFile:
     def __init__(self, path: str, between: Between = ALL_DAY,
                  left_out: Collection[int] = ()) -> None:
         self.between = between
-        with open(path, "rb") as file:
-            self.data = file.read()
+        self.data = stl_bytes(path)
         self.firsts = array.array("I", [0])  # of each block the first one of its subtitle
         self.starts = array.array("I")  # the first block of each subtitle
         self.begins, self.blocks = array.array("I"), array.array("I")

@@ -17,7 +17,7 @@ class File(NamedTuple):
     sha256: str
 
 
-class Files:
+class Sums:
     """The files of some names, summed up beside what else is done."""
 
     def __init__(self, names: Iterable[str]) -> None:

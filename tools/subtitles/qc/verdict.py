@@ -1,157 +1,24 @@
 """A verdict on a pair: its parts, what was lost, what it was made with."""
 from __future__ import annotations
 
-import collections
 import dataclasses
-import functools
-from typing import Callable, Collection, Iterable, Sequence
+from typing import Iterable
 
-from ..core.national import BY_BITS, RESERVED
-from ..core.times import ALL_DAY, Between, time_of
-from ..core.told import EMPTY, LOSSES, PASSED_OVER, STL_FAULTS
+from ..core.told import LOSSES, STL_FAULTS
 from ..reading.gaps import Place
-from ..reading.packets import PES, Packets, Range
-from ..reading.receiver import national_option
-from ..reading.timeline import Timeline
-from . import sentence
 from .asked import Asked
 from .beside import Beside, Counts
-from .checking import Answer
-from .clock import FITTED, FITTED_LATER, Clock
+from .clock import FITTED, FITTED_LATER
 from .delays import Spread, spread_of
-from .due_pages import DuePages
-from .headers import headers_of
-from .keeping import Kept, judged_by, kept_in
-from .layouts import Choice
-from .moved import Piece
-from .naming import Causes
-from .sentence import Seen as Spoken
+from .evidence import Choice
+from .part import Part
+from .sentence import Facts, sentence_of
 from .severity import Severity
-from .status import LOST, NOT_JUDGED, REFUSED, WAIVED, WARNED, Decision, Said, Seen, decide
-from .subtitle_file import SubtitleFile
+from .status import LOST, NOT_JUDGED, REFUSED, WAIVED, WARNED, Decision, Evidence, decide
 from .sums import File
 from .warned import Warned
 
 FITTED_KIND = "fitted"  # a warning where warnings count: the clock was fitted to the recording
-
-
-def no_pages() -> DuePages:
-    """What is due of a subtitle file that is refused."""
-    return DuePages([], [])
-
-
-@dataclasses.dataclass
-class Part:
-    """A part of a pair that was judged by itself: what was asked, and what `check --all` said.
-
-    `stl` is the subtitle file as it is typed, and `stl_path` is to be read. `pes` are the numbers
-    of the PES packets that are judged, of `packets`, which are those of the recording. `begin` and
-    `end` are the first and the last frame of which the verdict speaks. `stream` is the PID, and the
-    bytes from a TS packet to the next one, of what is judged of a transport stream; `judged` what
-    is judged of a feed, which nobody can read once more. `due` gives the pages that are due.
-    """
-
-    number: int
-    stl: str
-    stl_path: str
-    pes: Range | None
-    origin: int | None
-    begin: int | None
-    end: int | None
-    judged: File | None
-    answer: Answer
-    clock: Clock | None = None
-    stream: tuple[int, int] | None = None
-    causes: Causes | None = None
-    delays: Sequence[int | None] = ()  # after how many frames each subtitle was whole
-    accepted_within: int | None = None  # the least number of frames, of one that is refused
-    was_read: bool = False  # something of its recording, or it has none
-    hint: str = ""  # what to know of its first fault
-    of_header: str = ""  # what is wrong with its PES headers, where that is refused
-    otherwise: str = ""  # how the house draws, where its content is refused for that
-    better: Collection[str] = ()  # national options that were tried, by which less is refused
-    kept: Kept | None = None  # where headers are refused for nothing but that they keep the page
-    packets: Packets = dataclasses.field(default_factory=lambda: Packets(PES))
-    asked: Asked | None = None
-    due: Callable[[], DuePages] = no_pages
-    piece: Piece | None = None  # of one PID, where the page moves to another one
-    left_out: Collection[int] = ()  # subtitles that are not judged, by their places in the file
-    sent_hint: str = ""  # what to know of the first fault of its transmission
-    is_lost: bool = False  # something of what was sent
-
-    @functools.cached_property
-    def held(self) -> Timeline | None:
-        """What a receiver holds of what is judged."""
-        if self.pes is None or self.origin is None or self.asked is None:
-            return None
-        return Timeline(self.packets, self.asked.page, self.origin, self.asked.within, self.pes)
-
-    @property
-    def between(self) -> Between:
-        """The frames in which its subtitles come."""
-        return self.asked.between if self.asked else ALL_DAY
-
-    def subtitle_file(self) -> SubtitleFile:
-        """Its subtitles by their blocks and frames."""
-        return SubtitleFile(self.stl_path, self.between, self.left_out)
-
-    def said(self) -> Said:
-        """What the program said of it."""
-        return self.answer.said(self.was_read)
-
-    @property
-    def is_refused(self) -> bool:
-        """Whether it has faults, of any severity."""
-        return self.answer.verdict == REFUSED
-
-    def is_read(self) -> bool:
-        """Whether one of its PES packets at least could be read."""
-        if self.pes is None:
-            return False
-        numbers = self.answer.numbers - STL_FAULTS
-        if not numbers:  # beside refused subtitles it was read where something is told of it
-            return not self.answer.numbers or len(self.answer.trusted) > 0
-        if numbers - PASSED_OVER - {EMPTY}:
-            return True
-        count = min(self.pes[1] + 1, self.packets.count) - self.pes[0]
-        return count > self.answer.passed.total()
-
-    def pts(self, does: str = "") -> list[int]:
-        """The PTS of its PES packets, of those that do something."""
-        return [*self.packets.pts(self.pes, does)] if self.pes else []
-
-    def options_sent(self) -> set[str]:
-        """The national options of its headers of the page."""
-        bits = {national_option(header) for run in self.packets.inside(*self.pes or (0, -1))
-                for header in headers_of(run)}
-        return {BY_BITS[one].word for one in bits if one != RESERVED}
-
-    def headers_sent(self) -> collections.Counter[bytes]:
-        """How many there are of each of its headers that `check` hears."""
-        counts: collections.Counter[bytes] = collections.Counter()
-        for run in self.packets.inside(*self.pes or (0, -1)):
-            for header in headers_of(run) if run.pts is not None and not run.fault else ():
-                counts[header] += run.length
-        return counts
-
-    def look_at_headers(self, tried: Callable[[], Answer | None]) -> None:
-        """Takes what is known of headers that keep the page, where they alone are refused, and what
-        `check` tells where they may: that is tried then."""
-        asked = self.asked
-        kept = None if asked is None or asked.may_keep else \
-            kept_in(self.headers_sent(), asked.option)
-        if kept and self.held:
-            self.kept = judged_by(kept, tried(), self.held, self.due().page_at)
-
-    @property
-    def pes_name(self) -> str | None:
-        """The numbers of its PES packets as the program takes them."""
-        return self.pes and f"{self.pes[0]}-{self.pes[1]}"
-
-    def times(self) -> tuple[str | None, str | None]:
-        """Those frames as times."""
-        return (None if self.begin is None else time_of(self.begin),
-                None if self.end is None else time_of(self.end))
 
 
 @dataclasses.dataclass
@@ -229,10 +96,10 @@ class Verdict:
             return None
         return FITTED if are_fitted[0] else FITTED_LATER
 
-    def seen(self) -> Seen:
+    def seen(self) -> Evidence:
         """All that decides it."""
         kinds = [*(warned.kind for warned in self.warnings), *[FITTED_KIND] * bool(self.fitted)]
-        return Seen([part.said() for part in self.parts], self.severity,
+        return Evidence([part.said() for part in self.parts], self.severity,
                     [gap.is_judged and gap.place.mark is None for gap in self.gaps], kinds,
                     self.asked.is_strict, [] if self.reason is None else [self.reason],
                     self.failed)
@@ -257,7 +124,7 @@ class Verdict:
     def sentence(self) -> str:
         """It in one sentence for a person."""
         refused = next((part for part in self.parts if part.is_refused), None)
-        said = sentence.Seen(
+        said = Facts(
             self.word, self.count, option=self.asked.option, faults=self.faults,
             lost=[gap.line() for gap in self.gaps if gap.is_judged], warnings=self.seen().warnings,
             reason=self.why_not, is_file=self.asked.recording is None, within=self.asked.within,
@@ -267,9 +134,9 @@ class Verdict:
         elif refused:
             said = said._replace(first=refused.answer.first, hint=refused.hint,
                                  causes=refused.causes)
-        return sentence.sentence_of(said)
+        return sentence_of(said)
 
-    def sent_beside(self, said: Spoken, beside: Beside) -> Spoken:
+    def sent_beside(self, said: Facts, beside: Beside) -> Facts:
         """What the sentence is made of where subtitles are refused: that of the transmission, of
         the first part of which something is."""
         answers = [part.answer for part in self.parts]

@@ -3,6 +3,7 @@ from __future__ import annotations
 
 from typing import Iterator, NamedTuple, Sequence
 
+from ..core.files import first_bytes
 from ..core.national import BY_WORD, OTHER_REGIONS, as_sent, of_track
 from ..core.times import FRAMES_OF_A_DAY, NO_FRAME, frame_in, frames_at, time_of
 from ..core.words import counted, pid_name, shown
@@ -130,8 +131,7 @@ def listed(announced: list[Announced]) -> str:
 
 def language_of(stl: str) -> str:
     """The LC of a subtitle file."""
-    with open(stl, "rb") as file:
-        return file.read(LC.stop)[LC].decode("latin-1")
+    return first_bytes(stl, LC.stop)[LC].decode("latin-1")
 
 
 def of_counts(subtitles: SubtitleFile) -> Iterator[Warned]:

@@ -7,25 +7,23 @@ from ..core.spans import Span
 from ..core.times import FRAMES_OF_A_DAY, TICKS, frame_in, pts_of, ticks_between
 from ..reading.gaps import Place
 from ..reading.timeline import timeline_near
-from .asked import Asked
 from .cause_words import Wording
-from .checking import Answer
-from .due_pages import DuePages
-from .fitting import Found
+from .clock import Found
 from .naming import Causes
+from .part import Part
 from .recording import Recording
 from .speech import MOST_LINES, Speech
 
 
-def causes_of(asked: Asked, programme: DuePages, recording: Recording, found: Found,
-              answer: Answer) -> Causes | None:
+def causes_of(part: Part) -> Causes | None:
     """The causes of a part that was judged; `None` where there are none."""
-    held = timeline_near(recording.packets, asked.page, found.origin, asked.within,
+    asked, (recording, found) = part.asked, part.recorded
+    held = timeline_near(part.packets, asked.page, found.origin, asked.within,
                          Span(found.begin, found.end), asked.every, found.packets)
     lost = recording.places() if recording.is_stream else []
-    causes = Causes(programme, held, unseen(lost, found.origin, asked.within),
+    causes = Causes(part.due(), held, unseen(lost, found.origin, asked.within),
                     reach(recording, found))
-    causes.name(answer)
+    causes.name(part.answer)
     return causes if causes.named else None
 
 

@@ -1,13 +1,14 @@
 """What is read of recordings and of subtitle files, one idea each.
 
-Nothing here judges, and no byte of a recording is read: `subttx survey` reads it.
+Nothing here judges, and but for jumps that are announced no byte of a recording is read:
+`subttx survey` reads it.
 
 packets      PES packets of a PID as values
+announced    jumps of a counter that a transport stream announces
 survey       what `survey` tells of a recording, as values
 timeline     what a receiver holds of a page when
 held         the pages, by frames
 order        the PES packets that are heard, by frames
-streams      the PES packets of a PID, for the tools that are told it
 moving       a page that moves to another PID, as the PMT says
 gaps         where something is missing, and where the clock jumps
 timing       PTS against the PCR

@@ -4,10 +4,8 @@ from __future__ import annotations
 import itertools
 from typing import Iterator, NamedTuple
 
-from ..core.files import whole_bytes
-from ..core.stl import frames_of_all, readable
 from ..core.times import FRAMES_OF_A_DAY, TICKS, frame_in, pts_of, ticks_between, time_of
-from ..core.words import Stop, counted
+from ..core.words import counted
 from .packets import BLANK, CLOSED, ERASE, HEADER, OPEN, Packets, Range, Run
 
 SKIPPED = 1 << 31  # ticks of a run that may be skipped: it does not reach around the clock
@@ -43,10 +41,6 @@ class Cut(NamedTuple):
                 "the page there"
         kept = self.range[1] - self.range[0] + 1
         return f"{kept} of {count}, from {time_of(self.first)} to {time_of(self.last)}"
-
-    def words(self) -> list[str]:
-        """The option of `check` for what is taken."""
-        return ["--pes", f"{self.range[0]}-{self.range[1]}"] if self.range else []
 
 
 def cut_of(packets: Packets, begin: int, end: int, origin: int, every: int | None = None,
@@ -158,11 +152,3 @@ def made(own: list[One], first: int | None, last: int, last_frame: int, read: in
         return Cut(None, read, came=came, is_over=is_over)
     frame = next((one.frame for one in own if one.number >= first and one.frame is not None), None)
     return Cut((first, last), read, frame, last_frame, came, has_end is not False, is_over)
-
-
-def times_of_file(path: str) -> tuple[int, int]:
-    """The first TCI and the last TCO of a subtitle file, as frames of the day."""
-    times = list(frames_of_all(readable(path, whole_bytes(path))))
-    if not times:
-        raise Stop(f"{path} has no subtitle that comes and goes within a day")
-    return min(begin for begin, _ in times), max(end for _, end in times)

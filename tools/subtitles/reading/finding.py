@@ -1,11 +1,10 @@
-"""The origin of a recording, found and told: what tools/origin does."""
+"""The origin of a recording, found and told."""
 from __future__ import annotations
 
 import dataclasses
 from typing import Collection, Iterator, NamedTuple, Sequence
 
-from ..core.files import whole_bytes
-from ..core.stl import letters_on_page, readable, times_of
+from ..core.stl import letters_on_page, readable, stl_bytes, times_of
 from ..core.teletext import Page, page_name
 from ..core.times import (
     ALL_DAY, FRAMES_A_SECOND, FRAMES_OF_A_DAY, TICKS, Between, frame_in, pts_of, ticks_between,
@@ -13,12 +12,11 @@ from ..core.times import (
 from ..core.words import Stop, counted, range_words
 from .alignment import MOST_APART, Base, Fit, Shown, bases_of
 from .packets import STRAY, Packets, Range
-from .stretches import IN_A_ROW, Part, Run, Stretch, by_breaks, find_row, parts_of, runs_of
+from .stretches import IN_A_ROW, FittedPart, Airing, Stretch, by_breaks, find_row, parts_of, runs_of
 from .subcodes import subcode_words, turns_of
 
 NEAR = 10 * FRAMES_A_SECOND  # to the origin 0
 NAMED = 5  # origins that are as good, or other pages
-MOST_PPM = 1000  # of a drift: more is no clock
 LISTED = 20  # places at which subtitles begin to be late
 
 
@@ -63,7 +61,7 @@ class Agreement(NamedTuple):
 
 @dataclasses.dataclass
 class Origin:
-    """What is found: the status, as the tool ends with it; `parts`, where they are clear; the PES
+    """What is found: a status, 0 where it is clear; `parts`, where they are clear; the PES
     packets of each time that the programme is there, where that is more than once; how many breaks,
     where others were said; by how many ticks the first part is later than the origin that is known;
     from when on subtitles are late, first, and in words. `printed` and `told` are all lines."""
@@ -84,7 +82,7 @@ def subtitles_of(path: str, option: str, between: Between,
                  left_out: Collection[int] = ()) -> list[Shown]:
     """The subtitles of a file that come in some frames, and go within the day."""
     found = []
-    for place, one in enumerate(readable(path, whole_bytes(path)), 1):
+    for place, one in enumerate(readable(path, stl_bytes(path)), 1):
         begin, end = times_of(one)
         is_one = begin is not None and between.has(begin) and place not in left_out
         if is_one and begin is not None and end is not None and begin < end:
@@ -148,7 +146,7 @@ def is_sent(packets: Packets, asked: Sought, told: list[str]) -> bool:
 
 
 def take_one(origin: Origin, asked: Sought, bases: Sequence[Base],
-             row: Sequence[Stretch], parts: Sequence[Part]) -> None:
+             row: Sequence[Stretch], parts: Sequence[FittedPart]) -> None:
     """Takes one origin, that of the first part, where it is clear."""
     if not parts:
         origin.told.append("no edge agrees with any origin")
@@ -171,7 +169,7 @@ def take_one(origin: Origin, asked: Sought, bases: Sequence[Base],
 
 
 def take_parts(origin: Origin, asked: Sought, bases: Sequence[Base],
-               parts: Sequence[Part]) -> None:
+               parts: Sequence[FittedPart]) -> None:
     """Takes all parts, where they are as many as there are to be, and clear."""
     if len(parts) != asked.breaks + 1:
         origin.breaks = max(len(parts) - 1, 0)
@@ -204,7 +202,7 @@ def add(origin: Origin, part: OfPart) -> None:
     origin.printed.append(f"{frames}{packets}--origin {part.origin}")
 
 
-def measure(origin: Origin, known: int | None, part: Part) -> None:
+def measure(origin: Origin, known: int | None, part: FittedPart) -> None:
     """Takes how the first part agrees with its origin, and how late it is compared with one that
     is known, or with 0 near that."""
     best, apart = part.best, part.sent.apart(part.best)
@@ -245,7 +243,7 @@ def frames_words(ticks: int) -> str:
     return f"{counted(frames, 'frame')}{more} {'late' if ticks > 0 else 'early'}"
 
 
-def as_good(part: Part) -> list[Fit]:
+def as_good(part: FittedPart) -> list[Fit]:
     """The origins that are as good as the best of a part, but where beginnings and ends are apart
     the one of the ends, and those with which nothing is but erased."""
     best, apart = part.best, part.sent.apart(part.best)
@@ -254,13 +252,13 @@ def as_good(part: Part) -> list[Fit]:
             and not (apart and (abs(fit.start - best.start) <= MOST_APART or not fit.texts))]
 
 
-def is_clear(part: Part) -> bool:
+def is_clear(part: FittedPart) -> bool:
     """Whether the origin of a part is clear."""
     return not as_good(part) and (part.best.agree * 2 >= part.best.among
                                   or bool(part.sent.apart(part.best)))
 
 
-def part_lines(part: Part, count: int) -> Iterator[str]:
+def part_lines(part: FittedPart, count: int) -> Iterator[str]:
     """What there is to know of the best origin of a part; the file has so many edges."""
     best, others, edges = part.best, part.others, len(part.sent.edges)
     following = f"--origin {others[0].origin} with {others[0].agree}" if others else "none"
@@ -291,7 +289,7 @@ def part_lines(part: Part, count: int) -> Iterator[str]:
                "is the right subtitle file")
 
 
-def shift_lines(row: Sequence[Stretch], parts: Sequence[Part], known: int) -> list[str]:
+def shift_lines(row: Sequence[Stretch], parts: Sequence[FittedPart], known: int) -> list[str]:
     """From when on subtitles are late, compared with an origin, and what to say if it is a break.
     """
     lines = []
@@ -306,32 +304,13 @@ def shift_lines(row: Sequence[Stretch], parts: Sequence[Part], known: int) -> li
     left = lines[LISTED - 1:-1]
     lines = lines[:LISTED - 1] + [f"and so on, {counted(len(left), 'time')} more"] * bool(left) \
         + lines[LISTED - 1:][-1:]
-    drift = drift_of([(part.begin, part.origin) for part in parts])
-    if drift is not None:
-        lines[-1] += f"; PTS drift by {drift} ppm against whole frames"
-    elif len(by_breaks(row)) == len(row):
+    if len(by_breaks(row)) == len(row):
         breaks = "a break" if len(row) == 2 else "breaks"
         lines[-1] += f"; if the programme has {breaks} there, say --breaks {len(row) - 1}"
     return lines
 
 
-def drift_of(parts: Sequence[tuple[int, int]]) -> int | None:
-    """By how many millionths PTS drift, where the origins of three parts or more, each with its
-    first TCI, go on by a frame or two each in the time in which that comes together."""
-    steps = [(second[0] - first[0], ticks_between(first[1], second[1]))
-             for first, second in zip(parts, parts[1:])]
-    frames, ticks = (sum(several) for several in zip(*steps[1:])) if len(steps) > 1 else (0, 0)
-    if frames <= 0 or ticks == 0:
-        return None
-    rate = ticks / (frames * TICKS)
-    is_steady = all(length > 0 and 0.5 <= step / (length * TICKS * rate) <= 2
-                    for length, step in steps[1:])
-    are_small = all(0 < abs(step) <= 2 * TICKS and (step > 0) == (ticks > 0) for _, step in steps)
-    ppm = round(rate * 1e6)
-    return ppm if is_steady and are_small and 0 < abs(ppm) <= MOST_PPM else None
-
-
-def break_lines(parts: Sequence[Part]) -> Iterator[str]:
+def break_lines(parts: Sequence[FittedPart]) -> Iterator[str]:
     """Where parts begin, and how much longer the recording is there than the file."""
     for number, (before, part) in enumerate(zip(parts, parts[1:]), 2):
         frames, rest = divmod(abs(away := ticks_between(before.origin, part.origin)), TICKS)
@@ -346,7 +325,7 @@ def runs_line(runs: int) -> str:
     return f"the programme is there {runs} times"
 
 
-def run_lines(runs: Sequence[Run], packets: Sequence[Range], bases: Sequence[Base]) \
+def run_lines(runs: Sequence[Airing], packets: Sequence[Range], bases: Sequence[Base]) \
         -> Iterator[str]:
     """Where the runs of a programme are."""
     def after(place: tuple[int, int]) -> str:
@@ -360,7 +339,7 @@ def run_lines(runs: Sequence[Run], packets: Sequence[Range], bases: Sequence[Bas
                f"{after(run.last)} after the first header: --pes {own[0]}-{own[1]}")
 
 
-def packets_of(runs: Sequence[Run], number: int, bases: Sequence[Base],
+def packets_of(runs: Sequence[Airing], number: int, bases: Sequence[Base],
                packets: Packets) -> Range:
     """The PES packets of a run, and all beside it up to the last of the run before and the first of
     the next one."""

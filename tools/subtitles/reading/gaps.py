@@ -17,8 +17,9 @@ PAUSE = 10  # times as few packets as that time has usually are still a pause of
 class Place:
     """A place at which something is missing, between the PTS of two PES packets: `lost` TS packets
     by their counters, some that are `scrambled`, and those of `missing` ticks by the PCR. A counter
-    goes up to 15: of more packets it tells what is left of them behind 16, 32 and so on. `mark` is
-    the number of the mark that stands there, where one does."""
+    goes up to 15: of more packets it tells what is left of them behind 16, 32 and so on; where a
+    jump of it is announced it tells nothing. `mark` is the number of the mark that stands there,
+    where one does."""
 
     before: int | None
     after: int | None = None
@@ -26,9 +27,10 @@ class Place:
     scrambled: int = 0
     missing: int = 0
     mark: int | None = None
+    is_announced: bool = False
 
 
-class Jump(NamedTuple):
+class ClockJump(NamedTuple):
     """The clock goes on by some ticks more, or less, after a PTS of the PID."""
 
     before: int | None
@@ -36,7 +38,8 @@ class Jump(NamedTuple):
 
 
 def places_of(packets: Packets) -> list[Place]:
-    """Where a mark stands, and where the PCR and the counters of other PIDs alone tell it."""
+    """Where a mark stands, where the PCR and the counters of other PIDs alone tell it, and where a
+    jump is announced that hides it."""
     after = {run.first: run.pts for run in packets.runs}
     following: dict[int, int | None] = {}
     pts = None
@@ -50,7 +53,9 @@ def places_of(packets: Packets) -> list[Place]:
         for one in known:
             if overlap(hole, one) and is_within(hole.missing, one):
                 one.missing = max(one.missing, hole.missing)
-    return known + [hole for hole in holes if not any(overlap(hole, one) for one in known)]
+    known += [hole for hole in holes if not any(overlap(hole, one) for one in known)]
+    jumps = [Place(before, after, is_announced=True) for before, after in packets.jumps]
+    return known + [jump for jump in jumps if not any(overlap(jump, one) for one in known)]
 
 
 def hole_of(one: Clocked) -> Place | None:
@@ -60,12 +65,12 @@ def hole_of(one: Clocked) -> Place | None:
     return Place(one.before, one.after, missing=one.ticks - round(one.usual))
 
 
-def jumps_of(packets: Packets) -> Iterator[Jump]:
+def jumps_of(packets: Packets) -> Iterator[ClockJump]:
     """Where nothing is missing and the clock was set anew."""
     for one in packets.clocked:
         if one.counters == "whole" and one.packets * PAUSE * one.usual < \
                 one.usual_packets * abs(one.ticks):
-            yield Jump(one.before, one.ticks - round(one.usual))
+            yield ClockJump(one.before, one.ticks - round(one.usual))
 
 
 def is_within(ticks: int, place: Place) -> bool:
@@ -92,6 +97,8 @@ def what_of(place: Place) -> str:
     said += [f"TS packets of {place.missing / SECOND:.2f} s are missing, by the PCR"
              f"{'; ' if place.lost else ' '}{by}"] if place.missing else []
     said += [f"{counted(place.scrambled, 'TS packet')} scrambled"] if place.scrambled else []
+    said += ["more time passes than usual, and a jump of the counter is announced"] \
+        if place.is_announced else []
     return ", ".join(said) or "a break in the stream"
 
 
@@ -102,6 +109,15 @@ def line_of(place: Place, first: int | None) -> str:
     times = " and ".join(time_of(wrapped(pts - (first or 0)) // TICKS) for pts in known)
     where = "between" if len(known) == 2 else "before" if place.before is None else "after"
     return (f"{where} PTS {names}, {times} on: " if known else "") + what_of(place)
+
+
+def marks_told(packets: Packets) -> list[str]:
+    """A line for each place with a mark, the last of them for all that are too many."""
+    first = next(packets.pts(), None)
+    lines = [line_of(place, first) for place in places_of(packets) if place.mark is not None]
+    if len(lines) > TOLD:
+        lines[TOLD - 1:] = [f"and at {counted(len(lines) - TOLD + 1, 'more place')}"]
+    return lines
 
 
 def why_refused(packets: Packets) -> str | None:

@@ -72,17 +72,6 @@ class Held:
         at = bisect.bisect_right(self.states, number, key=lambda one: one.number) - 1
         return self.states[at].state if at >= 0 else TUNED
 
-    def is_change(self, frame: int) -> bool:
-        """Whether another page comes to be held at the end of a frame."""
-        at = bisect.bisect_left(self.frames, frame)
-        return at < len(self.frames) and self.frames[at] == frame
-
-    def spans_of(self, page: Rows) -> list[Span]:
-        """When a page is held."""
-        return [Span(frame, self.frames[at] - 1 if at < len(self.frames) else FRAMES_OF_A_DAY - 1)
-                for frame in self.when.get(page, ())
-                for at in [bisect.bisect_right(self.frames, frame)]]
-
     def numbers(self, begin: int, end: int) -> Iterator[int]:
         """The numbers of the pages that are held at frames from `begin` to the one before `end`."""
         number = max(self.number_at(begin), 0)
@@ -96,14 +85,6 @@ class Held:
         if at % 2 == 0:
             return frame
         return self.turns[at] if at < len(self.turns) else None
-
-
-def with_marks(states: Iterable[Stored]) -> Held:
-    """The pages of some states with their marks."""
-    held = Held()
-    for frame, _, state in states:
-        held.change(frame, state.rows)
-    return held
 
 
 def cleared(rows: Rows) -> Rows:

@@ -10,7 +10,7 @@ from ..core.times import frame_in, ticks_between, wrapped
 from ..core.words import pid_name
 from .gaps import SECOND
 from .packets import HEADER, Packets, Range
-from .survey import Programme, Survey
+from .survey import ProgramMap, Survey
 
 MOST_OVERLAP, MOST_PAUSE = 10 * SECOND, 3600 * SECOND  # ticks between two of them
 
@@ -60,7 +60,7 @@ def goes_on(one: Stage, other: Stage) -> bool:
         -MOST_OVERLAP <= ticks_between(last, first) <= MOST_PAUSE
 
 
-def named_in_turn(records: Sequence[Programme], page: Page, carriers: set[int]) \
+def named_in_turn(records: Sequence[ProgramMap], page: Page, carriers: set[int]) \
         -> Iterator[tuple[int, int | None]]:
     """The PID that each PMT of a programme names for a page, where that is another one than before,
     with the PCR before that PMT. One that names several is not clear: nothing comes after it."""
@@ -74,7 +74,7 @@ def named_in_turn(records: Sequence[Programme], page: Page, carriers: set[int]) 
             yield pid, one.after
 
 
-def way_of(records: Sequence[Programme], page: Page, pid: int) -> list[int]:
+def way_of(records: Sequence[ProgramMap], page: Page, pid: int) -> list[int]:
     """The PIDs that carry a page one after another, from one of them on: where a later PMT of its
     programme names it no more, and announces the page on another one alone."""
     way, number = [pid], None
@@ -89,7 +89,7 @@ def way_of(records: Sequence[Programme], page: Page, pid: int) -> list[int]:
     return way
 
 
-def announced_in(one: Programme, page: Page) -> set[int]:
+def announced_in(one: ProgramMap, page: Page) -> set[int]:
     """The PIDs on which a PMT announces a page."""
     return {pid for pid, pages in one.pages.items() if any(known.page == page for known in pages)}
 

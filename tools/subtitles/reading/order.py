@@ -12,7 +12,7 @@ PAUSE = 2  # frames in a row without a PES packet: more are a pause of what send
 FEW = 20  # PES packets at least for each pause, of one that does
 
 
-class Heard(NamedTuple):
+class HeardRun(NamedTuple):
     """PES packets that were heard one after another and do the same, with the frame of each."""
 
     run: Run
@@ -35,7 +35,7 @@ class Order:
 
     def forget(self) -> None:
         """Has heard nothing."""
-        self.heard: list[Heard] = []
+        self.heard: list[HeardRun] = []
         self.count = 0  # PES packets that are heard
         self.first = self.last = self.before = NO_FRAME
         self.halt: int | None = None
@@ -44,7 +44,7 @@ class Order:
         self.doubts: list[Span] = []
         self.pauses: list[Span] = []  # frames without a PES packet
 
-    def goes_on(self, one: Heard) -> bool:
+    def goes_on(self, one: HeardRun) -> bool:
         """Takes PES packets whose frames go on; whether they come after those before them."""
         first = one.frames[0]
         if self.halt is None and first < self.last + self.least:

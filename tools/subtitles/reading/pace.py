@@ -2,9 +2,10 @@
 
 The counter of a PID has four bits: where 16 TS packets are lost it is what it has to be, and of 15
 the next one looks like one that came twice. But the PES packets in them are missing; where these
-come often enough, the time between those that came tells it. So from the first of a PES packet to
-that of the next one that comes behind such a hole there are 17 TS packets at least. And as the
-length of each PES packet is known, two of them at least are missing, however long they are.
+come often enough, the time between those that came tells it. One of Teletext has nine TS packets at
+most, so 16 of these take two whole PES packets at least, whatever their lengths are: the next one
+that comes is the third. One that is lost alone is told by the counter. A file of PES packets has
+none, so there the next one may be the second.
 """
 from __future__ import annotations
 
@@ -20,7 +21,7 @@ from .repeat import NEAR
 LEAST = 100  # PES packets: of fewer nothing is told
 FEW, PART = 3, 1000  # so many may be otherwise, or one in so many
 HOLE = 17  # TS packets from a PES packet to the next one that comes, where 16 are lost
-TWO_LOST = 3  # distances between PES packets, where two are missing
+TWO_LOST, ONE_LOST = 3, 2  # distances between PES packets, where two are missing, or one
 UNITS = 4  # that a TS packet holds: the header of a PES packet has the place of one
 PAYLOAD = 184  # bytes of a TS packet
 USUAL_EVERY = 250  # frames without a header that are accepted where nothing else is asked for
@@ -30,7 +31,7 @@ REGULAR, IRREGULAR, PAUSED, BY_EVERY, TOO_FEW = \
 Pauses = Sequence[Tuple[Optional[int], Optional[int]]]
 
 
-class Silence(NamedTuple):
+class Lull(NamedTuple):
     """The frames of two PES packets between which none came for long, and whether another such
     place is near."""
 
@@ -41,12 +42,14 @@ class Silence(NamedTuple):
 
 class Pace(NamedTuple):
     """What PES packets are like: how many frames they are apart at most, nearly everywhere, and how
-    many where 16 TS packets are lost; with pauses the longest of them. Where they are regular a
-    pace of one frame less tells each such loss, and refuses nothing that is nearer."""
+    many where some are lost; with pauses the longest of them. Where they are regular a pace of one
+    frame less tells each such loss, and refuses nothing that is nearer; but at so many places where
+    they come `closer`."""
 
     kind: str
     apart: int = 0
     lost: int = 0
+    closer: int = 0
 
     @property
     def frames(self) -> int | None:
@@ -54,35 +57,43 @@ class Pace(NamedTuple):
         return self.lost - 1 if self.kind == REGULAR else None
 
 
-def pace_of(rows: Sequence[Sequence[int]], each: int, every: int, pauses: Pauses = ()) -> Pace:
+def pace_of(rows: Sequence[Sequence[int]], each: int, every: int, pauses: Pauses = (),
+            is_stream: bool = True) -> Pace:
     """What PES packets are like, by the frames of those that came one after another, nothing of
     which anybody knows missing between them. Each takes so many TS packets at most; a header of the
     page comes in so many frames; and the programme has these pauses, from an out cue to the next in
     cue; the first one ends it, and the last one begins it.
 
-    Neither a hole nor a burst counts, which are few: so damage can't make a pace longer. A hole is
-    where PES packets are as far apart as 16 lost TS packets have them; where most such places are
-    how the inserter works no pace is told.
+    A few may be as far apart as they are: these are the holes, and damage can't make a pace longer.
+    Where most such places are how the inserter works no pace is told.
     """
-    steps = max(TWO_LOST, -(-HOLE // each))
-    near, far = distances(rows, 1), distances(rows, steps)
+    near, far = distances(rows, 1), distances(rows, TWO_LOST if is_stream else ONE_LOST)
     count = sum(near.values())
     few = max(FEW, count // PART)
     if count < LEAST or sum(far.values()) <= few:
         return Pace(TOO_FEW)
-    apart, lost = at_rank(near, few, True), at_rank(far, few, False)
+    apart = at_rank(near, few, True)
+    lost = lost_in(far, apart, few) if is_stream else apart + 1
     if lost > every:
         return Pace(BY_EVERY, apart, lost)
     if max(apart, 1) >= lost:
         return Pace(IRREGULAR, apart, lost)
+    steps = max(TWO_LOST, -(-HOLE // each))
     silences = [one for row in rows for one in silences_in(row, lost, steps)]
     idle = idle_of(silences, every, pauses)
     if 2 * len(idle) > len(silences):
         return Pace(PAUSED, max(one.last - one.first for one in idle), lost)
-    return Pace(REGULAR, apart, lost)
+    return Pace(REGULAR, apart, lost, sum(many for frames, many in far.items() if frames < lost))
 
 
-def idle_of(silences: Sequence[Silence], every: int, pauses: Pauses) -> list[Silence]:
+def lost_in(far: collections.Counter[int], apart: int, few: int) -> int:
+    """In how many frames the next PES packet comes where two are lost, at least: in as few as any
+    that were sent, or where that is no farther than most come, in as few as all but a few."""
+    least = min(far)
+    return least if least > max(apart, 1) else at_rank(far, few, False)
+
+
+def idle_of(silences: Sequence[Lull], every: int, pauses: Pauses) -> list[Lull]:
     """The silences in which nothing had to come. One behind another is how seldom PES packets come
     then, as where another page of the PID is over; one is longer than is usual, and `--every`
     allows that; one lies outside of the programme. Or it lies in a pause, up to its end, and so
@@ -98,7 +109,7 @@ def idle_of(silences: Sequence[Silence], every: int, pauses: Pauses) -> list[Sil
             or any(is_outside(one, *pause) for pause in pauses)]
 
 
-def is_outside(silence: Silence, begin: int | None, end: int | None) -> bool:
+def is_outside(silence: Lull, begin: int | None, end: int | None) -> bool:
     """Whether a silence lies before the first in cue, or behind the last out cue."""
     if begin is None:
         return end is not None and silence.last <= end + NEAR
@@ -126,13 +137,13 @@ def at_rank(counts: collections.Counter[int], rank: int, is_from_above: bool) ->
     raise ValueError("there are fewer")
 
 
-def silences_in(row: Sequence[int], lost: int, steps: int) -> Iterator[Silence]:
+def silences_in(row: Sequence[int], lost: int, steps: int) -> Iterator[Lull]:
     """Where PES packets are so many frames apart or more; those are near each other between which
     fewer steps lie."""
     places = [] if isinstance(row, range) else [
         at for at, (first, last) in enumerate(zip(row, row[1:])) if last - first >= lost]
     for before, at, after in zip([-steps, *places], places, [*places[1:], len(row) + steps]):
-        yield Silence(row[at], row[at + 1], min(at - before, after - at) < steps)
+        yield Lull(row[at], row[at + 1], min(at - before, after - at) < steps)
 
 
 # ---- of a recording

@@ -91,6 +91,8 @@ class Packets:
     samples: list[tuple[int, int]] = dataclasses.field(default_factory=list)  # PTS, ticks ahead
     sets: list[tuple[int, int, int | None, int | None]] = dataclasses.field(default_factory=list)
     sent: dict[str, int] = dataclasses.field(default_factory=dict)  # pages with the subtitle bit
+    # Between which PTS a jump of the counter is announced, and more time passes than usual.
+    jumps: list[tuple[int, int]] = dataclasses.field(default_factory=list)
     damage: str | None = None  # why a file of PES packets can't be read on
     refusal: int = 0  # 31 or 32 where what follows is no PES packet with Teletext
     packets: int = 0  # TS packets of it

@@ -131,7 +131,7 @@ def border_of(edges: Sequence[Edge], before: Stretch, own: Stretch) -> int:
 
 # ---- parts of a programme
 
-class Part(NamedTuple):
+class FittedPart(NamedTuple):
     """A part: the first TCI and the last TCO of its subtitles, its origin and others by what is
     sent in its time, the number of its time base; the subtitles that reach into the next part."""
 
@@ -149,7 +149,7 @@ class Part(NamedTuple):
 
 
 def parts_of(subtitles: Sequence[Shown], bases: Sequence[Base],
-             row: Sequence[Stretch]) -> list[Part]:
+             row: Sequence[Stretch]) -> list[FittedPart]:
     """The parts of a row of stretches; of an empty one the part of all subtitles, none where no
     edge agrees with any origin."""
     if len(row) > 1:
@@ -160,7 +160,7 @@ def parts_of(subtitles: Sequence[Shown], bases: Sequence[Base],
     if not own.fits:
         return []
     best = own.fit(row[0].track.start) if row else own.by_beginnings(own.fits[0])
-    return [Part(min(one.begin for one in subtitles), max(one.end for one in subtitles), best,
+    return [FittedPart(min(one.begin for one in subtitles), max(one.end for one in subtitles), best,
                  others_of(own, best.start), own, number, [])]
 
 
@@ -170,7 +170,7 @@ def others_of(base: Base, start: int) -> list[Fit]:
 
 
 def part_of(subtitles: Sequence[Shown], bases: Sequence[Base], row: Sequence[Stretch],
-            number: int) -> Part:
+            number: int) -> FittedPart:
     """One of several parts, by the changes between those of its neighbours."""
     track, first, end = row[number]
     whole = bases[track.base]
@@ -185,7 +185,7 @@ def part_of(subtitles: Sequence[Shown], bases: Sequence[Base], row: Sequence[Str
     over = [one for one in subtitles if begin <= one.begin < stop < one.end]
     # Where subtitles adjoin at the end of a part, its last one is erased there.
     own = whole.limited(edges_of(inside) or whole.edges[first:end], low, high)
-    return Part(min((one.begin for one in inside), default=begin),
+    return FittedPart(min((one.begin for one in inside), default=begin),
                 max((one.end for one in inside), default=stop), own.fit(track.start),
                 others_of(own, track.start), own, track.base, over)
 
@@ -205,14 +205,14 @@ def by_breaks(row: Sequence[Stretch]) -> list[Stretch]:
 
 # ---- the programme more than once
 
-class Run(NamedTuple):
+class Airing(NamedTuple):
     """The programme once: the places of its first and its last change."""
 
     first: Place
     last: Place
 
 
-def runs_of(bases: Sequence[Base]) -> list[Run]:
+def runs_of(bases: Sequence[Base]) -> list[Airing]:
     """The runs of the programme, in their order: the one with which the most edges agree, and those
     outside of its time with which at least half of them do."""
     row = find_row(bases)
@@ -228,14 +228,14 @@ def runs_of(bases: Sequence[Base]) -> list[Run]:
     first = sightings(row)
     if not first:
         return []
-    found = [Run(min(first.values()), max(first.values()))]
+    found = [Airing(min(first.values()), max(first.values()))]
     windows = [((-1, 0), found[0].first), (found[0].last, (1 << 40, 0))]
     while windows:
         low, high = windows.pop()
         others_in = between(bases, low, high)
         some = sightings(find_row(others_in)) if any(one.changes for one in others_in) else {}
         if is_again(bases, first, some):
-            run = Run(min(some.values()), max(some.values()))
+            run = Airing(min(some.values()), max(some.values()))
             found.append(run)
             windows += [(low, run.first), (run.last, high)]
     return sorted(found)

@@ -37,7 +37,7 @@ class Announced(NamedTuple):
 
 
 @dataclasses.dataclass
-class Programme:
+class ProgramMap:
     """What a PMT says: the stream_type of each PID, and its pages. `after` is the PCR of the
     programme that was told before it."""
 
@@ -61,7 +61,7 @@ class Video:
     is_cut: bool = False
 
 
-def line_of(packets: Packets, programmes: Iterable[Programme]) -> str:
+def line_of(packets: Packets, programmes: Iterable[ProgramMap]) -> str:
     """What is announced of a PID, and sent."""
     announced = dict.fromkeys(f"{page.line()} in programme {one.number}" for one in programmes
                               for page in one.pages.get(packets.pid, []))
@@ -91,7 +91,7 @@ class Survey:
         self.skipped = 0
         self.is_whole = False
         self.strange = ""  # the line of another version, or of a program that failed
-        self.programmes: list[Programme] = []
+        self.programmes: list[ProgramMap] = []
         self.by_pid: dict[int, Packets] = {}
         self.videos: dict[int, Video] = {}
         self.clocks: dict[int, tuple[int, int]] = {}  # the first PCR and the last one
@@ -129,7 +129,7 @@ class Survey:
         pids = [int(clock), *(one.pcr_pid for one in reversed(self.programmes)
                               if one.number == int(number))]
         known = [self.clocks[pid][1] for pid in pids if pid in self.clocks]
-        self.programmes.append(Programme(int(number), int(clock), after=next(iter(known), None)))
+        self.programmes.append(ProgramMap(int(number), int(clock), after=next(iter(known), None)))
 
     def take_stream(self, pid: str, kind: str, *_: str) -> None:
         self.programmes[-1].kinds[int(pid)] = int(kind)
@@ -218,7 +218,7 @@ class Survey:
 
     # What is asked of all.
 
-    def programmes_of(self, pid: int) -> list[Programme]:
+    def programmes_of(self, pid: int) -> list[ProgramMap]:
         """The programmes whose PMT names a PID."""
         return [one for one in self.programmes if pid in one.kinds]
 

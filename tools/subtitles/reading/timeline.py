@@ -14,7 +14,7 @@ from ..core.teletext import Page
 from ..core.times import FRAMES_OF_A_DAY, NO_FRAME, frames_at, wrapped
 from .cutting import cut_of
 from .held import Held, Stored, cleared
-from .order import Heard, Order
+from .order import HeardRun, Order
 from .packets import CLOSED, ERASE, HEADER, OPEN, STRAY, Packets, Range, Run, Texts
 from .receiver import BLANK_PAGE, OLD_PAGE, TUNED, Rows, State
 
@@ -76,7 +76,7 @@ class Timeline(Order, Held):
         self.is_doubted = True
         self.is_behind = self.is_behind or is_told or HEADER in run.does or CLOSED in run.does
 
-    def hear(self, one: Heard, is_told: bool, stray: Texts) -> None:
+    def hear(self, one: HeardRun, is_told: bool, stray: Texts) -> None:
         """Hears PES packets whose frames go on, after others."""
         first, last = one.frames[0], one.frames[-1]
         if self.halt is None and first < self.last < self.begin:
@@ -144,7 +144,7 @@ def frames_of(run: Run, origin: int, within: int) -> Sequence[int]:
     return frames_at([wrapped(pts + run.step * at) for at in range(run.length)], origin, within)
 
 
-def heard_of(run: Run, frames: Sequence[int], least: int) -> Iterator[Heard]:
+def heard_of(run: Run, frames: Sequence[int], least: int) -> Iterator[HeardRun]:
     """A run in parts: in each all have a frame, at least so many after the one before, or none."""
     begin = 0
     for at in range(1, len(frames)) if not isinstance(frames, range) else ():
@@ -155,10 +155,10 @@ def heard_of(run: Run, frames: Sequence[int], least: int) -> Iterator[Heard]:
     yield part_of(run, frames, begin, len(frames))
 
 
-def part_of(run: Run, frames: Sequence[int], begin: int, end: int) -> Heard:
+def part_of(run: Run, frames: Sequence[int], begin: int, end: int) -> HeardRun:
     """Some PES packets of a run."""
     first = run.first + begin
-    return Heard(run._replace(first=first, length=end - begin, pts=run.pts_of(first)),
+    return HeardRun(run._replace(first=first, length=end - begin, pts=run.pts_of(first)),
                  frames[begin:end])
 
 

@@ -11,7 +11,6 @@ whole      which of its subtitles came whole, where not all of it did
 partial    what is said of one that did not come whole
 results    the results of all, told as they come
 
-source     the bytes of the feed
 spool      those that came lately
 hearing    what is told of them: the pages that are heard
 feed_clock the time of the feed

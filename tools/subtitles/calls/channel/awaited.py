@@ -6,8 +6,7 @@ import bisect
 import collections
 from typing import Iterator, Sequence
 
-from ...core.files import whole_bytes
-from ...core.stl import letters_on_page, readable, times_of
+from ...core.stl import letters_on_page, readable, stl_bytes, times_of
 from ...core.times import ALL_DAY, EARLY, TICKS, Between, pts_of
 from ...core.words import Stop
 from ...reading.alignment import REPEATED, Edge, Shown, edges_of
@@ -136,7 +135,7 @@ def span_of(shown: Sequence[Shown], stl: str) -> tuple[int, int]:
 
 def subtitles_of(stl: str, option: str, between: Between) -> Iterator[Shown]:
     """The subtitles of a file that come in some frames, and go within the day."""
-    for one in readable(stl, whole_bytes(stl)):
+    for one in readable(stl, stl_bytes(stl)):
         begin, end = times_of(one)
         if begin is not None and end is not None and begin < end and between.has(begin):
             yield Shown(begin, end, (one.row, one.justify, one.text),

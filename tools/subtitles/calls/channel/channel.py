@@ -6,19 +6,19 @@ import collections
 import contextlib
 import dataclasses
 import os
-import select
 import signal
 import time
 
-from ...core.files import temporary_folder, whole_bytes
-from ...core.stl import frames_of_all, readable
+from ...core.outputs import temporary_folder
+from ...core.stl import frames_of_all, readable, stl_bytes
 from ...core.times import FRAMES_OF_A_DAY, TICKS, time_of
 from ...core.words import Stop, counted, line_of, tell
 from ...qc.asked import AUTO_OF_FEED, Asked
 from ...qc.clock import FITTED_SHORT
 from ...qc.ending import Ending
-from ...qc.feed import PATIENCE
+from ...qc.feed import PATIENCE, followed
 from ...qc.options import AUTO, LAYOUT
+from ...qc.source import Source
 from ...qc.status import of_all
 from ...qc.typed import Typed
 from ...qc.unclear import Unclear
@@ -28,13 +28,12 @@ from ..objects import ENDING, has_had_its_turn, left_by_call, object_at, row_of,
 from ..single import ignore_signals
 from ...reading.finding import Origin
 from .feed_clock import MINUTE
-from .hearing import SOON, Hearing
+from .hearing import Hearing
 from .partial import ENDED, STOPPED, reason_of
 from .planned import Planned
-from .queue import Queue, Seen, Waiting
+from .queue import Queue, Arrival, Waiting
 from .results import Results
 from .running import Call, Running
-from .source import Source
 from .spool import Spool
 
 LATER = 2 * MINUTE  # after its last TCO a programme is judged, whatever still comes
@@ -73,7 +72,7 @@ class Channel(Results):
                 if not self.hearing.calls:
                     self.hearing.turn_to([self.words.page])
                 self.follow(source)
-                self.hearing.calls[0].refuse(name)
+                self.hearing.refuse(name)
             except (Stop, Unclear) as reason:
                 why = reason.reason if isinstance(reason, Unclear) else line_of(reason)
                 self.say(f"the feed can't be read any further: {why}")
@@ -81,31 +80,20 @@ class Channel(Results):
         return BEFORE_IT
 
     def follow(self, source: Source) -> None:
-        """Takes what comes, to its end: some of the feed once all is told of what came before."""
-        while calls := self.hearing.open():
-            is_ready = all(call.is_ready() for call in calls)
-            is_wanted = is_ready and not source.is_over
-            ready, _, _ = select.select([*calls, *[source] * is_wanted], [], [],
-                                        PATIENCE if is_ready else SOON)
-            told = [call for call in calls if call in ready]
-            for call in told:
-                for _ in call.lines.take():
-                    self.take()
-            if source in ready and not told:
-                self.hand(source.read(min(call.room for call in calls)))
-            if not is_ready:
-                source.came = time.monotonic()  # nobody looks whether something has come
-            still = 0.0 if source.is_over else time.monotonic() - source.came
+        """Takes what comes, to its end."""
+        for told in followed(source, self.hearing.open, self.keep_bytes):
+            if told is None:
+                self.take()
+                continue
+            still, is_still = told
             self.stall(still)
-            self.take(is_still=is_ready and not ready and still >= PATIENCE)
+            self.take(is_still)
             self.keep()
             self.show(still)
 
-    def hand(self, data: bytes) -> None:
-        """Hands on bytes of the feed, or that it has ended."""
+    def keep_bytes(self, data: bytes) -> None:
+        """Keeps bytes of the feed as they come."""
         self.spool.write(data, self.now)
-        for call in self.hearing.open():
-            call.hand(data)
 
     def take(self, is_still: bool = False) -> None:
         """Takes what is told of the feed, and goes on as far as that allows."""
@@ -207,7 +195,7 @@ class Channel(Results):
         while planned.gone:
             self.unjudged(planned.gone.pop(0).name, f"it is gone from {planned.path}")
 
-    def begin_seen(self, seen: Seen) -> None:
+    def begin_seen(self, seen: Arrival) -> None:
         """Begins with a programme that is there; those before it in the list were not."""
         name = self.queue.waiting[seen.place].programme.name
         for _ in range(seen.place):
@@ -271,7 +259,7 @@ class Channel(Results):
         """Of which of its subtitles all came."""
         path, between = running.asked.stl, running.asked.between
         return whole_in([(begin, end) for begin, end in frames_of_all(
-            readable(path, whole_bytes(path))) if between.has(begin)], came)
+            readable(path, stl_bytes(path))) if between.has(begin)], came)
 
     def end_running(self) -> None:
         """Takes the verdict of the programme that was judged."""

@@ -2,29 +2,25 @@
 from __future__ import annotations
 
 import collections
-import contextlib
 import select
-import subprocess
-from typing import BinaryIO, Callable, Iterable, Iterator
+from typing import Callable, Iterable, Iterator
 
 from ...core.teletext import Page, page_name
 from ...core.times import ticks_between
 from ...core.words import Stop, pid_name
 from ...qc.asked import Asked
+from ...qc.feed import SOON, Listening
 from ...qc.recording import refuse
-from ...reading.gaps import Place, hole_of, why_refused
+from ...reading.gaps import Place, hole_of
 from ...reading import moving
 from ...reading.packets import HEADER, PES, Packets, Run
-from ...reading.survey import Lines, Survey, words_of
+from ...reading.survey import Survey
 from .awaited import Changes
 from .feed_clock import MINUTE, SECOND, FeedClock, jump_of, times_of
 from .lacking import KEPT, Losses, Silence
-from .source import room_of, waiting_in
 
-STANDARD_INPUT = "/dev/stdin"  # as the program opens it
 BOTH = 5 * SECOND  # within which a second PID that sends the page is no later one
 PRUNED = 1000  # lines after which what is told is looked through for what is old
-SOON = 0.001  # seconds after which it is looked again whether a part was taken
 
 
 class Heard(Survey):
@@ -225,67 +221,6 @@ class Heard(Survey):
     kept_since = 0  # the time from which on PES packets are asked for
 
 
-class Listening:
-    """A call of `survey` that hears a feed: its lines go to what is heard of a page."""
-
-    def __init__(self, program: str, heard: Heard) -> None:
-        self.heard = heard
-        words = words_of(program, STANDARD_INPUT, heard.page, heard.asked_pid)
-        self.process = subprocess.Popen(words, stdin=subprocess.PIPE, stdout=subprocess.PIPE,
-                                        bufsize=0, start_new_session=True)
-        assert self.process.stdin and self.process.stdout
-        self.into: BinaryIO = self.process.stdin  # type: ignore[assignment]
-        self.lines = Lines(self.process.stdout, heard)
-        self.room = room_of(self.into)
-
-    def fileno(self) -> int:
-        """What can be waited for."""
-        return self.lines.out.fileno()
-
-    @property
-    def has_ended(self) -> bool:
-        return self.lines.has_ended
-
-    def hand(self, data: bytes) -> None:
-        """Hands bytes of the feed on, as long as they are wanted; none at its end."""
-        left = memoryview(data)
-        with contextlib.suppress(OSError, ValueError):
-            while left:
-                left = left[self.into.write(left):]
-            if not data:
-                self.into.close()
-
-    def is_ready(self) -> bool:
-        """Whether it has taken all that was handed on."""
-        return self.has_ended or self.into.closed or not waiting_in(self.into)
-
-    def catch_up(self, data: bytes) -> None:
-        """Hears what came before; nobody is told of it."""
-        for at in range(0, len(data), self.room):
-            self.hand(data[at:at + self.room])
-            while not self.is_ready():
-                if select.select([self], [], [], SOON)[0]:
-                    collections.deque(self.lines.take(), 0)
-        self.heard.said.clear()
-
-    def refuse(self, name: str) -> None:
-        """`Stop` or `Unclear` where the feed has ended since it could not be read on."""
-        refuse(self.heard, name)
-        self.heard.refuse(self.process.wait())
-        packets = self.heard.packets
-        why = packets.damage or (why_refused(packets) if packets.refusal else None)
-        if why:
-            raise Stop(why)
-
-    def close(self) -> None:
-        """Ends it."""
-        self.process.kill()
-        self.process.wait()
-        self.lines.out.close()
-        with contextlib.suppress(OSError):
-            self.into.close()
-
-
 class Hearing:
     """All pages that are heard, each by a call of `survey` of its own; what begins to be heard
     hears first what `begin` hands to it."""
@@ -306,10 +241,11 @@ class Hearing:
             if page not in self.by_page:
                 known = next(iter(self.by_page.values()), None)
                 heard = self.by_page[page] = Heard(page, self.pid, known.clock if known else None)
-                call = Listening(self.program, heard)
+                call = Listening(self.program, heard, page, self.pid)
                 self.calls.append(call)
                 for data in self.begin():
-                    call.catch_up(data)
+                    catch_up(call, data)
+                    heard.said.clear()  # nobody is told of it
 
     def open(self) -> list[Listening]:
         """The calls that still hear the feed."""
@@ -333,7 +269,22 @@ class Hearing:
             for changes in heard.changes.values():
                 changes.drop(before)
 
+    def refuse(self, name: str) -> None:
+        """`Stop` or `Unclear` where the feed has ended since it could not be read on."""
+        heard = next(iter(self.by_page.values()))
+        refuse(heard, name)
+        self.calls[0].refuse(heard.packets)
+
     def close(self) -> None:
         """Ends all calls."""
         for call in self.calls:
             call.close()
+
+
+def catch_up(call: Listening, data: bytes) -> None:
+    """Hears what came before."""
+    for at in range(0, len(data), call.room):
+        call.hand(data[at:at + call.room])
+        while not call.is_ready():
+            if select.select([call], [], [], SOON)[0]:
+                collections.deque(call.lines.take(), 0)

@@ -3,26 +3,16 @@ from __future__ import annotations
 
 import argparse
 import dataclasses
-import os
-import shlex
 import time
 from typing import NamedTuple, Sequence
 
-from ...core.words import Stop, Words, line_of, shown
+from ...core.lists import Line, lines_in, list_at
+from ...core.words import Stop, Words, line_of
 from ...qc.asked import AUTO_OF_FEED, Asked, add_pair_options, asked_of, pair_options
+from ...qc.names import NamesOfList
 from ..modes import CHANNEL_LINE, refuse_options
-from ..pairs import OwnNames
 
 MISSING = 60.0  # seconds for which a list that is not there is waited for
-
-
-class Line(NamedTuple):
-    """A line of the list that is neither empty nor a comment: its number, and its words; of one
-    that has none, as where a quote does not end, all of it and why."""
-
-    number: int
-    words: tuple[str, ...]
-    fault: str = ""
 
 
 @dataclasses.dataclass(eq=False)
@@ -44,18 +34,6 @@ class Edits(NamedTuple):
     rows: Sequence[tuple[Programme | None, Line]]
     gone: Sequence[Programme]
     changed: Sequence[Programme]
-
-
-def lines_in(text: str) -> list[Line]:
-    """The lines of a list that are to be programmes."""
-    found = []
-    for number, line in enumerate(text.split("\n"), 1):
-        try:
-            if words := shlex.split(line, comments=True):
-                found.append(Line(number, tuple(words)))
-        except ValueError as reason:
-            found.append(Line(number, (line,), str(reason)))
-    return found
 
 
 def edits_of(known: Sequence[Programme], lines: Sequence[Line]) -> Edits:
@@ -93,7 +71,7 @@ class Planned:
         self.programmes: list[Programme] = []
         self.gone: list[Programme] = []
         self.said: list[str] = []
-        self.names = OwnNames()
+        self.names = NamesOfList()
         self.taken: str | None = None  # the text that is known
         self.seen: str | None = None  # that of the last look
         self.first: str | None = None  # that of the first one
@@ -125,9 +103,8 @@ class Planned:
     def read(self) -> str | None:
         """The text of the list; `None` as long as it is not there."""
         try:
-            with open(self.path, encoding="utf-8", errors="surrogateescape", newline="") as file:
-                text = file.read()
-        except OSError as error:
+            text = list_at(self.path)
+        except (Stop, OSError) as error:
             if self.taken is None:
                 raise
             self.missing = time.monotonic() if self.missing is None else self.missing
@@ -157,7 +134,7 @@ class Planned:
             return
         told = {"new": [one for one, _, is_new in rows if is_new], "changed": edits.changed,
                 "gone": edits.gone}
-        said = [f"{word}: {', '.join(shown(one.name) for one in several)}"
+        said = [f"{word}: {', '.join(one.name for one in several)}"
                 for word, several in told.items() if several]
         said += ["in another order"] if before != kept else []
         self.said += [f"{self.path}: {'; '.join(said)}"] if said else []
@@ -165,8 +142,8 @@ class Planned:
     def programme(self, line: Line) -> Programme:
         """The programme of a line that is new."""
         asked, reason = self.read_line(line)
-        name = os.path.splitext(os.path.basename(asked.stl))[0] if asked else f"line-{line.number}"
-        return Programme(self.names.of(name), line, asked, reason)
+        name = self.names.pair(asked.stl) if asked else self.names.line(line.number)
+        return Programme(name, line, asked, reason)
 
     def read_line(self, line: Line) -> tuple[Asked | None, str | None]:
         """What a line asks, or why that is nothing."""

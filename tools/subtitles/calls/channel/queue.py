@@ -15,7 +15,7 @@ AT_ONCE = 4  # programmes that are looked for at the same time
 LOOK = 1.0  # seconds between two looks into the list
 
 
-class Seen(NamedTuple):
+class Arrival(NamedTuple):
     """A programme that is there: how many stand before it, and the time of its midnight."""
 
     place: int
@@ -104,12 +104,12 @@ class Queue:
         """Takes that nothing more comes to the list, and looks into it at once."""
         self.is_whole, self.next_look = True, 0.0
 
-    def seen(self, hearing: Hearing) -> Seen | None:
+    def seen(self, hearing: Hearing) -> Arrival | None:
         """The first of them that is there."""
         for place, one in enumerate(self.waiting):
             midnight = one.midnight(hearing)
             if midnight is not None:
-                return Seen(place, midnight)
+                return Arrival(place, midnight)
         return None
 
     def leave(self) -> Waiting:

@@ -5,6 +5,7 @@ import argparse
 import os
 import time
 
+from ...core.words import say
 from ...qc.progress import Progress
 from ...qc.status import NOT_JUDGED
 from .. import collecting
@@ -32,7 +33,7 @@ class Results:
     def say(self, line: str) -> None:
         """A line with the date and the time of day."""
         self.progress.clear()
-        print(f"{time.strftime('%Y-%m-%d %H:%M:%S')}  {line}", flush=True)
+        say(f"{time.strftime('%Y-%m-%d %H:%M:%S')}  {line}")
 
     def tell_row(self, row: Row, more: str) -> None:
         """Tells a verdict, and writes the page over all of them."""

@@ -12,7 +12,7 @@ import termios
 import time
 from typing import BinaryIO
 
-from ...core.files import Input
+from ..core.files import Input
 
 PART = 1 << 18  # bytes that are handed on at a time, at most
 PIPE = 1 << 19  # bytes that a pipe to a listener holds

@@ -1,0 +1,125 @@
+"""JSON results for tests: a plain one of a pair, with other members where a test gives some; and the
+schema as somebody else reads it, who knows nothing of the table from which it is made.
+"""
+from __future__ import annotations
+
+import functools
+import importlib
+import json
+import os
+import re
+from typing import Any, Iterator
+
+from subtitles.calls.result import FORMAT, LISTS
+from subtitles.core.built import TOP
+from subtitles.qc.causes import NAMES
+from subtitles.qc.status import NOT_JUDGED, STATUSES
+
+SCHEMA = os.path.join(TOP, "docs", "verdict.schema.json")
+KINDS: dict[str, Any] = {"object": dict, "array": list, "string": str, "null": type(None),
+                         "boolean": bool, "integer": int, "number": (int, float)}
+ASKED = {"stl": "one.stl", "recording": "one.ts", "page": "888", "every": 250, "option": "english",
+         "origin": None, "complete": True, "pid": None, "allow_lost": False, "severity": None,
+         "breaks": 0, "pes": None, "start": None, "within": 0, "strict": False, "from": None,
+         "to": None, "layout": None, "open": False, "keeping": False, "pace": None}
+FAULT = {**dict.fromkeys((
+    "block", "subtitle", "byte", "character", "text_at", "pes", "pes_pts", "pes_time", "packet",
+    "frame", "time", "row", "column", "due", "held", "until", "until_pes", "cause")),
+    "part": 1, "line": "refused 72 Content", "number": 72, "name": "Content", "severity": "error",
+    "file": "pes", "means": "", "do": ""}
+
+
+def result(verdict: str = "refused", **more: Any) -> dict[str, Any]:
+    """A result of a pair."""
+    is_judged = verdict != NOT_JUDGED
+    return {
+        "format": FORMAT, "verdict": verdict, "status": STATUSES[verdict],
+        "line": f"{verdict} 72 Content" if is_judged else None, "sentence": "Refused.",
+        "reason": None if is_judged else "why", "judged": "transmission", "frames": None,
+        "transmissions": None, "fault_count": 0, "subtitle_counts": None, "asked": ASKED,
+        "found": {"stl": None, "recording": None, "severity": None}, "layout": None,
+        "inputs": {"stl": None, "recording": None},
+        "program": {"version": "1", "sha256": "0" * 64, "proved": None},
+        "date": "2026-01-02T03:04:05Z", "seconds": 0.5, "cause_counts": dict.fromkeys(NAMES, 0),
+        "accepted_within": None, "whole_after": None, **{one.name: [] for one in LISTS},
+        "left_out": {one.name: 0 for one in LISTS}, **more}
+
+
+@functools.lru_cache(maxsize=None)
+def schema() -> dict[str, Any]:
+    """The schema as it stands."""
+    with open(SCHEMA, encoding="utf-8") as file:
+        known: dict[str, Any] = json.load(file)
+    return known
+
+
+def wrong_in(value: Any, known: dict[str, Any], at: str = "") -> Iterator[str]:
+    """Where a value is not as a schema has it, as far as that has words that are used here."""
+    strange = known.keys() - {"description", "$schema", "$comment", "title", "definitions", "$ref",
+                              "type", "const", "enum", "anyOf", "oneOf", "allOf", "required",
+                              "additionalProperties", "properties", "items", "minItems",
+                              "maxItems", "pattern", "minLength", "maxLength", "minimum",
+                              "maximum"}
+    assert not strange, strange
+    if "$ref" in known:
+        yield from wrong_in(value, schema()["definitions"][known["$ref"].rpartition("/")[2]], at)
+    if "type" in known and not is_of_kind(value, known["type"]):
+        yield f"{at}: no {known['type']}"
+        return
+    values = known.get("enum", [known["const"]] if "const" in known else None)
+    if values is not None and not any(type(one) is type(value) and one == value for one in values):
+        yield f"{at}: none of {values}"
+    for word, wanted in (("anyOf", range(1, 99)), ("oneOf", range(1, 2))):
+        if word in known and sum(not any(wrong_in(value, one)) for one in known[word]) not in wanted:
+            yield f"{at}: {word}"
+    for one in known.get("allOf", ()):
+        yield from wrong_in(value, one, at)
+    yield from wrong_inside(value, known, at)
+
+
+def wrong_inside(value: Any, known: dict[str, Any], at: str) -> Iterator[str]:
+    """The same of what is in it, and of its bounds."""
+    if isinstance(value, dict):
+        members = known.get("properties", {})
+        for name in known.get("required", ()):
+            if name not in value:
+                yield f"{at}: no {name}"
+        for name, one in value.items():
+            if name in members:
+                yield from wrong_in(one, members[name], f"{at}.{name}")
+            elif known.get("additionalProperties") is False:
+                yield f"{at}: {name}"
+    size = len(value) if isinstance(value, (str, list)) else value
+    ends = {str: ("minLength", "maxLength"), list: ("minItems", "maxItems"),
+            int: ("minimum", "maximum"), float: ("minimum", "maximum")}.get(type(value))
+    if ends and not known.get(ends[0], size) <= size <= known.get(ends[1], size):
+        yield f"{at}: its bounds"
+    if isinstance(value, list) and "items" in known:
+        for number, one in enumerate(value):
+            yield from wrong_in(one, known["items"], f"{at}[{number}]")
+    if isinstance(value, str) and not re.search(known.get("pattern", ""), value):
+        yield f"{at}: {known['pattern']}"
+
+
+def is_of_kind(value: Any, kind: str) -> bool:
+    """Whether a value is of a kind, as JSON has them."""
+    is_bool = isinstance(value, bool)
+    return isinstance(value, KINDS[kind]) and is_bool == (kind == "boolean")
+
+
+@functools.lru_cache(maxsize=None)
+def second_reader() -> Any:
+    """Another reader of schemas, where the machine has it: `None` where it has not."""
+    try:
+        jsonschema = importlib.import_module("jsonschema")  # of which mypy need not know types
+    except ImportError:
+        return None
+    jsonschema.Draft7Validator.check_schema(schema())
+    return jsonschema.Draft7Validator(schema())
+
+
+def wrong_by_schema(value: Any) -> list[str]:
+    """All that is wrong in a result, by both readers."""
+    reader = second_reader()
+    others = [error.message for error in reader.iter_errors(value)] if reader else []
+    return [*wrong_in(value, schema()), *others]

@@ -1,0 +1,285 @@
+"""Which items of a layout are taken: those that ten subtitles show, and that take from no page what
+a viewer sees."""
+from __future__ import annotations
+
+import random
+from typing import NamedTuple, Sequence
+
+from subtitles.core.layout import PLAIN, Layout, Refused, drawn, layout_of, page_of, text_of
+from subtitles.core.national import ENGLISH
+from subtitles.qc.evidence import (
+    MOST_ITEMS, Choice, Evidence, Left, Rest, choices_of, items_in, taken_from, with_items,
+    without)
+from subtitles.qc.layouts import Sent
+from .bench import Case
+from .judged import Judged, judged
+from .test_as_sent import file_of
+from .test_layouts import HOUSES, programme
+
+WORDS = [b"cat", b"dog", b"the sun", b"and then", b"who knows", b"yes"]
+
+
+class One(NamedTuple):
+    """A text with its justification code, and the one that is sent in its place."""
+
+    text: bytes
+    sent: bytes
+    justify: int = 2
+
+
+class Row(NamedTuple):
+    """What is in a file of 100 subtitles otherwise than it was sent, in how many; the TEXT that is
+    taken, and what is left to be said, with how many it would draw."""
+
+    name: str
+    one: One
+    times: int
+    taken: str
+    left: str = ""
+    more: int = 0
+
+
+COLOUR, FLASH, DOUBLE = One(b"\3Hi", b"Hi"), One(b"\x08Hi", b"Hi"), One(b"\x0dHi", b"Hi")
+SPACES, EMPTY = One(b"  Hi", b"Hi"), One(b"Hi\x8a\x8aHo", b"Hi\x8aHo")
+WHITE, STEADY = One(b"\7Hi", b"Hi"), One(b"\x09Hi", b"Hi")
+NEW_BACKGROUND, BLACK = One(b"\x04\x1d\7Hi", b"\4\7Hi"), One(b"\x1cHi", b"Hi")
+NO_BOX = One(b"\x00Hi", b"Hi")  # 00 is no code of a page
+# Sent as if it were without its colour, its flash, ..: an item would draw it.
+ROWS = [
+    *(Row(f"{name}, {count}", one, count, "", left, count)
+      for name, one, left in (("colour", COLOUR, "strip=03"), ("flash", FLASH, "strip=08"),
+                              ("double height", DOUBLE, "strip=0D"),
+                              ("new background", NEW_BACKGROUND, "strip=1D"),
+                              ("black background", BLACK, "strip=1C"))
+      for count in (1, 9, 10)),
+    *(Row(f"{name}, {count}", one, count, "" if count < 10 else left,
+          left if count < 10 else "", count)
+      for name, one, left in (("spaces", SPACES, "trim"), ("empty line", EMPTY, "pack"),
+                              ("white", WHITE, "strip=07"), ("steady", STEADY, "strip=09"),
+                              ("00", NO_BOX, "strip=00")) for count in (1, 9, 10)),
+    Row("none", COLOUR, 0, ""),
+]
+# A layout, and its items as TEXTs; what the layout is without each.
+ITEMS = [
+    ("strip=0307", [("strip=03", "strip=07"), ("strip=07", "strip=03")]),
+    ("before=0D*0B0B", [("before=0D*0B0B", ""), ("before=0D*0B0B", "before=0D0B0B")]),
+    ("before=*0B0B", [("before=*0B0B", "")]), ("before=070B0B", [("before=070B0B", "")]),
+    ("after=0A,fit,left=2", [("after=0A", "fit,left=2"), ("fit", "after=0A,left=2"),
+                             ("left=2", "after=0A,fit")]),
+    ("", [])]
+# A layout, and what of it takes from a page what a viewer sees.
+TAKEN = [
+    ("strip=0A0B", ""), ("strip=0D", "strip=0D"), ("strip=0D,before=0D0B0B", ""),
+    ("strip=0D,before=0B0B*0D", ""), ("strip=0A0B,before=", "strip=0B"), ("strip=0A,before=", ""),
+    ("strip=070001090A0C", "strip=01"), ("strip=0106081C1D", "strip=0106081C1D"),
+    ("strip=03,before=030B0B", "strip=03"), ("text,up", "")]
+
+
+def meant(text: str) -> Layout:
+    """The layout that a TEXT means."""
+    found = layout_of(text) if text else PLAIN
+    assert found is not None, text
+    return found
+
+
+def rows_of(text: bytes, justify: int, layout: Layout, row: int = 18) -> tuple[bytes, ...]:
+    """The page that a layout draws."""
+    lines = drawn(text, row, justify, layout, ENGLISH)
+    assert not isinstance(lines, Refused), text
+    return page_of(lines)
+
+
+def sent_of(several: Sequence[One], layout: Layout = PLAIN) -> list[Sent]:
+    """What is sent of texts by a layout."""
+    return [Sent(one.text, 18, one.justify, rows_of(one.sent, one.justify, layout))
+            for one in several]
+
+
+def plain(count: int) -> list[One]:
+    """Texts that are sent as they are."""
+    return [One(text, text) for at in range(count) for text in [WORDS[at % len(WORDS)]]]
+
+
+def moved(one: Sent, columns: int) -> Sent:
+    """A subtitle that was sent so many columns farther left."""
+    return one._replace(rows=tuple(row[columns:] + row[:columns] for row in one.rows))
+
+
+class Items(Case):
+    """Functions that decide."""
+
+    def test_items(self) -> None:
+        for text, items in ITEMS:
+            layout = meant(text)
+            told = [(text_of(with_items(PLAIN, [item], layout)), text_of(without(layout, [item])))
+                    for item in items_in(layout)]
+            self.must(text, told == items, told)
+            self.must(f"{text}, all", without(layout, items_in(layout)) == PLAIN
+                      and with_items(PLAIN, items_in(layout), layout) == layout)
+
+    def test_what_is_taken_from_a_page(self) -> None:
+        for text, gone in TAKEN:
+            layout = meant(text)
+            told = text_of(with_items(PLAIN, taken_from(layout), layout))
+            self.must(text, told == gone, told)
+
+    def test_seen(self) -> None:
+        for decides, told, is_seen in ((9, 9, False), (10, 9, True), (10, 8, False), (0, 0, False),
+                                       (19, 17, False), (19, 18, True), (100, 90, True),
+                                       (100, 89, False)):
+            self.must(f"{decides} {told}", Rest("", decides, told).is_seen == is_seen)
+
+    def test_clear(self) -> None:
+        for found, count, is_clear in ((9, 9, False), (10, 9, True), (10, 8, False),
+                                       (100, 90, True), (100, 89, False)):
+            self.must(f"{count} of {found}", Choice(PLAIN, count, found).is_clear == is_clear)
+
+
+class Taken(Case):
+    """What is taken of 100 subtitles, some of which were sent otherwise than the file has them."""
+
+    def test_one_of_a_hundred(self) -> None:
+        """The whole table."""
+        for row in ROWS:
+            several = [row.one] * row.times + plain(100 - row.times)
+            closest, choice = choices_of(sent_of(several), ENGLISH)
+            left = [(one.text, one.more) for one in choice.left]
+            self.must(row.name, text_of(choice.layout) == row.taken and choice.found == 100
+                      and choice.drawn == 100 - (row.times if row.left else 0)
+                      and left == ([(row.left, row.more)] if row.left else [])
+                      and closest.drawn == 100, (closest, choice))
+
+    def test_columns(self) -> None:
+        """Those on the right, two columns off."""
+        for count, taken in ((1, ""), (9, ""), (10, "right=2")):
+            right = [moved(one, 2) for one in sent_of([One(b"Hi", b"Hi", 3)] * count)]
+            choice = choices_of([*sent_of(plain(100 - count)), *right], ENGLISH)[1]
+            self.must(f"{count}", text_of(choice.layout) == taken and choice.drawn == 100 - (
+                count if not taken else 0), choice)
+
+    def test_evidence_is_of_what_is_decided(self) -> None:
+        """Of those that an item draws otherwise nine in ten have to be sent so, whatever the others
+        are: ten with two lines by `double`, one or two without."""
+        two = One(b"Hi\x8aHo", b"Hi\x8aHo")
+        for otherwise, taken in ((0, "double"), (1, "double"), (2, "")):
+            sent = [*sent_of([two] * 10, Layout(double=True)), *sent_of([two] * otherwise),
+                    *sent_of(plain(100))]
+            found = Evidence(sent, ENGLISH)
+            layout, gone = found.supported(Layout(double=True))
+            self.must(f"{otherwise}", text_of(layout) == taken and bool(gone) == (not taken) and
+                      found.rest(Layout(double=True), [("double", 0)]) ==
+                      Rest("double", 10 + otherwise, 10), (layout, gone))
+
+    def test_items_that_undo_each_other(self) -> None:
+        """Of two lines `last` and `row=1` draw what neither does alone: they rest on the subtitle
+        of one line, however many each decides."""
+        two = One(b"Hi\x8aHo", b"Hi\x8aHo")
+        layout = Layout(last=True, row=1)
+        for count in (1, 9, 10):
+            sent = [*sent_of([two] * 90), *sent_of(plain(count), layout)]
+            found = Evidence(sent, ENGLISH)
+            alone = [found.rest(layout, [item]).is_seen for item in items_in(layout)]
+            self.must(f"{count}", alone == [True, True] and found.supported(layout)[0] == (
+                layout if count == 10 else PLAIN), found.supported(layout))
+
+    def test_what_is_seen_stays(self) -> None:
+        """Another item that is not goes alone; and what is left then is counted anew."""
+        house = Layout(text=True, after=b"\x0a")
+        sent = [*sent_of([*plain(99), COLOUR], house)]
+        choice = choices_of(sent, ENGLISH)[1]
+        self.must("seen", text_of(choice.layout) == "after=0A,text" or
+                  text_of(choice.layout) == "after=0A", choice)
+        self.must("left", [one.text for one in choice.left] == ["strip=03"], choice)
+        several = [One(b"\x0dHi", b"Hi")] * 20 + plain(80)
+        found = Evidence(sent_of(several, Layout(before=b"\x0d\x0b\x0b")), ENGLISH)
+        whole = Layout(before=b"\x0d\x0b\x0b", strip=b"\x0d")
+        self.must("brought", found.supported(whole) == (whole, []), found.supported(whole))
+
+    def test_many_items(self) -> None:
+        """Of more items than can be looked at in groups one goes after another: none is taken that
+        was not looked at so."""
+        codes = bytes([0x00, 0x07, 0x09, 0x0A, 0x0C, *range(0x10, 0x1B)])
+        layout = Layout(strip=codes)
+        self.must("many", len(items_in(layout)) > MOST_ITEMS)
+        sent = sent_of([One(codes + b"Hi", b"Hi")] * 100)
+        taken, gone = Evidence(sent, ENGLISH).supported(layout)
+        self.must("few", len(items_in(taken)) <= MOST_ITEMS and len(gone) >= 4, taken)
+
+    def test_houses(self) -> None:
+        """How each house draws is found beside 1, 5 and 20 that are drawn otherwise; of 20 it is
+        the closest, and nothing is taken."""
+        for number, (has_codes, leaves_room, text) in enumerate(HOUSES):
+            some = random.Random(number)
+            sent = programme(some, has_codes, leaves_room, meant(text), 150)
+            count = (1, 5, 20)[number % 3] * 3 // 2
+            for at in some.sample(range(len(sent)), count):
+                rows = sent[at].rows
+                sent[at] = sent[at]._replace(rows=rows[at % 3 + 1:] + rows[:at % 3 + 1])
+            closest, choice = choices_of(sent, ENGLISH)
+            is_few = count * 10 <= len(sent)
+            found = choice if is_few else closest
+            self.must(f"{text}, {count}", found.drawn == len(sent) - count
+                      and choice.is_clear == is_few, (closest, choice))
+
+
+class Pairs(Case):
+    """Pairs of which a subtitle was sent otherwise than the file has it."""
+
+    def judge(self, several: Sequence[One], *words: str, drawn_by: str = "") -> Judged:
+        """A pair of which the second text of each was sent."""
+        file_of(self, [(one.sent, one.justify) for one in several], "sent.stl")
+        stl = file_of(self, [(one.text, one.justify) for one in several], "one.stl")
+        layout = ["--layout", drawn_by] if drawn_by else []
+        pes = self.schedule(self.path("sent.stl"), "one.pes", "--every", "20", *layout)
+        return judged(self, stl, pes, "--layout", "auto", "--origin", "0", *words)
+
+    def test_is_refused(self) -> None:
+        """Where one subtitle lost what an item would take, also with --strict; and it is said which
+        item draws it."""
+        for one, item in ((COLOUR, "strip=03"), (FLASH, "strip=08"), (DOUBLE, "strip=0D"),
+                          (SPACES, "trim"), (EMPTY, "pack"), (WHITE, "strip=07")):
+            told = self.judge([*plain(40), one, *plain(59)], "--strict")
+            words = f"{item} would draw 1 more of 100: say it by --layout {item} if your inserter " \
+                "draws so"
+            self.must(item, told.word == "refused" and told.result["layout"] == {
+                "text": "", "drawn": 99, "found": 100, "items": [],
+                "left": [{"text": item, "more": 1, "whole": item}]} and words in told.said
+                and f"72: the letters are right and drawn otherwise, {words}" in told.said
+                and {fault["number"] for fault in told.result["faults"]} == {72}, told.said)
+
+    def test_is_told(self) -> None:
+        """On how many each item rests: in the printed line, the JSON result and the report."""
+        told = self.judge([*plain(40), COLOUR, *plain(9)], "-o", self.path("out"),
+                          drawn_by="after=0A")
+        line = "layout: after=0A, 49 of 50 subtitles as they were sent; after=0A rests on 50"
+        left = "strip=03 would draw 1 more of 50: say it by --layout after=0A,strip=03 if your " \
+            "inserter draws so"
+        report = self.read("out/one.html").decode()
+        self.must("told", told.word == "refused" and line in told.said and left in told.said
+                  and told.result["layout"]["items"] == [
+                      {"text": "after=0A", "decides": 50, "drawn": 49}], told.said)
+        self.must("report", line in report and left in report)
+
+    def test_a_code_that_no_page_has(self) -> None:
+        """It is refused by the subtitle file where few texts have it; and it is said what draws
+        it."""
+        told = self.judge([*plain(40), NO_BOX, *plain(59)])
+        self.must("51", told.word == "refused" and any(line.startswith(
+            "51: strip=00 would draw 1 more of 100: ") for line in told.said), told.said)
+
+    def test_a_short_programme(self) -> None:
+        """Where nine in ten need an item that too few show nothing is judged; the whole TEXT is
+        there to type."""
+        several = [*[One(b"\3Hi", b"\3Hi")] * 9, *plain(3)]
+        told = self.judge(several, drawn_by="after=0A,before=*0B0B")
+        whole = "after=0A,before=*0B0B"
+        self.must("short", told.word == "not judged" and told.told[:3] == [
+            "--layout auto guesses nothing: what is seen in 10 subtitles at least, and takes nothing "
+            "from a page, no --layout, draws 0 of 12 subtitles as they were sent, and 9 in 10 have "
+            "to be", "after=0A would draw 3 more of 12: say it by --layout after=0A if your "
+            f"inserter draws so", f"{whole} would draw 12 more of 12: say it by --layout '{whole}' "
+            "if your inserter draws so"] and told.told[-1].endswith(f" --layout '{whole}'"),
+            told.told)
+        told = self.judge([*several, *plain(9)], drawn_by="after=0A")
+        self.must("seen", told.word == "accepted" and told.result["layout"]["items"] == [
+            {"text": "after=0A", "decides": 21, "drawn": 21}], told.said)

@@ -1,0 +1,124 @@
+"""Wrong pages that were sent in a hole: none is accepted where a pace is asked, whatever the hole is
+of; and a note says where none is."""
+from __future__ import annotations
+
+from developing.multiplex import ADAPTATION_ALONE, PACKET, head
+from developing.pes import STUFFING_UNIT, pes_packet
+from subtitles.core.times import TICKS
+from .bench import Case
+from .judged import Judged, Sent, joined, judged, programme, sendings
+from .muxed import TELETEXT_PID
+from .parts import CLOSING, HEADER, row
+from .test_holes import Sent as Packet
+from .test_holes import Shape, sent_of
+from .test_pace import BEGIN, TIMES, filled
+
+WRONG = [HEADER, row(22, b"Wrong"), CLOSING]
+AT = BEGIN + 300  # the frame of the wrong page: a subtitle is due, and repeated 25 frames later
+PLACE = AT - BEGIN  # its PES packet, where each frame has one
+
+
+def large(data: bytes, count: int) -> bytes:
+    """A PES packet that takes so many TS packets, by stuffing."""
+    made = data + STUFFING_UNIT * (4 * count - len(data) // 46)
+    return made[:4] + (len(made) - 6).to_bytes(2, "big") + made[6:]
+
+
+def of_pid(made: list[Packet], frame: int) -> list[int]:
+    """The places of the TS packets of the PID from the PES packet of a frame on."""
+    begin = pes_packet(frame * TICKS, [])[9:14]  # its PTS
+    first = next(at for at, one in enumerate(made)
+                 if one.pid == TELETEXT_PID and begin in one.data[4:40])
+    return [at for at in range(first, len(made)) if made[at].pid == TELETEXT_PID]
+
+
+def lost(made: list[Packet], count: int, is_announced: bool = False) -> list[Packet]:
+    """Without so many TS packets of the PID from the wrong page on; the jump of the counter may be
+    announced, by a packet without a payload."""
+    gone = of_pid(made, AT)[:count]
+    field = bytes([PACKET - 5, 0x80]).ljust(PACKET - 4, b"\xff")
+    says = Packet(head(TELETEXT_PID, 0, ADAPTATION_ALONE) + field, TELETEXT_PID)
+    return [says if at == gone[-1] else one for at, one in enumerate(made)
+            if at not in gone or is_announced and at == gone[-1]]
+
+
+class Hidden(Case):
+    """A wrong page that nobody recorded."""
+
+    def judge(self, made: list[Packet], *words: str) -> Judged:
+        self.write("one.ts", b"".join(one.data for one in made))
+        return judged(self, self.path("one.stl"), self.path("one.ts"), "--origin", "0", *words)
+
+    def sent(self, every: int = 25) -> Sent:
+        """A PES packet in each frame, of which one has a wrong page."""
+        sent = filled(sendings(self, programme(self, TIMES), every=every))
+        return [*sent[:PLACE], (sent[PLACE][0], WRONG), *sent[PLACE + 1:]]
+
+    def multiplexed(self, sent: Sent, first: int, count: int, size: int) -> list[Packet]:
+        """A multiplex in which so many PES packets take several TS packets each."""
+        made = [pes_packet(pts, some) for pts, some in sent]
+        made[first:first + count] = [large(one, size) for one in made[first:first + count]]
+        return sent_of(made, Shape(400))
+
+    def test_two_large_ones(self) -> None:
+        """16 TS packets of two PES packets, where most others take one."""
+        sent = self.sent()
+        whole = self.judge(self.multiplexed(sent, PLACE, 2, 8))
+        self.must("it is wrong", whole.word == "refused" and
+                  {one["number"] for one in whole.result["faults"]} == {72}, whole.listed)
+        for count, size in ((2, 8), (4, 8), (4, 4), (16, 1)):
+            told = self.judge(lost(self.multiplexed(sent, PLACE, count, size), count * size))
+            self.must(f"{count}", told.word == "refused" and told.parts("pace") == [(2,)] and
+                      told.result["line"] == "refused 79 Silent frame 10:00:12:01", told.said)
+
+    def test_files_of_pes_packets(self) -> None:
+        """1 to 7 PES packets that are missing from a file of them."""
+        sent = self.sent()
+        for count in (1, 2, 3, 5, 7):
+            self.write("one.pes", joined(sent[:PLACE] + sent[PLACE + count:]))
+            told = judged(self, self.path("one.stl"), self.path("one.pes"), "--origin", "0")
+            self.must(f"{count}", told.word == "refused" and told.parts("pace") == [(1,)] and
+                      told.result["line"] == "refused 79 Silent frame 10:00:12:00"
+                      and "--pace none" in told.verdict.sentence, told.said)
+            self.must(f"{count}: said", told.lines("pace: ") == [
+                "a PES packet comes within 1 frame of the one before: --pace 1"])
+
+    def test_files_that_come_closer(self) -> None:
+        """Where one is as far from the second next one as from the next one elsewhere, that between
+        them may be missing, and a note says so."""
+        sent = self.sent(50)
+        each_other = [one for at, one in enumerate(sent) if at % 2 == 0 or at == PLACE + 1]
+        path = self.write("one.pes", joined(each_other))
+        told = judged(self, self.path("one.stl"), path, "--origin", "0")
+        self.must("closer", told.parts("pace") == [(2,)] and f"PES packets that are missing from "
+                  f"{path} may be unseen: at 1 place its PES packets come closer" in
+                  told.result["notes"], told.said)
+
+    def test_announced(self) -> None:
+        """A hole at which a jump of the counter is announced, which then tells nothing, is 45 where
+        more time passes than usual."""
+        made = self.multiplexed(self.sent(), 0, 1 << 20, 3)
+        whole = self.judge(made)
+        self.must("it is wrong", whole.word == "refused" and whole.result["lost"] == [], whole.said)
+        line = "between 10:00:11:24 and 10:00:12:01: more time passes than usual, and a jump of " \
+            "the counter is announced"
+        for words, word in (((), "lost"), (("--pace", "none"), "lost"),
+                            (("--allow-lost",), "accepted")):
+            told = self.judge(lost(made, 3, True), *words)
+            self.must(f"one, {words}", told.word == word and line in told.told and
+                      [one["judged"] for one in told.result["lost"]] == [True]
+                      and told.listed[-1].startswith("accepted"), told.said)
+        told = self.judge(lost(made, 5, True))  # one, and the first two thirds of another
+        self.must("five", told.word == "refused" and
+                  told.result["line"] == "refused 45 Lost pes 300", told.said)
+        told = self.judge(lost(made, 6, True))
+        self.must("two", told.word == "refused" and
+                  told.result["line"] == "refused 79 Silent frame 10:00:12:01", told.said)
+
+    def test_announced_where_nothing_is_missing(self) -> None:
+        """A jump in the distance that is usual is none of these, nor is one without a jump."""
+        made = self.multiplexed(self.sent(), 0, 0, 1)
+        at = of_pid(made, AT + 60)[0]
+        says = lost(made, 1, True)[of_pid(made, AT)[0]]
+        told = self.judge([*made[:at], says, *made[at:]])
+        self.must("usual", told.word == "refused" and told.result["lost"] == [], told.said)

@@ -1,0 +1,260 @@
+"""JSON results: the schema is made of their table, all that is written fits it, and whatever stands
+in a file that is read back is a result, or a pair that was not judged.
+"""
+from __future__ import annotations
+
+import argparse
+import contextlib
+import copy
+import io
+import json
+import os
+import random
+import sys
+from typing import Any, Iterator, Sequence
+from unittest import mock
+
+from subtitles.calls import collecting, machine, objects
+from subtitles.calls.batch import Calls, kept_rows
+from subtitles.calls.channel.results import Results
+from subtitles.calls.machine import object_of
+from subtitles.calls.members import FAULT as ROWS_OF_FAULT
+from subtitles.calls.objects import object_at, unjudged
+from subtitles.calls.pairs import Item
+from subtitles.calls.result import FORMAT, LISTS, VERDICT, misfit, schema
+from subtitles.calls.watching import Watch
+from subtitles.core.built import TOP, read
+from subtitles.core.shapes import Listed, Integer
+from subtitles.core.told import SILENT, UNDECIDED
+from subtitles.core.words import Stop
+from subtitles.qc.made_with import MadeWith
+from subtitles.qc.typed import Typed
+from .. import DEV
+from ..pages import SCHEMA, laid_out
+from .bench import Case, example_bytes
+from .judged import judged
+from .parts import asked_for
+from .results import FAULT, result, schema as read_schema, second_reader, wrong_in
+from .test_channel_tables import defaults
+
+SEED, CHANGES = 20261128, 900
+RANDOM_CALLS = 5_000, 5_016  # numbers of calls that no table has
+STRANGE: list[Any] = [
+    None, True, False, -1, 0, 1, 80, 5.5, 1 << 53, 1 << 62, "", "x", "refused 72 X", "\x1b[31m",
+    "\ud800", "\udce9", "<script>alert(1)</script>", "=1+1", "99:99:99:99", "x" * 70_000, "\n", [],
+    {}, [[]], [{}], {"a": 1}, "accepted", "refused", "not judged", "2026-99-99T99:99:99Z"]
+# Texts of files, and why each is no result.
+TEXTS = {
+    b"[" * 100_000: "it is too deep", b'{"a":' * 100_000: "it is too deep",
+    b'{"verdict": ' + b"9" * 5_000 + b"}": "is no number", b'{"verdict": NaN}': "is no number",
+    b'{"verdict": -Infinity}': "is no number", b"": "Expecting value", b"\xff": "codec can't decode",
+    b"\xef\xbb\xbf{}": "Unexpected UTF-8 BOM", b'{"verdict"': "Expecting"}
+
+
+def changed(known: Any, chance: random.Random) -> Any:
+    """A result of which one value is another one, is gone, or stands beside another one."""
+    made = copy.deepcopy(known)
+    places = [*places_in(made)]
+    holder, key = chance.choice(places)
+    how = chance.randrange(8)
+    if how == 0:
+        del holder[key]
+    elif how == 1 and isinstance(holder, dict):
+        holder[f"{key}x"] = holder[key]
+    elif how == 2:
+        other, place = chance.choice(places)
+        with contextlib.suppress(KeyError, IndexError):
+            holder[key] = copy.deepcopy(other[place])
+    else:
+        holder[key] = chance.choice(STRANGE)
+    return made
+
+
+def places_in(value: Any) -> Iterator[tuple[Any, Any]]:
+    """Each list or object with each place in it."""
+    keys: Sequence[Any] = list(value) if isinstance(value, dict) else \
+        range(len(value)) if isinstance(value, list) else ()
+    for key in keys:
+        yield value, key
+        yield from places_in(value[key])
+
+
+class Written(Case):
+    """The schema, and what is written."""
+
+    is_alone = True  # it changes the table
+
+    def test_schema_is_made(self) -> None:
+        """It is what dev/make-pages makes of the table, and is a schema."""
+        self.must("made", read(os.path.join(TOP, SCHEMA)) == laid_out(schema()) + "\n", "dev/make-pages")
+        self.must("read", second_reader() is None or second_reader().schema == read_schema())
+
+    def test_new_member(self) -> None:
+        """A row of the table is a member of what is written, of the schema, and of what is read."""
+        row = ROWS_OF_FAULT.members[0]._replace(name="new", shape=Integer(3, 3), of=lambda _: 3)
+        with mock.patch.multiple(ROWS_OF_FAULT, members=(*ROWS_OF_FAULT.members, row),
+                                 shapes={**ROWS_OF_FAULT.shapes, "new": row.shape},
+                                 needed={*ROWS_OF_FAULT.needed, "new"}):
+            found = self.judge()
+            self.must("written", [one["new"] for one in found["faults"]] == [3] * 4, found)
+            known = schema()["definitions"]["fault"]
+            self.must("schema", known["properties"]["new"] == {
+                "description": row.meaning, "type": "integer", "minimum": 3, "maximum": 3} or
+                known["properties"]["new"]["maximum"] == 3, known["properties"]["new"])
+            self.must("read", misfit(result(faults=[FAULT])) == ".faults[0].new" and
+                      misfit(found) is None)
+        self.must("no more", misfit(found) == ".faults[0].new")
+
+    def judge(self) -> dict[str, Any]:
+        """The result of a recording with four faults."""
+        stl = self.write("story.stl", example_bytes("story.stl"))
+        return judged(self, stl, self.write("x.pes", example_bytes("five-faults.pes"))).result
+
+    def test_numbers_of_faults(self) -> None:
+        """All that `check` refuses."""
+        for number, fits in ((9, False), (10, True), (UNDECIDED, True), (SILENT, True), (80, False)):
+            known = result(faults=[{**FAULT, "number": number}])
+            self.must(f"{number}", (misfit(known) is None) == fits != any(
+                wrong_in(known, read_schema())))
+
+    def test_bounds(self) -> None:
+        """What is left out is counted, of each list; what fits no more is not begun."""
+        whole = self.judge()
+        self.must("all", not any(whole["left_out"].values()), whole["left_out"])
+        faults = next(one for one in LISTS if one.name == "faults").shape
+        for most in (0, 1, 3, 4):
+            with mock.patch.object(faults, "most", most):
+                known = self.judge()
+            self.must(f"{most}", known["faults"] == whole["faults"][:most] and
+                      known["left_out"] == {**whole["left_out"], "faults": 4 - most}, known)
+        with mock.patch.object(machine, "MOST_BYTES", 0):
+            known = self.judge()
+        counts = {one.name: len(whole[one.name]) for one in LISTS}
+        self.must("none", known["left_out"] == counts and known["fault_count"] == 4, known)
+        size = sum(len(json.dumps(one, ensure_ascii=False)) for name in counts
+                   for one in whole[name])
+        for room, left in ((size, 0), (size - 1, 1)):
+            with mock.patch.object(machine, "MOST_BYTES", room):
+                self.must(f"{room}", self.judge()["left_out"]["subtitles"] == left)
+
+    def test_longest(self) -> None:
+        """A text that is too long is cut; what can't be cut is no result."""
+        self.must("cut", len(unjudged("x", "y" * 70_000)["reason"]) == 65_536 and
+                  misfit(unjudged("x", "y" * 70_000)) is None)
+        found = judged(self, self.write("story.stl", example_bytes("story.stl")))
+        program = MadeWith("1", "0" * 64, None)
+        found.verdict.reason = "why"
+        known = json.loads("".join(object_of(found.verdict, program)))
+        self.must("not judged", known["verdict"] == "not judged" and misfit(known) is None)
+        for name, value in (("seconds", -1.0), ("date", "today")):
+            vars(found.verdict)[name] = value
+            with self.assertRaises(ValueError):
+                list(object_of(found.verdict, program))
+
+    def test_random_calls(self) -> None:
+        """Results of calls that no table has."""
+        done = self.call([sys.executable, "-m", "developing.tests.at_random", self.bench.program,
+                          *map(str, RANDOM_CALLS)], env={**os.environ, "PYTHONPATH": os.pathsep.join(
+                              [DEV, *os.environ.get("PYTHONPATH", "").split(":")])})
+        self.must("all fit", done.status == 0 and len(done.out.splitlines()) ==
+                  RANDOM_CALLS[1] - RANDOM_CALLS[0], done.told)
+
+
+class ReadBack(Case):
+    """Results that strangers wrote."""
+
+    is_alone = True  # it takes what is printed
+
+    def test_table_and_schema_agree(self) -> None:
+        """Of changed results both say the same; so does a second reader, where there is one."""
+        chance, fitting = random.Random(SEED), 0
+        known = [self.known(), unjudged("one", "why", True)]
+        for number in range(CHANGES):
+            made = changed(known[number % 9 == 8], chance)
+            wrong = [*wrong_in(made, read_schema())]
+            is_pair = isinstance(made, dict) and "pairs" not in made
+            self.must(f"{number}", not is_pair or (misfit(made) is None) == (not wrong),
+                      (wrong, misfit(made)))
+            if second_reader() and number % 9 == 0:
+                self.must(f"{number}: second reader",
+                          second_reader().is_valid(made) == (not wrong), wrong)
+            fitting += not wrong
+        self.must("some of each", CHANGES // 20 < fitting < CHANGES // 2, fitting)
+
+    def known(self) -> dict[str, Any]:
+        """A result with something of each kind."""
+        stl = self.write("story.stl", example_bytes("story.stl"))
+        ts = self.write("x.pes", example_bytes("five-faults.pes"))
+        return judged(self, stl, ts, "--every", "25").result
+
+    def words(self, **more: Any) -> argparse.Namespace:
+        """The words of a call over a folder of results."""
+        for name in ("in", "out"):
+            os.makedirs(self.path(name), exist_ok=True)
+        words = argparse.Namespace(**vars(defaults()))
+        vars(words).update({
+            "watch": self.path("in"), "out": self.path("out"), "collect": self.path("out"),
+            "settled": 0, "is_kept": False, "csv": self.path("x.csv"), "junit": self.path("x.xml"),
+            "json": self.path("x.json"), **more})
+        return words
+
+    def all_read(self) -> list[dict[str, Any]]:
+        """What each mode that reads results says of those in a folder; the names of all."""
+        words, typed = self.words(), Typed("tools/qc", self.bench.program)
+        with contextlib.redirect_stdout(io.StringIO()), contextlib.redirect_stderr(io.StringIO()):
+            status = collecting.collect(words)
+            rows = [Watch(words, typed).rows, Results(words, self.folder).rows]
+        for known in rows:
+            collecting.write_index(self.path("out"), [*known.values()])
+        names = sorted(name.removesuffix(".json") for name in os.listdir(self.path("out"))
+                       if name.endswith(".json"))
+        self.must("names", [sorted(known) for known in rows] == [names] * 2, rows)
+        calls = Calls(typed, self.folder, self.path("out"), False)
+        asked = asked_for(self.path("story.stl"), self.path("x.pes"))
+        kept_rows(calls, [Item(name, asked, None) for name in names])
+        pairs: list[dict[str, Any]] = json.loads(self.read("x.json"))["pairs"]
+        self.must("all pairs", len(pairs) == len(names) and status == 2, (len(pairs), names))
+        self.must("all fit", all(misfit(one) is None for one in pairs))
+        return pairs
+
+    def test_changed_results(self) -> None:
+        """No changed result ends a call, and each is a pair by its name."""
+        chance, known = random.Random(SEED + 1), self.known()
+        self.words()
+        for number in range(CHANGES // 6):
+            made = changed(known, chance)
+            if isinstance(made, dict) and "verdict" in made:
+                self.write(f"out/{number:03}.json", json.dumps(made).encode())
+        self.write("out/none.json", b"{")
+        pairs = self.all_read()
+        self.must("some fit", sum("asked" in one for one in pairs) > 5)
+        self.must("by name", all("asked" in one or one["name"] in {"none", *(
+            f"{number:03}" for number in range(CHANGES))} for one in pairs))
+
+    def test_no_results(self) -> None:
+        """What is too deep, too large, or no JSON at all."""
+        self.known()
+        self.words()
+        for number, (text, told) in enumerate(TEXTS.items()):
+            path = self.write(f"out/{number}.json", text)
+            found = object_at(path)
+            self.must(told, found is not None and found["verdict"] == "not judged" and
+                      found["name"] == f"{number}" and told in found["reason"], found)
+        self.write("out/whole.json", json.dumps(result("accepted")).encode())
+        self.all_read()
+        size = os.path.getsize(self.path("out/whole.json"))
+        for most, is_read in ((size, True), (size - 1, False)):
+            with mock.patch.object(objects, "MOST_READ", most):
+                found = object_at(self.path("out/whole.json"))
+            self.must(f"{most}", found is not None and (found["verdict"] == "accepted") == is_read,
+                      found)
+        os.mkdir(self.path("empty"))
+        self.assertRaises(Stop, collecting.collect, self.words(collect=self.path("empty")))
+
+    def test_written_is_read(self) -> None:
+        """The greatest number of items is less than half of what is read back."""
+        known = self.known()
+        self.must("it fits", misfit(known) is None and known["format"] == FORMAT)
+        self.must("all lists", {one.name for one in VERDICT.members
+                                if isinstance(one.shape, Listed)} == {one.name for one in LISTS})
+        self.must("room", objects.MOST_READ == 2 * machine.MOST_BYTES)

@@ -1,0 +1,284 @@
+"""Rows of the table of JSON results: what stands in a result, by what it is of. `result` has the
+result itself.
+"""
+from __future__ import annotations
+
+from typing import NamedTuple
+
+from ..core.layout import text_of
+from ..core.national import WORDS
+from ..core.shapes import Flag, Listed, Maybe, Member, OneOf, Record, Text, Integer, named
+from ..core.times import CLOCK, FRAMES_OF_A_DAY
+from ..core.words import MOST_EVERY, MOST_WITHIN, NO_PID, PACKET_SIZES
+from ..qc.causes import NAMES
+from ..qc.clock import SOURCES
+from ..qc.options import passed_members
+from ..qc.part import Part
+from ..qc.status import STATUSES
+
+MOST_ITEMS = 1000  # of a layout
+MOST_NUMBER = (1 << 53) - 1  # the greatest that each reader of JSON takes as it is
+FIRST_FAULT, LAST_FAULT = 10, 79  # numbers of what is refused
+
+
+TIME = named("time", Text(r"[0-9]{2}:[0-9]{2}:[0-9]{2}:[0-9]{2}"))
+CODE_TIME = named("code_time", Text(r"[0-9]{2,3}(:[0-9]{2,3}){3}"))
+DATE = named("date", Text(r"[0-9]{4}-[0-9]{2}-[0-9]{2}T[0-9]{2}:[0-9]{2}:[0-9]{2}Z"))
+COUNT = named("count", Integer(0, MOST_NUMBER))
+PTS = named("pts", Integer(0, CLOCK - 1))
+PID = named("pid", Integer(0, NO_PID - 1))
+PART = named("part_number", Integer(1, MOST_NUMBER), "The part, from 1.")
+SUM = named("sum", Text(r"[0-9a-f]{64}"), "SHA-256.")
+STATUS = named("status", OneOf(*sorted({*STATUSES.values()})),
+               "The exit status: 0 accepted or waived, 1 not accepted, 2 not judged.")
+WORD = named("word", OneOf(*STATUSES), "waived: refused by faults that --severity, or --allow-lost, "
+             "names warnings, and by no other (status 0). lost: what was seen is accepted or waived, "
+             "and TS packets are missing. warned: with --strict, what was seen is accepted or "
+             "waived, and there are warnings.")
+
+FOUND_FILE = Record(
+    "found", "",
+    Member("size", COUNT),
+    Member("modified", Text(r"[0-9-]{10,20}T[0-9:]{8}[.][0-9]{9}Z"),
+           "When it was last written to, in UTC."))
+
+FILE = Record(
+    "file", "",
+    Member("name", Maybe(Text()), "null for what was judged, where it was not kept."),
+    Member("size", COUNT),
+    Member("sha256", SUM))
+
+SUBTITLE = Record(
+    "subtitle", "The place in the file, SN, TCI and TCO.",
+    Member("position", COUNT, "From 1, in the subtitle file or in that of the part. A comment or "
+           "user data has that of the subtitle before."),
+    Member("number", Integer(0, 65535)),
+    Member("begin", CODE_TIME),
+    Member("end", CODE_TIME))
+
+CAUSE_NAME = named("cause_name", OneOf(*NAMES))
+OF_CAUSE = (
+    Member("subtitle", SUBTITLE),
+    Member("cause", CAUSE_NAME),
+    Member("frames", Maybe(Integer(1, FRAMES_OF_A_DAY)),
+           "By how many frames it is late or early; null for the others."),
+    Member("text", Text(), "The subtitle's text, its rows joined by a slash."),
+    Member("sent", Maybe(Text()), "The text that is sent; null where nothing is."),
+    Member("other", Maybe(Integer(0, 65535)), "The number (SN) of the subtitle whose text that is."),
+    Member("other_position", Maybe(Integer(1, MOST_NUMBER)),
+           "The place of that subtitle in the file, from 1."),
+    Member("words", Text(), "The cause as it is printed."))
+CAUSE = Record("cause", "Why a subtitle is held otherwise than it is due. All 72s of its time share "
+               "it, those after its TCO and those of its early coming too.", *OF_CAUSE)
+LISTED_CAUSE = Record("listed_cause", "A cause with the part that it is of.",
+                      Member("part", PART), *OF_CAUSE)
+
+CELL = Record(
+    "cell", "",
+    Member("code", Text(r"[0-7][0-9A-F]")),
+    Member("character", Maybe(Text()), "null for a spacing attribute."))
+
+FAULT = Record(
+    "fault", "",
+    Member("part", PART),
+    Member("line", Text(r"refused [ -~]+", 200), "That of check --all."),
+    Member("number", Integer(FIRST_FAULT, LAST_FAULT)),
+    Member("name", Text(r"[A-Za-z]+", 40)),
+    Member("severity", OneOf("error", "warning")),
+    Member("file", OneOf("stl", "pes")),
+    Member("block", Maybe(COUNT), "The TTI block from 1; 0 is the GSI block."),
+    Member("subtitle", Maybe(SUBTITLE),
+           "That of the block, or the one that is due at the frame."),
+    Member("byte", Maybe(Text(r"[0-9A-F]{2}")),
+           "The byte that 50 and 51 name, in hexadecimal."),
+    Member("character", Maybe(Text()),
+           "Its character, after an accent with the letter; null for a control code."),
+    Member("text_at", Maybe(COUNT),
+           "For 50 and 51 that byte of the text, for 52 to 55 the line, from 0."),
+    Member("pes", Maybe(COUNT), "The PES packet of the recording, from 0, of a feed of what was "
+           "judged; of several in a frame the one that holds the packet, or the last one; null in a "
+           "gap between two."),
+    Member("pes_pts", Maybe(PTS)),
+    Member("pes_time", Maybe(TIME)),
+    Member("packet", Maybe(COUNT), "The Teletext packet of that PES packet, from 0; of several in a "
+           "frame it is counted on from one to the next."),
+    Member("frame", Maybe(Integer(0, FRAMES_OF_A_DAY - 1)), "The frame of the day, 0 to 2159999."),
+    Member("time", Maybe(TIME)),
+    Member("row", Maybe(Integer(1, 24))),
+    Member("column", Maybe(Integer(0, 39))),
+    Member("due", Maybe(CELL), "For 72."),
+    Member("held", Maybe(CELL), "For 72; null also where nothing was sent there."),
+    Member("until", Maybe(TIME),
+           "The last frame at whose end the fault lasted, for 72, 73, 77 and 78."),
+    Member("until_pes", Maybe(COUNT),
+           "The last of the PES packets that were skipped, for 33 to 40, 45 and 61."),
+    Member("means", Text(), "What the manual says that it means."),
+    Member("do", Text(), "What the manual says to do."),
+    Member("cause", Maybe(CAUSE), "For 72: that of the subtitle whose fault it is. For 63 and 74 "
+           "too, where the recording goes on there; else null."))
+
+ASKED = Record(
+    "asked", "",
+    Member("stl", Text(), "The subtitle file as it was typed."),
+    Member("recording", Maybe(Text())),
+    Member("page", Text(r"[1-8][0-9A-F]{2}"), of=lambda asked: asked.page_name),
+    Member("every", Integer(1, MOST_EVERY)),
+    Member("option", OneOf(*WORDS)),
+    Member("origin", Maybe(PTS),
+           "null where it was to be found; the one that was used is in the part."),
+    Member("complete", Flag(), of=lambda asked: asked.is_complete),
+    Member("pid", Maybe(PID)),
+    Member("allow_lost", Flag(), of=lambda asked: asked.is_loss_allowed),
+    Member("severity", Maybe(Text()), "The name of the file."),
+    Member("breaks", COUNT, "How many the programme has."),
+    Member("pes", Maybe(Listed(COUNT, 2, 2)),
+           "The numbers of the first and the last PES packet that may be judged."),
+    Member("start", Maybe(Text()), "The time code of the first picture, or tcp."),
+    Member("within", Integer(0, MOST_WITHIN), "The frames within which a page has to be whole."),
+    Member("strict", Flag(), "Whether warnings count.", lambda asked: asked.is_strict),
+    Member("from", Maybe(TIME), "Only the subtitles whose TCI is then or later were judged.",
+           lambda asked: passed_members(asked.passed_on)["from"]),
+    Member("to", Maybe(TIME), "Only the subtitles whose TCI is before were judged.",
+           lambda asked: passed_members(asked.passed_on)["to"]),
+    Member("layout", Maybe(Text()),
+           "How pages are drawn that are due; auto: as they were sent, see layout.",
+           lambda asked: passed_members(asked.passed_on)["layout"]),
+    Member("open", Flag(), "Whether open subtitles are taken too.",
+           lambda asked: passed_members(asked.passed_on)["open"]),
+    Member("keeping", Flag(), "Whether headers that repeat the page may keep it.",
+           lambda asked: passed_members(asked.passed_on)["keeping"]),
+    Member("pace", Maybe(Text(r"(none|[1-9][0-9]{0,6})")), "How many frames apart PES packets may "
+           "be at most; none: not asked; null where it was to be found: the one that was used is in "
+           "the part.", lambda asked: passed_members(asked.passed_on)["pace"]))
+
+CLOCK_OF_PART = Record(
+    "clock", "Where the origin is from; null where no recording was judged.",
+    Member("origin", PTS),
+    Member("source", OneOf(*SOURCES),
+           "Fitted to the recording, given as --origin, or as --start by a time or tcp."),
+    Member("delay_frames", Maybe(Integer(-FRAMES_OF_A_DAY, FRAMES_OF_A_DAY)), "How many frames later "
+           "than by the clock the edges of the subtitles came; null where that is not known, as "
+           "with a clock that was fitted to the recording."))
+
+
+class PartOf(NamedTuple):
+    """A part, and whether what is judged of it stays in a folder."""
+
+    part: Part
+    is_kept: bool
+
+    @property
+    def judged(self) -> dict[str, object] | None:
+        """What is judged of a feed; it has a name where it is kept."""
+        file = self.part.judged
+        return file and {**file._asdict(), **({} if self.is_kept else {"name": None})}
+
+
+JUDGED_PART = Record(
+    "part", "",
+    Member("part", PART, of=lambda of: of.part.number),
+    Member("stl", Text(), "The subtitle file, as in asked.", lambda of: of.part.asked.stl),
+    Member("origin", Maybe(PTS), of=lambda of: of.part.origin),
+    Member("from", Maybe(TIME), of=lambda of: of.part.times()[0]),
+    Member("to", Maybe(TIME), of=lambda of: of.part.times()[1]),
+    Member("verdict", OneOf("accepted", "refused", "not judged"), "not judged: a signal stopped the "
+           "call, and what was reported so far is here.", lambda of: of.part.answer.verdict),
+    Member("line", Text(), "That of check without --all.", lambda of: of.part.answer.line),
+    Member("frames", Maybe(COUNT), of=lambda of: of.part.answer.frames),
+    Member("transmissions", Maybe(COUNT), of=lambda of: of.part.answer.transmissions),
+    Member("faults", COUNT, of=lambda of: of.part.answer.count),
+    Member("pid", Maybe(PID), "The PID of what was judged of a transport stream; null of PES "
+           "packets.", lambda of: (of.part.stream or (None, None))[0]),
+    Member("packet_size", OneOf(*PACKET_SIZES, None), "Bytes from a TS packet to the next one, "
+           "where it is a transport stream.", lambda of: (of.part.stream or (None, None))[1]),
+    Member("pes", Maybe(Text(r"[0-9]+-[0-9]+", 40)), "The PES packets of the recording that were "
+           "judged, the first and the last one as --pes has them, from 0; null where all of a feed "
+           "that was handed on was judged, or no recording.", lambda of: of.part.pes_name),
+    Member("pace", Maybe(Integer(1, MOST_EVERY)), "The frames from a PES packet to the next one at "
+           "most by which it was judged: what was asked, or was found where PES packets are "
+           "regular; null where none was.", lambda of: of.part.asked.pace),
+    Member("judged", Maybe(FILE), "The PES packets of a feed that were judged; null of a file, which "
+           "can be read once more."),
+    Member("clock", Maybe(CLOCK_OF_PART), of=lambda of: of.part.clock))
+
+GAP = Record(
+    "gap", "A place of the recording at which something is missing, between two PES packets: where "
+    "there is a mark among them, or by the PCR alone.",
+    Member("after", Maybe(TIME)),
+    Member("before", Maybe(TIME)),
+    Member("after_pts", Maybe(PTS), of=lambda gap: gap.place.before),
+    Member("before_pts", Maybe(PTS), of=lambda gap: gap.place.after),
+    Member("pes", Maybe(COUNT), "The number of the mark among the PES packets, which check reports "
+           "as 45 where it is judged; null by the PCR alone.", lambda gap: gap.place.mark),
+    Member("ts_packets", COUNT, "Missing by their counters: 16 more are not seen by these.",
+           lambda gap: gap.place.lost),
+    Member("scrambled", COUNT, of=lambda gap: gap.place.scrambled),
+    Member("missing", COUNT, "For how many ticks more the PCR goes on than it usually does, where "
+           "that shows it.", lambda gap: gap.place.missing),
+    Member("judged", Flag(), "Whether the verdict speaks of frames between.",
+           lambda gap: gap.is_judged))
+
+WARNING = Record(
+    "warning", "",
+    Member("kind", OneOf(
+        "pts_behind", "pts_early", "pts_changed", "page", "type", "language", "option",
+        "character_set", "repeat", "clock_jump", "pause", "pid", "blocks", "subtitles", "grew",
+        "cut"), "PTS of the Teletext against the PCR; a clock that jumps; what the PMT announces "
+           "(page, type, language, option: letters of another national option than the page was "
+           "judged by); a character set that a packet X/28 or M/29 names; how often the page is "
+           "repeated; how many TTI blocks (TNB) and subtitles (TNS) the GSI block counts; no PES "
+           "packet for some frames, of what else sends one in each frame but few (pause); a page "
+           "that the PMT moves to another PID (pid); a file that grew while it was read, or that "
+           "ends within a PES packet."),
+    Member("line", Text()),
+    Member("time", Maybe(TIME), "Of the first place, where there is one."))
+
+TRUSTED = Record("trusted", "", Member("part", PART), Member("from", TIME), Member("to", TIME))
+
+WHOLE = Record(
+    "whole", "A subtitle, and when its page was whole.",
+    Member("part", PART),
+    Member("position", Integer(1, MOST_NUMBER)),
+    Member("number", Integer(0, 65535)),
+    Member("begin", TIME),
+    Member("end", TIME),
+    Member("whole_after", Maybe(COUNT), "How many frames after its TCI its page was whole, and where "
+           "complete pages are asked for ended; null where it never was while it was due, or nobody "
+           "saw it: of one too that was due before the recording has anything of the page."))
+
+LAYOUT_ITEM = Record(
+    "layout_item", "",
+    Member("text", Text()),
+    Member("decides", Integer(10, MOST_NUMBER),
+           "How many subtitles are drawn otherwise without it."),
+    Member("drawn", Integer(9, MOST_NUMBER),
+           "How many of these were sent as they are drawn with it."))
+
+LAYOUT_LEFT = Record(
+    "layout_left", "",
+    Member("text", Text()),
+    Member("more", Integer(1, MOST_NUMBER),
+           "How many more subtitles would be drawn as they were sent."),
+    Member("whole", Text(), "The whole TEXT for --layout."))
+
+LAYOUT = Record(
+    "layout", "The layout that --layout auto found; text is empty where it is that without an "
+    "option.",
+    Member("text", Text(), of=lambda choice: text_of(choice.layout)),
+    Member("drawn", COUNT, "How many subtitles it draws as they were sent."),
+    Member("found", COUNT, "How many were sent with their letters."),
+    Member("items", Listed(LAYOUT_ITEM, MOST_ITEMS),
+           "On what each item rests; of strip each code is one."),
+    Member("left", Listed(LAYOUT_LEFT, MOST_ITEMS), "Items that are not taken, and would draw more: "
+           "too few subtitles show them, or they take from a page what a viewer sees."))
+
+PROGRAM = Record(
+    "program", "",
+    Member("version", Text()),
+    Member("sha256", SUM),
+    Member("proved", Maybe(Text()), "The prover's line, where there is one beside the program."))
+
+SPREAD = Record("spread", "", *(Member(name, COUNT) for name in (
+    "least", "middle", "greatest", "never")))
+
+COUNTS = Record("counts", "", Member("judged", COUNT), Member("refused", COUNT))
