@@ -12,9 +12,8 @@ use Rattle.stl_rows.specs.declared.layout.Drawing.{Drawing}
 use Rattle.sub_plan.specs.Options.{OptionsValue}
 use Rattle.sub_rules.specs.Repeats.{GoodBy}
 use Rattle.sub_rules.specs.Transmission.{Transmission}
-use Rattle.sub_laws.proofs.GoodWithinLemmas.{law_of_no_delay}
+use Rattle.sub_laws.proofs.GoodByLemmas.{law_of_no_delay}
 use Rattle.sub_laws.proofs.PesFileLemmas.{law_of_exact_frames}
-use Rattle.sub_laws.proofs.RepeatLemmas.{law_of_no_repeats}
 use Rattle.sub_check.specs.CheckedFiles.{IsAccepted, IsAcceptedBy, Mean, MeanWithin}
 use Rattle.sub_headline.specs.Acceptance.{LawOfPlainAcceptance}
 
@@ -76,8 +75,7 @@ there drawing options stl pes off none is =
     let good =
     (law_of_no_delay programme is.transmission options
     (programme_of drawing options stl pes is.subtitles is.transmission mean) none).0
-    ((law_of_no_repeats programme is.transmission options).0
-    (subst (λ (k : Bool). GoodBy k programme is.transmission options) off is.good)) in
+    (subst (λ (k : Bool). GoodBy k programme is.transmission options) off is.good) in
     record {
       subtitles = is.subtitles;
       transmission = is.transmission;
@@ -100,10 +98,9 @@ back drawing options stl pes off none is =
       mean = of_exact drawing options stl pes is.subtitles is.transmission none is.mean;
       good =
           subst (λ (k : Bool). GoodBy k programme is.transmission options) (sym off)
-          ((law_of_no_repeats programme is.transmission options).1
           ((law_of_no_delay programme is.transmission options
           (programme_of drawing options stl pes is.subtitles is.transmission is.mean) none).1
-          (is.good, is.complete)));
+          (is.good, is.complete));
     }
 
 pub law_of_plain_acceptance : LawOfPlainAcceptance

@@ -25,7 +25,7 @@ use Rattle.sub_files.specs.FileCalls.{CallsInTurn}
 use Rattle.sub_files.specs.MemoryFiles.{IsMemoryCall, MemFilesValue, bytes_at}
 use Rattle.sub_words.specs.Requests.{Asked, AsksFor, asked_by}
 use Rattle.sub_rules.specs.Transmission.{on_air}
-use Rattle.sub_laws.proofs.GoodWithinLemmas.{begins_in, ends_in}
+use Rattle.sub_laws.proofs.GoodByLemmas.{begins_in, ends_in}
 use Rattle.sub_laws.proofs.RobustLemmas.{law_of_good}
 use Rattle.sub_check.specs.CheckedFiles.{IsAccepted, IsAcceptedBy}
 use Rattle.sub_listing.specs.Listing.{exit_code}

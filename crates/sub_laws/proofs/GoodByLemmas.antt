@@ -1,8 +1,7 @@
 -- For what may be late, schedules and what is told.
--- A transmission that is good within some frames has what suffices, `suffices_with_delay`, and so
--- all that is promised of it, `law_of_good_within`. Within none that is what is good,
--- `law_of_no_delay`; within more it stays so, `law_of_longer_delay`; and a schedule is good within
--- any number, `law_of_plan_within`.
+-- A transmission that is good by options keeps all that is promised of it, `law_of_good_repeats`.
+-- Within no frame, where no repeat may keep the page, that is what is good, `law_of_no_delay`; and
+-- a schedule is good by any options, `law_of_plan_repeats`.
 use Rattle.std.proofs.lemmas.Bool.Decides.{nat_tests}
 use Rattle.std.proofs.Common.{◌≡◌, ℕ, ◌-◌, ◌<◌, ◌≤◌, inl, inr, Bool, true, false}
 use Rattle.std.proofs.Common.{length, get_or, option_map, IsTrue, ap, subst, arith}
@@ -15,25 +14,22 @@ use Rattle.ttx_page.specs.Span.{is_unended}
 use Rattle.stl_file.specs.Subtitle.{SubtitleValue}
 use Rattle.stl_rows.specs.Programme.{IsProgramme, ProgrammeValue, first_in, last_out}
 use Rattle.sub_plan.specs.Options.{OptionsValue}
+use Rattle.sub_plan.specs.Schedule.{due_in}
 use Rattle.sub_rules.specs.Good.{Good}
-use Rattle.sub_rules.specs.GoodWithin.{GoodWithin, IsFinished}
-use Rattle.sub_rules.specs.Repeats.{GoodBy}
+use Rattle.sub_rules.specs.Repeats.{GoodBy, IsFinishedBy}
 use Rattle.sub_rules.specs.Transmission.{IsRising, Transmission, first_frame, last_frame}
 use Rattle.sub_rules.specs.Transmission.{on_air_until}
-use Rattle.sub_laws.specs.DelayLaws.{LawOfGoodWithin, LawOfLongerDelay, LawOfNoDelay}
-use Rattle.sub_laws.specs.DelayLaws.{LawOfPlanWithin, LawOfSufficientPartsWithDelay}
+use Rattle.sub_laws.specs.AtOnce.{LawOfNoDelay}
 use Rattle.sub_laws.specs.OnScreen.{Complete}
 use Rattle.sub_laws.specs.Planned.{planned}
-use Rattle.sub_laws.specs.Repeats.{LawOfPlanRepeats}
+use Rattle.sub_laws.specs.Repeats.{LawOfGoodRepeats, LawOfPlanRepeats}
 use Rattle.sub_laws.proofs.DelayLemmas.{ended_of_complete, finished_at_once}
-use Rattle.sub_laws.proofs.DelayLemmas.{law_of_stretch_with_delay}
+use Rattle.sub_laws.proofs.DelayLemmas.{law_of_repeated_stretch, law_of_right_cells}
 use Rattle.sub_laws.proofs.GoodLemmas.{rises_each}
 use Rattle.sub_laws.proofs.PlanLemmas.{law_of_complete_plan, law_of_plan}
 use Rattle.sub_laws.proofs.PrefixLemmas.{first-same, last-same, rises_to}
-use Rattle.sub_laws.proofs.RepeatLemmas.{law_of_longer_repeats, law_of_may_keep, law_of_no_repeats}
-use Rattle.sub_laws.proofs.RobustLemmas.{sound_stretch}
+use Rattle.sub_laws.proofs.RepeatLemmas.{law_of_may_keep, repeated_stretch, rules_by, rules_of}
 use Rattle.sub_laws.proofs.SoundStretchLemmas.{last_of_two}
-use Rattle.sub_laws.proofs.StretchLemmas.{law_of_whole_stretch_with_delay}
 
 -- ---- the frames of subtitles
 
@@ -92,18 +88,28 @@ first_to_last transmission some rising =
 
 -- ---- what is promised
 
--- What is good within some frames has what suffices, in all its frames.
-pub suffices_with_delay : LawOfSufficientPartsWithDelay
-suffices_with_delay = grind (arith, nat_tests, sound_stretch, begins_in)
+-- A good transmission has what suffices, in all its frames; and of a programme it keeps all that is
+-- promised.
+pub law_of_good_repeats : LawOfGoodRepeats
+law_of_good_repeats keeps programme transmission options good =
+    let law =
+    law_of_repeated_stretch keeps programme transmission options (first_frame transmission)
+    (last_frame transmission)
+    (repeated_stretch keeps programme transmission options good.rules) good.codes in (
+      law.0,
+      λ is.
+          law.1
+          (record {
+            again = good.again;
+            subtitles = λ k d within low high. good.subtitles k d within;
+            begun = λ from k d within before.
+                let begins =
+                begins_in programme transmission is good.rules.starts good.rules.lasts k d within in
+                absurd (omega arith);
+          }),
+    )
 
--- What is promised of it.
-pub law_of_good_within : LawOfGoodWithin
-law_of_good_within programme transmission options is good =
-    law_of_whole_stretch_with_delay programme transmission options
-    (law_of_stretch_with_delay programme transmission options (first_frame transmission)
-    (last_frame transmission) (suffices_with_delay programme transmission options is good))
-
--- ---- within no frame
+-- ---- within no frame, where no repeat may keep
 
 module _ (programme : ProgrammeValue) (transmission : Transmission) (options : OptionsValue) where
   module _ (is : IsProgramme programme.drawing programme.records)
@@ -114,47 +120,63 @@ module _ (programme : ProgrammeValue) (transmission : Transmission) (options : O
         (f : ℕ)
         → first_frame transmission ≤ f
         → f ≤ last_frame transmission
-        → IsFinished programme transmission options f
-    finished f low high = grind (arith, nat_tests, ended_of_complete)
-
-    -- So it is good within any number of frames.
-    pub good_within : GoodWithin programme transmission options
-    good_within = record {
-      rules = good.rules;
-      shows = record {
-        codes = λ f row column low high named.
-            inr (f, low, le_refl f, omega arith, good.content f row column low high named);
-        again = λ f low high. (f, le_refl f, omega arith, finished f low (omega (arith, high)));
-        subtitles = λ k d within.
-            let t : SubtitleValue = get_or programme.records k d in
-            let some =
-            has_frame programme transmission is good.rules.starts good.rules.lasts k d within in
-            let begins =
-            begins_in programme transmission is good.rules.starts good.rules.lasts k d within in
-            let ends =
-            ends_in programme transmission is good.rules.starts good.rules.lasts k d within in (
-              t.tci,
-              le_refl t.tci,
-              omega (arith, some),
-              finished t.tci begins (omega (arith, some, ends)),
-            );
-        ends =
-            finished (last_frame transmission)
-            (first_to_last transmission good.rules.not_empty good.rules.rising)
-            (le_refl (last_frame transmission));
-      };
+        → IsFinishedBy false programme transmission options f
+    finished f low high = record {
+      whole = λ row column named.
+          (law_of_right_cells options.page (on_air_until transmission f) (due_in programme f) row
+          column).1
+          (good.content f row column low high named);
+      ended = λ asks.
+          ended_of_complete transmission options (first_frame transmission)
+          (last_frame transmission) f (complete asks) low high;
     }
 
-  -- Within no frame what is good is good, and of complete pages where these are asked for.
+    -- So it is good within any number of frames.
+    pub good_by : GoodBy false programme transmission options
+    good_by = record {
+      rules = rules_by programme transmission options good.rules;
+      codes = λ f row column low high named.
+          inr (
+            f,
+            low,
+            le_refl f,
+            omega arith,
+            ((finished f low high).whole row column named).kept_is,
+          );
+      again = λ f low high. (f, le_refl f, omega arith, finished f low (omega (arith, high)));
+      subtitles = λ k d within.
+          let t : SubtitleValue = get_or programme.records k d in
+          let some =
+          has_frame programme transmission is good.rules.starts good.rules.lasts k d within in
+          let begins =
+          begins_in programme transmission is good.rules.starts good.rules.lasts k d within in
+          let ends =
+          ends_in programme transmission is good.rules.starts good.rules.lasts k d within in (
+            t.tci,
+            le_refl t.tci,
+            omega (arith, some),
+            finished t.tci begins (omega (arith, some, ends)),
+          );
+      ends =
+          finished (last_frame transmission)
+          (first_to_last transmission good.rules.not_empty good.rules.rising)
+          (le_refl (last_frame transmission));
+    }
+
+  -- Within no frame what is good by options is good, and of complete pages where these are asked
+  -- for.
   good_at_once :
       options.within ≡ 0
-      → GoodWithin programme transmission options
+      → GoodBy false programme transmission options
       → Good programme transmission options
       × (IsTrue options.asks_complete → Complete transmission options)
   good_at_once none good = (
     record {
-      rules = good.rules;
-      content = λ f row column low high named. (at f low high).shows row column named;
+      rules = rules_of programme transmission options good.rules;
+      content = λ f row column low high named.
+          (law_of_right_cells options.page (on_air_until transmission f) (due_in programme f) row
+          column).0
+          ((at f low high).whole row column named);
     },
     λ asks f low high holds.
         last_of_two _ (is_unended (kind options.page) (on_air_until transmission f))
@@ -165,41 +187,26 @@ module _ (programme : ProgrammeValue) (transmission : Transmission) (options : O
           (f : ℕ)
           → first_frame transmission ≤ f
           → f ≤ last_frame transmission
-          → IsFinished programme transmission options f
+          → IsFinishedBy false programme transmission options f
       at f low high =
-          finished_at_once programme transmission options (first_frame transmission)
-          (last_frame transmission) none good.shows.again f low high
+          finished_at_once false programme transmission options (first_frame transmission)
+          (last_frame transmission) none good.again f low high
 
 pub law_of_no_delay : LawOfNoDelay
 law_of_no_delay programme transmission options is none = (
   good_at_once programme transmission options none,
-  λ good. good_within programme transmission options is good.0 good.1,
+  λ good. good_by programme transmission options is good.0 good.1,
 )
-
--- ---- within more frames
-
--- It stays good, as it does where repeats may keep.
-pub law_of_longer_delay : LawOfLongerDelay
-law_of_longer_delay programme transmission options more longer good =
-    (law_of_no_repeats programme transmission (record options { within = more })).0
-    (law_of_longer_repeats false programme transmission options more longer
-    ((law_of_no_repeats programme transmission options).1 good))
 
 -- ---- schedules
 
-pub law_of_plan_within : LawOfPlanWithin
-law_of_plan_within programme options serial is some ok slow =
-    good_within programme _ options is (law_of_plan programme options serial is some ok slow)
-    (λ asks. law_of_complete_plan programme options serial is some ok)
-
--- Where repeats may keep too.
 pub law_of_plan_repeats : LawOfPlanRepeats
 law_of_plan_repeats keeps programme options serial is some ok slow = go keeps
   where
     good : GoodBy false programme (planned programme options serial) options
     good =
-        (law_of_no_repeats programme (planned programme options serial) options).1
-        (law_of_plan_within programme options serial is some ok slow)
+        good_by programme _ options is (law_of_plan programme options serial is some ok slow)
+        (λ asks. law_of_complete_plan programme options serial is some ok)
 
     go : (b : Bool) → GoodBy b programme (planned programme options serial) options
     go false = good
