@@ -77,6 +77,26 @@ fn tells_a_file_of_pes_packets_and_where_it_ends(rt: HostRuntime) {
     assert_prints(&rt, &words, &[b"RIFF"], other);
 }
 
+// The first PES packet in another PID, 258.
+const OTHER: [u8; 4] = [0x47, 0x41, 0x02, 0x10];
+
+#[test]
+fn tells_of_the_pid_alone_that_is_asked_for(rt: HostRuntime) {
+    let stream: [&[u8]; 4] = [&BEGINS_0, &FIRST, &OTHER, &FIRST];
+    let page = ["subttx", "survey", "b", "--page", "100"];
+    let both = "survey 1\nhead 47410110000001bd00b284\nsize 188\n\
+        teletext 257\nsub 257 888\nteletext 258\nsub 258 888\n\
+        pes 257 0 1 3240000000 0 b/ 3 0\nsubs 257 888 1\nend 257 1 0 1 0 0 0 3240000000\n\
+        pes 258 0 1 3240000000 0 b/ 3 0\nsubs 258 888 1\nend 258 1 0 1 0 0 0 3240000000\n\
+        over 0 2\n";
+    assert_prints(&rt, &page, &stream, both);
+    let asked = ["subttx", "survey", "b", "--page", "100", "--pid", "258"];
+    let one = "survey 1\nhead 47410110000001bd00b284\nsize 188\nteletext 258\nsub 258 888\n\
+        pes 258 0 1 3240000000 0 b/ 3 0\nsubs 258 888 1\nend 258 1 0 1 0 0 0 3240000000\n\
+        over 0 2\n";
+    assert_prints(&rt, &asked, &stream, one);
+}
+
 #[test]
 fn tells_what_was_read_before_the_recording_failed(rt: HostRuntime) {
     let front = "survey 1\nhead 47410110000001bd00b284\nfault 41 Read pes 0\n";
