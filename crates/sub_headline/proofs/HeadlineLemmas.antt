@@ -157,24 +157,24 @@ plain_headline stl pes is =
           };
     }
 
-module _ {K : Type 0} (contents : K → Option (List ℕ)) (failure_count : K → ℕ) (output : K)
+module _ {K : Type 0} (contents : K → Option (List ℕ)) (failure_count : K → ℕ) (output left : K)
     (before after : MemFilesValue) (given : Result (List Text) UsageFault) (code : ℕ)
     (runs : RunsProgram (CallsInTurn IsMemoryCall before after) told_of_memory (λ was is. is ≡ was)
-    given contents failure_count output code)
+    given contents failure_count output left code)
     (program stl pes : Text) (file bytes : List ℕ)
-    (is_program : IsName program) (is_stl : IsName stl) (is_pes : IsName pes)
+    (is_stl : IsName stl) (is_pes : IsName pes)
     (given_is : given ≡ Ok (program ∷ codes "check" ∷ stl ∷ pes ∷ []))
     (stl_is : bytes_at stl before ≡ Some file) (pes_is : bytes_at pes before ≡ Some bytes)
     (not_two : code ≢ 2) where
   ran : HasAnswered (CallsInTurn IsMemoryCall before after) told_of_memory (λ was is. is ≡ was)
       given code
-  ran = answered _ _ _ _ contents failure_count output code runs not_two
+  ran = answered _ _ _ _ contents failure_count output left code runs not_two
 
   status_tells : (ran.status ≡ Done) ↔ IsAccepted default_drawing default_options file bytes
   status_tells =
       let of = ran.answered in
       let asked =
-      law_of_plain_words program stl pes of.request is_program is_stl is_pes
+      law_of_plain_words program stl pes of.request is_stl is_pes
       (subst (λ words. AsksFor words of.request) (given_words given _ _ of.are_given given_is)
       of.asked) in
       let told =
@@ -192,14 +192,14 @@ module _ {K : Type 0} (contents : K → Option (List ℕ)) (failure_count : K �
 
 pub law_of_headline : {K : Type 0} (contents : K → Option (List ℕ)) (failure_count : K → ℕ)
     → LawOfHeadline contents failure_count
-law_of_headline contents failure_count given before after output code runs = (
-  λ program stl pes file bytes is_program is_stl is_pes given_is stl_is pes_is none.
+law_of_headline contents failure_count given before after output left code runs = (
+  λ program stl pes file bytes is_stl is_pes given_is stl_is pes_is none.
       plain_headline file bytes
-      ((code_tells contents failure_count output before after given code runs program stl pes file
-      bytes is_program is_stl is_pes given_is stl_is pes_is
+      ((code_tells contents failure_count output left before after given code runs program stl pes
+      file bytes is_stl is_pes given_is stl_is pes_is
       (λ two. absurd (omega (arith, none, two)))).0
       none),
-  λ program stl pes file bytes is_program is_stl is_pes given_is stl_is pes_is not_two.
-      code_tells contents failure_count output before after given code runs program stl pes file
-      bytes is_program is_stl is_pes given_is stl_is pes_is not_two,
+  λ program stl pes file bytes is_stl is_pes given_is stl_is pes_is not_two.
+      code_tells contents failure_count output left before after given code runs program stl pes
+      file bytes is_stl is_pes given_is stl_is pes_is not_two,
 )

@@ -24,25 +24,17 @@ use Rattle.sub_request.specs.declared.request.Request.{Request}
 use Rattle.sub_request.specs.declared.request.UsageFault.{UsageFault}
 use Rattle.sub_words.specs.Arguments.{pes_packets_of}
 use Rattle.sub_words.specs.Commands.{command_in, subttx_app}
-use Rattle.sub_words.specs.Help.{asks_help, has_help_flag, is_help_flag}
+use Rattle.sub_words.specs.Help.{asks_help}
 use Rattle.sub_words.specs.PesTexts.{packet_size_of_text}
 use Rattle.sub_words.specs.Requests.{Asked, AsksFor, asked_by, asked_for, asked_in}
 use Rattle.sub_words.specs.Texts.{number_of_text}
 use Rattle.sub_headline.specs.PlainWords.{IsName, LawOfPlainWords, default_options, whole_pes_file}
 
--- ---- no word asks for help
+-- ---- a name
 
 -- It does not begin with a hyphen.
 no_hyphen : (x : ℕ) (xs : Text) → IsName (x ∷ xs) → nat_eq x 45 ≡ false
 no_hyphen x xs name = grind (arith, nat_tests)
-
--- It is no flag of help.
-no_flag : (word : Text) → IsName word → is_help_flag word ≡ false
-no_flag [] name = refl
-no_flag (x ∷ xs) name =
-    ap
-    (λ (b : Bool). (b && bytes_eq xs (codes "-help")) || (b && bytes_eq xs (codes "h")))
-    (no_hyphen x xs name)
 
 -- It is not `--`.
 no_dashes : (word : Text) → IsName word → bytes_eq word (45 ∷ 45 ∷ []) ≡ false
@@ -50,25 +42,11 @@ no_dashes [] name = refl
 no_dashes (x ∷ xs) name =
     ap (λ (b : Bool). b && bytes_eq xs (45 ∷ [])) (no_hyphen x xs name)
 
--- Behind it the same words ask for help.
-passed : (word : Text) (words : List Text)
-    → IsName word
-    → has_help_flag (word ∷ words) ≡ has_help_flag words
-passed word words name =
-    ap (λ (b : Bool). if b then false else (is_help_flag word || has_help_flag words))
-    (no_dashes word name)
-    ∙ ap (λ (b : Bool). b || has_help_flag words) (no_flag word name)
-
+-- So many words ask for none.
 no_help : (program stl pes : Text)
-    → IsName program
-    → IsName stl
-    → IsName pes
     → asks_help (program ∷ codes "check" ∷ stl ∷ pes ∷ []) ≡ false
 unfolding asks_help
-no_help program stl pes is_program is_stl is_pes =
-    passed program (codes "check" ∷ stl ∷ pes ∷ []) is_program
-    ∙ passed stl (pes ∷ []) is_stl
-    ∙ passed pes [] is_pes
+no_help program stl pes = refl
 
 -- ---- a word that is no option is a value
 
@@ -185,7 +163,7 @@ asks_of words request asked none is (inl help) = let e = sym none ∙ help.0 in 
 asks_of words request asked none is (inr of) = same_asked _ _ _ of.1.asked is
 
 pub law_of_plain_words : LawOfPlainWords
-law_of_plain_words program stl pes request is_program is_stl is_pes asks =
+law_of_plain_words program stl pes request is_stl is_pes asks =
     asks_of (program ∷ codes "check" ∷ stl ∷ pes ∷ []) request _
-    (no_help program stl pes is_program is_stl is_pes)
+    (no_help program stl pes)
     (plain_asked program stl pes is_stl is_pes) asks

@@ -47,11 +47,11 @@ answered_so AreMade told IsClose given code status old new code_is not_two (inr 
 pub answered :
     {I O K : Type 0} (AreMade : List (FileCall I O) → Type 0) (told : ToldOfFiles I O)
     (IsClose : O → O → Type 0) (given : Result (List Text) UsageFault)
-    (contents : K → Option (List ℕ)) (failure_count : K → ℕ) (output : K) (code : ℕ)
-    → RunsProgram AreMade told IsClose given contents failure_count output code
+    (contents : K → Option (List ℕ)) (failure_count : K → ℕ) (output left : K) (code : ℕ)
+    → RunsProgram AreMade told IsClose given contents failure_count output left code
     → code ≢ 2
     → HasAnswered AreMade told IsClose given code
-answered AreMade told IsClose given contents failure_count output code runs not_two =
+answered AreMade told IsClose given contents failure_count output left code runs not_two =
     answered_so AreMade told IsClose given code runs.status _ _ runs.code_is not_two runs.ends
 
 -- Status by code.

@@ -23,7 +23,6 @@ abbrev pub OfCheck :
     Result (List Text) UsageFault → MemFilesValue → (List ℕ → List ℕ → Type 0) → Type 0
 OfCheck given files IsSo =
     (program stl pes : Text) (file bytes : List ℕ)
-    → IsName program
     → IsName stl
     → IsName pes
     → given ≡ Ok (program ∷ codes "check" ∷ stl ∷ pes ∷ [])
@@ -45,7 +44,8 @@ TellsAcceptance given files code =
 -- Of a run of the program over files in memory, whatever standard output is, its code tells both.
 abbrev pub LawOfHeadline : {K : Type 0} → (K → Option (List ℕ)) → (K → ℕ) → Type 0
 LawOfHeadline {K} contents failure_count =
-    (given : Result (List Text) UsageFault) (before after : MemFilesValue) (output : K) (code : ℕ)
+    (given : Result (List Text) UsageFault) (before after : MemFilesValue) (output left : K)
+    (code : ℕ)
     → RunsProgram (CallsInTurn IsMemoryCall before after) told_of_memory (λ was is. is ≡ was) given
-    contents failure_count output code
+    contents failure_count output left code
     → TellsHeadline given before code × TellsAcceptance given before code

@@ -37,7 +37,6 @@ whole_pes_file name = record { name = name; stream = None; range = None }
 abbrev pub LawOfPlainWords : Type 0
 LawOfPlainWords =
     (program stl pes : Text) (request : Request)
-    → IsName program
     → IsName stl
     → IsName pes
     → AsksFor (program ∷ codes "check" ∷ stl ∷ pes ∷ []) request

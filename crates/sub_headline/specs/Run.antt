@@ -63,14 +63,16 @@ EndsRun AreMade told IsClose given old new result =
     ⊎ IsUnanswered AreMade given old new result
 
 -- A run of the program, from the words that the system gave, its files and standard output to the
--- exit status. There is a buffer before standard output, which held nothing, and no other device.
+-- exit status, and standard output as it was left. There is a buffer before it, which held nothing,
+-- and no other device; behind what is said to be printed nothing is.
 pub record RunsProgram
     {I O K : Type 0} (AreMade : List (FileCall I O) → Type 0) (told : ToldOfFiles I O)
     (IsClose : O → O → Type 0) (given : Result (List Text) UsageFault)
-    (contents : K → Option (List ℕ)) (failure_count : K → ℕ) (output : K) (code : ℕ)
+    (contents : K → Option (List ℕ)) (failure_count : K → ℕ) (output left : K) (code : ℕ)
     : Type 0 where
   pub room : ℕ
   pub new : HeldBack K
+  pub left_is : left ≡ new.device
   pub status : Status
   pub code_is : code ≡ exit_code status
   -- It ends as said above, or memory ran out before the words were looked at.

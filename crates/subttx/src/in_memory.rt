@@ -29,5 +29,5 @@ pub fn run_in_memory<K: Sink + Drop>(
     ensures acceptance { TellsAcceptance (words_given given) files.old result }
 {
     law_of_headline::<K>();
-    run(alloc, given, files, standard_output)
+    run(alloc, given, files, standard_output).code
 }

@@ -23,16 +23,18 @@ fn reads_the_words_of_files(rt: HostRuntime) {
     }
 }
 
-// Words that ask for help.
+// Words that ask for help: one for it, alone or with a command beside it.
 #[rattlefmt::skip]
-const HELPS: [&[&str]; 7] = [
+const HELPS: [&[&str]; 9] = [
     &["subttx", "--help"],
     &["subttx", "-h"],
     &["subttx", "help"],
     &["subttx", "help", "packet"],
     &["subttx", "packet", "--help"],
-    &["subttx", "check", "a.stl", "b.pes", "-h"],
-    &["subttx", "help", "--help", "me"],
+    &["subttx", "check", "-h"],
+    &["subttx", "survey", "-h"], // the last command of the table
+    &["subttx", "-h", "extract"],
+    &["subttx", "--help", "check"],
 ];
 
 #[test]
@@ -50,6 +52,14 @@ fn reads_the_words_for_help(rt: HostRuntime) {
 fn reads_the_name_of_a_file_behind_two_dashes(rt: HostRuntime) {
     match Request::parse(rt.alloc(), &["subttx", "show", "--", "--help"]) {
         Ok(Request::Show { stl }) => assert!(rt; stl == "--help"),
+        _ => panic!(rt; "no listing"),
+    }
+}
+
+#[test]
+fn reads_help_behind_a_command_as_the_name_of_a_file(rt: HostRuntime) {
+    match Request::parse(rt.alloc(), &["subttx", "show", "help"]) {
+        Ok(Request::Show { stl }) => assert!(rt; stl == "help"),
         _ => panic!(rt; "no listing"),
     }
 }
