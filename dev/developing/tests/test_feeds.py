@@ -15,11 +15,13 @@ from .bench import Case
 from .parts import CLOSING, HEADER, asked_for, packets_told
 
 
+def ending_of(*words: str, find: Any = None) -> Ending:
+    """The end of a feed whose subtitles are due in the first two seconds."""
+    return Ending(asked_for("a.stl", "feed", "--every", "25", *words), 0, 50, find)
+
+
 class Ended(Case):
     """When a feed has all that is judged."""
-
-    def ending(self, *words: str, find: Any = None) -> Ending:
-        return Ending(asked_for("a.stl", "feed", "--every", "25", *words), 0, 50, find)
 
     def test_end_of_the_last_part(self) -> None:
         """The PTS up to which it goes on, beyond 2^33 too."""
@@ -28,7 +30,7 @@ class Ended(Case):
                 found = SimpleNamespace(status=0, parts=[
                     SimpleNamespace(origin=5, frames=(0, 9)),
                     SimpleNamespace(origin=origin, frames=frames)])
-                ending = self.ending("--breaks", "1", find=lambda _: found)
+                ending = ending_of("--breaks", "1", find=lambda _: found)
                 ending.look(packets_told(self, b""))
                 self.assertEqual(ending.until, (origin + TICKS * (end + 25)) % CLOCK)
 
@@ -38,7 +40,7 @@ class Ended(Case):
                                        (4, (7, 9), None)):
             found = SimpleNamespace(status=0, parts=[SimpleNamespace(origin=9, packets=packets)],
                                     agreement=Agreement(agree, 5, 5, 9, False))
-            ending = self.ending(find=lambda _: found)
+            ending = ending_of(find=lambda _: found)
             ending.look(packets_told(self, b""))
             self.must(f"{agree} {packets}", (ending.origin, ending.inside) ==
                       (None if inside is None else 9, inside), ending.inside)
@@ -51,5 +53,5 @@ class Ended(Case):
             packets = packets_told(self, b"".join(
                 pes_packet((origin + TICKS * at) % CLOCK, [HEADER, CLOSING])
                 for at in sorted({min(frame, 0) - 3, min(frame, 0), frame})))
-            ending = self.ending("--origin", str(origin))
+            ending = ending_of("--origin", str(origin))
             self.must(f"{frame}", ending.is_over(survey, packets, True) == is_over)
