@@ -15,7 +15,7 @@ from unittest import mock
 
 from subtitles.calls import batch
 from subtitles.calls.batch import Calls, all_rows, kept_rows, progress_line, words_of
-from subtitles.calls.forked import Call, ended_of, qc, signals_held
+from subtitles.calls.forked import Forked, ended_of, qc, signals_held
 from subtitles.calls.members import ASKED
 from subtitles.calls.main import parser_of
 from subtitles.calls.objects import Row, found, object_at, row_of, unjudged
@@ -251,7 +251,7 @@ class Judged(Case):
             return 7
 
         with signals_held():
-            call = Call(look)
+            call = Forked(look)
         self.must("all", call.end() == (7, [str([True] * 5)]))
 
     def test_all(self) -> None:

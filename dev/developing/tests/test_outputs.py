@@ -24,7 +24,7 @@ from subtitles.calls.single import now
 from subtitles.calls.table import cell_words, of_part, said, text_of as csv_of
 from subtitles.core.words import shown
 from subtitles.qc.clock import GIVEN
-from subtitles.qc.sums import File
+from subtitles.qc.sums import SummedFile
 from subtitles.qc.verdict import Gap
 from subtitles.reading.gaps import Place
 from .bench import Case, alone
@@ -219,7 +219,7 @@ class Members(unittest.TestCase):
         self.assertEqual(bare["clock"], {"origin": 7, "source": GIVEN, "delay_frames": None})
         recording: Any = SimpleNamespace(stream=lambda: (0x101, 204))
         part.recording, part.pes = recording, (3, 9)
-        part.judged, part.found = File("a.cut.pes", 5, "sum"), None
+        part.judged, part.found = SummedFile("a.cut.pes", 5, "sum"), None
         for is_kept, name in ((True, "a.cut.pes"), (False, None)):
             words = JUDGED_PART.made(PartOf(part, is_kept))
             self.assertEqual([words[name] for name in ("pid", "packet_size", "pes", "judged",

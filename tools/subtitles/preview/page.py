@@ -16,7 +16,7 @@ from .scope import listed
 
 if TYPE_CHECKING:
     from ..qc.made_with import MadeWith
-    from ..qc.sums import File
+    from ..qc.sums import SummedFile
     from ..qc.asked import Asked
     from .report import Looks, Report
     from .seen import Seen
@@ -248,7 +248,7 @@ def foot(report: Report) -> str:
         f'<p class="says">{SAYS}</p>'
 
 
-def made_from(files: Iterable[tuple[str, File]], date: str, program: MadeWith,
+def made_from(files: Iterable[tuple[str, SummedFile]], date: str, program: MadeWith,
               words: Iterable[tuple[str, str]]) -> str:
     """The files of a page, each with what it is, the program, and commands."""
     rows = "".join(

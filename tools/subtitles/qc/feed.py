@@ -20,7 +20,7 @@ from .asked import Asked
 from .ending import Ending
 from .source import Source, room_of, waiting_in
 from .speech import Speech
-from .sums import File
+from .sums import SummedFile
 
 STANDARD_INPUT = "/dev/stdin"  # as the program opens it
 PATIENCE = 1.0  # seconds for which a feed may stand still, until somebody hears of it
@@ -103,7 +103,7 @@ def followed(source: Source, calls: Callable[[], Sequence[Listening]],
 
 
 def read(name: str, path: str, asked: Asked, program: str, survey: Survey, ending: Ending | None,
-         speech: Speech, stalled_after: int) -> File:
+         speech: Speech, stalled_after: int) -> SummedFile:
     """Reads a feed as long as more is needed, or to its end, and keeps it at a path; what was
     read."""
     stall, digest, count = Stall(stalled_after, speech), hashlib.sha256(), 0
@@ -132,7 +132,7 @@ def read(name: str, path: str, asked: Asked, program: str, survey: Survey, endin
         status = call.process.wait()
     if survey.head or not survey.is_whole:
         survey.refuse(status)
-    return File(name, count, digest.hexdigest())
+    return SummedFile(name, count, digest.hexdigest())
 
 
 def is_over(survey: Survey, asked: Asked, ending: Ending, is_still: bool) -> bool:

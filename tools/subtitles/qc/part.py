@@ -23,7 +23,7 @@ from .naming import Causes
 from .recording import Recording
 from .status import REFUSED, Said
 from .subtitle_file import SubtitleFile
-from .sums import File
+from .sums import SummedFile
 
 
 @dataclasses.dataclass
@@ -44,7 +44,7 @@ class Part:
     left_out: Collection[int] = ()  # subtitles that are not judged, by their places in the file
     due: Callable[[], DuePages] = lambda: DuePages([], [])  # none of a file that is refused
     pes: Range | None = None
-    judged: File | None = None
+    judged: SummedFile | None = None
     answer: Answer = dataclasses.field(init=False)
 
     # What follows.

@@ -14,8 +14,8 @@ from .evidence import Choice
 from .part import Part
 from .sentence import Facts, sentence_of
 from .severity import Severity
-from .status import LOST, NOT_JUDGED, REFUSED, WAIVED, WARNED, Decision, Evidence, decide
-from .sums import File
+from .status import LOST, NOT_JUDGED, REFUSED, WAIVED, WARNED, Decision, Grounds, decide
+from .sums import SummedFile
 from .warned import Warned
 
 FITTED_KIND = "fitted"  # a warning where warnings count: the clock was fitted to the recording
@@ -55,8 +55,8 @@ class Verdict:
     notes: list[str] = dataclasses.field(default_factory=list)
     hints: list[str] = dataclasses.field(default_factory=list)
     commands: list[str] = dataclasses.field(default_factory=list)
-    stl: File | None = None
-    recording: File | None = None
+    stl: SummedFile | None = None
+    recording: SummedFile | None = None
     is_kept: bool = False  # what was judged stays in the folder
     is_stopped: bool = False  # by a signal
     reason: str | None = None  # why it is not judged
@@ -96,10 +96,10 @@ class Verdict:
             return None
         return FITTED if are_fitted[0] else FITTED_LATER
 
-    def seen(self) -> Evidence:
+    def seen(self) -> Grounds:
         """All that decides it."""
         kinds = [*(warned.kind for warned in self.warnings), *[FITTED_KIND] * bool(self.fitted)]
-        return Evidence([part.said() for part in self.parts], self.severity,
+        return Grounds([part.said() for part in self.parts], self.severity,
                     [gap.is_judged and gap.place.mark is None for gap in self.gaps], kinds,
                     self.asked.is_strict, [] if self.reason is None else [self.reason],
                     self.failed)
