@@ -152,7 +152,7 @@ def frame_words(frame: int) -> str:
     return f"frame {time_of(frame)}"
 
 
-class LeftOut(Case):
+class RowsLeftOut(Case):
     """Rows that are left out behind a header that keeps the page."""
 
     def held(self, *frames: tuple[int, list[bytes]], within: int = 0) -> tuple[Timeline, Rows]:

@@ -19,7 +19,7 @@ from subtitles.qc.missing import gap_of, gaps_of
 from subtitles.qc.severity import ERROR, OTHERS, REFUSALS, WARNING, Severity
 from subtitles.qc.part import Part
 from subtitles.qc.verdict import Gap, Verdict
-from subtitles.qc.within import FIXED, OF_ENDS, OF_FRAMES, OF_PACKETS, Trying
+from subtitles.qc.within import FIXED, OF_ENDS, OF_FRAMES, OF_PACKETS
 from subtitles.reading.finding import Agreement
 from subtitles.reading.gaps import Place
 from .bench import Case, alone
@@ -143,14 +143,13 @@ class Verdicts(Case):
         """Where a part lacks something, at a first place or a second, nothing is tried."""
         pair: Any = SimpleNamespace(asked=asked_for("one.stl", "one.pes"), is_summed=False)
         inside, outside = (Place(TICKS * at, TICKS * (at + 1), missing=9) for at in (150, 250))
-        tried: Any = SimpleNamespace(least=lambda numbers, causes: 2)
         for places, wanted in (([], 2), ([inside], None), ([outside], 2),
                                ([outside, inside], None)):
             part = part_with(100, 199, 0, answer(REFUSED))
             part.pes = 0, 9
             recording: Any = SimpleNamespace(places=lambda: places, is_feed=False)
             part.recording = recording
-            with mock.patch("subtitles.qc.judging.Trying", lambda *_: tried):
+            with mock.patch("subtitles.qc.judging.least", lambda *_: 2):
                 measure(pair, part, 1)
             self.must(f"{places}", part.accepted_within == wanted, part.accepted_within)
 
@@ -283,16 +282,6 @@ class Severities(Case):
         self.must("of packets, of frames", (OF_PACKETS, OF_FRAMES, OF_ENDS) == (
             {63, 64, 65, 66, 67, 68, 69, 70, 71, 73}, {61, 62}, {72, 77}))
         self.must("pages are moved", MOVED == {30, 31, 32, 44, 45, 60, 62, 63, 71, 72, 74, 77})
-
-    def test_what_more_frames_may_accept(self) -> None:
-        """None of the faults is one that stays; of packets some may go where frames are others."""
-        of_numbers: list[tuple[set[int], bool]] = [
-            ({72}, True), ({72, 77}, True), ({61}, True), ({72, 61}, True), ({72, 10}, False),
-            ({57}, False), ({72, 44}, False), ({60}, False), ({63}, False), ({63, 61}, True),
-            ({71}, False), ({71, 62}, True), ({73, 72}, False), ({73, 61, 40}, False)]
-        for numbers, wanted in of_numbers:
-            found = Trying.may_be(Trying.__new__(Trying), numbers, None)
-            self.must(f"{numbers}", found == wanted)
 
     def test_enough_edges_of_a_feed(self) -> None:
         """Five that agree, or all there are; where others do not, half with their letters."""

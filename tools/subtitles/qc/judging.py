@@ -23,7 +23,7 @@ from .paced import set_pace
 from .part import Part
 from .sums import file_of
 from .why import causes_of, tell, unseen
-from .within import Trying
+from .within import least
 
 if TYPE_CHECKING:
     from .pair import Pair
@@ -116,4 +116,4 @@ def measure(pair: Pair, part: Part, count: int) -> None:
     part.is_lost = bool(LOSSES & answer.numbers) or \
         any(is_in(place, part) for place in recording.places())
     if part.is_refused and not (recording.is_feed or part.is_lost or found.stage):
-        part.accepted_within = Trying(pair, part, count).least(answer.numbers, part.causes)
+        part.accepted_within = least(pair, part, count)
