@@ -42,6 +42,9 @@ def runs_the_whole_way(case: Case, prefix: str) -> None:
     done = run("subttx-text", "--help")
     case.must("its own names in the help", b"subttx-text STL" in done.out
               and b"tools/" not in done.out, done)
+    done = run("subttx-qc", "--help")
+    named = re.findall(r"\S+/docs/manual/\w+\.md", done.out.decode())
+    case.must("documents in the help", len(named) == 2 and all(map(os.path.isfile, named)), named)
 
 
 def proved_here(case: Case) -> str:

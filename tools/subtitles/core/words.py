@@ -51,10 +51,13 @@ class Words(argparse.ArgumentParser):
                               help="show the version and exit")
 
     def format_help(self) -> str:
-        """The help; where the tools are installed, it calls them by the names that they have."""
+        """The help; where the tools are installed, it calls them by the names that they have, and
+        names documents by where they lie."""
         text = super().format_help()
-        is_installed = self.prog.startswith(INSTALLED)
-        return re.sub(r"\btools/(\w+)", INSTALLED + r"\1", text) if is_installed else text
+        if not self.prog.startswith(INSTALLED):
+            return text
+        text = re.sub(r"(?<![\w/])tools/(\w+)", INSTALLED + r"\1", text)
+        return re.sub(r"(?<![\w/])docs/(?=\w)", lambda _: os.path.join(HOME, "docs", ""), text)
 
     def _print_message(self, message: str, file: IO[str] | None = None) -> None:
         """Prints the help or the version; argparse itself is silent where that fails."""
