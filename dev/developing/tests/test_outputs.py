@@ -240,4 +240,7 @@ class Members(unittest.TestCase):
         for code, letter, words in (("41", "A", "41 A"), ("00", "", "00")):
             self.assertEqual(cell_words({"code": code, "character": letter}), words)
         self.assertEqual(said("a\nb\x07"), "a\n" + shown("b\x07"))
-        self.assertEqual((said(5), said(None)), (5, None))
+        self.assertEqual((said(5), said(-5), said(None)), (5, -5, None))
+        for text in ("=1+1", "+1", "-1", "@A1", "=a\nb"):
+            self.assertEqual(said(text), f"'{text}")
+        self.assertEqual((said("a=1"), said("\ta")), ("a=1", "\\x09a"))

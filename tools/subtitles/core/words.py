@@ -258,10 +258,11 @@ def ended(main: Callable[[list[str]], int], words: Sequence[str]) -> int:
         status = answer(main, words)
         sys.stdout.flush()
     except (Exception, KeyboardInterrupt) as reason:
-        with contextlib.suppress(OSError, AttributeError):
-            tell(line_of(reason))
-        silence()
         status = 2
+        with contextlib.suppress(OSError, AttributeError, KeyboardInterrupt):
+            tell(line_of(reason))
+        with contextlib.suppress(KeyboardInterrupt):  # a second one is too many
+            silence()
     return status
 
 
@@ -278,6 +279,8 @@ def line_of(reason: BaseException) -> str:
     the tool comes from is printed before it."""
     if isinstance(reason, KeyboardInterrupt):
         return "stopped"
+    if isinstance(reason, MemoryError):
+        return "out of memory"
     if isinstance(reason, OSError):
         where = "the output" if reason.filename is None else reason.filename or "an empty name"
         return f"{where}: {reason.strerror or ' '.join(str(reason).split())}"
