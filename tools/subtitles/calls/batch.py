@@ -153,8 +153,7 @@ def words_of(asked: Asked) -> list[str]:
 
 def inputs_of(items: Iterable[Item], *more: str) -> Inputs:
     """All files that are read of some pairs, and others."""
-    return Inputs(*more, *(name for item in items if item.asked for name in (
-        item.asked.stl, item.asked.recording, item.asked.severity)))
+    return Inputs(*more, *(name for item in items for name in item.files))
 
 
 def judge(words: argparse.Namespace, called: str) -> int:
