@@ -21,7 +21,7 @@ import tempfile
 from typing import NamedTuple
 
 from subtitles.calls.claim import is_own
-from subtitles.calls.forked import Call, ended_of, qc
+from subtitles.calls.forked import Forked, ended_of, qc
 from subtitles.calls.objects import object_at
 from subtitles.core.built import TOP
 
@@ -164,10 +164,10 @@ class World:
         """The words of a call."""
         out, pair = ["-o", self.out], self.names()
         own = {"single": pair, "folder": pair, "list": ["list"]}.get(self.kind, [])
-        files = [word for option, name in (("--json", "all.json"), ("--csv", "all.csv"))
+        files: list[str] = [word for option, name in (("--json", "all.json"), ("--csv", "all.csv"))
                  if not self.chance.randrange(3) for word in (option, self.chance.choice([
                      f"{self.out}/{name}", *own]))]
-        more = self.chance.choice([[], [], ["--severity", "severity"], ["--keep", *out]])
+        more: list[str] = self.chance.choice([[], [], ["--severity", "severity"], ["--keep", *out]])
         program = ["-p", self.program]
         if self.kind == "single":
             return [*program, *(out if self.chance.randrange(4) else []), *files, *more, "--",
@@ -194,7 +194,7 @@ class World:
             sys.stdout.flush()
             return status
 
-        call = Call(does)
+        call = Forked(does)
         if self.may_wait() and not ended_of([call], WATCHED):
             call.stop()
         if not ended_of([call], SECONDS):
