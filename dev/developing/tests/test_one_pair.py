@@ -14,7 +14,7 @@ from subtitles.calls import index_page, overview
 from subtitles.calls.objects import Row, found
 from subtitles.calls.claim import clear
 from subtitles.calls.single import (
-    Files, Output, end, end_pair, judge_pair, name_of, refuse_outputs)
+    Files, Output, end, end_pair, judge_pair, name_of, now, refuse_outputs)
 from subtitles.qc.asked import Asked
 from subtitles.qc.checking import Answer
 from subtitles.qc.clock import FITTED, GIVEN, RECORDING, Clock, Found
@@ -153,7 +153,7 @@ class Writes(Case):
         return made
 
     def verdict(self, lines: Sequence[str] = REFUSED) -> Verdict:
-        made = Verdict(asked_for(example("story.stl"), self.path("one.pes")), Severity(None), "now")
+        made = Verdict(asked_for(example("story.stl"), self.path("one.pes")), Severity(None), now())
         made.found = found(made.asked)
         made.parts = [self.part(1, lines)]
         return made
