@@ -57,9 +57,9 @@ class Objects(Case):
                 ("waived: refused 72 Content", "of the content"), ("refused 7 Other", "of none"),
                 ("accepted 72 frames", ""), (None, ""),
                 ("not accepted, since TS packets are lost: waived: refused 5 X", "of none")):
-            found = hint_in({"line": line, "hints": hints})
+            found = hint_in({"lead": line, "hints": hints})
             self.must(f"{line}", found == wanted, found)
-        self.must("no hints", hint_in({"line": "refused 72 Content", "hints": []}) == "")
+        self.must("no hints", hint_in({"lead": "refused 72 Content", "hints": []}) == "")
 
     def test_words_of_a_call(self) -> None:
         """A pair as words, read again, asks the same: with each option by itself, and with all."""

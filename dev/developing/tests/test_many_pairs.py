@@ -371,7 +371,7 @@ class Batches(Case):
             for item, verdict in reversed(list(zip(items, judged.split(", ")))):
                 with open(calls.path(item), "w", encoding="ascii") as file:
                     json.dump(result(verdict, **{
-                        "reason" if verdict == "not judged" else "line": item.name}), file)
+                        "reason" if verdict == "not judged" else "lead": item.name}), file)
                 rows[item.name] = row(item.name, verdict, item.name)
             calls.is_stopped = is_stopped
             return rows
@@ -398,7 +398,7 @@ class Batches(Case):
                     line.split()[0] for line in lines[1:]] == ["one", "two", "three", "3"], lines)
                 self.must("at a time", self.seen[1:] == (["one", "two", "three"], {}, wanted))
                 have = json.loads(self.read("all"))
-                names = [one["line"] or one["reason"] for one in have["pairs"]]
+                names = [one["lead"] or one["reason"] for one in have["pairs"]]
                 self.must("objects", (names, have["status"]) == (
                     ["one", "two", "three"], status))
                 self.must("the folder went", not os.path.exists(self.seen[0].folder))

@@ -26,7 +26,7 @@ COLUMNS = ("From", "To", "Verdict", "Faults", "Causes", "Clock")
 def overview(verdict: Verdict, program: MadeWith, names: Names, typed: Typed) -> Iterator[str]:
     """The page."""
     asked = verdict.asked
-    line = verdict.line or f"{NOT_JUDGED}: {verdict.why_not}"
+    line = verdict.lead or f"{NOT_JUDGED}: {verdict.why_not}"
     title = " and ".join(os.path.basename(name) for name in (asked.stl, asked.recording) if name)
     files: list[tuple[str, SummedFile]] = [
         (kind, file) for kind, file in (("STL", verdict.stl), ("Recording", verdict.recording))
@@ -76,7 +76,7 @@ def table(verdict: Verdict, names: Names) -> str:
     for part in verdict.parts:
         page = os.path.basename(names.of_part(part.number).report)
         begin, end = part.times()
-        cells = [begin or "", end or "", f'<a href="{shown(page)}">{shown(part.answer.line)}</a>',
+        cells = [begin or "", end or "", f'<a href="{shown(page)}">{shown(part.answer.lead)}</a>',
                  f"{part.answer.count:,}",
                  shown(names_line([part.causes])) if part.causes else "none", clock_of(part)]
         named = "".join(f'<td data-name="{name}">{cell}</td>'

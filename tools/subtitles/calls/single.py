@@ -302,7 +302,7 @@ class Files:
         """The file for a CI."""
         verdict = self.verdict
         case = junit.TestCase(name_of(verdict.asked), verdict.word, verdict.status,
-                              verdict.line or verdict.why_not or "", self.lines(), verdict.seconds,
+                              verdict.lead or verdict.why_not or "", self.lines(), verdict.seconds,
                               verdict.counts.words() if verdict.counts else "")
         yield junit.text_of([case], verdict.date)
 

@@ -71,7 +71,7 @@ class Report:
         size = os.path.getsize(self.program.path)
         self.files = [*subject.files,
                       ("Program", SummedFile(self.program.name, size, self.made_with.sha256))]
-        self.line, self.first, self.is_refused = answer.line, answer.first, bool(answer.status)
+        self.line, self.first, self.is_refused = answer.lead, answer.leading, bool(answer.status)
         # Subtitles are refused; the others are judged beside them where PES packets are.
         is_of_file = self.first is not None and self.first.block is not None
         self.is_beside = is_of_file and self.part.pes is not None

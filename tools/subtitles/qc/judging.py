@@ -86,8 +86,8 @@ def end(pair: Pair, part: Part, count: int) -> None:
         look_at_headers(pair, part)
     if OF_HEADERS & answer.numbers:
         part.of_header = recording.header_words(part.packets)
-    if answer.first:
-        part.hint = words_of(answer.first, part, verdict)
+    if answer.leading:
+        part.hint = words_of(answer.leading, part, verdict)
     if answer.first_sent:
         part.sent_hint = words_of(answer.first_sent, part, verdict)
     verdict.warn([*warned.of_pauses(part.pts(), asked, found.origin),

@@ -197,7 +197,16 @@ class Pair:
             packets, clocks.sought(self, recording)))
         recording.read(self.is_summed, ending)
         self.verdict.recording = recording.file
+        self.refuse_range(recording)
         return Located(recording, clocks.parts_of(self, recording), subtitles)
+
+    def refuse_range(self, recording: Recording) -> None:
+        """A range that has none of the PES packets is told so."""
+        count, pes = recording.packets.count, self.asked.pes
+        if pes and count and pes[0] >= count:
+            has = f"{counted(count, 'PES packet')}, 0-{count - 1}"
+            raise Unclear(f"{recording.name} has {has}: --pes {pes[0]}-{pes[1]} is none of them",
+                          self.again("--pes", f"0-{count - 1}"))
 
     def judge_beside(self, answer: Answer) -> None:
         """Judges how the subtitles were sent that are not refused. Where that can't be judged the

@@ -7,7 +7,8 @@ from typing import TYPE_CHECKING, Callable, Iterable, Sequence
 from ..core.told import LOSSES, accepted_of, told_of
 from . import clocks
 from .asked import MOST_TRIED
-from .causes import EARLY, IN_PART, LATE, NOT_ERASED, UNKNOWN, Cause
+from .causes import (
+    EARLY, ERASED, IN_PART, IN_PAUSE, LATE, NOT_ERASED, NOT_RECEIVED, UNKNOWN, Cause)
 from .checks import first_within
 from .clock import Found
 from .status import ACCEPTED, Said, word_of
@@ -60,7 +61,7 @@ def is_delay(cause: Cause, is_fitted: bool) -> bool:
     """Whether a cause may be a delay; a clock that was fitted may be late."""
     if cause.name in (LATE, EARLY):
         return (cause.frames or 0) <= (2 * MOST_TRIED if is_fitted else MOST_TRIED)
-    return cause.name in (NOT_ERASED, IN_PART, UNKNOWN)
+    return cause.name in (NOT_ERASED, IN_PART, ERASED, IN_PAUSE, NOT_RECEIVED, UNKNOWN)
 
 
 def clocked(pair: Pair, part: Part, count: int, within: int) -> Found | None:
