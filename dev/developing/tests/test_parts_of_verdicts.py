@@ -2,9 +2,7 @@
 """
 from __future__ import annotations
 
-from types import SimpleNamespace
 from typing import Any, Sequence
-from unittest import mock
 
 from developing.pes import pes_packet
 from subtitles.core.times import CLOCK, TICKS
@@ -14,15 +12,14 @@ from subtitles.qc.counted import NO_END
 from subtitles.qc.clock import FITTED, FITTED_LATER, GIVEN, RECORDING, Clock, Found
 from subtitles.qc.delays import MOVED, Spread, spread_of
 from subtitles.qc.ending import is_enough
-from subtitles.qc.judging import measure
-from subtitles.qc.missing import gap_of, gaps_of
+from subtitles.qc.missing import gap_of, gaps_of, lacks
 from subtitles.qc.severity import ERROR, OTHERS, REFUSALS, WARNING, Severity
 from subtitles.qc.part import Part
 from subtitles.qc.verdict import Gap, Verdict
 from subtitles.qc.within import FIXED, OF_ENDS, OF_FRAMES, OF_PACKETS
 from subtitles.reading.finding import Agreement
 from subtitles.reading.gaps import Place
-from .bench import Case, alone
+from .bench import Case
 from .parts import CLOSING, HEADER, answer, asked_for, packets_told, part_with
 
 REFUSED = ("refused 72 Content frame 00:00:05:00 row 20 column 1", "1 faults")
@@ -138,20 +135,19 @@ class Verdicts(Case):
                 self.must(f"{words} {origin}", found.line() == f"{words}: 3 TS packets lost" and
                           found.is_judged and found.place is place, found)
 
-    @alone
-    def test_promises_nothing_of_what_is_lost(self) -> None:
-        """Where a part lacks something, at a first place or a second, nothing is tried."""
-        pair: Any = SimpleNamespace(asked=asked_for("one.stl", "one.pes"), is_summed=False)
+    def test_what_is_lost(self) -> None:
+        """A part lacks something where `check` told it, or something is missing at a first place or
+        a second."""
         inside, outside = (Place(TICKS * at, TICKS * (at + 1), missing=9) for at in (150, 250))
-        for places, wanted in (([], 2), ([inside], None), ([outside], 2),
-                               ([outside, inside], None)):
-            part = part_with(100, 199, 0, answer(REFUSED))
+        lost = answer(["refused 45 Lost pes 3", "1 faults"], path=self.path("list"))
+        rows: list[tuple[Answer, list[Place], bool]] = [
+            (answer(REFUSED), [], False), (answer(REFUSED), [inside], True),
+            (answer(REFUSED), [outside], False), (answer(REFUSED), [outside, inside], True),
+            (lost, [], True)]
+        for said, places, wanted in rows:
+            part = part_with(100, 199, 0, said)
             part.pes = 0, 9
-            recording: Any = SimpleNamespace(places=lambda: places, is_feed=False)
-            part.recording = recording
-            with mock.patch("subtitles.qc.judging.least", lambda *_: 2):
-                measure(pair, part, 1)
-            self.must(f"{places}", part.accepted_within == wanted, part.accepted_within)
+            self.must(f"{said.numbers} {places}", lacks(part, places) == wanted)
 
     def test_accepted_within(self) -> None:
         """What is promised holds for all parts that are refused, and is known of each."""
