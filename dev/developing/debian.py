@@ -9,7 +9,7 @@ import subprocess
 
 from subtitles.core.files import naming
 from subtitles.core.words import Stop
-from .prefix import PAGES, copy, files_below, install, link, sums_of, write
+from .prefix import PAGES, copy, documents, files_below, install, link, sums_of, write
 
 NAME = "subttx"
 MACHINE = "amd64"
@@ -63,11 +63,11 @@ def pack_man_pages(root: str) -> None:
 
 
 def add_documents(root: str, version: str, proved: str, date: str) -> None:
-    """The folder of documents: the manual, by links to where the tools read it, and what Debian
-    asks of a package."""
+    """The folder of documents: README and the others, by links to where the tools read them, and
+    what Debian asks of a package."""
     folder = os.path.join(root, "usr", "share", "doc", NAME)
-    for name in sorted(os.listdir(os.path.join(root, "usr", "lib", NAME, "docs"))):
-        link(os.path.join("..", "..", "..", "lib", NAME, "docs", name), os.path.join(folder, name))
+    for name in sorted({one.partition(os.sep)[0] for one in documents()}):
+        link(os.path.join("..", "..", "..", "lib", NAME, name), os.path.join(folder, name))
     copy(proved, os.path.join(folder, "PROVED"))
     write(os.path.join(folder, "copyright"), COPYRIGHT.format(summary=SUMMARY))
     log = (f"{NAME} ({version}) stable; urgency=medium\n\n  * Version {version}.\n\n"

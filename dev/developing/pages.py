@@ -31,6 +31,7 @@ ENTRY = re.compile(r"^  ((?:--?[\w-]+)(?: .*?)??)(?:, (--?[\w-]+)(?: .*?)??)?(?:
 FILES = re.compile(r"FILE|DIR|FOLDER|LIST|STL|PES|OUT|IN|PROGRAM|FEED|TS|WORD")  # of which is one
 LINK = re.compile(r"\[([^]]*)\]\([^)]*\)")
 WIDTH = 100
+MORE = "All of it: "  # in a help text, which the page is itself
 
 
 class Command(NamedTuple):
@@ -165,7 +166,7 @@ def of_qc(text: str) -> dict[str, str]:
     made = "".join(f".SY subttx\\-qc\n{roff(line.strip().partition(' ')[2])}\n.YS\n"
                    for line in lines)
     status = [one for one in rest if one.startswith("Status ")]
-    rest = [one for one in rest if one not in status]
+    rest = [one for one in rest if one not in status and not one.startswith(MORE)]
     return {"synopsis": made,
             "description": "\n.PP\n".join(filled(one) for one in [paragraphs[0], *rest]) + "\n",
             "options": "".join(item(name, value, sentence(means)) if not value.startswith("{")

@@ -15,8 +15,8 @@ from subtitles.core.words import INSTALLED, Stop
 
 TOOLS = ["qc", "text", "ts2pes"]
 PAGES = ["subttx.1", "subttx-qc.1"]
-MANUAL = os.path.join("docs", "manual")
-READ = [os.path.join("docs", "MANUAL.md"), os.path.join("docs", "verdict.schema.json"), "VERSION"]
+READ = ["README.md", os.path.join("docs", "MANUAL.md"),
+        os.path.join("docs", "verdict.schema.json"), "VERSION"]
 COMPLETION = os.path.join("tools", "completion.bash")
 HOME = os.path.join("lib", "subttx")
 MAN = os.path.join("share", "man", "man1")
@@ -60,7 +60,7 @@ def copy_tools(prefix: str) -> None:
     shutil.copytree(os.path.join(TOP, "tools", "subtitles"),
                     os.path.join(home, "tools", "subtitles"),
                     ignore=shutil.ignore_patterns("__pycache__"))
-    copy_manual(home)
+    copy_documents(home)
     link(os.path.join("..", "..", "bin", "subttx"), os.path.join(home, "subttx"))
 
 
@@ -72,16 +72,32 @@ def compile_tools(prefix: str) -> None:
                            invalidation_mode=py_compile.PycInvalidationMode.UNCHECKED_HASH)
 
 
-def copy_manual(home: str) -> None:
-    """The manual, with the pictures that it shows; a link to what is not installed is its words."""
-    shutil.rmtree(os.path.join(home, MANUAL), ignore_errors=True)
-    shutil.copytree(os.path.join(TOP, MANUAL), os.path.join(home, MANUAL))
-    pictures = [os.path.relpath(path, TOP)
-                for path in glob.glob(os.path.join(glob.escape(TOP), "docs", "*.png"))]
-    for name in [*READ, *pictures]:
-        copy(os.path.join(TOP, name), os.path.join(home, name))
-    for path in glob.glob(os.path.join(glob.escape(home), "docs", "**", "*.md"), recursive=True):
-        write(path, without_dead_links(read(path) or "", os.path.dirname(path)))
+def documents() -> list[str]:
+    """README, the manual, and what these link, one from another, by their names from the top; but
+    not what says of which sources another program is."""
+    found = list(READ)
+    for name in found:
+        text = (read(os.path.join(TOP, name)) or "") if name.endswith(".md") else ""
+        for _, target in LINK.findall(text):
+            path = os.path.normpath(os.path.join(os.path.dirname(name), target))
+            is_one = os.path.isfile(os.path.join(TOP, path)) and path.split(os.sep)[0] != "dist"
+            found += [path] if is_one and path not in found else []
+    return found
+
+
+def copy_documents(home: str) -> None:
+    """The documents and the examples; a link to what is not installed is its words."""
+    for folder in ("docs", "examples"):
+        shutil.rmtree(os.path.join(home, folder), ignore_errors=True)
+    shutil.copytree(os.path.join(TOP, "examples"), os.path.join(home, "examples"))
+    names = documents()
+    for name in names:
+        path = os.path.join(TOP, name)
+        copy(path, os.path.join(home, name), 0o755 if os.access(path, os.X_OK) else 0o644)
+    for name in names:
+        if name.endswith(".md"):
+            path = os.path.join(home, name)
+            write(path, without_dead_links(read(path) or "", os.path.dirname(path)))
 
 
 def without_dead_links(text: str, folder: str) -> str:

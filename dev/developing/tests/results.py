@@ -34,7 +34,8 @@ def result(verdict: str = "refused", **more: Any) -> dict[str, Any]:
     is_judged = verdict != NOT_JUDGED
     return {
         "format": FORMAT, "verdict": verdict, "status": STATUSES[verdict],
-        "line": f"{verdict} 72 Content" if is_judged else None, "sentence": "Refused.",
+        "line": f"{verdict} 72 Content" if is_judged else None,
+        "lead": f"{verdict} 72 Content" if is_judged else None, "sentence": "Refused.",
         "reason": None if is_judged else "why", "judged": "transmission", "frames": None,
         "transmissions": None, "fault_count": 0, "subtitle_counts": None, "asked": ASKED,
         "found": {"stl": None, "recording": None, "severity": None}, "layout": None,

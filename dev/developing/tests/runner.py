@@ -3,6 +3,7 @@ from __future__ import annotations
 
 import itertools
 import os
+import sys
 import unittest
 from concurrent.futures import ThreadPoolExecutor
 from types import TracebackType
@@ -23,6 +24,7 @@ class Counts(unittest.TestResult):
     def __init__(self, is_verbose: bool) -> None:
         super().__init__()
         self.is_verbose = is_verbose
+        self.out = sys.stdout  # a test may take what is printed meanwhile
         self.passed = self.failed = 0
         self.over: list[str] = []  # what was passed over, and why
         self.in_parts: set[str] = set()  # tests of which a part was counted
@@ -33,9 +35,9 @@ class Counts(unittest.TestResult):
         self.failed += error is not None
         if error is not None:
             told = self._exc_info_to_string(error, test)  # type: ignore[attr-defined]
-            print(f"FAILED: {name_of(test)}: {told}", flush=True)
+            print(f"FAILED: {name_of(test)}: {told}", file=self.out, flush=True)
         elif self.is_verbose:
-            print(f"passed: {name_of(test)}", flush=True)
+            print(f"passed: {name_of(test)}", file=self.out, flush=True)
 
     def addSubTest(self, test: unittest.TestCase, subtest: unittest.TestCase,
                    err: Error | None) -> None:

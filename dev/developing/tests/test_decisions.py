@@ -6,8 +6,6 @@ import contextlib
 import io
 import os
 from dataclasses import replace
-from types import SimpleNamespace
-from typing import Any
 
 from developing.pes import pes_packet
 from developing.stl import gsi_block, tti_block
@@ -19,25 +17,19 @@ from subtitles.calls.pairs import of_folder
 from subtitles.calls.watching import Sighting, Watch
 from subtitles.core.programme import Subtitle
 from subtitles.core.spans import Span
-from subtitles.core.times import TICKS, Between, time_of
+from subtitles.core.times import TICKS, Between
 from subtitles.core.words import Words
 from subtitles.qc.asked import add_pair_options, asked_of_line
-from subtitles.qc.clock import START, Clock, Found
+from subtitles.qc.clock import RECORDING, START, Clock, Found
 from subtitles.qc.delays import frames_until
 from subtitles.qc.clocks import unclear, with_delay
 from subtitles.reading.packets import Packets
 from subtitles.reading.order import FEW
 from subtitles.reading.timeline import Timeline
-from subtitles.qc.names import Names
-from subtitles.qc.options import passed_words
-from subtitles.qc.pair import Pair
-from subtitles.qc.progress import Progress
-from subtitles.qc.severity import Severity
-from subtitles.qc.speech import Speech
+from subtitles.qc.parting import parted, refuse_others
 from subtitles.qc.subtitle_file import NamedSubtitle, SubtitleFile
 from subtitles.qc.typed import Typed
 from subtitles.qc.unclear import Unclear
-from subtitles.qc.verdict import Verdict
 from subtitles.qc.warned import of_page
 from subtitles.reading.finding import Agreement, Origin
 from subtitles.reading.survey import Announced
@@ -65,9 +57,9 @@ class Objects(Case):
                 ("waived: refused 72 Content", "of the content"), ("refused 7 Other", "of none"),
                 ("accepted 72 frames", ""), (None, ""),
                 ("not accepted, since TS packets are lost: waived: refused 5 X", "of none")):
-            found = hint_in({"line": line, "hints": hints})
+            found = hint_in({"lead": line, "hints": hints})
             self.must(f"{line}", found == wanted, found)
-        self.must("no hints", hint_in({"line": "refused 72 Content", "hints": []}) == "")
+        self.must("no hints", hint_in({"lead": "refused 72 Content", "hints": []}) == "")
 
     def test_words_of_a_call(self) -> None:
         """A pair as words, read again, asks the same: with each option by itself, and with all."""
@@ -381,21 +373,17 @@ class Parting(Case):
                 ("one in two", nine, [(0, 10), (9, 12), (18, 21)], False),
                 ("one in two, one missing", nine, [(0, 10), (9, 12), (18, 20)], False),
                 ("another order", nine, three[::-1], False)):
-            asked = asked_for("one.stl", "one.pes")
-            typed, names = Typed("tools/qc", self.bench.program), Names("one", self.folder, None)
-            pair = Pair(Verdict(asked, Severity(None), "now"), typed, names, Speech(Progress()),
-                        False)
-            found = [self.FOUND._replace(begin=begin, end=end, between=Between(begin, end))
-                     for begin, end in parts]
-            recording: Any = SimpleNamespace(stages=[], packets=Packets(1))
+            found = [self.FOUND._replace(begin=begin, end=end) for begin, end in parts]
+            made = parted(found, self.FOUND, subtitles, [], None, 0)
+            self.must(f"{name}: frames", [(one[:4], one.between) for one in made] == [
+                (one[:4], Between(*one[:2])) for one in found])
+            is_refused = False
             try:
-                pair.judged = subtitles
-                made = pair.parts(found, recording)
-                said = [(one.names.name, one.found) for one in made]
-                words = [passed_words(one.asked.passed_on) for one in made]
-                self.must(f"{name}: words", words == [
-                    ["--from", time_of(begin), "--to", time_of(end)] for begin, end in parts])
+                refuse_others(made, subtitles, "one.stl")
             except Unclear:
-                said = []
-            self.must(name, said == [(f"one.{at}", one) for at, one in enumerate(found, 1)]
-                      * is_right, said)
+                is_refused = True
+            self.must(name, is_refused != is_right)
+        whole = Found(2, 90, Clock(5, RECORDING))
+        for one in (self.FOUND, self.FOUND._replace(begin=5, end=7)):
+            self.must("a single one", parted([one], whole, nine, [], (1, 8), 0) == [
+                whole._replace(clock=one.clock, packets=(3, 5))])

@@ -98,7 +98,7 @@ class Documents(Case):
         rates = [re.search(rf"^\| {name} \|.*?\| (\d+) MB/s", measured, re.M)
                  for name in ("day", "mixed")]
         told = [f"{int(rate[1]) // 100 / 10} GB/s" for rate in rates if rate]
-        seconds = re.findall(r"takes (\d\.\d) s of a processor.*?of it (\d\.\d)", measured, re.S)
+        seconds = re.findall(r"takes (\d\.\d) s of a processor.*?of\s+it (\d\.\d)", measured, re.S)
         version = re.findall(r"version (\d+\.\d+\.\d+)", measured)[:1]
         self.must("rates", len(told) == 2 and all(one in readme for one in told), told)
         self.must("seconds", len(seconds) == 1 and f"takes {seconds[0][0]} s" in readme, seconds)

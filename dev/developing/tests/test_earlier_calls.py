@@ -18,6 +18,7 @@ from subtitles.calls.objects import (
     Row, found, found_at, has_had_its_turn, is_current, left_by_call, may_take, object_at,
     objects_in, row_of, unjudged)
 from subtitles.calls.pairs import Item
+from subtitles.calls.single import SIGNALS
 from subtitles.calls.watching import Stopping, Watch, refuse_folders
 from subtitles.core.words import Stop
 from subtitles.qc.asked import Asked
@@ -97,7 +98,7 @@ class EarlierCalls(Case):
     def test_feed_that_stands_still_twice(self) -> None:
         """Each time is told once, with how long it was."""
         said: list[str] = []
-        stall = Stall(10, SimpleNamespace(tell=said.append))  # type: ignore[arg-type]
+        stall = Stall(10, said.append)
         for still in (1.0, 9.9, 10.0, 11.0, 12.4, 0.0, 0.1, 3.0, 10.0, 20.6, 0.3):
             stall.take(still)
         self.must("twice", said == [
@@ -315,8 +316,10 @@ class Watched(Case):
 
     def test_signals(self) -> None:
         """The first asks for the end, the second ends at once."""
-        stopping = Stopping.__new__(Stopping)
-        stopping.is_asked = False
+        with mock.patch("signal.signal") as heeded:
+            stopping = Stopping()
+        self.must("all that end a call", {one.args[0] for one in heeded.call_args_list} <= {
+            *SIGNALS})
         stopping.take(15, None)
         self.must("asked", stopping.is_asked)
         self.assertRaises(KeyboardInterrupt, stopping.take, 15, None)

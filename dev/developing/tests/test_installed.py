@@ -10,7 +10,7 @@ import sys
 import tarfile
 
 from subtitles.core.built import TOP, chosen, read
-from ..prefix import PAGES, without_dead_links
+from ..prefix import PAGES, documents, without_dead_links
 from ..proved import lacking, parsed
 from .bench import Case, Done, example
 
@@ -42,6 +42,9 @@ def runs_the_whole_way(case: Case, prefix: str) -> None:
     done = run("subttx-text", "--help")
     case.must("its own names in the help", b"subttx-text STL" in done.out
               and b"tools/" not in done.out, done)
+    done = run("subttx-qc", "--help")
+    named = re.findall(r"\S+/docs/manual/\w+\.md", done.out.decode())
+    case.must("documents in the help", len(named) == 2 and all(map(os.path.isfile, named)), named)
 
 
 def proved_here(case: Case) -> str:
@@ -117,13 +120,13 @@ class Installed(Case):
             self.must(" ".join(words[1:]), done.status == 2 and len(done.told) == 1, done)
 
     def test_has_no_dead_links(self) -> None:
-        """Each link of the installed manual leads to a file there, and each tool that an example of
-        it calls beside the program is installed."""
+        """Each link of an installed document leads to a file there, and each tool that an example of
+        the manual calls beside the program is installed."""
         self.tool("install", "-p", self.bench.program, "prefix")
         home = self.path("prefix/lib/subttx")
-        paths = [os.path.join(home, "docs", "MANUAL.md"),
-                 *glob.glob(os.path.join(home, "docs", "manual", "*.md"))]
-        self.must("chapters", len(paths) > 10, paths)
+        paths = [path for path in glob.glob(os.path.join(home, "**", "*.md"), recursive=True)
+                 if os.path.relpath(path, home) in documents()]
+        self.must("documents", len(paths) > 30, paths)
         count = 0
         for path in paths:
             text = read(path) or ""
@@ -131,7 +134,8 @@ class Installed(Case):
                 count += 1
                 self.must(f"{os.path.relpath(path, home)}: {target}", ":" in target or
                           os.path.exists(os.path.join(os.path.dirname(path), target)))
-            called = set(re.findall(r"^\$ .*?\btools/(\w+)", text, re.MULTILINE))
+            called = set(re.findall(r"^\$ .*?\btools/(\w+)", text, re.MULTILINE)) \
+                if "/manual/" in path else set()
             self.must(f"{os.path.relpath(path, home)}: tools", all(
                 os.path.exists(os.path.join(home, "tools", name)) for name in called
                 if name not in ("install", "dist")), called)
@@ -211,9 +215,9 @@ class Installed(Case):
         done = self.call(["dpkg-deb", "-x", path, "empty"])
         self.must("unpacked", done.status == 0, done)
         runs_the_whole_way(self, self.path("empty/usr"))
-        documents = self.path("empty/usr/share/doc/subttx")
-        self.must("the manual", os.path.isfile(os.path.join(documents, "manual", "qc.md")))
-        self.must("what was proved", read(os.path.join(documents, "PROVED")) == read(proved))
+        folder = self.path("empty/usr/share/doc/subttx")
+        self.must("the manual", os.path.isfile(os.path.join(folder, "docs", "manual", "qc.md")))
+        self.must("what was proved", read(os.path.join(folder, "PROVED")) == read(proved))
         self.call(["dpkg-deb", "-e", path, "control"])
         shared = "/usr/lib/subttx/tools/subtitles"
         for name, is_there in (("postinst", True), ("prerm", False)):

@@ -13,7 +13,7 @@ from subtitles.qc.checking import Answer
 from subtitles.qc.counted import NO_END, End
 from subtitles.qc.due_pages import DuePages
 from subtitles.qc.headers import REPEATS, Headed, control_words, headed, unerased_words
-from subtitles.qc.keeping import Kept, Left, judged_by, kept_in, left_at, left_by, rows_words
+from subtitles.qc.keeping import Kept, LeftOut, judged_by, kept_in, left_at, left_by, rows_words
 from subtitles.reading.packets import Run
 from subtitles.reading.receiver import BLANK_PAGE, TUNED, Rows
 from subtitles.reading.timeline import Timeline
@@ -105,7 +105,7 @@ class Counted(Case):
 
     def test_words(self) -> None:
         """Where it is not known what --keeping tells, where rows are left out, where none is."""
-        left = (Left(250, "row 22"), Left(300, "rows 20 and 22"))
+        left = (LeftOut(250, "row 22"), LeftOut(300, "rows 20 and 22"))
         head = f"{CLEAR} in 3 of 10 headers"
         out = f"{head}, and behind 2 of these rows are left out (at 00:00:10:00 row 22): " \
             "--keeping judges by it"
@@ -152,7 +152,7 @@ def frame_words(frame: int) -> str:
     return f"frame {time_of(frame)}"
 
 
-class LeftOut(Case):
+class RowsLeftOut(Case):
     """Rows that are left out behind a header that keeps the page."""
 
     def held(self, *frames: tuple[int, list[bytes]], within: int = 0) -> tuple[Timeline, Rows]:
@@ -237,7 +237,7 @@ class LeftOut(Case):
                    "refused 72 Content frame 00:00:04:00 row 20 column 0",
                    "ended 72 Content frame 00:00:04:00", "2 faults")
         self.must("72", found == Kept(5, 3, tuple(
-            Left(frame, "rows 20 and 22") for frame in (25, 50, 100))), found)
+            LeftOut(frame, "rows 20 and 22") for frame in (25, 50, 100))), found)
 
     def test_causes(self) -> None:
         """Why a page is not as it is due at a frame at whose end it is held."""

@@ -1,6 +1,7 @@
 """The lists of tools and modules: each has its row, and each row is of one that is there."""
 from __future__ import annotations
 
+import collections
 import os
 import re
 
@@ -54,6 +55,17 @@ class Lists(Case):
             wanted = [one.rstrip("/") for one in entries(folder)
                       if "." not in one and "-" not in one]
             self.must(name, sorted(rows) == wanted, set(rows) ^ set(wanted))
+
+    def test_have_one_meaning(self) -> None:
+        """Each class of the tools has a name of its own."""
+        places = collections.defaultdict[str, list[str]](list)
+        for folder, _, names in os.walk(os.path.join(TOP, "tools", "subtitles")):
+            for name in names if not folder.endswith("__pycache__") else ():
+                text = read(os.path.join(folder, name)) or ""
+                for found in re.findall(r"^class (\w+)", text, re.M):
+                    places[found].append(name)
+        several = {name: files for name, files in places.items() if len(files) > 1}
+        self.must("names of classes", len(places) > 100 and not several, several)
 
     def test_are_those_of_the_clauses(self) -> None:
         """Each clause that the index names is one of the sources."""

@@ -15,7 +15,7 @@ from unittest import mock
 
 from subtitles.calls import batch
 from subtitles.calls.batch import Calls, all_rows, kept_rows, progress_line, words_of
-from subtitles.calls.forked import Call, ended_of, qc, signals_held
+from subtitles.calls.forked import Forked, ended_of, qc, signals_held
 from subtitles.calls.members import ASKED
 from subtitles.calls.main import parser_of
 from subtitles.calls.objects import Row, found, object_at, row_of, unjudged
@@ -251,7 +251,7 @@ class Judged(Case):
             return 7
 
         with signals_held():
-            call = Call(look)
+            call = Forked(look)
         self.must("all", call.end() == (7, [str([True] * 5)]))
 
     def test_all(self) -> None:
@@ -371,7 +371,7 @@ class Batches(Case):
             for item, verdict in reversed(list(zip(items, judged.split(", ")))):
                 with open(calls.path(item), "w", encoding="ascii") as file:
                     json.dump(result(verdict, **{
-                        "reason" if verdict == "not judged" else "line": item.name}), file)
+                        "reason" if verdict == "not judged" else "lead": item.name}), file)
                 rows[item.name] = row(item.name, verdict, item.name)
             calls.is_stopped = is_stopped
             return rows
@@ -398,7 +398,7 @@ class Batches(Case):
                     line.split()[0] for line in lines[1:]] == ["one", "two", "three", "3"], lines)
                 self.must("at a time", self.seen[1:] == (["one", "two", "three"], {}, wanted))
                 have = json.loads(self.read("all"))
-                names = [one["line"] or one["reason"] for one in have["pairs"]]
+                names = [one["lead"] or one["reason"] for one in have["pairs"]]
                 self.must("objects", (names, have["status"]) == (
                     ["one", "two", "three"], status))
                 self.must("the folder went", not os.path.exists(self.seen[0].folder))

@@ -11,10 +11,10 @@ from typing import Any, Sequence
 from unittest import mock
 
 from subtitles.calls import index_page, overview
-from subtitles.calls.objects import Row
+from subtitles.calls.objects import Row, found
 from subtitles.calls.claim import clear
 from subtitles.calls.single import (
-    Files, Output, end, end_pair, judge_pair, name_of, refuse_outputs)
+    Files, Output, end, end_pair, judge_pair, name_of, now, refuse_outputs)
 from subtitles.qc.asked import Asked
 from subtitles.qc.checking import Answer
 from subtitles.qc.clock import FITTED, GIVEN, RECORDING, Clock, Found
@@ -153,7 +153,8 @@ class Writes(Case):
         return made
 
     def verdict(self, lines: Sequence[str] = REFUSED) -> Verdict:
-        made = Verdict(asked_for(example("story.stl"), self.path("one.pes")), Severity(None), "now")
+        made = Verdict(asked_for(example("story.stl"), self.path("one.pes")), Severity(None), now())
+        made.found = found(made.asked)
         made.parts = [self.part(1, lines)]
         return made
 
@@ -409,17 +410,16 @@ class Overview(Case):
                   ["d<", "e", "b", "c", "a"])
         for name in ("a.html", "a.json", "b.json", "b.txt"):
             self.write(name, b"")
-        page = index_page.page_of(self.folder, rows, "now")
+        page = index_page.page_of(self.folder, rows, "now").decode()
         self.must("counts", page.count("5 pairs: 1 accepted, 1 lost, 1 not judged, 1 refused, "
                                        "1 waived") == 2, page[:900])
-        lines = {row.name: index_page.line_of(self.folder, row) for row in rows}
+        lines = {row.name: index_page.line_of(self.folder, row).source for row in rows}
         self.must("links", [lines[name].count("<a ") for name in "abc"] == [2, 2, 0] and
                   ">list</a>" in lines["b"] and ">report</a>" in lines["a"])
-        self.must("why", "why<br>more<br>and<" in lines["b"] and "four" not in lines["b"] and
-                  "refused 72<br>a hint" in lines["d<"] and "accepted 5" not in lines["a"])
+        self.must("why", "why<br/>more<br/>and<" in lines["b"] and "four" not in lines["b"] and
+                  "refused 72<br/>a hint" in lines["d<"] and "accepted 5" not in lines["a"])
         self.must("causes", lines["d<"].count("&times;") == 6 and "&hellip;" in lines["d<"] and
-                  "&hellip;" not in lines["c"] and "9 faults<br>" in lines["d<"] and
-                  "1 fault<br>" in lines["c"] and "0 faults" in lines["e"] and
+                  "&hellip;" not in lines["c"] and "9 faults<br/>" in lines["d<"] and
+                  "1 fault<br/>" in lines["c"] and "0 faults" in lines["e"] and
                   "fault" not in lines["b"])
         self.must("name", "d&lt;" in lines["d<"] and 'class="not-judged"' in lines["b"])
-        self.must("letters", index_page.shown("a\x07\udc80<") == "a\ufffd\\udc80&lt;")

@@ -24,7 +24,7 @@ from subtitles.calls.single import now
 from subtitles.calls.table import cell_words, of_part, said, text_of as csv_of
 from subtitles.core.words import shown
 from subtitles.qc.clock import GIVEN
-from subtitles.qc.sums import File
+from subtitles.qc.sums import SummedFile
 from subtitles.qc.verdict import Gap
 from subtitles.reading.gaps import Place
 from .bench import Case, alone
@@ -219,7 +219,7 @@ class Members(unittest.TestCase):
         self.assertEqual(bare["clock"], {"origin": 7, "source": GIVEN, "delay_frames": None})
         recording: Any = SimpleNamespace(stream=lambda: (0x101, 204))
         part.recording, part.pes = recording, (3, 9)
-        part.judged, part.found = File("a.cut.pes", 5, "sum"), None
+        part.judged, part.found = SummedFile("a.cut.pes", 5, "sum"), None
         for is_kept, name in ((True, "a.cut.pes"), (False, None)):
             words = JUDGED_PART.made(PartOf(part, is_kept))
             self.assertEqual([words[name] for name in ("pid", "packet_size", "pes", "judged",
@@ -240,4 +240,7 @@ class Members(unittest.TestCase):
         for code, letter, words in (("41", "A", "41 A"), ("00", "", "00")):
             self.assertEqual(cell_words({"code": code, "character": letter}), words)
         self.assertEqual(said("a\nb\x07"), "a\n" + shown("b\x07"))
-        self.assertEqual((said(5), said(None)), (5, None))
+        self.assertEqual((said(5), said(-5), said(None)), (5, -5, None))
+        for text in ("=1+1", "+1", "-1", "@A1", "=a\nb"):
+            self.assertEqual(said(text), f"'{text}")
+        self.assertEqual((said("a=1"), said("\ta")), ("a=1", "\\x09a"))

@@ -2,9 +2,7 @@
 """
 from __future__ import annotations
 
-from types import SimpleNamespace
 from typing import Any, Sequence
-from unittest import mock
 
 from developing.pes import pes_packet
 from subtitles.core.times import CLOCK, TICKS
@@ -14,15 +12,14 @@ from subtitles.qc.counted import NO_END
 from subtitles.qc.clock import FITTED, FITTED_LATER, GIVEN, RECORDING, Clock, Found
 from subtitles.qc.delays import MOVED, Spread, spread_of
 from subtitles.qc.ending import is_enough
-from subtitles.qc.judging import measure
-from subtitles.qc.missing import gap_of, gaps_of
+from subtitles.qc.missing import gap_of, gaps_of, lacks
 from subtitles.qc.severity import ERROR, OTHERS, REFUSALS, WARNING, Severity
 from subtitles.qc.part import Part
 from subtitles.qc.verdict import Gap, Verdict
-from subtitles.qc.within import FIXED, OF_ENDS, OF_FRAMES, OF_PACKETS, Trying
+from subtitles.qc.within import FIXED, OF_ENDS, OF_FRAMES, OF_PACKETS
 from subtitles.reading.finding import Agreement
 from subtitles.reading.gaps import Place
-from .bench import Case, alone
+from .bench import Case
 from .parts import CLOSING, HEADER, answer, asked_for, packets_told, part_with
 
 REFUSED = ("refused 72 Content frame 00:00:05:00 row 20 column 1", "1 faults")
@@ -138,21 +135,19 @@ class Verdicts(Case):
                 self.must(f"{words} {origin}", found.line() == f"{words}: 3 TS packets lost" and
                           found.is_judged and found.place is place, found)
 
-    @alone
-    def test_promises_nothing_of_what_is_lost(self) -> None:
-        """Where a part lacks something, at a first place or a second, nothing is tried."""
-        pair: Any = SimpleNamespace(asked=asked_for("one.stl", "one.pes"), is_summed=False)
+    def test_what_is_lost(self) -> None:
+        """A part lacks something where `check` told it, or something is missing at a first place or
+        a second."""
         inside, outside = (Place(TICKS * at, TICKS * (at + 1), missing=9) for at in (150, 250))
-        tried: Any = SimpleNamespace(least=lambda numbers, causes: 2)
-        for places, wanted in (([], 2), ([inside], None), ([outside], 2),
-                               ([outside, inside], None)):
-            part = part_with(100, 199, 0, answer(REFUSED))
+        lost = answer(["refused 45 Lost pes 3", "1 faults"], path=self.path("list"))
+        rows: list[tuple[Answer, list[Place], bool]] = [
+            (answer(REFUSED), [], False), (answer(REFUSED), [inside], True),
+            (answer(REFUSED), [outside], False), (answer(REFUSED), [outside, inside], True),
+            (lost, [], True)]
+        for said, places, wanted in rows:
+            part = part_with(100, 199, 0, said)
             part.pes = 0, 9
-            recording: Any = SimpleNamespace(places=lambda: places, is_feed=False)
-            part.recording = recording
-            with mock.patch("subtitles.qc.judging.Trying", lambda *_: tried):
-                measure(pair, part, 1)
-            self.must(f"{places}", part.accepted_within == wanted, part.accepted_within)
+            self.must(f"{said.numbers} {places}", lacks(part, places) == wanted)
 
     def test_accepted_within(self) -> None:
         """What is promised holds for all parts that are refused, and is known of each."""
@@ -283,16 +278,6 @@ class Severities(Case):
         self.must("of packets, of frames", (OF_PACKETS, OF_FRAMES, OF_ENDS) == (
             {63, 64, 65, 66, 67, 68, 69, 70, 71, 73}, {61, 62}, {72, 77}))
         self.must("pages are moved", MOVED == {30, 31, 32, 44, 45, 60, 62, 63, 71, 72, 74, 77})
-
-    def test_what_more_frames_may_accept(self) -> None:
-        """None of the faults is one that stays; of packets some may go where frames are others."""
-        of_numbers: list[tuple[set[int], bool]] = [
-            ({72}, True), ({72, 77}, True), ({61}, True), ({72, 61}, True), ({72, 10}, False),
-            ({57}, False), ({72, 44}, False), ({60}, False), ({63}, False), ({63, 61}, True),
-            ({71}, False), ({71, 62}, True), ({73, 72}, False), ({73, 61, 40}, False)]
-        for numbers, wanted in of_numbers:
-            found = Trying.may_be(Trying.__new__(Trying), numbers, None)
-            self.must(f"{numbers}", found == wanted)
 
     def test_enough_edges_of_a_feed(self) -> None:
         """Five that agree, or all there are; where others do not, half with their letters."""

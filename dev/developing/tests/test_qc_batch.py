@@ -50,7 +50,7 @@ class Batches(Case):
         self.must("table", done.status == 2 and [line.split()[:2] for line in lines[1:-1]] == [
             ["a", "accepted"], ["b", "accepted"], ["c", "refused"], ["d", "not"]] and
             lines[-1] == "4 pairs: 2 accepted, 1 refused, 1 not judged", lines)
-        self.must("the broken one", lines[3].split()[2:4] == ["4", "67"] and lines[4].endswith(
+        self.must("the broken one", lines[3].split()[2:4] == ["4", "72"] and lines[4].endswith(
             "in/d.stl: no recording of that name"), lines)
         verdicts = [one["verdict"] for one in loaded(self, "all.json")["pairs"]]
         self.must("its object", verdicts == ["accepted"] * 2 + ["refused", "not judged"], verdicts)

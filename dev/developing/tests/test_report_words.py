@@ -23,7 +23,7 @@ from subtitles.qc.clock import GIVEN, START
 from subtitles.qc.made_with import MadeWith
 from subtitles.qc.midnight import AT_MIDNIGHT
 from subtitles.qc.subtitle_file import SubtitleFile
-from subtitles.qc.sums import File
+from subtitles.qc.sums import SummedFile
 from .bench import Case, example
 from .parts import asked_for, fault_of, part_with
 from .test_report_faults import SUBTITLES, faults
@@ -151,7 +151,7 @@ class Box(unittest.TestCase):
 
     def test_scope(self) -> None:
         """What the verdict speaks of, and what nobody looked at."""
-        recorded = File("a<b", 1234, "0" * 64)
+        recorded = SummedFile("a<b", 1234, "0" * 64)
         for one, wanted, checked in (
                 (Scope([], None, 25, 50, 1, None, False, False), "00:00:01:00 to 00:00:02:00, "
                  "1 subtitle<", [ROW_0]),
@@ -171,7 +171,7 @@ class Reports(Case):
 
     def test_foot(self) -> None:
         """What is made from files: each with its size and its sum, words by lines, the prover's."""
-        file = File("a<b", 1234, "f" * 64)
+        file = SummedFile("a<b", 1234, "f" * 64)
         for proved, words in (("x & y", "x &amp; y</code>"), (None, "no file PROVED says")):
             text = page.made_from([("STL", file), ("PES", file)], "a date", MadeWith(
                 "1.2.3", "", proved), [("One", "a\nb"), ("Two", "<")])
@@ -247,7 +247,7 @@ class Reports(Case):
             self.must(f"{words}", Subject.options(made) == " ".join([
                 "--page 888 --every 25 --origin 5 --option english", *complete, *more,
                 "--pes 1-2"]), Subject.options(made))
-        file = File("a.ts", 9, "0" * 64)
+        file = SummedFile("a.ts", 9, "0" * 64)
         for count, source, is_fitted, clock in ((3, GIVEN, True, None), (1, START, False, "words")):
             subject = SimpleNamespace(parts=count, judged=SimpleNamespace(
                 recording=file, fitted=["1"] * is_fitted))

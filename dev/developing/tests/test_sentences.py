@@ -7,7 +7,7 @@ import unittest
 from subtitles.core.manual import meanings
 from subtitles.core.national import OPTIONS
 from subtitles.core.told import told_of
-from subtitles.qc.causes import NAMES
+from subtitles.qc.causes import IN_PAUSE, NAMES, Cause
 from subtitles.qc.fault_words import WORDS
 from subtitles.qc.headers import control_words
 from subtitles.qc.sentence import SAID, Facts, of_causes, sentence_of
@@ -103,9 +103,16 @@ class Sentences(unittest.TestCase):
                     self.assertRegex(words, VERB)
                     self.assertNotRegex(words, r"TIME|\bN frames|\bK\b|`|[;.] |--complete")
 
+    def test_another_text_in_a_pause(self) -> None:
+        """It is no fault of a subtitle, and none is named."""
+        several = [Cause(at, IN_PAUSE, None, None, None, f"at 10:00:0{at}:00", 0) for at in (2, 4)]
+        for count, wanted in ((1, "another text was sent in a pause, at 10:00:02:00"),
+                              (2, "another text was sent in 2 pauses, the first at 10:00:02:00")):
+            self.assertEqual(of_causes(causes_of(*several[:count]), "english"), wanted)
+
     def test_each_cause(self) -> None:
         """The sentence of each cause, of one subtitle and of two: what is wrong, and with which."""
-        for name in NAMES:
+        for name in [one for one in NAMES if one != IN_PAUSE]:
             for several in ([cause(2, name, 3)], [cause(2, name, 3), cause(4, name, 5)]):
                 words = of_causes(causes_of(*several), "english")
                 said = SAID[name][len(several) > 1] if name in SAID else \

@@ -10,7 +10,7 @@ from subtitles.core.words import Stop
 from subtitles.qc.severity import Severity
 from subtitles.qc.status import (
     ACCEPTED, LOST, NOT_JUDGED, REFUSED, STATUSES, UNREAD, UNSAID, WAIVED, WARNED, Decision, Said,
-    Evidence, decide, is_of_call, of_all, word_of)
+    Grounds, decide, is_of_call, of_all, word_of)
 
 ERROR, WARNING, NUMBER = 72, 67, 38  # of faults: the file below names the second a warning
 ENDS_READING, LOST_PACKETS, SILENT = (30, 31, 32, 44), 45, 79
@@ -77,7 +77,7 @@ class Decided(unittest.TestCase):
         for count in (1, 2, 3):
             for names in itertools.product(kinds, repeat=count):
                 wanted = self.word_by_names(names)
-                found = decide(Evidence([kinds[name] for name in names], NAMED))
+                found = decide(Grounds([kinds[name] for name in names], NAMED))
                 if (found.word, found.status) != (wanted, STATUSES[wanted]):
                     self.fail(f"{names}: {found}, and not {wanted}")
 
@@ -100,9 +100,9 @@ class Decided(unittest.TestCase):
                 ((), ("page",), ("repeat", "fitted")), (False, True)):
             parts = [RIGHT["accepted"], (RIGHT | WRONG)[name], RIGHT["accepted"]]
             for severity in ALLOWING if is_allowed else [NAMED]:
-                self.decides(name, Evidence(parts, severity, losses, warnings, is_strict), is_allowed)
+                self.decides(name, Grounds(parts, severity, losses, warnings, is_strict), is_allowed)
 
-    def decides(self, name: str, seen: Evidence, is_allowed: bool) -> None:
+    def decides(self, name: str, seen: Grounds, is_allowed: bool) -> None:
         """One of these: --allow-lost, and a severity file that names 45 a warning, are one rule."""
         found, losses, warnings = decide(seen), seen.losses, seen.warnings
         if name in ("refused", "silent"):
@@ -121,7 +121,7 @@ class Decided(unittest.TestCase):
         """A reason, or an output that failed, is not judged, whatever was said."""
         for name, said in (RIGHT | WRONG).items():
             for failed, reasons in itertools.product(OUTPUTS, ((), ("stopped",))):
-                found = decide(Evidence([said, said], NAMED, reasons=reasons, failed=failed))
+                found = decide(Grounds([said, said], NAMED, reasons=reasons, failed=failed))
                 is_clean = not failed and not reasons
                 with self.subTest(name, failed=failed, reasons=reasons):
                     self.assertEqual(found.word, self.word_by_names([name]) if is_clean
@@ -135,8 +135,8 @@ class Decided(unittest.TestCase):
             ([], UNSAID), ([accepted, WRONG["silent"]], UNSAID), ([unread], UNREAD),
             ([accepted, accepted, unread], UNREAD)]
         for parts, wanted in rows:
-            self.assertEqual(decide(Evidence(parts, NAMED)), Decision(NOT_JUDGED, wanted))
-        self.assertEqual(decide(Evidence([accepted], NAMED)), Decision(ACCEPTED))
+            self.assertEqual(decide(Grounds(parts, NAMED)), Decision(NOT_JUDGED, wanted))
+        self.assertEqual(decide(Grounds([accepted], NAMED)), Decision(ACCEPTED))
 
     def test_each_severity(self) -> None:
         """All errors, one warning, all warnings; what ends reading is an error in each."""
@@ -162,7 +162,7 @@ class Decided(unittest.TestCase):
                     said = [Said(1, False, 1, 1, {number}) if place == "x" else RIGHT["accepted"]
                             for place in places]
                     with self.subTest(lines=lines, allowed=is_allowed, number=number, at=places):
-                        self.assertEqual(decide(Evidence(said, severity)).word,
+                        self.assertEqual(decide(Grounds(said, severity)).word,
                                          REFUSED if status else WAIVED)
 
 

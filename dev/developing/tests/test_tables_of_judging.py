@@ -13,8 +13,8 @@ from developing.pes import pes_packet
 from developing.stl import gsi_block, subtitle_blocks, tti_block
 from subtitles.core.times import CLOCK, TICKS
 from subtitles.qc.causes import (
-    ATTRIBUTE, EARLY, LATE, NEVER, NOT_ERASED, OTHER, PLACE, TEXT, UNKNOWN)
-from subtitles.qc.clock import GIVEN, RECORDING, START, Clock, Found
+    ATTRIBUTE, EARLY, LATE, NEVER, NOT_ERASED, OTHER, PLACE, TEXT, UNKNOWN, Cause)
+from subtitles.qc.clock import GIVEN, RECORDING, Clock, Found
 from subtitles.qc.clocks import found_in
 from subtitles.qc.off_frame import most_off, off_words
 from subtitles.qc.start import start_frame
@@ -23,10 +23,11 @@ from subtitles.qc.unclear import Unclear
 from subtitles.qc.warned import (
     Warned, length_words, of_character_sets, of_counts, of_jumps, of_pauses, of_repeat, of_tables,
     there_are)
-from subtitles.qc.within import Trying, is_accepted, line_of
-from subtitles.reading.finding import OfPart, Origin, Sought
+from subtitles.qc.within import (
+    NOTHING, is_accepted, is_delay, least_of, line_of, may_be, same_part)
+from subtitles.reading.finding import OfPart, Origin
 from subtitles.reading.gaps import ClockJump
-from subtitles.reading.packets import Packets, Range
+from subtitles.reading.packets import Packets
 from subtitles.reading.survey import Announced
 from .bench import Case
 from .parts import CLOSING, HEADER, PAGE, asked_for, packets_told
@@ -38,42 +39,12 @@ AT_THE_END = ("refused 77 Repeat frame 00:00:01:00", 1)
 OTHERS = ("refused 61 OffFrame pes 1", 1)
 
 
-def part_of(found: Found, **more: Any) -> Any:
-    """A part of some frames."""
-    recording = SimpleNamespace(packets=None)
-    return SimpleNamespace(found=found, recorded=(recording, found), **more)
-
-
-class Tried(Trying):
-    """A part tried within more frames, of which `check` says what a test says."""
-
-    def __init__(self, said: Sequence[tuple[str, int]], clocks: dict[int, int | None],
-                 asked: int = 0, is_cut: bool = True) -> None:
-        self.said_within, self.clocks = said, clocks
-        known = asked_for("one.stl", "one.pes", "--within", str(asked))
-        self.part: Any = part_of(Found(0, 9, Clock(7, RECORDING)), asked=known)
-        self.is_cut = is_cut
-        self.checked: list[tuple[int, int]] = []
-
-    def clocked(self, within: int) -> Found | None:
-        origin = self.clocks.get(within, 7)
-        return None if origin is None else Found(0, 9, Clock(origin, RECORDING))
-
-    def taken(self, found: Found) -> Range | None:
-        return (0, 9) if self.is_cut else None
-
-    def check(self, found: Found, pes: Range, within: int) -> tuple[str, int]:
-        self.checked.append((within, found.origin))
-        return self.said_within[within - 1]
-
-
 class Within(unittest.TestCase):
     """The least number of frames within which a part would be accepted."""
 
     def test_least(self) -> None:
         """The first that accepts, of those above what is asked and up to 5; what is refused by
         another fault than late content ends it."""
-        none: dict[int, int | None] = {}
         later: list[tuple[str, int]] = [LATER] * 5
         of_answers: list[tuple[Sequence[tuple[str, int]], int, int | None, list[int]]] = [
             ([ACCEPTED] * 5, 0, 1, [1]), ([*later[:4], ACCEPTED], 0, 5, [1, 2, 3, 4, 5]),
@@ -82,74 +53,55 @@ class Within(unittest.TestCase):
             ([*later[:2], ACCEPTED], 2, 3, [3]), (later, 4, None, [5]), (later, 5, None, []),
             ([("accepted 10 frames 2 transmissions", 1)], 0, None, [1]),
             ([("", 0)], 0, None, [1]), ([LATER[:1] + (2,)], 0, None, [1]),
-            ([(LATER[0], 0)], 0, None, [1]), ([("", 1)], 0, None, [1])]
+            ([(LATER[0], 0)], 0, None, [1]), ([("", 1)], 0, None, [1]), ([NOTHING], 0, None, [1])]
         for said, asked, wanted, checked in of_answers:
-            tried = Tried(said, none, asked)
-            self.assertEqual((tried.least({72}, None), [one for one, _ in tried.checked]),
-                             (wanted, checked), (said, asked))
-        self.assertIsNone(Tried([ACCEPTED] * 5, none).least({10}, None))
-        self.assertIsNone(Tried([ACCEPTED] * 5, none, is_cut=False).least({72}, None))
-        self.assertIsNone(Tried([ACCEPTED] * 5, {5: None}).least({72}, None))
+            tried: list[int] = []
 
-    def test_clocks(self) -> None:
-        """The clock within the most frames judges, and the one within fewer has to be the same, or
-        be accepted by too."""
-        later = [LATER, ACCEPTED, LATER, LATER, LATER]
-        of_clocks: list[tuple[dict[int, int | None], int | None, list[tuple[int, int]]]] = [
-            ({}, 2, [(1, 7), (2, 7)]), ({5: 9, 2: 9}, 2, [(1, 9), (2, 9)]),
-            ({5: 9}, 2, [(1, 9), (2, 9), (2, 7)]), ({5: 9, 2: None}, None, [(1, 9), (2, 9)])]
-        for clocks, wanted, checked in of_clocks:
-            tried = Tried(later, clocks)
-            self.assertEqual((tried.least({72}, None), tried.checked), (wanted, checked))
-        tried = Tried([ACCEPTED] * 5, {5: 9})
-        tried.said_within = [LATER] * 4 + [ACCEPTED]
-        self.assertEqual((tried.least({72}, None), tried.checked[-1]), (5, (5, 9)))
+            def check(within: int) -> tuple[str, int]:
+                tried.append(within)
+                return said[within - 1]
+
+            self.assertEqual((least_of(asked + 1, check), tried), (wanted, checked), said)
 
     def test_delays(self) -> None:
         """A cause that may be a delay: of each kind, by how many frames, of a clock that was given
         and of one that was fitted."""
-        for source, most in ((GIVEN, 5), (RECORDING, 10)):
-            tried = Tried([], {})
-            tried.part = part_of(Found(0, 9, Clock(7, source)))
+        late = Cause(0, LATE, 1, None, None, "", 0)
+        for is_fitted, most in ((False, 5), (True, 10)):
             for name, frames, wanted in (
                     (LATE, most, True), (LATE, most + 1, False), (LATE, 1, True),
                     (LATE, None, True), (EARLY, most, True), (EARLY, most + 1, False),
                     (NOT_ERASED, 99, True), (UNKNOWN, None, True), (NEVER, None, False),
                     (OTHER, None, False), (TEXT, None, False), (PLACE, None, False),
                     (ATTRIBUTE, 1, False)):
-                cause: Any = SimpleNamespace(name=name, frames=frames)
-                self.assertEqual(tried.is_delay(cause), wanted, (source, name, frames))
-                late: Any = SimpleNamespace(name=LATE, frames=1)
+                cause = late._replace(name=name, frames=frames)
+                self.assertEqual(is_delay(cause, is_fitted), wanted, (is_fitted, name, frames))
                 for named in ((cause, late), (late, cause)):
-                    causes: Any = SimpleNamespace(named=dict(enumerate(named)))
-                    self.assertEqual(tried.may_be({72}, causes), wanted)
+                    self.assertEqual(may_be({72}, named, is_fitted), wanted)
+
+    def test_what_more_frames_may_accept(self) -> None:
+        """None of the faults is one that stays; of packets some may go where frames are others."""
+        of_numbers: list[tuple[set[int], bool]] = [
+            ({72}, True), ({72, 77}, True), ({61}, True), ({72, 61}, True), ({72, 10}, False),
+            ({57}, False), ({72, 44}, False), ({60}, False), ({63}, False), ({63, 61}, True),
+            ({71}, False), ({71, 62}, True), ({73, 72}, False), ({73, 61, 40}, False)]
+        for numbers, wanted in of_numbers:
+            self.assertEqual(may_be(numbers, (), False), wanted, numbers)
 
     def test_clock_of_a_part(self) -> None:
         """Fitted once more: of one part, the second of three; where other parts are found, or none,
         there is none."""
-        asked: list[Sought] = []
-
-        def ask(packets: object, sought: Sought) -> Origin:
-            asked.append(sought)
-            return origin
-
-        origin = Origin(0, [OfPart(5, None, (0, 9)), OfPart(6, None, (10, 19)),
-                            OfPart(8, None, (20, 29))])
-        for number, count, begin, end, source, wanted in (
-                (1, 3, 0, 9, RECORDING, 5), (2, 3, 10, 19, RECORDING, 6),
-                (3, 3, 20, 29, RECORDING, 8), (2, 2, 10, 19, RECORDING, None),
-                (2, 3, 10, 18, RECORDING, None), (2, 3, 9, 19, RECORDING, None),
-                (2, 3, 10, 19, GIVEN, 7), (1, 1, 0, 9, START, 7)):
-            tried: Any = Trying.__new__(Trying)
-            tried.part = part_of(Found(begin, end, Clock(7, source)), number=number)
-            tried.count, tried.pair = count, None
-            with mock.patch("subtitles.qc.clocks.origin_in", ask), mock.patch(
-                    "subtitles.qc.clocks.sought", lambda *_: Sought("one.stl", "one.pes")):
-                found = tried.clocked(3)
+        three = [Found(begin, begin + 9, Clock(origin, RECORDING))
+                 for begin, origin in ((0, 5), (10, 6), (20, 8))]
+        for number, count, begin, end, wanted in (
+                (1, 3, 0, 9, 5), (2, 3, 10, 19, 6), (3, 3, 20, 29, 8), (2, 2, 10, 19, None),
+                (2, 3, 10, 18, None), (2, 3, 9, 19, None), (1, 1, 0, 9, None)):
+            found = same_part(three, number, count, Found(begin, end, Clock(7, RECORDING)))
             self.assertEqual(found and found.origin, wanted, (number, count, begin, end))
-        self.assertEqual(set(asked), {Sought("one.stl", "one.pes", within=3)})
-        self.assertEqual(found_in(Origin(1, [OfPart(5)]), Found(0, 9, Clock(7, GIVEN))), [])
-        self.assertEqual(found_in(Origin(0, [OfPart(5, (1, 2))]), Found(3, 9, Clock(7, GIVEN))),
+        self.assertIsNone(same_part([], 1, 1, three[0]))
+        whole = Found(3, 9, Clock(7, GIVEN))
+        self.assertEqual(found_in(Origin(1, [OfPart(5)]), whole), [])
+        self.assertEqual(found_in(Origin(0, [OfPart(5, (1, 2))]), whole),
                          [Found(3, 9, Clock(5, RECORDING), (1, 2))])
 
     def test_words(self) -> None:

@@ -2,6 +2,7 @@
 from __future__ import annotations
 
 import argparse
+import ast
 import contextlib
 import os
 import random
@@ -18,10 +19,12 @@ from unittest import mock
 from subtitles.core import manual, words
 from subtitles.core.files import Input, bounded_bytes, first_bytes, naming, plain_name
 from subtitles.core.lists import MOST_BYTES, MOST_OF_LINE, lines_in, list_at, split
+from subtitles.core.markup import joined, markup
 from subtitles.core.outputs import (
     Inputs, is_replaced, result_file, temporary_folder, whole_file)
 from subtitles.core.words import Stop
 from .bench import Case, alone
+from .test_hints import TOOLS, modules
 from .test_tables_of_files import refused
 
 
@@ -185,6 +188,34 @@ class Words(Case):
         with open(path, "ab") as file:
             file.write(b"#")
         self.assertIn("more than 16,000,000 bytes", refused(lambda: list_at(path)))
+
+    def test_markup(self) -> None:
+        """Text is escaped, also in a place within a tag, and what XML can't hold is a number;
+        markup is as it is, and no text."""
+        for text, wanted in (("a<b>&\"'", "a&lt;b&gt;&amp;&quot;&#x27;"), ("\x07", "\\x07"),
+                             ("\udc80", "\\x80"), ("\ufffe", "\\ufffe"), ("{}", "{}")):
+            self.assertEqual(markup('<a b="{}">{}</a>', text, text).source,
+                             f'<a b="{wanted}">{wanted}</a>')
+        bold = markup("<b>{}</b>", 5)
+        self.assertEqual((markup("{}{:,}{:.1f}", bold, 1000, 2.55).source, (bold + bold).source,
+                          joined([bold, bold], "<br/>").source, bool(bold), bool(markup(""))),
+                         ("<b>5</b>1,0002.5", "<b>5</b><b>5</b>", "<b>5</b><br/><b>5</b>", True,
+                          False))
+        for wrong in (lambda: f"{bold}", lambda: str(bold), lambda: "".join([bold]),  # type: ignore
+                      lambda: joined(["<b>"])):  # type: ignore[list-item]
+            self.assertRaises((TypeError, AttributeError), wrong)
+
+    def test_templates(self) -> None:
+        """What is no text in a page stands in the sources as it is."""
+        for path in modules(TOOLS):
+            with open(path, encoding="utf-8") as file:
+                calls = [node for node in ast.walk(ast.parse(file.read()))
+                         if isinstance(node, ast.Call) and isinstance(node.func, ast.Name)]
+            for call in calls:
+                at = {"markup": 0, "Markup": 0, "joined": 1}.get(call.func.id)  # type: ignore
+                if at is not None and not path.endswith("markup.py") and "spans" not in path:
+                    self.must(f"{path} line {call.lineno}", all(isinstance(
+                        one, ast.Constant) for one in call.args[at:at + 1]))
 
     def test_manual(self) -> None:
         """A row of which the cure is that of the one before, as it is or with more."""

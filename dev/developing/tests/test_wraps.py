@@ -7,15 +7,12 @@ from __future__ import annotations
 
 import itertools
 import unittest
-from types import SimpleNamespace
-from typing import Any
 
 from subtitles.calls.channel.feed_clock import FeedClock
 from subtitles.core.spans import Span
 from subtitles.core.times import CLOCK, FRAMES_OF_A_DAY, TICKS
 from subtitles.preview.places import place_of_pts
 from subtitles.qc.clock import RECORDING, Clock, Found
-from subtitles.reading.packets import Packets
 from subtitles.qc.missing import is_in, time_at
 from subtitles.qc.why import reach, unseen
 from subtitles.reading.gaps import Place
@@ -116,15 +113,11 @@ class Losses(unittest.TestCase):
                 ((0, 50 * TICKS), Span(0, 50)), ((1, 50 * TICKS - 1), Span(1, 49)),
                 ((-TICKS, 60 * TICKS), Span(-1, 60)), ((-1, 9 * TICKS), Span(0, 9)))):
             first, last = (shifted(one, shift) for one in ticks)
-            recording: Any = SimpleNamespace(reach=lambda: (first, last), packets=Packets(1))
-            other: Any = SimpleNamespace(reach=recording.reach, packets=Packets(1, refusal=31))
-            unknown: Any = SimpleNamespace(reach=lambda: None, packets=Packets(1))
             found = Found(20, 40, Clock(shift, RECORDING))
             with self.subTest(shift=shift, ticks=ticks):
-                self.assertEqual(reach(recording, found), wanted)
-                self.assertIsNone(reach(unknown, found))
-                self.assertIsNone(reach(other, found))
-                self.assertIsNone(reach(recording, found._replace(packets=(0, 1))))
+                self.assertEqual(reach((first, last), found), wanted)
+                self.assertIsNone(reach(None, found))
+                self.assertIsNone(reach((first, last), found._replace(packets=(0, 1))))
 
 
 class Printed(unittest.TestCase):

@@ -18,7 +18,7 @@ from ..qc.status import ACCEPTED, NOT_JUDGED, WAIVED
 from ..qc.typed import Typed
 from . import collecting
 from .claim import InUse, claimed, claimed_for_batch, clear, refuse_files_of
-from .forked import Call, ended_of, qc, signals_held
+from .forked import Forked, ended_of, qc, signals_held
 from .objects import (
     ENDING, Row, found, is_current, left_by_call, object_at, put, row_of, unjudged)
 from .pairs import Item, pairs_at
@@ -27,7 +27,7 @@ from .single import ignore_signals
 WAIT = 0.2  # seconds between two looks at what is done
 
 
-class Running(NamedTuple):
+class Begun(NamedTuple):
     """A pair that is judged, what its files were like when that began, and what keeps other calls
     from writing its results."""
 
@@ -44,7 +44,7 @@ class Calls:
 
     def __init__(self, typed: Typed, folder: str, out: str | None, is_kept: bool) -> None:
         self.typed, self.folder, self.out, self.is_kept = typed, folder, out, is_kept
-        self.running: dict[Call, Running] = {}
+        self.running: dict[Forked, Begun] = {}
         self.inputs = NOTHING  # of all pairs
         self.unwritten: dict[str, dict[str, Any]] = {}  # objects that stand in no file
         self.in_use: set[str] = set()  # pairs whose files another call was writing
@@ -91,8 +91,8 @@ class Calls:
         before = found(item.asked)
         try:
             with signals_held():
-                call = Call(lambda: qc(words))
-                self.running[call] = Running(item, before, claim.pop_all())
+                call = Forked(lambda: qc(words))
+                self.running[call] = Begun(item, before, claim.pop_all())
         except Stop as reason:
             return self.leave(item, str(reason))
         return None
@@ -102,7 +102,7 @@ class Calls:
         for call in ended_of(self.running, seconds):
             yield self.end(call)
 
-    def end(self, call: Call) -> Row:
+    def end(self, call: Forked) -> Row:
         """Ends a call that is over; the row of its pair."""
         item, before, claim = self.running.pop(call)
         try:
@@ -153,8 +153,7 @@ def words_of(asked: Asked) -> list[str]:
 
 def inputs_of(items: Iterable[Item], *more: str) -> Inputs:
     """All files that are read of some pairs, and others."""
-    return Inputs(*more, *(name for item in items if item.asked for name in (
-        item.asked.stl, item.asked.recording, item.asked.severity)))
+    return Inputs(*more, *(name for item in items for name in item.files))
 
 
 def judge(words: argparse.Namespace, called: str) -> int:

@@ -98,8 +98,9 @@ def locking(folder: str | None, name: str, refusal: str) -> Iterator[None]:
     try:
         yield
     finally:
-        if is_at(handle, path):
-            os.unlink(path)
+        with contextlib.suppress(OSError):  # somebody has changed the folder
+            if is_at(handle, path):
+                os.unlink(path)
         os.close(handle)
 
 

@@ -90,7 +90,7 @@ def write_index(folder: str | None, rows: Sequence[Row]) -> None:
     if folder is None:
         return
     with result_file(index_in(folder)) as file:
-        file.write(index_page.page_of(folder, rows, now()).encode("utf-8", "replace"))
+        file.write(index_page.page_of(folder, rows, now()))
 
 
 def table_of(rows: Sequence[Row], why: str = "") -> Iterator[str]:

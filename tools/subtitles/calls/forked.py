@@ -30,7 +30,7 @@ def qc(words: Sequence[str]) -> int:
     return ended(lambda line: main("", os.path.join(TOP, "tools", "qc"), line), words)
 
 
-class Call:
+class Forked:
     """A process that does something, and ends with the status of that. Nothing is read and printed
     there; its lines on standard error are known once it has ended."""
 
@@ -112,7 +112,7 @@ def take_files(told: int, alive: int) -> None:
                 os.close(int(name))
 
 
-def ended_of(calls: Collection[Call], seconds: float) -> list[Call]:
+def ended_of(calls: Collection[Forked], seconds: float) -> list[Forked]:
     """Those that have ended, once one has, or after some seconds."""
     by_file, poll = {call.fileno(): call for call in calls}, select.poll()
     for file in by_file:

@@ -1,16 +1,16 @@
 """All pairs of a folder on one page, those that somebody has to look at first; without a script."""
 from __future__ import annotations
 
-import html
 import os
 from typing import Sequence
 from urllib.parse import quote
 
+from ..core.markup import HEAD, Markup, joined, markup
 from ..core.words import counted
 from ..qc.status import ACCEPTED, NOT_JUDGED
 from .objects import ENDING, Row
 
-STYLE = """
+STYLE = Markup("""<style>
 :root { --ground: #fff; --words: #1b1e23; --soft: #545c66; --line: #c3c9d1; --shade: #f1f3f6;
   --link: #0b57b0; --good: #0a6b33; --bad: #b3150f; color-scheme: light dark; }
 @media (prefers-color-scheme: dark) {
@@ -35,26 +35,23 @@ small { color: var(--soft); }
   tr { display: block; margin: 0 0 10px; border: 1px solid var(--line); }
   td { display: block; border: 0; padding: 2px 8px; }
   td:empty { display: none; } }
-"""
+</style>""")
 HEADS = ("Verdict", "Pair", "Faults", "First fault, or why it was not judged", "More")
 MOST_CAUSES = 6
 
 
-def page_of(folder: str, rows: Sequence[Row], date: str) -> str:
-    """The page, as text."""
+def page_of(folder: str, rows: Sequence[Row], date: str) -> bytes:
+    """The page."""
     verdicts = [row.verdict for row in rows]
     counts = ", ".join(f"{verdicts.count(one)} {one}" for one in dict.fromkeys(sorted(verdicts)))
-    heads = "".join(f"<th>{text}</th>" for text in HEADS)
-    lines = "\n".join(line_of(folder, row) for row in sorted(rows, key=rank))
-    return ('<!DOCTYPE html>\n<html lang="en"><head><meta charset="UTF-8">'
-            '<meta name="viewport" content="width=device-width, initial-scale=1">'
-            f"<title>{counted(len(rows), 'pair')}: {shown(counts)}</title>"
-            f"<style>{STYLE}</style></head><body>\n"
-            f"<h1>{counted(len(rows), 'pair')}: {shown(counts)}</h1>\n"
-            f"<p><small>Made {shown(date)}. Pairs that somebody has to look at stand first."
-            "</small></p>\n"
-            f"<table><thead><tr>{heads}</tr></thead><tbody>\n{lines}\n</tbody></table>\n"
-            "</body></html>\n")
+    title = f"{counted(len(rows), 'pair')}: {counts}"
+    heads = joined(markup("<th>{}</th>", text) for text in HEADS)
+    lines = joined((line_of(folder, row) for row in sorted(rows, key=rank)), "\n")
+    page = HEAD + markup("<title>{}</title>", title) + STYLE + markup(
+        "</head><body>\n<h1>{}</h1>\n<p><small>Made {}. Pairs that somebody has to look at stand "
+        "first.</small></p>\n<table><thead><tr>{}</tr></thead><tbody>\n{}\n</tbody></table>\n"
+        "</body></html>\n", title, date, heads, lines)
+    return page.page()
 
 
 def rank(row: Row) -> tuple[int, str]:
@@ -66,34 +63,27 @@ def rank(row: Row) -> tuple[int, str]:
     return (3 if row.verdict == ACCEPTED else 2), row.name
 
 
-def line_of(folder: str, row: Row) -> str:
+def line_of(folder: str, row: Row) -> Markup:
     """The line of a pair."""
     causes = list(row.causes.items())
-    told = [f"{count} &times; {shown(cause)}" for cause, count in causes[:MOST_CAUSES]]
-    told += ["&hellip;"] if len(causes) > MOST_CAUSES else []
-    count = counted(row.faults, "fault") if row.is_judged else ""
-    faults = f"{count}<br><small>{'<br>'.join(told)}</small>" if told else count
-    title = f"{shown(row.name)}<br><small>{shown(row.title)}</small>"
-    why = "" if row.verdict == ACCEPTED else \
-        "<br>".join(map(shown, [*row.line.splitlines()[:3], *filter(None, [row.hint, row.counts])]))
-    return (f'<tr class="{row.verdict.replace(" ", "-")}">'
-            f'<td class="verdict">{shown(row.verdict)}</td>'
-            f"<td>{title}</td><td>{faults}</td><td>{why}</td><td>{links(folder, row.name)}</td>"
-            "</tr>")
+    told = [markup("{} &times; {}", count, cause) for cause, count in causes[:MOST_CAUSES]]
+    told += [markup("&hellip;")] if len(causes) > MOST_CAUSES else []
+    faults = markup("{}", counted(row.faults, "fault") if row.is_judged else "")
+    if told:
+        faults += markup("<br/><small>{}</small>", joined(told, "<br/>"))
+    why = [] if row.verdict == ACCEPTED else [
+        *row.line.splitlines()[:3], *filter(None, [row.hint, row.counts])]
+    return markup(
+        '<tr class="{}"><td class="verdict">{}</td><td>{}<br/><small>{}</small></td><td>{}</td>'
+        "<td>{}</td><td>{}</td></tr>", row.verdict.replace(" ", "-"), row.verdict, row.name,
+        row.title, faults, joined((markup("{}", one) for one in why), "<br/>"),
+        links(folder, row.name))
 
 
-def links(folder: str, name: str) -> str:
+def links(folder: str, name: str) -> Markup:
     """Links to what there is of a pair."""
     found = []
     for ending, word in ((".html", "report"), (".txt", "list"), (ENDING, "object")):
-        path = os.path.join(folder, name + ending)
-        if os.path.exists(path):
-            target = quote(os.fsencode(name + ending))
-            found.append(f'<a href="./{target}">{word}</a>')
-    return " ".join(found)
-
-
-def shown(text: str) -> str:
-    """Text of a page; what is no character of it is shown as such."""
-    clean = text.encode("utf-8", "backslashreplace").decode()
-    return html.escape("".join(one if one >= " " else "\ufffd" for one in clean))
+        if os.path.isfile(os.path.join(folder, name + ending)):
+            found.append(markup('<a href="./{}">{}</a>', quote(os.fsencode(name + ending)), word))
+    return joined(found, " ")

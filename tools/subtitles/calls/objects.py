@@ -145,14 +145,14 @@ def row_of(known: dict[str, Any], name: str) -> Row:
     title = " ".join(known["asked"][word] for word in ("stl", "recording") if known["asked"][word])
     counts = known["subtitle_counts"]
     return Row(name, title or name, known["verdict"], known["status"],
-               known["reason"] or known["line"], known["fault_count"], causes_in(known),
+               known["reason"] or known["lead"], known["fault_count"], causes_in(known),
                [fault["line"] for fault in known["faults"][:LINES]], known["seconds"],
                hint_in(known), Counts(**counts).words() if counts else "")
 
 
 def hint_in(known: dict[str, Any]) -> str:
     """What to know of the fault that the line of an object names, where there is something."""
-    refused = (known["line"] or "").partition("refused ")[2]
+    refused = (known["lead"] or "").partition("refused ")[2]
     for hint in known["hints"]:
         number, _, words = hint.partition(": ")
         if refused.startswith(f"{number} "):

@@ -16,7 +16,7 @@ from ..qc.made_with import MadeWith
 from ..qc.names import Names
 from ..qc.part import Part
 from ..qc.status import NOT_JUDGED
-from ..qc.sums import File
+from ..qc.sums import SummedFile
 from ..qc.typed import Typed
 from ..qc.verdict import Verdict
 
@@ -26,13 +26,13 @@ COLUMNS = ("From", "To", "Verdict", "Faults", "Causes", "Clock")
 def overview(verdict: Verdict, program: MadeWith, names: Names, typed: Typed) -> Iterator[str]:
     """The page."""
     asked = verdict.asked
-    line = verdict.line or f"{NOT_JUDGED}: {verdict.why_not}"
+    line = verdict.lead or f"{NOT_JUDGED}: {verdict.why_not}"
     title = " and ".join(os.path.basename(name) for name in (asked.stl, asked.recording) if name)
-    files: list[tuple[str, File]] = [
+    files: list[tuple[str, SummedFile]] = [
         (kind, file) for kind, file in (("STL", verdict.stl), ("Recording", verdict.recording))
         if file]
     size = os.path.getsize(typed.program_path)
-    files.append(("Program", File(typed.program_word, size, program.sha256)))
+    files.append(("Program", SummedFile(typed.program_word, size, program.sha256)))
     words = [("Commands", "\n".join(verdict.commands))]
     yield document(line, title, [
         box(verdict, line), scope(verdict), f'<h2 id="parts">{len(verdict.parts)} parts</h2>',
@@ -76,7 +76,7 @@ def table(verdict: Verdict, names: Names) -> str:
     for part in verdict.parts:
         page = os.path.basename(names.of_part(part.number).report)
         begin, end = part.times()
-        cells = [begin or "", end or "", f'<a href="{shown(page)}">{shown(part.answer.line)}</a>',
+        cells = [begin or "", end or "", f'<a href="{shown(page)}">{shown(part.answer.lead)}</a>',
                  f"{part.answer.count:,}",
                  shown(names_line([part.causes])) if part.causes else "none", clock_of(part)]
         named = "".join(f'<td data-name="{name}">{cell}</td>'

@@ -4,7 +4,7 @@ from __future__ import annotations
 import argparse
 import collections
 import os
-from typing import Iterable, NamedTuple
+from typing import Iterable, NamedTuple, Sequence
 
 from ..core.files import kind_of
 from ..core.lists import lines_in, list_at
@@ -18,11 +18,13 @@ RECORDINGS = (".ts", ".m2t", ".m2ts", ".mts", ".trp", ".pes")
 
 
 class Item(NamedTuple):
-    """A pair to be judged; or, without one, a file or a line and why it is none."""
+    """A pair to be judged; or, without one, a file or a line and why it is none; `files` are all
+    that it names."""
 
     name: str
     asked: Asked | None
     reason: str | None
+    files: Sequence[str | None] = ()
 
 
 def pairs_at(path: str, defaults: argparse.Namespace) -> list[Item]:
@@ -59,7 +61,7 @@ def item_of(name: str, stl: str, recording: str, defaults: argparse.Namespace) -
     try:
         asked = asked_with(stl, recording, defaults)
     except Stop as reason:
-        return Item(name, None, str(reason))
+        return Item(name, None, str(reason), (stl, recording))
     return with_files(Item(name, asked, None))
 
 
@@ -67,7 +69,9 @@ def with_files(item: Item) -> Item:
     """An item as it is, where both of its names are those of files."""
     assert item.asked and item.asked.recording
     reason = no_file(item.asked.stl) or no_file(item.asked.recording)
-    return Item(item.name, None, reason) if reason else item
+    asked = item.asked
+    return item._replace(asked=None if reason else asked, reason=reason,
+                         files=(asked.stl, asked.recording, asked.severity))
 
 
 def of_files(folder: str, files: list[str], defaults: argparse.Namespace) -> Iterable[Item]:
@@ -89,7 +93,7 @@ def of_files(folder: str, files: list[str], defaults: argparse.Namespace) -> Ite
         reason = f"more than one pair is possible: {', '.join(paths)}"
     else:
         return [item_of(name, paths[0], paths[1], defaults)]
-    return [Item(name, None, reason)]
+    return [Item(name, None, reason, paths)]
 
 
 def sorted_out(files: list[str]) -> tuple[list[str], list[str]]:

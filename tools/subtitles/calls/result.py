@@ -84,6 +84,7 @@ TEXT, NOTHING = Text(least=1), OneOf(None)
 TOGETHER = Rules([*(
     {"verdict": OneOf(word), "status": OneOf(status),
      "line": NOTHING if word == NOT_JUDGED else TEXT,
+     "lead": NOTHING if word == NOT_JUDGED else TEXT,
      "reason": TEXT if word == NOT_JUDGED else NOTHING} for word, status in STATUSES.items())])
 
 # The lists, which are written one item after another and read like that; of each is said how many
@@ -123,6 +124,9 @@ VERDICT = Record(
     Member("status", STATUS, of=lambda known: known.verdict.status),
     Member("line", Maybe(Text()), "The last line on standard output; null where it was not judged.",
            lambda known: known.verdict.line),
+    Member("lead", Maybe(Text()), "The same with the fault that a viewer sees first (63, 72, 74, 77 "
+           "or 78), where there is one: reports, and tables of many pairs, begin with it.",
+           lambda known: known.verdict.lead),
     Member("sentence", Text(), "The verdict in one sentence for a person.",
            lambda known: known.verdict.sentence),
     Member("reason", Maybe(Text()), "Why it was not judged.", lambda known: known.verdict.why_not),

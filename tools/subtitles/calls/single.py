@@ -13,6 +13,7 @@ from typing import Callable, Iterator, NamedTuple, Sequence
 
 from ..core.outputs import (
     OWN_OUTPUT, Inputs, is_replaced, refuse_name, result_file, temporary_folder, whole_file)
+from ..core.told import is_line
 from ..core.words import Stop, counted, escaped, line_of, shown, silence, tell
 from ..qc.asked import AUTO_OF_FEED, Asked, asked_of, keep_stl
 from ..qc.cause_words import count_line
@@ -54,6 +55,7 @@ def judge(words: argparse.Namespace, called: str) -> int:
     out = words.out or None
     is_output_taken = any(path in OWN_OUTPUT for path in (words.json, words.csv, words.junit))
     speech = Speech(Progress(), is_output_taken)
+    speech.at_end = ignore_signals  # what stands last is that of the status
     typed = Typed(called, words.program)
     verdict = Verdict(asked, Severity(asked.severity, asked.is_loss_allowed), now(),
                       was_fitted=words.is_fitted)
@@ -135,12 +137,22 @@ def judge_pair(pair: Pair, files: Files) -> None:
         verdict.reason = f"stopped at {pair.stop(now())}"
     verdict.commands = pair.speech.commands
     verdict.seconds = round(time.monotonic() - began, 3)
-    files.write(pair.recording)
+    try:
+        files.write(pair.recording)
+    except KeyboardInterrupt as reason:
+        ignore_signals()
+        verdict.failed.append(line_of(reason))
+        files.write(pair.recording)
 
 
 def end_pair(verdict: Verdict, speech: Speech, files: Files) -> None:
     """Says the verdict; where that fails it is not judged, in all files too."""
     try:
+        end(verdict, speech)
+    except KeyboardInterrupt as reason:
+        ignore_signals()
+        verdict.failed.append(line_of(reason))
+        files.write_again()
         end(verdict, speech)
     except Exception as reason:
         verdict.failed.append(line_of(reason))
@@ -186,6 +198,8 @@ def end(verdict: Verdict, speech: Speech) -> None:
         for line in verdict.hints:
             speech.say(line)
         speech.end(verdict.line)
+    elif is_line(speech.last):  # what the program says is no verdict then
+        speech.say(NOT_JUDGED)
     if verdict.is_stopped:
         speech.say(counted(verdict.faults, "fault") + " so far" if verdict.parts else
                    "nothing was judged so far")
@@ -288,7 +302,7 @@ class Files:
         """The file for a CI."""
         verdict = self.verdict
         case = junit.TestCase(name_of(verdict.asked), verdict.word, verdict.status,
-                              verdict.line or verdict.why_not or "", self.lines(), verdict.seconds,
+                              verdict.lead or verdict.why_not or "", self.lines(), verdict.seconds,
                               verdict.counts.words() if verdict.counts else "")
         yield junit.text_of([case], verdict.date)
 

@@ -18,6 +18,7 @@ OF_CAUSE = ["cause", "cause_frames", "cause_subtitle", "cause_text", "cause_sent
 OF_PAIR = ["verdict", "status", "reason"]
 PLACES = ["position", "cause_position"]
 OF_JUDGED = ["pid", "packet_size", "range"]  # what is judged of the recording, or of a part
+FORMULA = ("=", "+", "-", "@", "\t", "\r")  # with which a formula may begin
 COUNTS = {"subtitles_judged": "judged", "subtitles_refused": "refused"}
 COLUMNS = ["stl", "recording", *OF_FAULT, *OF_PAIR, *OF_CAUSE, *PLACES, "sentence", *OF_JUDGED,
            *COUNTS]
@@ -113,8 +114,12 @@ def lines_of(rows: Iterable[Known]) -> Iterator[str]:
 
 
 def said(value: object) -> object:
-    """A value without what a terminal would obey; a reason may have several lines."""
-    return "\n".join(map(shown, value.split("\n"))) if isinstance(value, str) else value
+    """A value without what a terminal would obey; a reason may have several lines. A text that a
+    table would take for a formula is led by an apostrophe."""
+    if not isinstance(value, str):
+        return value
+    text = "\n".join(map(shown, value.split("\n")))
+    return f"'{text}" if text.startswith(FORMULA) else text
 
 
 def text_of(objects: Iterable[dict[str, Any]]) -> Iterator[bytes]:

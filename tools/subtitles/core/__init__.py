@@ -5,6 +5,7 @@ files      files that are read: opened without waiting, and with a bound
 outputs    files that are written: whole, over no input, through no link
 lists      lists that people write, their lines as words
 shapes     what values of JSON may be: made, checked, and as a schema has them
+markup     what goes into a page: text escaped
 built      the built program, and the script that runs it
 times      times of the day, frames, PTS
 teletext   Teletext packets and their codes; the table of control bits

@@ -7,7 +7,7 @@ import re
 from typing import NamedTuple
 
 from .built import TOP
-from .words import escaped
+from .markup import escape
 
 CHAPTER = os.path.join(TOP, "docs", "manual", "refusals.md")
 
@@ -43,8 +43,7 @@ def plain(text: str) -> str:
 
 def shown(text: str) -> str:
     """Any text as XML: marks escaped, and what XML can't hold by its number."""
-    return html.escape(re.sub("[^\t\n\r\x20-\ud7ff\ue000-\ufffd\U00010000-\U0010ffff]",
-                              lambda found: escaped(str(found[0])), text))
+    return escape(text)
 
 
 def marked_up(text: str) -> str:

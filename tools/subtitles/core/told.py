@@ -40,6 +40,8 @@ REFUSED, ENDED, FAULT, USAGE = "refused", "ended", "fault", "usage"
 CONTENT, CHARACTER, LETTERS, CONTROL, CHANGED = 72, 50, (50, 51), 67, 69
 BEGIN, END = 63, 74  # what is judged begins after the first TCI, or ends before the last TCO
 WITH_CAUSE = {BEGIN, CONTENT, END}
+INCOMPLETE = 77
+ON_SCREEN = {*WITH_CAUSE, INCOMPLETE, UNDECIDED}  # what a viewer sees, or does not see
 
 
 class Told(NamedTuple):

@@ -51,10 +51,13 @@ class Words(argparse.ArgumentParser):
                               help="show the version and exit")
 
     def format_help(self) -> str:
-        """The help; where the tools are installed, it calls them by the names that they have."""
+        """The help; where the tools are installed, it calls them by the names that they have, and
+        names documents by where they lie."""
         text = super().format_help()
-        is_installed = self.prog.startswith(INSTALLED)
-        return re.sub(r"\btools/(\w+)", INSTALLED + r"\1", text) if is_installed else text
+        if not self.prog.startswith(INSTALLED):
+            return text
+        text = re.sub(r"(?<![\w/])tools/(\w+)", INSTALLED + r"\1", text)
+        return re.sub(r"(?<![\w/])docs/(?=\w)", lambda _: os.path.join(HOME, "docs", ""), text)
 
     def _print_message(self, message: str, file: IO[str] | None = None) -> None:
         """Prints the help or the version; argparse itself is silent where that fails."""
@@ -255,10 +258,11 @@ def ended(main: Callable[[list[str]], int], words: Sequence[str]) -> int:
         status = answer(main, words)
         sys.stdout.flush()
     except (Exception, KeyboardInterrupt) as reason:
-        with contextlib.suppress(OSError, AttributeError):
-            tell(line_of(reason))
-        silence()
         status = 2
+        with contextlib.suppress(OSError, AttributeError, KeyboardInterrupt):
+            tell(line_of(reason))
+        with contextlib.suppress(KeyboardInterrupt):  # a second one is too many
+            silence()
     return status
 
 
@@ -275,6 +279,8 @@ def line_of(reason: BaseException) -> str:
     the tool comes from is printed before it."""
     if isinstance(reason, KeyboardInterrupt):
         return "stopped"
+    if isinstance(reason, MemoryError):
+        return "out of memory"
     if isinstance(reason, OSError):
         where = "the output" if reason.filename is None else reason.filename or "an empty name"
         return f"{where}: {reason.strerror or ' '.join(str(reason).split())}"

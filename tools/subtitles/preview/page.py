@@ -5,6 +5,7 @@ import os
 from typing import TYPE_CHECKING, Iterable
 
 from ..core.manual import shown
+from ..core.markup import HEAD
 from ..core.teletext import page_name
 from ..core.words import counted
 from ..qc.delays import spread_of
@@ -16,7 +17,7 @@ from .scope import listed
 
 if TYPE_CHECKING:
     from ..qc.made_with import MadeWith
-    from ..qc.sums import File
+    from ..qc.sums import SummedFile
     from ..qc.asked import Asked
     from .report import Looks, Report
     from .seen import Seen
@@ -103,10 +104,7 @@ def document(line: str, title: str, parts: Iterable[str]) -> str:
     """A page with a verdict's line in its title."""
     with open(os.path.join(os.path.dirname(__file__), "style.css"), encoding="utf-8") as file:
         style = file.read()
-    head = ('<!DOCTYPE html>\n'
-            '<html xmlns="http://www.w3.org/1999/xhtml" lang="en"><head><meta charset="UTF-8"/>'
-            '<meta name="viewport" content="width=device-width, initial-scale=1"/>'
-            f"<title>{shown(line)} &#8211; {shown(title)}</title>"
+    head = (f"{HEAD.source}<title>{shown(line)} &#8211; {shown(title)}</title>"
             f"<style>\n{style}</style></head><body><h1>Report on {shown(title)}</h1>")
     return "\n".join([head, *parts, "</body></html>\n"])
 
@@ -248,7 +246,7 @@ def foot(report: Report) -> str:
         f'<p class="says">{SAYS}</p>'
 
 
-def made_from(files: Iterable[tuple[str, File]], date: str, program: MadeWith,
+def made_from(files: Iterable[tuple[str, SummedFile]], date: str, program: MadeWith,
               words: Iterable[tuple[str, str]]) -> str:
     """The files of a page, each with what it is, the program, and commands."""
     rows = "".join(

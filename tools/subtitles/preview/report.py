@@ -16,7 +16,7 @@ from ..qc.as_sent import told_of
 from ..qc.clock import START, TCP
 from ..qc.made_with import program_at
 from ..qc.part import Part
-from ..qc.sums import File
+from ..qc.sums import SummedFile
 from ..qc.verdict import Verdict
 from ..reading.gaps import TOLD
 from ..reading.timeline import Timeline
@@ -44,7 +44,7 @@ class Subject(NamedTuple):
     parts: int
     program: Program
     commands: Sequence[str]
-    files: Sequence[tuple[str, File]]
+    files: Sequence[tuple[str, SummedFile]]
 
     def options(self) -> str:
         """All options as they hold."""
@@ -70,8 +70,8 @@ class Report:
         self.made_with = program_at(self.program.path)
         size = os.path.getsize(self.program.path)
         self.files = [*subject.files,
-                      ("Program", File(self.program.name, size, self.made_with.sha256))]
-        self.line, self.first, self.is_refused = answer.line, answer.first, bool(answer.status)
+                      ("Program", SummedFile(self.program.name, size, self.made_with.sha256))]
+        self.line, self.first, self.is_refused = answer.lead, answer.leading, bool(answer.status)
         # Subtitles are refused; the others are judged beside them where PES packets are.
         is_of_file = self.first is not None and self.first.block is not None
         self.is_beside = is_of_file and self.part.pes is not None

@@ -6,7 +6,7 @@ from typing import NamedTuple, Sequence
 from ..core.manual import shown
 from ..core.times import time_of
 from ..core.words import counted
-from ..qc.sums import File
+from ..qc.sums import SummedFile
 
 ROW_0 = "row 0, which the page's header has"
 DELAY = "a delay that all subtitles share: the clock was fitted to the recording"
@@ -19,7 +19,7 @@ class Scope(NamedTuple):
     of how many, whether there are several, and the clock, where more is to be said of it."""
 
     titles: Sequence[str]
-    recording: File | None
+    recording: SummedFile | None
     first: int
     last: int
     subtitles: int

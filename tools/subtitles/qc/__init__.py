@@ -4,6 +4,7 @@ asked         what is asked of a pair
 options       options that `check` gets as they are: one table
 pair          a pair judged, from a recording to a verdict
 part          a part of a pair: what is judged by itself
+parting       which subtitles are judged in which part
 judging       a part judged, and what follows of it
 checks        each call of `check` for a pair
 verdict       a verdict, its parts, and what is missing

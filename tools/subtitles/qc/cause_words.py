@@ -6,7 +6,7 @@ from typing import TypedDict
 from ..core.national import BY_WORD
 from ..core.times import time_of
 from ..core.words import counted
-from .causes import EARLY, LATE, NOT_ERASED, NOT_RECEIVED, OTHER, Cause
+from .causes import EARLY, IN_PAUSE, LATE, NOT_ERASED, OTHER, Cause
 from .lettering import text_of
 from .naming import Causes, counts_of
 
@@ -64,6 +64,8 @@ class Wording:
     def line(self, cause: Cause) -> str:
         """The line of a cause."""
         one = self.subtitles[cause.place]
+        if cause.name == IN_PAUSE:  # no fault of the subtitle before it
+            return f"{LINE}{self.said(cause)}"
         return (f'{LINE}{one.name} at {time_of(one.begin)}, '
                 f'"{self.due_text(cause)}": {self.said(cause)}')
 
@@ -77,8 +79,8 @@ class Wording:
             words += f" at {time_of(one.end)}"
         elif cause.name == OTHER:
             words += " at its time"
-        if cause.words == NOT_RECEIVED:
-            words = NOT_RECEIVED
+        if cause.name == IN_PAUSE:
+            words = pause_words(cause)
         elif cause.words:
             words += f": {cause.words}"
         if has_text and cause.sent not in (None, self.pages[cause.place]):
@@ -88,6 +90,11 @@ class Wording:
         if cause.other is not None:
             words += f" of {self.subtitles[cause.other].name}"
         return words
+
+
+def pause_words(cause: Cause) -> str:
+    """That another text was sent in a pause."""
+    return f"another text was sent in a pause, {cause.words}"
 
 
 def count_line(several: list[Causes]) -> str:

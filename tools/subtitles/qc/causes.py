@@ -9,6 +9,7 @@ from ..core.spans import Span
 from ..core.teletext import page_name
 from ..core.times import time_of
 from ..core.words import counted
+from ..reading.packets import HEADER
 from ..reading.receiver import BLANK_PAGE, HIT, Rows
 from ..reading.subcodes import subcode_words, turns_of
 from ..reading.timeline import LEAST, Timeline
@@ -21,9 +22,12 @@ from .sendings import Sendings
 LATE, EARLY, NEVER, OTHER = "late", "early", "never sent", "another subtitle's text"
 TEXT, PLACE, ATTRIBUTE = "wrong text", "wrong place", "wrong colour or attribute"
 NOT_ERASED, IN_PART, UNKNOWN = "not erased", "not repeated whole", "unknown"
-NAMES = (LATE, EARLY, NEVER, OTHER, TEXT, PLACE, ATTRIBUTE, NOT_ERASED, IN_PART, UNKNOWN)
+# A header without rows came while it was due; others' text came in the pause behind it; TS packets
+# are lost at its time.
+ERASED, IN_PAUSE, NOT_RECEIVED = "erased", "another text in a pause", "not received"
+NAMES = (LATE, EARLY, NEVER, OTHER, TEXT, PLACE, ATTRIBUTE, NOT_ERASED, IN_PART, ERASED, IN_PAUSE,
+         NOT_RECEIVED, UNKNOWN)
 UNSEEN = "not all that was sent then can be read"
-NOT_RECEIVED = "not received"  # in place of that, where packets are lost
 NEXT = "the page that comes at the last TCO is the next programme's"
 IN_PARTS = "as it is due only after another PES packet of the same frame"
 REPEATED = "left out behind a header with C4 (erase page) clear"
@@ -200,8 +204,7 @@ class Namer(Sendings):
         number = self.held.number_at(faulty.after.first)
         until = self.held.stretch(number).last
         if self.held.frames[number] >= one.end:
-            return self.unknown(place, faulty.after.first, one.end,
-                                self.after_words(place, number, faulty.after.first))
+            return self.after(place, number, faulty.after.first)
         if not self.held.is_seen(one.end, until):
             return self.unknown(place, one.end, one.end, self.unseen_words(one.end, until))
         return Cause(place, NOT_ERASED, None, self.held.pages[number], None,
@@ -228,15 +231,18 @@ class Namer(Sendings):
         subcodes = turns_of(self.held.packets, self.held.inside)
         return subcode_words(subcodes, page_name(*self.held.page)) if subcodes else ""
 
-    def after_words(self, place: int, number: int, frame: int) -> str:
-        """What a page is that is held after a TCO, and came not before that. One of no subtitle
-        that comes just at the last TCO is no text of ours that stays."""
+    def after(self, place: int, number: int, frame: int) -> Cause:
+        """A page is held after its TCO, and came not before that. One of no subtitle is another
+        text in the pause; but just at the last TCO it is no text of ours that stays."""
+        one, page = self.subtitles[place], self.held.pages[number]
+        is_other = page not in self.programme.by_page and page != BLANK_PAGE
+        is_ours = words_on(page) in self.programme.by_words
         is_last = place == len(self.subtitles) - 1
-        came = self.held.frames[number] - self.subtitles[place].end
-        if is_last and came <= self.held.within and self.held.pages[number] not in \
-                self.programme.by_page:
-            return NEXT
-        return f"sent after its TCO, at {time_of(frame)}"
+        if is_other and is_last and self.held.frames[number] - one.end <= self.held.within:
+            return self.unknown(place, frame, one.end, NEXT)
+        if is_other and not is_ours and self.held.is_seen(one.end, frame):
+            return Cause(place, IN_PAUSE, None, page, None, f"at {time_of(frame)}", one.end)
+        return self.unknown(place, frame, one.end, f"sent after its TCO, at {time_of(frame)}")
 
     def gone_words(self, place: int, number: int) -> str:
         """How long after the TCO of a subtitle another page comes than the one that is held there;
@@ -262,9 +268,18 @@ class Namer(Sendings):
         if other is not None and other != place:
             return self.of_other(place, other, one.end)
         if page == BLANK_PAGE:
-            return self.unknown(place, span.first, one.end,
-                                f"it is gone at {time_of(self.broken_since(span.first))}")
+            first = self.broken_since(span.first)
+            if self.is_erased(number):
+                return Cause(place, ERASED, None, None, None, "by a header without rows, at "
+                             f"{time_of(self.held.frames[number])}", one.end)
+            return self.unknown(place, span.first, one.end, f"it is gone at {time_of(first)}")
         return self.differs(place, number)
+
+    def is_erased(self, number: int) -> bool:
+        """Whether a blank page is one whose header came without rows: the page that is held next
+        has a header of its own."""
+        begins = self.held.frames[number:number + 2]
+        return all(any(HEADER in run.does for run in self.held.members(frame)) for frame in begins)
 
     def unseen_words(self, first: int, last: int) -> str:
         """Why not all is known that was sent in some frames."""
@@ -273,5 +288,5 @@ class Namer(Sendings):
 
     def unknown(self, place: int, frame: int, known: int, words: str) -> Cause:
         sent = self.held.page_at(frame)
-        return Cause(place, UNKNOWN, None, None if sent == BLANK_PAGE else sent, None, words,
-                     known)
+        name, words = (NOT_RECEIVED, "") if words == NOT_RECEIVED else (UNKNOWN, words)
+        return Cause(place, name, None, None if sent == BLANK_PAGE else sent, None, words, known)

@@ -128,6 +128,11 @@ class Answer(Counted):
         """All that is told, as it is."""
         return pieces_of(self.path)
 
+    @property
+    def lead(self) -> str:
+        """What is told first of it: the fault that a viewer sees first."""
+        return self.leading.line if self.leading else self.last
+
     def lines(self) -> Iterator[str]:
         """All lines once more."""
         with open(self.path, encoding="utf-8") as file:

@@ -10,7 +10,7 @@ from ..reading.cutting import Cut, cut_of
 from ..reading.finding import Origin, Sought, find, runs_line
 from ..reading.packets import Packets, Range
 from ..reading.timeline import LEAST
-from .asked import MOST_TRIED
+from .asked import MOST_TRIED, Asked
 from .clock import GIVEN, RECORDING, TCP, Clock, Found
 from .recording import Recording
 from .start import NoFirst, began, refuse_outside
@@ -25,7 +25,7 @@ def parts_of(pair: Pair, recording: Recording) -> list[Found]:
     picture tells."""
     given = given_to(pair) or by_start(pair, recording)
     if pair.is_cut and given and not recording.stages:
-        pair.inside = last_time(pair, recording, given.origin)
+        pair.inside = last_time(recording.packets, pair.whole._replace(clock=given), pair.asked)
     origin = fitted(pair, recording, given)
     if origin.runs and recording.is_feed:
         pair.inside = run = run_of(pair, recording, given, origin.runs)
@@ -175,12 +175,11 @@ def run_of(pair: Pair, recording: Recording, given: Clock | None, runs: Sequence
     return next((run for run in runs if own and run[0] <= own[0] and own[1] <= run[1]), runs[0])
 
 
-def last_time(pair: Pair, recording: Recording, origin: int) -> Range | None:
+def last_time(packets: Packets, whole: Found, asked: Asked) -> Range | None:
     """Of what was cut out of a feed the PES packets of about the time of the subtitles, the last
     time that this comes."""
-    asked, packets, whole = pair.asked, recording.packets, pair.whole
     more = max(LEAST, asked.every) + asked.within
     cuts = (cut_of(packets, max(whole.begin - more, 0),
-                   min(whole.end + more, FRAMES_OF_A_DAY - 1), origin, None, asked.within,
+                   min(whole.end + more, FRAMES_OF_A_DAY - 1), whole.origin, None, asked.within,
                    (base.start, base.stop - 1)).range for base in reversed(packets.bases()))
     return next(filter(None, cuts), None)

@@ -5,7 +5,8 @@ import collections
 from typing import NamedTuple
 
 from ..core.spans import Spans
-from ..core.told import PASSED_OVER, STL_FAULTS, UNDECIDED, Told, frame_of_place, told_of
+from ..core.told import (
+    ON_SCREEN, PASSED_OVER, STL_FAULTS, UNDECIDED, Told, frame_of_place, told_of)
 
 
 class End(NamedTuple):
@@ -84,6 +85,15 @@ class Counted:
             self.ends[index] = End(None, int(value))
             if words[1] == self.passing:
                 self.passed.add(self.passed.ends[-1], int(value))
+
+    @property
+    def leading(self) -> Told | None:
+        """The first fault of those that a viewer sees, or else the first one; where the subtitle
+        file is refused it is that."""
+        if self.first is None or self.first.number in STL_FAULTS:
+            return self.first
+        return next((told for number, told in self.firsts.items() if number in ON_SCREEN),
+                    self.first)
 
     @property
     def first_sent(self) -> Told | None:

@@ -20,7 +20,7 @@ from .asked import Asked
 from .ending import Ending
 from .source import Source, room_of, waiting_in
 from .speech import Speech
-from .sums import File
+from .sums import SummedFile
 
 STANDARD_INPUT = "/dev/stdin"  # as the program opens it
 PATIENCE = 1.0  # seconds for which a feed may stand still, until somebody hears of it
@@ -103,10 +103,10 @@ def followed(source: Source, calls: Callable[[], Sequence[Listening]],
 
 
 def read(name: str, path: str, asked: Asked, program: str, survey: Survey, ending: Ending | None,
-         speech: Speech, stalled_after: int) -> File:
+         speech: Speech, stalled_after: int) -> SummedFile:
     """Reads a feed as long as more is needed, or to its end, and keeps it at a path; what was
     read."""
-    stall, digest, count = Stall(stalled_after, speech), hashlib.sha256(), 0
+    stall, digest, count = Stall(stalled_after, speech.tell), hashlib.sha256(), 0
     shown = "standard input" if name == STANDARD else name
     call = Listening(program, survey, asked.page, asked.pid)
 
@@ -132,7 +132,7 @@ def read(name: str, path: str, asked: Asked, program: str, survey: Survey, endin
         status = call.process.wait()
     if survey.head or not survey.is_whole:
         survey.refuse(status)
-    return File(name, count, digest.hexdigest())
+    return SummedFile(name, count, digest.hexdigest())
 
 
 def is_over(survey: Survey, asked: Asked, ending: Ending, is_still: bool) -> bool:
@@ -148,16 +148,16 @@ def is_over(survey: Survey, asked: Asked, ending: Ending, is_still: bool) -> boo
 class Stall:
     """A feed that stands still: told once, and again when it goes on."""
 
-    def __init__(self, seconds: int, speech: Speech) -> None:
-        self.seconds, self.speech = seconds, speech
+    def __init__(self, seconds: int, tell: Callable[[str], None]) -> None:
+        self.seconds, self.tell = seconds, tell
         self.still, self.is_told = 0.0, False
 
     def take(self, still: float) -> None:
         """Takes for how many seconds nothing has come."""
         if self.is_told and still < self.still:
             self.is_told = False
-            self.speech.tell(f"the feed goes on, after {counted(round(self.still), 'second')}")
+            self.tell(f"the feed goes on, after {counted(round(self.still), 'second')}")
         elif not self.is_told and still >= self.seconds:
             self.is_told = True
-            self.speech.tell(f"nothing has come for {counted(self.seconds, 'second')}")
+            self.tell(f"nothing has come for {counted(self.seconds, 'second')}")
         self.still = still

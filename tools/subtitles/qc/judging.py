@@ -6,7 +6,7 @@ from typing import TYPE_CHECKING
 
 from ..core.layout import PLAIN, layout_of
 from ..core.national import BY_WORD
-from ..core.told import CONTENT, CONTROL, LOSSES, WITH_CAUSE
+from ..core.told import CONTENT, CONTROL, WITH_CAUSE
 from ..reading.packets import HEADER
 from . import checks, warned
 from .as_sent import left_lines, otherwise, otherwise_words, sent_in
@@ -17,13 +17,13 @@ from .delays import MOVED, frames_in
 from .due_pages import DuePages, due_pages_of
 from .hints import OF_HEADERS, words_of
 from .keeping import judged_by, kept_in
-from .missing import is_in
+from .missing import is_in, lacks
 from .options import LAYOUT
 from .paced import set_pace
 from .part import Part
 from .sums import file_of
 from .why import causes_of, tell, unseen
-from .within import Trying
+from .within import least
 
 if TYPE_CHECKING:
     from .pair import Pair
@@ -86,8 +86,8 @@ def end(pair: Pair, part: Part, count: int) -> None:
         look_at_headers(pair, part)
     if OF_HEADERS & answer.numbers:
         part.of_header = recording.header_words(part.packets)
-    if answer.first:
-        part.hint = words_of(answer.first, part, verdict)
+    if answer.leading:
+        part.hint = words_of(answer.leading, part, verdict)
     if answer.first_sent:
         part.sent_hint = words_of(answer.first_sent, part, verdict)
     verdict.warn([*warned.of_pauses(part.pts(), asked, found.origin),
@@ -113,7 +113,6 @@ def measure(pair: Pair, part: Part, count: int) -> None:
         part.delays = frames_in(not asked.within and not answer.numbers & MOVED,
                                 len(part.subtitle_file().begins), held, part.due,
                                 asked.is_complete)
-    part.is_lost = bool(LOSSES & answer.numbers) or \
-        any(is_in(place, part) for place in recording.places())
+    part.is_lost = lacks(part, recording.places())
     if part.is_refused and not (recording.is_feed or part.is_lost or found.stage):
-        part.accepted_within = Trying(pair, part, count).least(answer.numbers, part.causes)
+        part.accepted_within = least(pair, part, count)

@@ -20,7 +20,7 @@ from .headers import CLEAR, control_words, keeps
 from .options import KEEPING
 
 
-class Left(NamedTuple):
+class LeftOut(NamedTuple):
     """A header that keeps the page, behind which rows of it are left out: its frame, and which."""
 
     frame: int
@@ -34,7 +34,7 @@ class Kept(NamedTuple):
 
     headers: int
     keeping: int
-    left: tuple[Left, ...] | None = None
+    left: tuple[LeftOut, ...] | None = None
     refused: int = 0
     is_right: bool = False
     is_accepted: bool = False
@@ -79,7 +79,7 @@ def judged_by(kept: Kept, answer: Answer | None, held: Timeline, due: Callable[[
 
 
 def left_by(told: Told, end: End, answer: Answer, held: Timeline, due: Callable[[int], Rows]
-            ) -> Iterator[Left]:
+            ) -> Iterator[LeftOut]:
     """The headers behind which rows are left out, by a fault that stands up to an end."""
     if told.number != CONTENT or told.frame is None:
         return
@@ -88,7 +88,7 @@ def left_by(told: Told, end: End, answer: Answer, held: Timeline, due: Callable[
     for sent in held.sendings[at:bisect.bisect_right(held.sendings, last)]:
         frame = max(sent, told.frame)
         if rows := left_at(held, due(frame), frame, answer):
-            yield Left(sent, rows)
+            yield LeftOut(sent, rows)
 
 
 def left_at(held: Timeline, due: Rows, frame: int, answer: Answer | None) -> str:

@@ -5,6 +5,7 @@ import dataclasses
 from typing import Iterator, Sequence
 
 from ..core.times import FRAMES_OF_A_DAY, TICKS, frame_in, pts_of, ticks_between, time_of
+from ..core.told import LOSSES
 from ..reading.gaps import Place, what_of
 from .part import Part
 from .recording import Recording
@@ -65,6 +66,11 @@ def is_in(place: Place, part: Part) -> bool:
     is_before = place.after is not None and ticks_between(first, place.after) <= 0
     is_after = place.before is not None and ticks_between(last, place.before) >= 0
     return not is_before and not is_after
+
+
+def lacks(part: Part, places: Sequence[Place]) -> bool:
+    """Whether something of a part is lost, by what `check` told or by what is missing there."""
+    return bool(LOSSES & part.answer.numbers) or any(is_in(place, part) for place in places)
 
 
 def time_at(pts: int | None, origin: int) -> str | None:

@@ -8,7 +8,7 @@ from ..core.layout import text_of
 from ..core.national import BY_WORD
 from ..core.programme import Subtitle
 from ..core.spans import Span
-from ..core.times import ALL_DAY, Between, time_of
+from ..core.times import ALL_DAY, time_of
 from ..core.told import EMPTY
 from ..core.words import Stop, counted
 from ..reading.timeline import timeline_near
@@ -23,10 +23,11 @@ from .evidence import choices_of
 from .hints import words_of
 from .midnight import title_words
 from .missing import gap_of, gaps_in, is_in, unsent_in
-from .moved import found_on, moves_told
+from .moved import moves_told
 from .names import Names
 from .options import FROM, LAYOUT
 from .part import Part
+from .parting import parted, refuse_others
 from .recording import Recording, refuse_files
 from .speech import Speech
 from .status import REFUSED, UNSAID
@@ -196,7 +197,16 @@ class Pair:
             packets, clocks.sought(self, recording)))
         recording.read(self.is_summed, ending)
         self.verdict.recording = recording.file
+        self.refuse_range(recording)
         return Located(recording, clocks.parts_of(self, recording), subtitles)
+
+    def refuse_range(self, recording: Recording) -> None:
+        """A range that has none of the PES packets is told so."""
+        count, pes = recording.packets.count, self.asked.pes
+        if pes and count and pes[0] >= count:
+            has = f"{counted(count, 'PES packet')}, 0-{count - 1}"
+            raise Unclear(f"{recording.name} has {has}: --pes {pes[0]}-{pes[1]} is none of them",
+                          self.again("--pes", f"0-{count - 1}"))
 
     def judge_beside(self, answer: Answer) -> None:
         """Judges how the subtitles were sent that are not refused. Where that can't be judged the
@@ -247,30 +257,13 @@ class Pair:
         self.verdict.warn([*found, *warned.of_character_sets(packets, self.asked)])
 
     def parts(self, found: list[Found], recording: Recording) -> list[Part]:
-        """What is judged, one after another; each of the subtitles has to be in one, once and as it
-        is in the file; in two, where the page moves to another PID while it is due."""
-        if len(found) == 1:
-            found = [self.whole._replace(clock=found[0].clock, packets=found[0].packets)]
-        else:
-            found = [one._replace(between=Between(one.begin, one.end)) for one in found]
-        if recording.stages:
-            found = [its for one in found for its in found_on(
-                one._replace(packets=one.packets or self.inside), recording.stages, self.judged,
-                self.asked.within)]
+        """What is judged, one after another."""
+        found = parted(found, self.whole, self.judged, recording.stages, self.inside,
+                       self.asked.within)
         if len(found) == 1:
             return [self.part(found[0], recording)]
-        parts = [self.part(one, recording, number) for number, one in enumerate(found, 1)]
-        parted = [one for part in parts for one in self.judged
-                  if part.asked.between.has(one.begin)]
-        if recording.stages:
-            parted = [*dict.fromkeys(parted)]
-        left = len(self.judged) - len(parted)
-        if left > 0:
-            raise Unclear(f"{counted(left, 'subtitle')} of {self.asked.stl} would be in no part, "
-                          "and nobody would look at it: mend its times")
-        if parted != self.judged:
-            raise Unclear(f"the parts of {self.asked.stl} would hold other subtitles than it has")
-        return parts
+        refuse_others(found, self.judged, self.asked.stl)
+        return [self.part(one, recording, number) for number, one in enumerate(found, 1)]
 
     def part(self, found: Found, recording: Recording, number: int | None = None) -> Part:
         """All that is judged; with a number a part of it, of the subtitles that come in its

@@ -23,7 +23,7 @@ from .naming import Causes
 from .recording import Recording
 from .status import REFUSED, Said
 from .subtitle_file import SubtitleFile
-from .sums import File
+from .sums import SummedFile
 
 
 @dataclasses.dataclass
@@ -44,7 +44,7 @@ class Part:
     left_out: Collection[int] = ()  # subtitles that are not judged, by their places in the file
     due: Callable[[], DuePages] = lambda: DuePages([], [])  # none of a file that is refused
     pes: Range | None = None
-    judged: File | None = None
+    judged: SummedFile | None = None
     answer: Answer = dataclasses.field(init=False)
 
     # What follows.
@@ -53,7 +53,7 @@ class Part:
     accepted_within: int | None = None  # the least number of frames, of one that is refused
     was_read: bool = False  # something of its recording, or it has none
     is_lost: bool = False  # something of what was sent
-    hint: str = ""  # what to know of its first fault
+    hint: str = ""  # what to know of the fault that is told first
     sent_hint: str = ""  # the same of its transmission
     of_header: str = ""  # what is wrong with its PES headers, where that is refused
     otherwise: str = ""  # how the house draws, where its content is refused for that

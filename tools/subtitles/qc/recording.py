@@ -24,7 +24,7 @@ from .names import KEPT, KEPT_STREAM, Names, again
 from .pes_header import first_of, header_words
 from .speech import Speech
 from .start import NoFirst
-from .sums import File, Sums
+from .sums import SummedFile, Sums
 from .typed import Typed
 from .unclear import Unclear
 from .warned import Warned
@@ -93,7 +93,7 @@ class Recording:
         self.is_cut = False  # of a feed, by who calls this tool: it is read to its end
         self.survey, self.packets = Survey(), Packets(PES)
         self.stages: list[Stage] = []
-        self.file: File | None = None
+        self.file: SummedFile | None = None
 
     def read(self, is_summed: bool, ending: Ending) -> None:
         """Reads it: a file to its end, a feed up to the last subtitle at least."""

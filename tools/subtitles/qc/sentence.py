@@ -10,7 +10,8 @@ from ..core.times import time_of
 from ..core.told import CONTROL, GAP, LOST_PACKETS, OFF_FRAME, WITH_CAUSE, Told
 from ..core.words import counted, range_words
 from .causes import (
-    ATTRIBUTE, EARLY, IN_PART, LATE, NEVER, NOT_ERASED, OTHER, PLACE, TEXT, UNKNOWN, Cause)
+    ATTRIBUTE, EARLY, ERASED, IN_PART, IN_PAUSE, LATE, NEVER, NOT_ERASED, NOT_RECEIVED, OTHER, PLACE,
+    TEXT, UNKNOWN, Cause)
 from .fault_words import WORDS
 from .lettering import text_of
 from .naming import Causes
@@ -25,6 +26,8 @@ SAID = {
     ATTRIBUTE: ("has a wrong colour or attribute", "have wrong colours or attributes"),
     NOT_ERASED: ("is not erased", "are not erased"),
     IN_PART: ("is not repeated whole", "are not repeated whole"),
+    ERASED: ("is erased while it is due", "are erased while they are due"),
+    NOT_RECEIVED: ("was not received", "were not received"),
     UNKNOWN: ("is not held as it is due", "are not held as they are due")}
 OF_ALL = {GAP, OFF_FRAME}  # of which what is known is said of all that is judged
 
@@ -153,6 +156,9 @@ def of_causes(causes: Causes, option: str) -> str:
 def of_one(cause: Cause, causes: Causes, option: str) -> str:
     """The cause of a subtitle."""
     one = causes.programme.subtitles[cause.place]
+    if cause.name == IN_PAUSE:
+        return f"another text was sent in a pause, {cause.words}" + (
+            f', "{text_of(cause.sent, BY_WORD[option].bits)}"' if cause.sent else "")
     text = text_of(causes.programme.pages[cause.place], BY_WORD[option].bits)
     said = f"is {counted(cause.frames or 0, 'frame')} {cause.name}" \
         if cause.name in (LATE, EARLY) else SAID[cause.name][0]
@@ -164,6 +170,8 @@ def of_several(found: Sequence[Cause], subtitles: Sequence[Subtitle]) -> str:
     """A cause that some subtitles have: from when on, or between when, and how many of all."""
     first, last = subtitles[found[0].place], subtitles[found[-1].place]
     name = found[0].name
+    if name == IN_PAUSE:
+        return f"another text was sent in {counted(len(found), 'pause')}, the first {found[0].words}"
     is_to_the_end = found[-1].place == len(subtitles) - 1
     when = f"from {time_of(first.begin)} on" if is_to_the_end else \
         f"from {time_of(first.begin)} to {time_of(last.begin)}"

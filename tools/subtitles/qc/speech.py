@@ -3,7 +3,7 @@ from __future__ import annotations
 
 import sys
 import threading
-from typing import TextIO
+from typing import Callable, TextIO
 
 from ..core.words import shown, silence, tell
 from .progress import Progress
@@ -21,6 +21,7 @@ class Speech:
         self.out = sys.stderr if is_output_taken else sys.stdout
         self.commands: list[str] = []
         self.last, self.listed = "", 0
+        self.at_end: Callable[[], None] = lambda: None  # what is done before the verdict's line
         self.lock = threading.RLock()  # a feed is heard beside the program that judges it
 
     def say(self, line: str) -> None:
@@ -75,5 +76,6 @@ class Speech:
 
     def end(self, line: str) -> None:
         """The verdict's line, which is the last one."""
+        self.at_end()
         if self.last != line:
             self.say(line)

@@ -34,7 +34,7 @@ class Said(NamedTuple):
     is_read: bool = True
 
 
-class Evidence(NamedTuple):
+class Grounds(NamedTuple):
     """All that decides a verdict.
 
     `losses` are the places at which TS packets are lost by the PCR alone: for each, whether the
@@ -74,7 +74,7 @@ def word_of(said: Said) -> str:
     return NOT_JUDGED
 
 
-def decide(seen: Evidence) -> Decision:
+def decide(seen: Grounds) -> Decision:
     """The verdict on all parts. What nobody said or read, or could write, is not judged; then an
     error counts before a loss, and a loss before a warning."""
     words = [word_of(part) for part in seen.parts]

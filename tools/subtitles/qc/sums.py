@@ -9,7 +9,7 @@ from typing import Iterable, NamedTuple
 ROOM = 1 << 18  # bytes that are read at once, into the same room
 
 
-class File(NamedTuple):
+class SummedFile(NamedTuple):
     """A file that was read: its name as it was typed, its size and its SHA-256."""
 
     name: str
@@ -21,7 +21,7 @@ class Sums:
     """The files of some names, summed up beside what else is done."""
 
     def __init__(self, names: Iterable[str]) -> None:
-        self.names, self.found = names, list[File]()
+        self.names, self.found = names, list[SummedFile]()
         self.reason: OSError | None = None
         self.thread = threading.Thread(target=self.work, daemon=True)
         self.thread.start()
@@ -32,7 +32,7 @@ class Sums:
         except OSError as reason:
             self.reason = reason
 
-    def all(self) -> list[File]:
+    def all(self) -> list[SummedFile]:
         """All of them, once they are summed up."""
         self.thread.join()
         if self.reason:
@@ -40,10 +40,10 @@ class Sums:
         return self.found
 
 
-def file_of(path: str, name: str) -> File:
+def file_of(path: str, name: str) -> SummedFile:
     """A file that is read for its sum alone."""
     digest, room = hashlib.sha256(), memoryview(bytearray(ROOM))
     with open(path, "rb", buffering=0) as file:
         while count := file.readinto(room):
             digest.update(room[:count])
-        return File(name, os.fstat(file.fileno()).st_size, digest.hexdigest())
+        return SummedFile(name, os.fstat(file.fileno()).st_size, digest.hexdigest())

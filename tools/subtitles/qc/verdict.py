@@ -4,7 +4,7 @@ from __future__ import annotations
 import dataclasses
 from typing import Iterable
 
-from ..core.told import LOSSES, STL_FAULTS
+from ..core.told import LOSSES, ON_SCREEN, STL_FAULTS
 from ..reading.gaps import Place
 from .asked import Asked
 from .beside import Beside, Counts
@@ -14,8 +14,8 @@ from .evidence import Choice
 from .part import Part
 from .sentence import Facts, sentence_of
 from .severity import Severity
-from .status import LOST, NOT_JUDGED, REFUSED, WAIVED, WARNED, Decision, Evidence, decide
-from .sums import File
+from .status import LOST, NOT_JUDGED, REFUSED, WAIVED, WARNED, Decision, Grounds, decide
+from .sums import SummedFile
 from .warned import Warned
 
 FITTED_KIND = "fitted"  # a warning where warnings count: the clock was fitted to the recording
@@ -55,8 +55,8 @@ class Verdict:
     notes: list[str] = dataclasses.field(default_factory=list)
     hints: list[str] = dataclasses.field(default_factory=list)
     commands: list[str] = dataclasses.field(default_factory=list)
-    stl: File | None = None
-    recording: File | None = None
+    stl: SummedFile | None = None
+    recording: SummedFile | None = None
     is_kept: bool = False  # what was judged stays in the folder
     is_stopped: bool = False  # by a signal
     reason: str | None = None  # why it is not judged
@@ -96,10 +96,10 @@ class Verdict:
             return None
         return FITTED if are_fitted[0] else FITTED_LATER
 
-    def seen(self) -> Evidence:
+    def seen(self) -> Grounds:
         """All that decides it."""
         kinds = [*(warned.kind for warned in self.warnings), *[FITTED_KIND] * bool(self.fitted)]
-        return Evidence([part.said() for part in self.parts], self.severity,
+        return Grounds([part.said() for part in self.parts], self.severity,
                     [gap.is_judged and gap.place.mark is None for gap in self.gaps], kinds,
                     self.asked.is_strict, [] if self.reason is None else [self.reason],
                     self.failed)
@@ -123,7 +123,7 @@ class Verdict:
     @property
     def sentence(self) -> str:
         """It in one sentence for a person."""
-        refused = next((part for part in self.parts if part.is_refused), None)
+        refused = self.leading
         said = Facts(
             self.word, self.count, option=self.asked.option, faults=self.faults,
             lost=[gap.line() for gap in self.gaps if gap.is_judged], warnings=self.seen().warnings,
@@ -132,8 +132,9 @@ class Verdict:
         if refused and self.beside:
             said = self.sent_beside(said, self.beside)
         elif refused:
-            said = said._replace(first=refused.answer.first, hint=refused.hint,
-                                 causes=refused.causes)
+            is_caused = refused.causes and refused.causes.named
+            first = refused.answer.first if is_caused else refused.answer.leading
+            said = said._replace(first=first, hint=refused.hint, causes=refused.causes)
         return sentence_of(said)
 
     def sent_beside(self, said: Facts, beside: Beside) -> Facts:
@@ -188,10 +189,29 @@ class Verdict:
     def line(self) -> str | None:
         """The line of `check` of the first part that is refused; else of the only one, or of all.
         Before it stands what became of it."""
+        return self.line_of(next((part.answer.line for part in self.parts if part.is_refused),
+                                 None))
+
+    @property
+    def lead(self) -> str | None:
+        """The same with the fault that a viewer sees first, where there is one: reports, and tables
+        of many pairs, begin with it."""
+        part = self.leading
+        return self.line_of(part.answer.lead if part else None)
+
+    @property
+    def leading(self) -> Part | None:
+        """The first part of which something is refused that a viewer sees, else the first that is
+        refused."""
+        refused = [part for part in self.parts if part.is_refused]
+        return next((part for part in refused if part.answer.leading and
+                     part.answer.leading.number in ON_SCREEN), next(iter(refused), None))
+
+    def line_of(self, refused: str | None) -> str | None:
+        """A line of `check`, with what became of it; `None` where nothing is judged."""
         word = self.word
         if word == NOT_JUDGED:
             return None
-        refused = next((part.answer.line for part in self.parts if part.is_refused), None)
         if word == REFUSED:
             return refused
         line = self.accepted_line() if refused is None else f"{WAIVED}: {refused}"

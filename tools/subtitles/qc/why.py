@@ -11,7 +11,6 @@ from .cause_words import Wording
 from .clock import Found
 from .naming import Causes
 from .part import Part
-from .recording import Recording
 from .speech import MOST_LINES, Speech
 
 
@@ -22,16 +21,15 @@ def causes_of(part: Part) -> Causes | None:
                          Span(found.begin, found.end), asked.every, found.packets)
     lost = recording.places() if recording.is_stream else []
     causes = Causes(part.due(), held, unseen(lost, found.origin, asked.within),
-                    reach(recording, found))
+                    reach(None if recording.packets.refusal else recording.reach(), found))
     causes.name(part.answer)
     return causes if causes.named else None
 
 
-def reach(recording: Recording, found: Found) -> Span | None:
-    """The frames of which the recording is, by its PCR, where PTS do not go back, and the PID
-    carries Teletext to its end."""
-    pts = None if found.packets or recording.packets.refusal else recording.reach()
-    if pts is None:
+def reach(pts: tuple[int, int] | None, found: Found) -> Span | None:
+    """The frames of which all that was sent from a PTS to another one is, where PTS do not go back.
+    """
+    if pts is None or found.packets:
         return None
     first, last = (ticks_between(pts_of(found.begin, found.origin), one) for one in pts)
     return Span(found.begin - -first // TICKS, found.begin + last // TICKS)

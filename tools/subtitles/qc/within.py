@@ -2,16 +2,15 @@
 asked for, and 5 at most."""
 from __future__ import annotations
 
-from typing import TYPE_CHECKING
+from typing import TYPE_CHECKING, Callable, Iterable, Sequence
 
 from ..core.told import LOSSES, accepted_of, told_of
-from ..reading.packets import Range
 from . import clocks
 from .asked import MOST_TRIED
-from .causes import EARLY, IN_PART, LATE, NOT_ERASED, UNKNOWN, Cause
+from .causes import (
+    EARLY, ERASED, IN_PART, IN_PAUSE, LATE, NOT_ERASED, NOT_RECEIVED, UNKNOWN, Cause)
 from .checks import first_within
 from .clock import Found
-from .naming import Causes
 from .status import ACCEPTED, Said, word_of
 
 if TYPE_CHECKING:
@@ -24,73 +23,80 @@ FIXED = {*range(10, 26), *range(30, 41), 44, *LOSSES, *range(50, 58), 60}
 OF_PACKETS, OF_FRAMES = {*range(63, 72), 73}, {61, 62}
 OF_ENDS = {72, 77}
 
+Check = Callable[[int], tuple[str, int]]  # within so many frames: the line, and the status
+NOTHING = "", 2  # is asked, where nothing would be judged
+
 
 def line_of(least: int) -> str:
     """What is said of it."""
     return f"within {least} it is accepted: --within {least}"
 
 
-class Trying:
-    """Judges a part, one of so many, once more within more frames, each time as --within N would.
-    """
-
-    def __init__(self, pair: Pair, part: Part, count: int) -> None:
-        self.pair, self.part, self.count = pair, part, count
-
-    def least(self, numbers: set[int], causes: Causes | None) -> int | None:
-        """The least such number; `None` where there is none."""
-        found = self.clocked(MOST_TRIED) if self.may_be(numbers, causes) else None
-        pes = self.taken(found) if found else None
-        if found is None or pes is None:
-            return None
-        for within in range(self.part.asked.within + 1, MOST_TRIED + 1):
-            line, status = self.check(found, pes, within)
-            if is_accepted(line, status):
-                return within if self.is_same(found, within) else None
-            told = told_of(line) if status == 1 else None
-            if told is None or told.number not in OF_ENDS:
-                return None
+def least(pair: Pair, part: Part, count: int) -> int | None:
+    """The least such number of a part that is refused, one of so many; `None` where there is none.
+    Each one is tried as --within N would judge it."""
+    clock, causes = part.recorded[1].clock, part.causes
+    if not may_be(part.answer.numbers, causes.named.values() if causes else (), clock.is_fitted):
         return None
+    latest = clocked(pair, part, count, MOST_TRIED)
+    if latest is None:
+        return None
+    found = least_of(part.asked.within + 1, checked(pair, part, latest))
+    if found is None or found == MOST_TRIED:
+        return found
+    # The clock is the same within so few frames, or accepted by too.
+    other = clocked(pair, part, count, found)
+    is_accepted_by = other is not None and (
+        other.origin == latest.origin or is_accepted(*checked(pair, part, other)(found)))
+    return found if is_accepted_by else None
 
-    def may_be(self, numbers: set[int], causes: Causes | None) -> bool:
-        """Whether none of the faults, and no cause, is one that no N changes."""
-        if numbers & FIXED or numbers & OF_PACKETS and not numbers & OF_FRAMES:
-            return False
-        return all(map(self.is_delay, causes.named.values())) if causes else True
 
-    def is_delay(self, cause: Cause) -> bool:
-        """Whether a cause may be a delay; a clock that was fitted may be late."""
-        if cause.name in (LATE, EARLY):
-            _, found = self.part.recorded
-            most = 2 * MOST_TRIED if found.clock.is_fitted else MOST_TRIED
-            return (cause.frames or 0) <= most
-        return cause.name in (NOT_ERASED, IN_PART, UNKNOWN)
+def may_be(numbers: set[int], causes: Iterable[Cause], is_fitted: bool) -> bool:
+    """Whether none of the faults, and no cause, is one that no N changes."""
+    is_fixed = numbers & FIXED or numbers & OF_PACKETS and not numbers & OF_FRAMES
+    return not is_fixed and all(is_delay(cause, is_fitted) for cause in causes)
 
-    def clocked(self, within: int) -> Found | None:
-        """The part by its clock; one that was fitted is fitted within so many frames."""
-        recording, found = self.part.recorded
-        if not found.clock.is_fitted:
-            return found
-        sought = clocks.sought(self.pair, recording)._replace(within=within)
-        parts = clocks.found_in(clocks.origin_in(recording.packets, sought), found)
-        other = parts[self.part.number - 1] if len(parts) == self.count else None
-        return other if other and other[:2] == found[:2] else None
 
-    def is_same(self, found: Found, within: int) -> bool:
-        """Whether the clock is the same within fewer frames, or accepted by too."""
-        other = self.clocked(within) if within < MOST_TRIED else found
-        if other is None or other.origin == found.origin:
-            return other is not None
-        pes = self.taken(other)
-        return pes is not None and is_accepted(*self.check(other, pes, within))
+def is_delay(cause: Cause, is_fitted: bool) -> bool:
+    """Whether a cause may be a delay; a clock that was fitted may be late."""
+    if cause.name in (LATE, EARLY):
+        return (cause.frames or 0) <= (2 * MOST_TRIED if is_fitted else MOST_TRIED)
+    return cause.name in (NOT_ERASED, IN_PART, ERASED, IN_PAUSE, NOT_RECEIVED, UNKNOWN)
 
-    def taken(self, found: Found) -> Range | None:
-        """The PES packets that would be judged by a clock."""
-        return clocks.taken(self.pair, self.part.recorded[0], found, MOST_TRIED).range
 
-    def check(self, found: Found, pes: Range, within: int) -> tuple[str, int]:
-        """The line of `check`, and its status."""
-        return first_within(self.pair, self.part, pes, found.origin, within)
+def clocked(pair: Pair, part: Part, count: int, within: int) -> Found | None:
+    """A part by its clock; one that was fitted is fitted within so many frames."""
+    recording, found = part.recorded
+    if not found.clock.is_fitted:
+        return found
+    sought = clocks.sought(pair, recording)._replace(within=within)
+    return same_part(clocks.found_in(clocks.origin_in(recording.packets, sought), found),
+                     part.number, count, found)
+
+
+def same_part(parts: Sequence[Found], number: int, count: int, found: Found) -> Found | None:
+    """The part with a number, one of so many, where it is fitted to the same frames."""
+    other = parts[number - 1] if len(parts) == count else None
+    return other if other and other[:2] == found[:2] else None
+
+
+def checked(pair: Pair, part: Part, found: Found) -> Check:
+    """What `check` says by a clock, within any number of frames."""
+    pes = clocks.taken(pair, part.recorded[0], found, MOST_TRIED).range
+    return lambda within: first_within(pair, part, pes, found.origin, within) if pes else NOTHING
+
+
+def least_of(first: int, check: Check) -> int | None:
+    """The least number, from a first one on, within which `check` accepts; `None` where another
+    fault comes first than one of an end."""
+    for within in range(first, MOST_TRIED + 1):
+        line, status = check(within)
+        if is_accepted(line, status):
+            return within
+        told = told_of(line) if status == 1 else None
+        if told is None or told.number not in OF_ENDS:
+            return None
+    return None
 
 
 def is_accepted(line: str, status: int) -> bool:
