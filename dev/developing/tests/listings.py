@@ -2,16 +2,20 @@
 from __future__ import annotations
 
 import argparse
-import json
 import os
-from typing import Any, Iterable, Iterator
+import tempfile
+from typing import Any, Callable, Iterable, Iterator, Sequence
+from unittest import mock
 
+from subtitles.calls import single
 from subtitles.calls.channel.channel import Channel
-from subtitles.calls.channel.hearing import Heard, Hearing
-from subtitles.calls.objects import found_at
+from subtitles.calls.channel.heard import Heard
+from subtitles.calls.channel.hearing import Hearing
+from subtitles.calls.channel.results import WORK
+from subtitles.calls.channel.segments import Begin
+from subtitles.calls.objects import found_at, left_by_call, put
 from subtitles.core.teletext import Page
 from subtitles.core.times import CLOCK, FRAMES_A_SECOND, TICKS
-from subtitles.qc.typed import Typed
 from .bench import Case
 from .results import result
 from .test_channel_tables import EACH, FIRST, LASTS, defaults, programme
@@ -60,67 +64,68 @@ class Lines:
 
 
 class Judging:
-    """Stands for a call that judges a programme: it is over once a test says so, or it is waited
-    for."""
+    """Stands for the process that judges a programme: by the words that it gets it leaves an object
+    of an accepted programme, or what a test says."""
 
     made: list[Judging] = []
-    is_quick = True  # it is over at once
     ended = 0  # its status
     left = result("accepted", line="accepted 5 frames")
 
-    def __init__(self, command: list[str], paths: list[str], folder: str) -> None:
-        self.command, self.paths, self.is_done = command, paths, self.is_quick
-        self.name = next(one.partition("=")[2] for one in command if one.startswith("--name="))
-        Judging.made.append(self)
+    def __init__(self, words: argparse.Namespace, paths: Sequence[str]) -> None:
+        self.words, self.paths, self.name = words, paths, str(words.name)
+        self.made.append(self)
 
-    def is_over(self) -> bool:
-        return self.is_done
-
-    def wait(self) -> None:
-        self.is_done = True
-
-    def end(self) -> tuple[int, list[str]]:
-        """Writes the object of an accepted programme, where the command says."""
-        words = self.command
-        path = words[words.index("--json") + 1] if "--json" in words else \
-            os.path.join(words[words.index("-o") + 1], f"{self.name}.json")
-        stl = words[-2]
-        known = {**self.left, "asked": {**self.left["asked"], "stl": stl},
-                 "found": {**self.left["found"], "stl": found_at(stl)}}
-        with open(path, "w", encoding="ascii") as file:
-            json.dump(known, file)
-        return self.ended, ["qc: first", "qc: told: last"]
-
-    def value(self, option: str) -> str | None:
-        """The value of an option of its command."""
-        return self.command[self.command.index(option) + 1] if option in self.command else None
+    def leave(self, folder: str) -> dict[str, Any]:
+        """Writes its object, with the origin in its line; answers what is read of it."""
+        known = {**self.left, "asked": {**self.left["asked"], "stl": self.words.stl,
+                                        "origin": self.words.origin},
+                 "found": {**self.left["found"], "stl": found_at(self.words.stl)}}
+        put(os.path.join(folder, f"{self.name}.json"), known)
+        return left_by_call(os.path.join(folder, f"{self.name}.json"), self.name, self.ended,
+                            ["qc: first", "qc: told: last"])
 
 
 class Pages(Hearing):
     """Pages that are heard without a process."""
 
-    def turn_to(self, pages: Iterable[Page]) -> None:
-        for page in pages:
-            known = next(iter(self.by_page.values()), None)
-            self.by_page.setdefault(page, Heard(page, self.pid, known.clock if known else None))
+    def hear(self, page: Page, heard: Heard) -> None:
+        self.by_page[page] = heard
+        self.calls.append(mock.MagicMock(room=1, has_ended=True))
+
+    def hand(self, call: object, data: bytes) -> Iterator[None]:
+        yield from ()
 
 
 class Told(Channel):
-    """A channel of a list; what it says is kept, without the time."""
+    """A channel of a list; what it says is kept, without the time. The feed stands in no segment,
+    and goes on where an earlier call ended it."""
 
     def __init__(self, case: Case, lines: str, out: str | None = None, *more: str,
-                 is_kept: bool = False, is_resumed: bool = False, patience: int = 2) -> None:
+                 is_kept: bool = False, patience: int = 2, spool: str | None = None,
+                 command: str | None = None) -> None:
         words = argparse.Namespace(**{
-            **vars(defaults(*more)), "channel": case.write("list", lines.encode()),
-            "patience": patience, "out": out, "is_kept": is_kept, "stall": 10})
+            **vars(defaults(*more)), "channel": case.write("list", lines.encode()), "name": None,
+            "patience": patience, "out": out, "is_kept": is_kept, "stall": 10, "stl": "-",
+            "program": case.bench.program, "on_result": command, "json": None})
         Judging.made = []
-        super().__init__(words, Typed("tools/qc", case.bench.program), case.folder)
-        self.hearing = Pages("none", words.pid, lambda: ())
         self.said: list[str] = []
-        if is_resumed:
-            self.resume()
+        super().__init__(words, "tools/qc", spool or tempfile.mkdtemp(dir=case.folder))
+        ended = self.results.ended()
+        known = Begin(ended, (BEGIN + ended) % CLOCK, True) if ended else None
+        self.hearing = Pages("none", words.pid, known, lambda: ())
+        self.segments.between = lambda *times: ["segment"]  # type: ignore[method-assign]
+        self.segments.known = -2
+        self.results.judge = self.judged  # type: ignore[method-assign]
         self.go_on()
         self.hearing.turn_to([self.words.page])
+
+    def judged(self, call: Callable[[str], int], name: str, paths: Sequence[str]
+               ) -> tuple[str, dict[str, Any]]:
+        """Stands for another process that judges."""
+        folder = tempfile.mkdtemp(dir=self.folder, prefix=WORK)
+        with mock.patch.object(single, "judge") as judge, mock.patch.object(tempfile, "tempdir"):
+            call(folder)
+        return folder, Judging(judge.call_args.args[0], paths).leave(folder)
 
     def say(self, line: str) -> None:
         self.said.append(line)

@@ -6,21 +6,20 @@ import os
 import random
 import subprocess
 import time
-from unittest import mock
 
-from subtitles.calls.channel import channel as channels
 from subtitles.calls.channel.channel import BEFORE_IT
 from subtitles.calls.channel.queue import AT_ONCE
 from subtitles.core.times import CLOCK, TICKS
 from .bench import Case, alone, packets, tool_path
 from .listings import LAST, SECOND, Judging, Lines, Told, files_of, texts_of
 from .muxed import in_frames
-from .test_qc_channel import BEGIN, WITH_BLANK, blank, make_programme, memory_of, verdicts
+from .test_qc_channel import (
+    BEGIN, SOON, WITH_BLANK, blank, make_programme, memory_of, verdicts)
 
 SENT, FILES = 30, 90
 LENGTH = TICKS * LAST + 25 * SECOND  # of a programme, and what is sent behind it
 DAY = 1440  # minutes
-GONE, UNSEEN, OPEN, ACCEPTED, CUT = "gone", "not seen", "open", "accepted", "cut"
+GONE, UNSEEN, OPEN, ACCEPTED = "gone", "not seen", "open", "accepted"
 
 
 class Truth:
@@ -101,14 +100,13 @@ class Truth:
 def kind_of(line: str) -> tuple[str, str]:
     """A programme and what came of it, of a line that a channel says."""
     name, _, words = line.partition("  ")
-    for what, some in ((GONE, "is gone from"), (UNSEEN, "not seen: "), (CUT, "in mid-programme"),
-                       (OPEN, "not judged: "), (ACCEPTED, "accepted 5 frames")):
+    for what, some in ((GONE, "is gone from"), (UNSEEN, "not seen: "), (OPEN, "not judged: "),
+                       (ACCEPTED, "accepted 5 frames")):
         if some in words:
             return name, what
     return name, words
 
 
-@mock.patch.object(channels, "Call", Judging)
 class Lists(Case):
     """Lists at random."""
 
@@ -119,14 +117,13 @@ class Lists(Case):
         with which another one goes on."""
         files = files_of(self, *(f"p{number}" for number in range(FILES)))
         for seed in range(12):
-            os.makedirs(self.path(f"out{seed}"))
             self.story(seed, files, self.path(f"out{seed}"))
 
     def story(self, seed: int, files: dict[str, str], out: str) -> None:
         """A channel, or some one after another."""
         chance = random.Random(seed)
         truth, lines, begin = Truth(list(files), chance), Lines(), 900_000
-        channel = self.begin(truth, files, out, False)
+        channel, before = self.begin(truth, files, out), dict[str, bytes]()
         for number in range(SENT):
             if chance.random() < 0.6:
                 self.edit(channel, truth, files)
@@ -145,13 +142,11 @@ class Lists(Case):
                 channel.stall(0)
                 channel.give([lines.gap(chance.randrange(16))])
             if chance.random() < 0.1:
+                self.compare(channel, truth, f"{seed}, {number}")
                 if is_seen:
-                    truth.told.append((name, CUT))
                     truth.done.discard(name)
-                    self.end(channel, truth, f"{seed}, {number}", name)
-                else:
-                    self.end(channel, truth, f"{seed}, {number}")
-                channel = self.begin(truth, files, out, True)
+                before = self.results(out)
+                channel = self.begin(truth, files, out)
                 lines = Lines()  # another call counts anew
                 channel.give([lines.pes(begin - SECOND)])
             else:
@@ -165,13 +160,16 @@ class Lists(Case):
         channel.stop(BEFORE_IT)
         truth.stop()
         self.compare(channel, truth, f"{seed}, the end")
-        known = {name.removesuffix(".json") for name in os.listdir(out) if name.endswith(".json")}
-        self.must(f"{seed}: one object each", known == truth.listed, known ^ truth.listed)
+        known = self.results(out)
+        listed = {f"{name}.json" for name in truth.listed}
+        self.must(f"{seed}: one object each", {*known} == listed, {*known} ^ listed)
+        self.must(f"{seed}: none has changed", before.items() <= known.items(), {*before})
 
-    def begin(self, truth: Truth, files: dict[str, str], out: str, is_resumed: bool) -> Told:
+    def begin(self, truth: Truth, files: dict[str, str], out: str) -> Told:
         """Begins a channel, which waits for each programme as long as it takes."""
         truth.told, truth.sent = [], []
-        return Told(self, truth.text(files), out, is_resumed=is_resumed, patience=DAY)
+        os.makedirs(f"{out}.feed", exist_ok=True)
+        return Told(self, truth.text(files), out, patience=DAY, spool=f"{out}.feed")
 
     def edit(self, channel: Told, truth: Truth, files: dict[str, str],
              now: str | None = None) -> bool:
@@ -181,14 +179,10 @@ class Lists(Case):
         channel.edit(truth.text(files))
         return now != "" and truth.settle(now)
 
-    def end(self, channel: Told, truth: Truth, name: str, cut: str | None = None) -> None:
-        """A signal ends a channel."""
-        channel.is_stopped = True
-        channel.stop("stopped at 00:00:00:00 of the feed")
-        for one in truth.waiting():
-            if one != cut:
-                truth.told.append((one, OPEN))
-        self.compare(channel, truth, name)
+    def results(self, out: str) -> dict[str, bytes]:
+        """The results that are there."""
+        return {name: self.read(os.path.join(out, name)) for name in sorted(os.listdir(out))
+                if name.endswith(".json") and name != "channel.json"} if os.path.isdir(out) else {}
 
     def compare(self, channel: Told, truth: Truth, name: str) -> None:
         """Whether each result is there, once and in its order."""
@@ -199,24 +193,14 @@ class Lists(Case):
                                                   len(found), len(truth.told)))
 
 
-def least_of(process: subprocess.Popen[bytes], folder: str) -> tuple[int, ...]:
-    """The least memory, bytes in temporary files and open files of a process in two seconds: more
-    are open while a programme is being judged."""
-    looks = []
-    for _ in range(20):
-        looks.append((*memory_of(process, folder), len(os.listdir(f"/proc/{process.pid}/fd"))))
-        time.sleep(0.1)
-    return tuple(min(each) for each in zip(*looks))
-
-
 class Days(Case):
     """A day of a feed."""
 
     @alone
     def test_holds_no_more_after_a_day(self) -> None:
-        """60 programmes in 24 hours of a transport stream of over 4 GB (with --speed; else three in
-        an hour): memory, open files and temporary files stay."""
-        count, each, folder = 60 if self.bench.is_timed else 3, 1440, self.path("temporary")
+        """60 programmes in 24 hours of a transport stream of over 4 GB (with --speed; else six in
+        two and a half): memory, open files and what is kept of the feed stay."""
+        count, each, folder = 60 if self.bench.is_timed else 6, 1440, self.path("temporary")
         os.mkdir(folder)
         pes: list[bytes] = []
         for number in range(count):
@@ -229,22 +213,38 @@ class Days(Case):
         words = [tool_path("qc"), "--channel", "list", "-", "--patience", "30", "-p",
                  self.bench.program]
         seen: list[tuple[int, ...]] = []
-        size, frames = 0, count * each * 25
-        with subprocess.Popen(words, cwd=self.folder, stdin=subprocess.PIPE, stdout=subprocess.PIPE,
-                              env=dict(os.environ, TMPDIR=folder)) as process:
-            assert process.stdin and process.stdout
-            for number, data in enumerate(in_frames(pes, BEGIN, frames, 1)):
+        size, frames = 0, each * 25
+        with open(self.path("log"), "wb") as log, subprocess.Popen(
+                words, cwd=self.folder, stdin=subprocess.PIPE, stdout=log,
+                env=dict(os.environ, TMPDIR=folder)) as process:
+            assert process.stdin
+            for number, data in enumerate(in_frames(pes, BEGIN, frames * count, 1)):
                 process.stdin.write(data)
                 size += len(data)
-                if number in (frames * 5 // 9, frames * 8 // 9):  # none is sent there
-                    seen.append(least_of(process, folder))
+                programme, frame = divmod(number, frames)
+                if frame == frames // 2 and programme in (count // 3, count - 1):
+                    process.stdin.flush()
+                    seen.append(self.after(process, folder, b"p%d  " % programme))
             process.stdin.close()
-            lines = verdicts(process.stdout.read().decode().splitlines())
+        lines = verdicts(self.read("log").decode().splitlines())
         self.must("all are accepted", lines == [
             f"p{number}  {WITH_BLANK}" for number in range(count)], lines)
         self.must("memory, files and open files", all(
             later <= before * 1.1 for before, later in zip(*seen)), seen)
+        self.must("open files", seen[-1][2] <= 20, seen)
         self.must("its size", size > 4e9 or not self.bench.is_timed, size)
         if self.bench.is_timed:
             print(f"a channel of a day, {size / 1e9:.1f} GB: memory, temporary files and open "
                   f"files {seen}")
+
+    def after(self, process: subprocess.Popen[bytes], folder: str, wanted: bytes
+              ) -> tuple[int, ...]:
+        """The least memory, bytes in temporary files and open files of a process in two seconds,
+        once it has said something: more are open while a programme is being judged."""
+        end, looks = time.monotonic() + SOON, []
+        while wanted not in self.read("log") and time.monotonic() < end:
+            time.sleep(0.1)
+        for _ in range(20):
+            looks.append((*memory_of(process, folder), len(os.listdir(f"/proc/{process.pid}/fd"))))
+            time.sleep(0.1)
+        return tuple(min(each) for each in zip(*looks))

@@ -2,9 +2,7 @@
 from __future__ import annotations
 
 import json
-from unittest import mock
 
-from subtitles.calls.channel import channel as channels
 from subtitles.calls.channel.channel import BEFORE_IT
 from subtitles.calls.members import ASKED
 from subtitles.calls.objects import found, unjudged
@@ -14,7 +12,6 @@ from .parts import asked_for
 from .results import result
 
 
-@mock.patch.object(channels, "Call", Judging)
 class Edits(Programmes):
     """The list is looked at again and again."""
 
@@ -50,7 +47,7 @@ class Edits(Programmes):
         for number, name in enumerate(("three", "two", "five"), 1):
             channel.give(lines.sent(texts_of(name), BEGIN + 60 * SECOND * number, 20))
         self.must("all", self.names() == ["one", "three", "two", "five"] and
-                  Judging.made[1].value("--every") == "99", self.names())
+                  Judging.made[1].words.every == 99, self.names())
         channel.stop(BEFORE_IT)
         self.must("one result each", [line.partition("  ")[0] for line in channel.said
                                       if not line.startswith(path)] == [
@@ -65,14 +62,14 @@ class Edits(Programmes):
                 asked = asked_for(self.files[name], None)
                 known = result(asked=ASKED.made(asked), found=found(asked))
                 self.write(f"out/{name}.json", json.dumps(known).encode())
-            channel = Told(self, self.listed(*names).rstrip(), self.path("out"), is_resumed=True)
+            channel = Told(self, self.listed(*names).rstrip(), self.path("out"))
             self.must(f"{kept}", channel.verdicts == ["refused"] * kept and channel.said ==
                       [f"{kept} programme{'s' * (kept > 1)} of an earlier call kept"] * (kept > 0),
                       channel.said)
             self.must(f"{kept}: next", [one.programme.name for one in channel.queue.waiting] ==
                       names[kept:])
         self.write("out/one.json", json.dumps(unjudged("one", "why", True)).encode())
-        channel = Told(self, self.listed("one", "two"), self.path("out"), is_resumed=True)
+        channel = Told(self, self.listed("one", "two"), self.path("out"))
         self.must("open", [one.programme.name for one in channel.queue.waiting] == ["one"],
                   channel.said)
         self.must("rows", set(channel.rows) == {*names}, channel.rows)

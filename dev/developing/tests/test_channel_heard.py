@@ -3,14 +3,15 @@
 from __future__ import annotations
 
 import collections
+import contextlib
 import os
 from typing import Iterable
 
 from developing.pes import MARK, packet, pes_packet
 from developing.stl import gsi_block
 from subtitles.calls.channel.feed_clock import ANEW, BACK, GAP, MINUTE, jump_of, times_of
-from subtitles.calls.channel.hearing import Heard, Hearing
-from subtitles.calls.channel.spool import LEAST, PARTS, Spool
+from subtitles.calls.channel.heard import Heard
+from subtitles.calls.channel.hearing import Hearing
 from subtitles.core.times import CLOCK, TICKS
 from subtitles.core.words import Stop
 from subtitles.qc.unclear import Unclear
@@ -115,18 +116,15 @@ class Pages(Case):
                                          CLOSING]) for at in range(3000)]
         sent.insert(5, pes_packet(99 * MINUTE, [CLOSING]))
         before = b"".join(sent[:2001])
-        hearing = Hearing(self.bench.program, None, lambda: [before[:9], before[9:]])
-        try:
+        hearing = Hearing(self.bench.program, None, None, lambda: [before[:9], before[9:]])
+        with contextlib.closing(hearing):
             hearing.turn_to([PAGE])
             hearing.turn_to([PAGE, (0, 0x87)])
-            self.must("both are open", hearing.open() == hearing.calls and all(
+            self.must("both are open", not hearing.has_ended() and len(hearing.calls) == 2 and all(
                 os.getsid(call.process.pid) == call.process.pid for call in hearing.calls))
-            for call in hearing.calls:
-                call.hand(b"".join(sent[2001:]))
-                call.hand(b"")
-                while not call.has_ended:
-                    collections.deque(call.lines.take(), 0)
-                hearing.refuse("-")
+            collections.deque(hearing.take(b"".join(sent[2001:])), 0)
+            collections.deque(hearing.end(), 0)
+            hearing.refuse("-")
             for page, letters in ((PAGE, b"%d"), ((0, 0x87), b"x%d")):
                 changes = hearing.by_page[page].changes[False]
                 self.must(f"{page}", changes.count == 2995 and changes.letters ==
@@ -135,9 +133,7 @@ class Pages(Case):
             times = [heard.changes[False].times[0] for heard in hearing.by_page.values()]
             self.must("one time", times[0] == times[1], times)
             self.must("told", not list(hearing.take_said()))
-            self.must("calls", hearing.open() == [] and len(hearing.calls) == 2)
-        finally:
-            hearing.close()
+            self.must("none hears", hearing.has_ended())
 
     def test_feeds_that_are_none(self) -> None:
         """Why a feed can't be read."""
@@ -147,20 +143,15 @@ class Pages(Case):
                 (gsi_block(b"", 0, 0), None, "- is a subtitle file"),
                 (pes_packet(0, [HEADER]) + b"x" * 999, None, "PES packet 1 does not begin"),
                 (pes_packet(0, [HEADER]), PID, "it is PES packets, which have no PID")):
-            hearing = Hearing(self.bench.program, pid, lambda: ())
-            try:
-                hearing.turn_to([PAGE])
-                call = hearing.calls[0]
-                call.hand(data)
-                call.hand(b"")
-                while not call.has_ended:
-                    collections.deque(call.lines.take(), 0)
-                hearing.refuse("-")
-                said = ""
-            except (Stop, Unclear) as reason:
-                said = str(reason) or getattr(reason, "reason", "")
-            finally:
-                hearing.close()
+            said = ""
+            with contextlib.closing(Hearing(self.bench.program, pid, None, lambda: ())) as hearing:
+                try:
+                    hearing.turn_to([PAGE])
+                    collections.deque(hearing.take(data), 0)
+                    collections.deque(hearing.end(), 0)
+                    hearing.refuse("-")
+                except (Stop, Unclear) as reason:
+                    said = str(reason) or getattr(reason, "reason", "")
             self.must(why, why in said, said)
 
 
@@ -281,69 +272,3 @@ class Kept(Case):
                 packets = heard.packets
                 self.must(f"since {since}", packets.runs[0].first == runs and
                           [one.number for one in packets.changes] == [*changes], packets)
-
-    def test_all_is_there(self) -> None:
-        """From a time on, and little more, though what is told is behind what came; what nobody
-        asks for is gone."""
-        size, length = LEAST // 4, 20 * SECOND
-        for behind in (0, 3):  # parts by which what is told is behind
-            spool = Spool(self.folder, length)
-            for second in range(100):
-                spool.write(bytes([second]) * size, max(second - behind, 0) * SECOND)
-            for first, last in ((0, 99), (50, 99), (50, 60), (97, 99)):
-                paths = spool.between(first * SECOND, last * SECOND)
-                data = b"".join(open(path, "rb").read() for path in paths)
-                found = sorted(set(data))
-                self.must(f"{behind}: {first} to {last}", set(range(first, last + 1)) <= set(found)
-                          and first - found[0] <= 2 * length // SECOND // PARTS + 10
-                          and list(data[::size]) == found, (found[0], found[-1]))
-            spool.drop(50 * SECOND)
-            left = spool.between(0, 10**12)
-            self.must("dropped", 5 <= len(left) == len(spool.segments) <= 20, left)
-            for count in (1, 9, 30):  # parts of a file, of which four are one
-                data = b"".join(spool.lately(size * count))
-                self.must(f"lately {count}", list(data[::size])[-count:] == list(range(
-                    100 - count, 100)) and len(data) < size * (count + 5), list(data[::size]))
-            self.must("no names", os.listdir(self.folder) == [])
-            spool.close()
-            self.must("closed", spool.between(0, 10**12) == [])
-
-    def test_whole_pes_packets(self) -> None:
-        """Of PES packets in pieces of any size each is whole in one file; what is none ends them.
-        """
-        pes = [pes_packet(SECOND * at, [HEADER, CLOSING]) for at in range(9)] + [MARK]
-        for size in (1, 5, 183, 184, 500):
-            for data, count in ((b"".join(pes), 10), (b"".join(pes[:4]) + b"x" * 300 + pes[5], 4)):
-                spool = Spool(self.folder, SECOND)
-                for at in range(0, len(data), size):
-                    spool.write(data[at:at + size], SECOND * at)
-                    spool.end()
-                found = [open(path, "rb").read() for path in spool.between(0, 10**12)]
-                self.must(f"{size}, {count}", b"".join(found) == b"".join(pes[:count]) and
-                          not any(len(one) % 184 for one in found), found)
-                spool.close()
-
-    def test_other_bytes(self) -> None:
-        """A transport stream is kept as it comes, also one that begins with 00 00 01 BD 47."""
-        for data in (b"G" + bytes(187), b"\0\0\1\xbdG" + bytes(187), b"G"):
-            spool = Spool(self.folder, SECOND)
-            spool.write(data[:4], 0)
-            spool.write(data[4:], 0)
-            found = b"".join(open(path, "rb").read() for path in spool.between(0, 9))
-            self.must(f"{data[:5]!r}", found == data * (len(data) > 5), found)
-            spool.close()
-
-    def test_no_room(self) -> None:
-        """It is known since when, and why; it may have room again."""
-        spool = Spool(self.path("nowhere"), SECOND)
-        for second in range(5):
-            spool.write(bytes(188), second * SECOND)
-        self.must("why", "No such file" in (spool.failure(SECOND) or ""), spool.failures)
-        self.must("since then", spool.failure(9 * SECOND) is None and
-                  [then for then, _ in spool.failures] == [0, 3 * SECOND, 4 * SECOND],
-                  spool.failures)
-        os.mkdir(self.path("nowhere"))
-        spool.write(bytes(188), 9 * SECOND)
-        self.must("again", len(spool.between(0, 10**12)) == 1)
-        spool.drop(5 * SECOND)
-        self.must("forgotten", spool.failure(0) is None)

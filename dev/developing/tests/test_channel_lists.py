@@ -1,17 +1,11 @@
-"""The list of a channel, read by its entries: what is new, gone or changed; and what is judged of a
-programme that did not come whole."""
+"""The list of a channel, read by its entries: what is new, gone or changed."""
 from __future__ import annotations
 
 import os
-from typing import Sequence
 from unittest import mock
 
-from subtitles.calls.channel.partial import ENDED, reason_of
 from subtitles.calls.channel.planned import MISSING, Planned, Programme, edits_of
 from subtitles.core.lists import Line, lines_in
-from subtitles.core.times import Between
-from subtitles.qc.status import ACCEPTED, NOT_JUDGED, REFUSED, WAIVED
-from subtitles.calls.channel.whole import Came, Whole, whole_in
 from .bench import Case
 from .test_channel_tables import defaults
 
@@ -154,47 +148,3 @@ class Lists(Case):
             planned.said.clear()
         with self.assertRaises(FileNotFoundError):
             Planned(self.path("none"), defaults()).look()
-
-
-class Partial(Case):
-    """A programme that did not come whole."""
-
-    TIMES: Sequence[tuple[int, int]] = [(10, 20), (30, 40), (40, 50), (60, 70), (65, 80), (90, 99)]
-
-    def test_what_came_whole(self) -> None:
-        """From the first on before which the page is blank, or changes at once, up to the last
-        after which it is blank."""
-        for first, last, begin, end, stop in (
-                (None, 99, 10, 99, 99), (None, 98, 10, 90, 80), (None, 80, 10, 90, 80),
-                (None, 79, 10, 60, 50), (None, 50, 10, 60, 50), (None, 49, 10, 30, 20),
-                (None, 20, 10, 30, 20), (None, 19, None, 0, 0), (11, None, 30, 99, 99),
-                (30, None, 30, 99, 99), (31, None, 40, 99, 99), (61, None, 90, 99, 99),
-                (91, None, None, 0, 0), (31, 50, 40, 60, 50), (51, 59, None, 0, 0)):
-            found = whole_in(self.TIMES, Came(first, last))
-            wanted = None if begin is None else Whole(Between(begin, end), stop)
-            self.must(f"{first} {last}", found == wanted, found)
-        self.must("none", whole_in([], Came(None, 5)) is None)
-
-    def test_reasons(self) -> None:
-        whole = Whole(Between(25, 100), 75)
-        ended, missed = Came(None, 90), Came(10, None)
-        for came, known, verdict, line, said in (
-                (ended, None, "", "", "the feed ended at 00:00:03:15, in mid-programme; no "
-                 "subtitle of it came whole"),
-                (ended, whole, ACCEPTED, "accepted 9", "the feed ended at 00:00:03:15, in "
-                 "mid-programme; up to 00:00:03:00 it was as it is due"),
-                (ended, whole, WAIVED, "waived: refused 45", "the feed ended at 00:00:03:15, in "
-                 "mid-programme; up to 00:00:03:00 it was as it is due"),
-                (ended, whole, REFUSED, "refused 72 X", "the feed ended at 00:00:03:15, in "
-                 "mid-programme; up to 00:00:03:00 it was refused 72 X"),
-                (ended, whole, NOT_JUDGED, "why", "the feed ended at 00:00:03:15, in "
-                 "mid-programme; up to 00:00:03:00 it was not judged: why"),
-                (missed, whole, ACCEPTED, "", "its beginning was missed: the feed was heard from "
-                 "00:00:00:10 on; from 00:00:01:00 up to 00:00:03:00 it was as it is due"),
-                (Came(10, 90), None, "", "", "its beginning was missed: the feed was heard from "
-                 "00:00:00:10 on; the feed ended at 00:00:03:15, in mid-programme; no subtitle of "
-                 "it came whole")):
-            found = reason_of(came, ENDED, known, verdict, line)
-            self.must(said, found == said, found)
-        self.must("whole", Came(None, None).is_whole and not ended.is_whole and
-                  not missed.is_whole)

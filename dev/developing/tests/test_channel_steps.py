@@ -7,12 +7,11 @@ import os
 from typing import Any
 from unittest import mock
 
-from subtitles.calls.channel import channel as channels
-from subtitles.calls.channel.channel import BEFORE_IT, LATER
+from subtitles.calls.channel.channel import BEFORE_IT
 from subtitles.calls.channel.feed_clock import MINUTE
-from subtitles.calls.channel.partial import ENDED, STOPPED
 from subtitles.calls.channel.queue import AT_ONCE
-from subtitles.calls.objects import unjudged
+from subtitles.calls.channel.running import LATER
+from subtitles.calls.channel.state import ERROR
 from subtitles.core.times import CLOCK, TICKS
 from subtitles.qc.clock import FITTED_SHORT
 from .listings import BEGIN, LAST, SECOND, Judging, Lines, Programmes, Told, texts_of
@@ -20,7 +19,6 @@ from .results import result
 from .test_channel_tables import FIRST
 
 
-@mock.patch.object(channels, "Call", Judging)
 class Steps(Programmes):
     """Programmes of four subtitles each."""
 
@@ -32,29 +30,19 @@ class Steps(Programmes):
                                  (self.path("out"), True)):
                 channel, lines = Told(self, self.listed("one", "two"), out, "--pid", "0x101",
                                       is_kept=is_kept), Lines(0x101)
-                if out:
-                    self.write("out/one.json", b"of an earlier call")
                 told = list(lines.sent(texts_of("one"), begin, 5))
                 channel.give(told[:8])
                 self.must("not yet", channel.running is None)
                 channel.give(told[8:16])
                 self.must("there", channel.running is not None and not Judging.made)
-                with mock.patch.object(Judging, "is_quick", False):
-                    channel.give(told[16:])
+                channel.give(told[16:])
                 [one] = Judging.made
-                origin = (begin - TICKS * FIRST) % CLOCK
-                files = ["-o", out, *["--keep"] * is_kept] if out else \
-                    ["--json", self.path("one.json")]
-                words = one.command[2:]
-                self.must("command", words[:len(files) + 3] == [
-                    "--name=one", *files, "--fitted", "--cut"]
-                          and one.value("--origin") == str(origin)
-                          and one.value("--pid") == str(0x101)
-                          and words[-3:] == ["--", self.files["one"], "-"], words)
-                self.must("no earlier object", not os.path.exists(self.path("out/one.json")))
-                self.must("nothing said", not channel.said and channel.running is not None)
-                one.is_done = True
-                channel.go_on()
+                words = one.words
+                self.must("words", (words.name, words.recording, words.origin, words.pid) == (
+                    "one", "-", (begin - TICKS * FIRST) % CLOCK, 0x101) and
+                    words.is_fitted and words.is_cut and words.is_kept == is_kept and
+                    words.stl == self.files["one"] and words.out == out and
+                    (words.here is None) == (out is None) == (words.json is not None), words)
                 self.must("said", channel.said == [f"one  accepted 5 frames; {FITTED_SHORT}"],
                           channel.said)
                 self.must("over", channel.running is None and channel.verdicts == ["accepted"]
@@ -90,7 +78,7 @@ class Steps(Programmes):
             channel.give(lines.sent(texts_of(name), begin, 20))
             self.must(f"{name} is judged", self.names()[-1] == name, self.names())
             self.must(f"{name}: origin",
-                      Judging.made[-1].value("--origin") == f"{(begin - TICKS * FIRST) % CLOCK}")
+                      Judging.made[-1].words.origin == (begin - TICKS * FIRST) % CLOCK)
         self.must("said", [line.split("  ")[0] for line in channel.said] ==
                   ["one", "two", "three", "four", "five"], channel.said)
         self.must("why", channel.said[1].endswith(
@@ -120,8 +108,8 @@ class Steps(Programmes):
         own, other = Lines(5), Lines(6)
         channel.give(own.sent(texts_of("one"), BEGIN, 20))
         channel.give(other.sent(texts_of("two"), BEGIN + 15 * SECOND, 20), (0, 0x89))
-        self.must("both", [(one.name, one.value("--page"), one.value("--pid"))
-                           for one in Judging.made] == [("one", "888", "5"), ("two", "889", "6")])
+        self.must("both", [(one.name, one.words.page, one.words.pid) for one in Judging.made] ==
+                  [("one", (0, 0x88), 5), ("two", (0, 0x89), 6)])
         heard = channel.hearing.by_page[0, 0x89]
         self.must("one time", heard.changes[False].times[0] == 15 * SECOND, heard.changes)
 
@@ -141,6 +129,7 @@ class Steps(Programmes):
             self.must(said, channel.said == [f"one  {said}"], channel.said)
             with open(self.path("out/one.json"), encoding="ascii") as file:
                 self.must("its object", [json.load(file)["verdict"]] == channel.verdicts)
+            os.unlink(self.path("out/one.json"))
 
     def test_patience(self) -> None:
         """Two minutes after the one before, or after waiting began; then the next one has two."""
@@ -167,102 +156,93 @@ class Steps(Programmes):
                 channel.give([lines.pes(begin + ticks)])
                 self.must(f"at {ticks}", (channel.running is not None) == is_begun)
             channel.give([lines.pes(begin + TICKS * LAST + SECOND, "hecb", 20, SECOND)])
-            self.must("command", "--fitted" not in Judging.made[0].command
-                      and Judging.made[0].value("--origin") == f"{origin}", Judging.made[0].command)
+            words = Judging.made[0].words
+            self.must("words", not words.is_fitted and words.origin == origin, words)
             self.must("said", channel.said == ["one  accepted 5 frames"], channel.said)
 
     def test_encoder_that_begins_anew(self) -> None:
-        """What was sent up to there is judged, and nothing that was heard before counts; also the
-        second time."""
-        channel, lines = Told(self, self.listed("one", "two", "three")), Lines()
+        """What is sent is not judged, and nothing that was heard before counts; also the second
+        time. What came whole is judged."""
+        channel, lines = Told(self, self.listed("one", "two", "three", "four")), Lines()
         for turn, (name, next_begin) in enumerate((("one", 100), ("two", CLOCK // 2))):
             begin = BEGIN if turn == 0 else 100
             channel.give([*lines.sent(texts_of(name), begin)][:14])
             self.must(f"turn {turn}", channel.running is not None)
             channel.give([lines.pes(next_begin)])
-            self.must("judged", self.names()[-1] == name and
-                      Judging.made[-1].value("--to") is None, self.names())
+            self.must("not judged", not Judging.made and channel.said[-1] == f"{name}  not judged: "
+                      "PTS began anew at 11:06:49:00, in mid-programme", channel.said)
             self.must("told", "an encoder begins anew: PTS " in channel.said[-2], channel.said)
             heard = channel.hearing.by_page[0, 0x88]
             self.must("forgotten", not heard.changes[False].times)
-        self.must("three", [one.programme.name for one in channel.queue.waiting] == ["three"])
+        channel.give([*lines.sent(texts_of("three"), CLOCK // 2 + SECOND), lines.pes(100)])
+        self.must("three", self.names() == ["three"] and
+                  [one.programme.name for one in channel.queue.waiting] == ["four"], channel.said)
+
+    def test_loss(self) -> None:
+        """What is sent is not judged, and the next one is heard behind it, at its time; what came
+        whole before it is judged, and what goes on is missing its beginning."""
+        for count, said in ((14, "one  not judged: something of the feed was not recorded at "
+                             "11:06:49:00, in mid-programme"),
+                            (16, f"one  accepted 5 frames; {FITTED_SHORT}"),
+                            (4, "one  not judged: its beginning was missed: the feed was heard from "
+                             "11:06:45:00 on")):
+            channel, lines = Told(self, self.listed("one", "two")), Lines()
+            told = [*lines.sent(texts_of("one"), BEGIN, 20)]
+            channel.give(told[:count])
+            channel.lose()
+            self.must("told", channel.said[0] ==
+                      "something of the feed was not recorded: it was recorded anew", channel.said)
+            channel.give(told[count + 2 * (count == 4):])
+            self.must(f"{count}", channel.said[1] == said, channel.said)
+            channel.give(lines.sent(texts_of("two"), BEGIN + 60 * SECOND, 20))
+            self.must("two", self.names()[-1] == "two" and Judging.made[-1].words.origin ==
+                      (BEGIN + 60 * SECOND - TICKS * FIRST) % CLOCK, channel.said)
+            self.must("time", channel.queue.ended == 60 * SECOND + TICKS * LAST)
 
     def test_end_of_the_feed(self) -> None:
-        """What is there is judged, and the others are open; a line that is none is not. A signal
-        leaves what is not there yet."""
+        """What is there is judged, and the others are open; a line that is none is not."""
         lines = self.listed("one", "two") + "none.stl --pes 1-2\n" + self.listed("three")
-        for is_stopped, begun in ((False, ["one", "two"]), (True, ["one"])):
-            channel, told = Told(self, lines, self.path("out")), Lines()
-            channel.give(told.sent(texts_of("one"), BEGIN))
-            with mock.patch.object(Judging, "is_quick", False):
-                channel.give(told.sent(texts_of("two"), BEGIN + 20 * SECOND))
-            self.must("one is judged", self.names() == ["one"])
-            channel.is_stopped = is_stopped
-            channel.stop(BEFORE_IT)
-            self.must("begun", self.names() == begun, self.names())
-            known = {}
-            for name in ("one", "two", "line-3", "three"):
-                with open(self.path(f"out/{name}.json"), encoding="ascii") as file:
-                    known[name] = json.load(file)
-                os.unlink(self.path(f"out/{name}.json"))
-            self.must("reasons", known["three"]["reason"] == BEFORE_IT and known["three"]["open"]
-                      and "--pes goes with" in known["line-3"]["reason"]
-                      and "open" not in known["line-3"], known)
-            self.must("verdicts", channel.verdicts.count("not judged") == 4 - len(begun))
-            self.must("in their order", [line.partition("  ")[0] for line in channel.said] ==
-                      ["one", "two", "line-3", "three"], channel.said)
-            if is_stopped:
-                self.must("two", known["two"] == {**unjudged("two", BEFORE_IT, True)}, known["two"])
-
-    def test_end_in_mid_programme(self) -> None:
-        """It is not judged, and open; what came whole of it is, with --to: the feed ends, a signal
-        comes, and the second subtitle is the last that was erased."""
-        refused = result("refused", line="refused 72 X")
-        for is_stopped, why in ((False, ENDED), (True, STOPPED)):
-            for left, ended, what in ((Judging.left, 0, "as it is due"),
-                                      (refused, 1, "refused 72 X")):
-                channel = Told(self, self.listed("one"), self.path("out"))
-                told = list(Lines().sent(texts_of("one"), BEGIN))
-                channel.give(told[:12])  # the third subtitle is erased, and the fourth not there
-                channel.is_stopped = is_stopped
-                with mock.patch.multiple(Judging, left=left, ended=ended):
-                    channel.stop(BEFORE_IT)
-                [one] = Judging.made
-                self.must("to", one.value("--to") == "11:06:49:00" and one.value("-o") is None,
-                          one.command)
-                self.must("said", channel.said == [
-                    f"one  not judged: {why} at 11:06:48:00, in mid-programme; up to 11:06:48:00 "
-                    f"it was {what}"], channel.said)
-                with open(self.path("out/one.json"), encoding="ascii") as file:
-                    self.must("open", json.load(file)["open"] is True)
-        origin = (BEGIN - TICKS * FIRST) % CLOCK
-        channel = Told(self, self.listed("one", options=f" --origin {origin}"))
-        channel.give([*Lines().sent(texts_of("one"), BEGIN)][:2])
+        channel, told = Told(self, lines, self.path("out")), Lines()
+        channel.give(told.sent(texts_of("one"), BEGIN))
+        channel.give(told.sent(texts_of("two"), BEGIN + 20 * SECOND))
+        self.must("one is judged", self.names() == ["one"])
         channel.stop(BEFORE_IT)
-        self.must("nothing came whole", not Judging.made and channel.said == [
-            "one  not judged: the feed ended at 11:06:40:00, in mid-programme; no subtitle of it "
-            "came whole"], channel.said)
+        self.must("begun", self.names() == ["one", "two"], self.names())
+        known = {name: json.loads(self.read(f"out/{name}.json"))
+                 for name in ("one", "two", "line 3", "three")}
+        self.must("reasons", known["three"]["reason"] == BEFORE_IT and known["three"]["open"]
+                  and "--pes goes with" in known["line 3"]["reason"]
+                  and "open" not in known["line 3"], known)
+        self.must("verdicts", channel.verdicts.count("not judged") == 2)
+        self.must("in their order", [line.partition("  ")[0] for line in channel.said] ==
+                  ["one", "two", "line 3", "three"], channel.said)
 
-    def test_beginning_that_was_missed(self) -> None:
-        """The feed was heard from within the programme on: that is not judged."""
-        channel = Told(self, self.listed("one"), self.path("out"))
-        channel.give([*Lines().sent(texts_of("one"), BEGIN, 20)][2:])
-        [one] = Judging.made
-        self.must("from", (one.value("--from"), one.value("--to")) == (
-            "11:06:43:00", "11:06:51:00"), one.command)
-        self.must("said", channel.said == [
-            "one  not judged: its beginning was missed: the feed was heard from 11:06:42:00 on; "
-            "from 11:06:43:00 up to 11:06:51:00 it was as it is due"], channel.said)
-        with open(self.path("out/one.json"), encoding="ascii") as file:
-            self.must("not open", "open" not in json.load(file))
+    def test_not_whole(self) -> None:
+        """Of a programme that the feed ends, or of which the beginning was missed, that is said;
+        and the first is open."""
+        for first, last, is_open, why in (
+                (0, 12, True, "the feed ended at 11:06:48:00, in mid-programme"),
+                (2, None, False, "its beginning was missed: the feed was heard from 11:06:42:00 on"),
+                (2, 14, True, "its beginning was missed: the feed was heard from 11:06:42:00 on; "
+                 "the feed ended at 11:06:49:00, in mid-programme")):
+            channel = Told(self, self.listed("one"), self.path("out"))
+            channel.give([*Lines().sent(texts_of("one"), BEGIN, 20)][first:last])
+            channel.stop(BEFORE_IT)
+            self.must(why, not Judging.made and channel.said == [f"one  not judged: {why}"],
+                      channel.said)
+            known = json.loads(self.read("out/one.json"))
+            self.must("open", known.get("open", False) == is_open, known)
+            os.unlink(self.path("out/one.json"))
 
     def test_feed_that_is_not_kept(self) -> None:
-        """A programme is not judged of which something could not be written."""
-        channel = Told(self, self.listed("one"))
-        channel.spool.failures = [(0, "No space left on device")]
-        channel.give(Lines().sent(texts_of("one"), BEGIN, 20))
-        self.must("why", not Judging.made and channel.said == [
-            "one  not judged: the feed could not be kept: No space left on device"], channel.said)
+        """A programme is not judged of which something is not there any more."""
+        for error, why in ((28, "No space left on device"), (0, "No such file or directory")):
+            channel = Told(self, self.listed("one"))
+            channel.segments.between = lambda *_: None  # type: ignore[method-assign]
+            channel.state[ERROR] = error
+            channel.give(Lines().sent(texts_of("one"), BEGIN, 20))
+            self.must(why, not Judging.made and channel.said == [
+                f"one  not judged: the feed could not be kept: {why}"], channel.said)
 
     def test_feed_that_stands_still(self) -> None:
         """Told once, after as many seconds; that it goes on is told too, and then it may stand
@@ -285,34 +265,41 @@ class Steps(Programmes):
         channel.give(lines.sent(["other", "texts"], BEGIN))
         for second in range(20, 2000):
             channel.give([lines.pes(BEGIN + SECOND * second, "hecb" if second % 2 else "he")])
+            channel.next_write = 0.0
             channel.keep()
         heard = channel.hearing.by_page[0, 0x88]
         self.must("forgotten", not heard.changes[False].times and heard.changes[False].count == 4)
         self.must("runs", len(heard.packets.runs) < 1300, len(heard.packets.runs))
 
     def test_what_is_kept(self) -> None:
-        """What came less than patience and a margin ago, and all of a programme that is sent."""
-        channel = Told(self, self.listed("one", "two"))
+        """All of a programme that is sent; else what came less than patience ago, or ten minutes
+        before the last one was over, with a margin."""
+        channel = Told(self, self.listed("one", "two"), patience=60)
         channel.give([*Lines().sent(texts_of("one"), BEGIN)][:14])
+        floors = list[int]()
+        channel.segments.drop = floors.append  # type: ignore[method-assign]
         assert channel.running
-        for later, floor in ((0, channel.now - 4 * MINUTE), (9 * MINUTE, None)):
-            channel.hearing.by_page[0, 0x88].clock.now += later
-            self.must(f"{later}", channel.floor() == (
-                channel.running.begin - 2 * MINUTE if floor is None else floor), channel.floor())
-        channel.running = None
-        self.must("none is sent", channel.floor() == channel.now - 4 * MINUTE, channel.floor())
+        for is_sent, later, ended, floor in (
+                (True, 0, 0, -2), (True, 9, 0, -2), (False, 30, 0, -12), (False, 50, 40, 28),
+                (False, 200, 40, 138)):
+            if not is_sent:
+                channel.running = None
+            channel.hearing.by_page[0, 0x88].clock.now = MINUTE * later
+            channel.queue.ended, channel.next_write = MINUTE * ended, 0.0
+            channel.keep()
+            self.must(f"{later} {ended}", floors.pop() == MINUTE * floor, floors)
 
     def test_progress(self) -> None:
-        """What is judged or waited for, the time of the feed, and how long nothing came."""
+        """What is sent or waited for, and the time of the feed."""
         channel, shown = Told(self, ""), list[str]()
         progress: Any = argparse.Namespace(is_due=lambda: True, show=shown.append)
         channel.progress = progress
         channel.show()
         channel.edit(self.listed("one", "two"))
         channel.hearing.by_page[0, 0x88].clock.now = 61 * SECOND
-        channel.show(3.2)
+        channel.show()
         channel.give([*Lines().sent(texts_of("one"), BEGIN)][:14])
         channel.show()
         self.must("lines", shown[0] == "waiting for a programme; 00:00:00:00 of the feed" and
-                  shown[1] == "waiting for one; 00:01:01:00 of the feed; nothing for 3 s" and
-                  shown[2].startswith("one is judged; 00:0"), shown)
+                  shown[1] == "waiting for one; 00:01:01:00 of the feed" and
+                  shown[2].startswith("one is sent; 00:0"), shown)

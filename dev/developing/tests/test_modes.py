@@ -8,12 +8,12 @@ from types import ModuleType
 from unittest import mock
 
 from subtitles.calls import batch, collecting, main, single, watching
-from subtitles.calls.channel import channel
+from subtitles.calls.channel import channel, recorder
 from subtitles.calls.main import (
     jobs_word, file_in, minutes_word, name_in, parser_of, seconds_word)
 from subtitles.calls.modes import (
-    ALONE, BATCH, CHANNEL, CHANNEL_LINE, COLLECT, LINE, MODES, PAIR, TAKEN_BY, WATCH, Mode,
-    mode_of, refuse_options)
+    ALONE, BATCH, CHANNEL, CHANNEL_LINE, COLLECT, LINE, MODES, PAIR, RECORDER, TAKEN_BY, WATCH,
+    Mode, mode_of, refuse_options)
 from subtitles.calls.channel.planned import Planned
 from subtitles.core.built import TOP
 from subtitles.core.words import Stop
@@ -24,13 +24,15 @@ from .test_channel_tables import defaults
 
 CALLS: dict[Mode, list[str]] = {
     PAIR: ["a.stl", "a.ts"], ALONE: ["a.stl"], BATCH: ["--batch", "in"], WATCH: ["--watch", "in"],
-    CHANNEL: ["--channel", "list", "-"], COLLECT: ["--collect", "in"]}
+    CHANNEL: ["--channel", "list", "-"], RECORDER: ["-", "--spool", "feed"],
+    COLLECT: ["--collect", "in"]}
 # A value of each option that has one.
 VALUES = {"--page": "801", "--every": "25", "--within": "1", "--option": "german", "--origin": "7",
           "--start": "tcp", "--breaks": "1", "--pes": "2-9", "--pid": "0x101", "--severity": "file",
           "-o": "out", "--json": "x", "--csv": "x", "--junit": "x", "--stall": "5", "-p": "none",
           "--jobs": "2", "--settled": "1", "--patience": "9", "--from": "00:00:01:00",
-          "--to": "00:00:02:00", "--layout": "fit", "--pace": "9"}
+          "--to": "00:00:02:00", "--layout": "fit", "--pace": "9", "--spool": "feed",
+          "--on-result": "true"}
 MANUAL = os.path.join(TOP, "docs", "manual", "qc.md")
 HIDDEN = {"--name", "--claimed", "--fitted", "--cut"}  # of calls that other ones make
 ASKING = {"--batch", "--watch", "--channel", "--collect", "--help", "-h", "--version"}
@@ -64,7 +66,8 @@ class Modes(Case):
         for name, taken_by in TAKEN_BY.items():
             for mode in MODES:
                 said = refusal(mode, name, self.folder)
-                is_right = said is None if mode in taken_by else said is not None and name in said
+                is_taken = mode in taken_by or (mode, name) == (ALONE, "--spool")  # a recorder
+                is_right = said is None if is_taken else said is not None and name in said
                 self.must(f"{name} and {mode.words}", is_right, said)
 
     def test_options_that_come_twice(self) -> None:
@@ -106,13 +109,17 @@ class Modes(Case):
             (CALLS[WATCH], watching, "watch", {"settled": 5}),
             ([*CALLS[WATCH], "--settled", "0"], watching, "watch", {"settled": 0}),
             (CALLS[CHANNEL], channel, "judge", {"patience": 60, "stall": 10}),
-            ([*CALLS[CHANNEL], "--patience", "1"], channel, "judge", {"patience": 1})]
+            ([*CALLS[CHANNEL], "--patience", "1"], channel, "judge", {"patience": 1}),
+            ([*CALLS[CHANNEL], "--spool", "x"], channel, "judge", {"spool": "x"})]
         for line, module, name, wanted in rows:
             with mock.patch.object(module, name, return_value=7) as called:
                 self.must(f"{line}", main.answer("", "tools/qc", line) == 7)
             words, *others = called.call_args.args
             self.must(f"{line}: words", {one: vars(words)[one] for one in wanted} == wanted and
                       others == ["tools/qc"] * (module is not collecting), words)
+        with mock.patch.object(recorder, "record_alone", return_value=7) as called:
+            self.must("a recorder", main.answer("", "tools/qc", CALLS[RECORDER]) == 7 and
+                      called.call_args.args == ("-", "feed"), called.call_args)
         nothing: list[str] = []
         for line in (nothing, [*CALLS[PAIR], "--keep"]):
             with self.assertRaises(Stop):

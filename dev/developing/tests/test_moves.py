@@ -3,17 +3,18 @@ from __future__ import annotations
 
 from typing import Callable, Sequence
 
-from developing.pes import pts_in
+from developing.pes import packet, pes_packet, pts_in
 from subtitles.core.programme import Subtitle
 from subtitles.core.times import TICKS, Between
 from subtitles.qc.clock import RECORDING, Clock, Found
 from subtitles.qc.moved import found_on, moves_told
-from subtitles.reading.moving import Stage, joined, part_inside, stages_of
+from subtitles.reading.moving import Stage, joined, part_inside, stages_of, up_to
 from subtitles.reading.packets import Change, Mark, Packets, Run
 from subtitles.reading.survey import survey
 from .bench import Case, moved, packets
 from .judged import in_pipe, judged, programme
 from .muxed import MPEG_2, PRIVATE, TELETEXT_PID, VIDEO_PID, Maker, teletext_descriptor
+from .parts import CLOSING
 from .test_holes import Sent as Packet, Shape, sent_of
 from .test_pairs_in_parts import times
 
@@ -92,6 +93,46 @@ class Moves(Case):
         for name, pes in (("on elsewhere", elsewhere), ("back", self.pes[20:] + self.pes[:20])):
             found = self.stages(in_turn(pes, [(0, OLD), (20 if name[0] == "o" else 29, NEW)]))
             self.must(name, found == [], found)
+
+    def test_the_old_one_goes_on(self) -> None:
+        """With another page, in each frame of a second and longer: what comes on the new PID is
+        judged there, the first subtitle after the PMT too."""
+        other = [packet(1, 0, [0, 5, 0, 8, 0, 8, 1, 0], b" " * 32),
+                 packet(1, 20, (), b"\x0b\x0bAnother page".ljust(40)), CLOSING]
+        at = next(number for number, one in enumerate(self.pes)
+                  if pts_in(one) == times(10)[4][0] * TICKS)
+        for move in (at - 1, at, at + 1):
+            def sent(number: int) -> Sequence[tuple[int, bytes]]:
+                pts = pts_in(self.pes[number])
+                return [(OLD, self.pes[number])] if number < move else [
+                    (NEW, self.pes[number]), (OLD, pes_packet(pts + TICKS, other))]
+
+            path = self.write("one.ts", in_turn(self.pes, [(0, OLD), (move, NEW)], sent))
+            told = judged(self, self.stl, path, "--origin", "0", *WORDS)
+            is_due = move > at  # on neither it is whole
+            self.must(f"{move}", told.word == ("refused" if is_due else "accepted") and [
+                part["pid"] for part in told.result["parts"]] == [OLD, NEW], told.said)
+            numbers = [one["subtitle"]["number"] for one in told.result["causes"]]
+            self.must(f"{move}: causes", numbers == [], numbers)
+
+    def test_up_to(self) -> None:
+        """Up to the PES packet before the first header on the next PID, or the last header."""
+        new = Stage(Packets(NEW, [Run(0, 1, 50, 0, "he", ""), Run(1, 9, 60, 10, "-", "")]), (0, 9))
+        header = Run(10, 1, 100, 0, "he", "")
+        for runs, inside, wanted in (
+                ([Run(0, 10, 0, 10, "-", "")], (0, 9), (0, 4)),
+                ([Run(0, 10, 0, 10, "-", ""), header], (0, 10), (0, 10)),
+                ([Run(0, 10, 0, 10, "-", ""), header, Run(11, 5, 110, 10, "-", "")], (0, 15),
+                 (0, 10)),
+                ([Run(0, 4, 0, 10, "-", "")], (0, 3), (0, 3)),
+                ([Run(0, 4, 50, 10, "-", "")], (0, 3), (0, -1)),
+                ([Run(0, 2, 0, 10, "-", ""), Run(2, 1, None, 0, "-", ""),
+                  Run(3, 3, 50, 10, "-", "")], (0, 5), (0, 1)),
+                ([Run(0, 10, 0, 10, "-", "")], (3, 9), (3, 4))):
+            stage = up_to(Stage(Packets(OLD, runs), inside), new)
+            self.must(f"{runs} {inside}", stage.inside == wanted, stage.inside)
+        none = Stage(Packets(NEW, [Run(0, 9, 0, 10, "-", "")]), (0, 8))
+        self.must("no header", up_to(none, none).inside == (0, 8))
 
     def test_in_a_pause(self) -> None:
         """Accepted where each PID has what is due: two calls, and what is said of the move."""

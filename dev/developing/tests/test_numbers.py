@@ -15,14 +15,18 @@ OWN: dict[str, dict[str, object]] = {
     "calls.single": {"SUMMED": 100, "SIGNALS": (2, 15, 1)},
     "calls.watching": {"LOOK": 1.0, "DONE": ".done"},
     "calls.channel.awaited": {"IN_A_ROW": 5, "BEFORE": 12, "NEAR": 1800},
-    "calls.channel.channel": {"LATER": 10_800_000, "MARGIN": 10_800_000, "LATELY": 20,
-                              "CAUGHT_UP": 67_108_864},
+    "calls.channel.channel": {"AROUND": 50, "OVERLAP": 54_000_000, "PATIENCE": 1.0, "LOOK": 0.05},
     "calls.channel.feed_clock": {"GAP": 5_400_000, "BACK": 45_000, "ANEW": 324_000_000},
-    "calls.channel.hearing": {"BOTH": 450_000, "PRUNED": 1000, "SOON": 0.001},
+    "calls.channel.heard": {"BOTH": 450_000, "PRUNED": 1000},
+    "calls.channel.hook": {"LONGEST": 10}, "calls.channel.machine": {"FORMAT": 1, "EACH": 10.0},
     "calls.channel.lacking": {"SILENT": 720_000, "NEAR_PCR": 900_000, "KEPT": 64},
     "calls.channel.planned": {"MISSING": 60.0}, "calls.channel.queue": {"AT_ONCE": 4, "LOOK": 1.0},
     "qc.source": {"PART": 262_144, "PIPE": 524_288},
-    "calls.channel.spool": {"PARTS": 20, "LEAST": 1_048_576, "BEHIND_TIME": 4},
+    "calls.channel.recorder": {"LONG": 5.0, "MOST": 33_554_432, "AHEAD": 8, "WAIT": 0.1,
+                               "TRIES": 20, "BEHIND_TIME": 4},
+    "calls.channel.results": {"LONGEST": 60.0, "SLOWEST": 2_000_000},
+    "calls.channel.running": {"LATER": 10_800_000, "MARGIN": 10_800_000},
+    "calls.channel.segments": {"PART": 262_144, "LEAST": 1_048_576, "MANY": 5000},
     "core.files": {"PIECE": 1_048_576}, "core.lists": {"MOST_BYTES": 16_000_000,
                                                        "MOST_OF_LINE": 65_536},
     "core.outputs": {"OWN_OUTPUT": {"-", "/dev/stdout", "/dev/fd/1", "/proc/self/fd/1"}},
@@ -77,10 +81,11 @@ OWN: dict[str, dict[str, object]] = {
     "reading.survey": {"ENOUGH": 65_536, "SHOWN": 12, "SUBTITLE_KINDS": (2, 5)},
     "reading.order": {"PAUSE": 2, "FEW": 20}, "reading.timeline": {"LEAST": 250},
     "reading.timing": {"MOST_LATE": 60}}
-NONE = ("batch", "channel", "collect", "csv", "found_layout", "json", "junit", "jobs", "name",
-        "origin", "out", "patience", "pes", "pid", "program", "recording", "settled", "severity",
-        "start", "stl", "watch")
-FALSE = ("is_claimed", "is_cut", "is_fitted", "is_kept", "is_loss_allowed", "is_resumed", "is_strict")
+NONE = ("batch", "channel", "collect", "csv", "found_layout", "here", "json", "junit", "jobs",
+        "name", "on_result", "origin", "out", "patience", "pes", "pid", "program", "recording",
+        "settled", "severity", "spool", "start", "stl", "watch")
+FALSE = ("is_claimed", "is_cut", "is_fitted", "is_kept", "is_loss_allowed", "is_resumed",
+         "is_strict")
 
 
 class Numbers(unittest.TestCase):

@@ -149,6 +149,7 @@ class Writes(Case):
             said.take(line)
         said.end(1)
         made = part_with(0, 9, 0, said, number)
+        made.names = Names("a", self.folder, self.folder)
         made.names.given = example("story.stl")
         return made
 

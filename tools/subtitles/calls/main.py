@@ -69,6 +69,11 @@ def parser_of(text: str) -> Words:
     parser.add_argument("--patience", type=minutes_word, metavar="M",
                         help="minutes within which a programme has to begin, 60 where it is left "
                              "out")
+    parser.add_argument("--spool", metavar="DIR",
+                        help="the folder in which the feed is kept, beside that of -o where it is "
+                             "left out; without --channel the feed is recorded there")
+    parser.add_argument("--on-result", dest="on_result", metavar="COMMAND",
+                        help="a program that is called with each JSON result and its verdict")
     parser.add_argument("--stall", type=seconds_word, default=10, metavar="S",
                         help="seconds after which a feed that stands still is reported")
     # For the calls that other ones make.
@@ -77,6 +82,7 @@ def parser_of(text: str) -> Words:
                         help=argparse.SUPPRESS)
     parser.add_argument("--fitted", dest="is_fitted", action="store_true", help=argparse.SUPPRESS)
     parser.add_argument("--cut", dest="is_cut", action="store_true", help=argparse.SUPPRESS)
+    parser.set_defaults(here=None)
     return parser
 
 
@@ -169,6 +175,9 @@ def answer(text: str, called: str, line: list[str]) -> int:
         from .channel import channel
         words.patience = PATIENCE if words.patience is None else words.patience
         return channel.judge(words, called)
+    if words.spool is not None:
+        from .channel import recorder
+        return recorder.record_alone(words.stl, words.spool)
     if words.stl is None:
         raise Stop("give a subtitle file, and a recording; --help lists all options")
     return single.judge(words, called)

@@ -20,10 +20,11 @@ ALONE = Mode("STL alone", "a subtitle file alone")
 BATCH = Mode("`--batch`", "--batch")
 WATCH = Mode("`--watch`", "--watch")
 CHANNEL = Mode("`--channel`", "--channel")
+RECORDER = Mode("`--spool` alone", "--spool alone")
 COLLECT = Mode("`--collect`", "--collect")
 LINE = Mode("line of a batch", "a line of a batch's list")
 CHANNEL_LINE = Mode("line of a channel", "a line of a channel's list")
-MODES = (PAIR, ALONE, BATCH, WATCH, CHANNEL, COLLECT, LINE, CHANNEL_LINE)
+MODES = (PAIR, ALONE, BATCH, WATCH, CHANNEL, RECORDER, COLLECT, LINE, CHANNEL_LINE)
 
 PAIRS = (PAIR, BATCH, WATCH, LINE)
 TRANSMISSIONS = (*PAIRS, CHANNEL, CHANNEL_LINE)
@@ -54,6 +55,8 @@ TAKEN_BY: dict[str, tuple[Mode, ...]] = {
     "--jobs": (BATCH, WATCH),
     "--settled": (WATCH,),
     "--patience": (CHANNEL,),
+    "--spool": (CHANNEL, RECORDER),
+    "--on-result": (CHANNEL,),
     **dict.fromkeys(names_of(PASSED_ON, False), TRANSMISSIONS),
     **dict.fromkeys(names_of(PASSED_ON, True), JUDGED),
 }
@@ -72,6 +75,8 @@ def mode_of(words: argparse.Namespace) -> Mode:
     elif given and words.stl is not None:
         raise Stop(f"{words.stl} stands beside {given[0].words}, which takes its pairs from "
                    f"{asked[given[0]]}")
+    if not given and words.spool is not None and words.stl is not None and words.recording is None:
+        return RECORDER
     return given[0] if given else ALONE if words.recording is None else PAIR
 
 

@@ -52,7 +52,7 @@ def judge(words: argparse.Namespace, called: str) -> int:
     """Judges the pair of a command line; answers its status."""
     asked = asked_of(words)
     refuse_auto(asked)
-    out = words.out or None
+    out, here = words.out or None, words.here or words.out or None
     is_output_taken = any(path in OWN_OUTPUT for path in (words.json, words.csv, words.junit))
     speech = Speech(Progress(), is_output_taken)
     speech.at_end = ignore_signals  # what stands last is that of the status
@@ -61,12 +61,12 @@ def judge(words: argparse.Namespace, called: str) -> int:
                       was_fitted=words.is_fitted)
     verdict.is_kept = words.is_kept
     name = words.name or pair_name(asked.stl)
-    refuse_outputs(words, asked, out, name)
+    refuse_outputs(words, asked, here, name)
     with temporary_folder("subttx-qc-") as folder, claimed(
-            None if words.is_claimed else out, name):
-        if out is not None:
-            clear(out, name)
-        names = Names(name, folder, out)
+            None if words.is_claimed else here, name):
+        if here is not None:
+            clear(here, name)
+        names = Names(name, folder, out, here)
         keep_stl(asked, folder)
         names.give(asked.stl_path)
         files = Files(words, verdict, typed, names)
@@ -291,11 +291,11 @@ class Files:
 
     def raw(self, recording: Recording | None) -> list[Output]:
         """The list of each part as `check` told it, and what was recorded, where that is kept."""
-        lists = [Output(part.names.typed("txt"), part.answer.raw, True, is_raw=True)
+        lists = [Output(part.names.placed("txt"), part.answer.raw, True, is_raw=True)
                  for part in self.verdict.parts]
         ending = recording and recording.packets.count and recording.kept_ending
         if self.words.is_kept and recording and ending:
-            lists.append(Output(self.names.typed(ending), recording.kept, True, is_raw=True))
+            lists.append(Output(self.names.placed(ending), recording.kept, True, is_raw=True))
         return lists
 
     def testcase(self) -> Iterator[bytes]:

@@ -10,7 +10,7 @@ from typing import Iterator, Sequence
 
 from ..core.programme import Subtitle
 from ..core.times import Between, frame_in, time_of
-from ..reading.moving import Stage, part_inside, words_of
+from ..reading.moving import Stage, part_inside, up_to, words_of
 from .clock import Found
 from .warned import Warned
 
@@ -25,6 +25,8 @@ def found_on(found: Found, stages: Sequence[Stage], subtitles: Sequence[Subtitle
     before = -1  # the last frame of the stage before
     for place, stage in enumerate(stages):
         stage = stage._replace(inside=part_inside(stages, place, found.packets))
+        if place + 1 < len(stages):
+            stage = up_to(stage, stages[place + 1])
         # One that is over on the PID before needs not be seen on this one.
         over = max([one.end for one in own if one.end <= before], default=0)
         first = next((frame for frame in stage.frames(found.origin, within) if frame >= over), None)

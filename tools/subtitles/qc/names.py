@@ -27,11 +27,12 @@ KEPT, KEPT_STREAM = "recording.pes", "recording.ts"  # of a recording that is ke
 OF_PAIR = (*ENDINGS, KEPT, KEPT_STREAM, "json")
 LOCK = "lock"  # of the file that says that a pair is judged now
 INDEX = "index"  # of the page over all pairs of a folder
+CHANNEL = "channel"  # of the file that tells what a channel does
 ESCAPE = "%"
 # What can't stand in the name of a file as it is: what begins a hidden one, what is no letter, and
 # what another pair, its part or a line has there.
 ESCAPED = re.compile(rf"^\.|{ESCAPE}|{HIDDEN.pattern}|[.~](?=[0-9]+$)|(?<=^line) (?=[0-9]+$)"
-                     rf"|^i(?=ndex$)")
+                     rf"|^i(?=ndex$)|^c(?=hannel$)")
 LONGEST, BEGINNING = 180, 120  # bytes of a name; the beginning of a longer one
 
 
@@ -66,6 +67,13 @@ class NamesOfList:
         """The name of a line that is no pair; in a list that is edited there may be others."""
         return self.numbered(f"line {number}")
 
+    def take(self, name: str) -> str:
+        """A name that was given before, and is given to nobody else; answers it."""
+        own, _, number = name.rpartition("~")
+        own, count = (own, int(number)) if own and number.isdecimal() else (name, 1)
+        self.counts[own] = max(self.counts[own], count)
+        return name
+
     def numbered(self, name: str) -> str:
         """A name, from the second one on with its number."""
         self.counts[name] += 1
@@ -94,19 +102,24 @@ def index_in(folder: str) -> str:
 
 class Names:
     """The files that the steps make: as a person types them, in the folder that was asked for, and
-    where they stand here, which is temporary, until each is whole."""
+    where they stand here, which is temporary, until each is whole. `here` is the folder where they
+    are put then, if somebody else gives them their place later."""
 
-    def __init__(self, name: str, folder: str, out: str | None) -> None:
-        self.name, self.folder, self.out = name, folder, out
+    def __init__(self, name: str, folder: str, out: str | None, here: str | None = None) -> None:
+        self.name, self.folder, self.out, self.here = name, folder, out, here or out
         self.given = ""  # the subtitle file, for the program
         self.whole_path = self.temporary("recording")  # of what comes through a pipe
         self.list_path = self.temporary("txt")
-        self.report = self.typed("html")
-        self.machine = self.typed("json") if out else None
+        self.report = self.placed("html")
+        self.machine = self.placed("json") if out else None
 
     def typed(self, ending: str) -> str:
         """A file as it is typed."""
         return os.path.join(self.out or "", f"{self.name}.{ending}")
+
+    def placed(self, ending: str) -> str:
+        """Where it is put once it is whole."""
+        return os.path.join(self.here or "", f"{self.name}.{ending}")
 
     def temporary(self, ending: str) -> str:
         """Where it stands here."""
@@ -114,7 +127,7 @@ class Names:
 
     def of_part(self, number: int) -> Names:
         """The files of a part."""
-        part = Names(part_name(self.name, number), self.folder, self.out)
+        part = Names(part_name(self.name, number), self.folder, self.out, self.here)
         part.given = self.given
         return part
 

@@ -36,6 +36,21 @@ class Stage(NamedTuple):
                      if run.pts is not None), None)
 
 
+def up_to(stage: Stage, other: Stage) -> Stage:
+    """A stage without what its PID goes on with once the page has come on that of the next one: a
+    header of the page is still of it."""
+    first = next(other.packets.pts(other.inside, HEADER), None)
+    if first is None:
+        return stage
+    begin, end = stage.inside
+    for run in reversed([*stage.packets.inside(begin, end)]):
+        for number in reversed(range(run.first, run.end)):
+            pts = run.pts_of(number)
+            if HEADER in run.does or pts is not None and ticks_between(pts, first) > 0:
+                return stage._replace(inside=(begin, number))
+    return stage._replace(inside=(begin, begin - 1))
+
+
 def stages_of(survey: Survey, page: Page) -> list[Stage]:
     """The PIDs that carry a page one after another; none where it stays on one, where a PID carries
     it that the PMT of the others does not name, or where the time does not go on from one to the

@@ -1,77 +1,110 @@
-"""The programmes of a channel, judged one after another out of a feed that does not end."""
+"""The judge of a channel: a list and the segments of a feed, held against each other, one programme
+after another. All that it knows is in files, so that it may end at any moment, and goes on."""
 from __future__ import annotations
 
 import argparse
-import collections
 import contextlib
 import dataclasses
+import errno
 import os
 import signal
+import tempfile
 import time
+from typing import Any, Iterator
 
-from ...core.outputs import temporary_folder
-from ...core.stl import frames_of_all, readable, stl_bytes
+from ...core.outputs import Inputs, temporary_folder
 from ...core.times import FRAMES_OF_A_DAY, TICKS, time_of
-from ...core.words import Stop, counted, line_of, tell
+from ...core.words import Stop, counted, line_of, say, shown, tell
 from ...qc.asked import AUTO_OF_FEED, Asked
 from ...qc.clock import FITTED_SHORT
 from ...qc.ending import Ending
-from ...qc.feed import PATIENCE, followed
 from ...qc.options import AUTO, LAYOUT
-from ...qc.source import Source
-from ...qc.status import of_all
+from ...qc.progress import Progress
+from ...qc.status import NOT_JUDGED, of_all
 from ...qc.typed import Typed
 from ...qc.unclear import Unclear
-from .whole import Came, Whole, whole_in
-from ..batch import words_of
-from ..objects import ENDING, has_had_its_turn, left_by_call, object_at, row_of, unjudged
-from ..single import ignore_signals
 from ...reading.finding import Origin
+from .. import collecting, single
+from ..claim import locking
+from ..objects import ENDING, Row, objects_in, row_of, unjudged
+from . import hook, machine
 from .feed_clock import MINUTE
 from .hearing import Hearing
-from .partial import ENDED, STOPPED, reason_of
-from .planned import Planned
-from .queue import Queue, Arrival, Waiting
+from .journal import Journal
+from .planned import Planned, Programme
+from .queue import Arrival, Queue
+from .recorder import Recorded, signals
 from .results import Results
-from .running import Call, Running
-from .spool import Spool
+from .running import ANEW, ENDED, LOST, MARGIN, OnAir
+from .segments import Segments
+from .state import ERROR, HEARD, Exchange
 
-LATER = 2 * MINUTE  # after its last TCO a programme is judged, whatever still comes
-MARGIN = 2 * MINUTE  # before its first TCI what is sent may be of it
-LATELY = 20  # lines; what two pages hear of the feed is told once
-CAUGHT_UP = 1 << 26  # bytes that came before, which a page that is new in the list is heard in
+AROUND = 50  # frames before the last page transmission before it that have to be there
+OVERLAP = 10 * MINUTE  # by which a programme may begin before the one before it is over
+PATIENCE = 1.0  # seconds for which nothing comes, until somebody hears of it
+LOOK = 0.05  # seconds between two looks for more
 BEFORE_IT = f"{ENDED} before it"
 
 
-class Channel(Results):
-    """What is known of the feed, the programmes that are waited for, and the one that is judged."""
+class Channel:
+    """One programme after another: nothing is done at the same time but the recording."""
 
-    def __init__(self, words: argparse.Namespace, typed: Typed, folder: str) -> None:
-        super().__init__(words, folder)
-        self.typed = typed
+    def __init__(self, words: argparse.Namespace, called: str, folder: str) -> None:
+        self.words, self.called, self.folder = words, called, folder
         self.patience: int = words.patience * MINUTE
-        self.queue = Queue(Planned(words.channel, words), self.patience)
-        self.spool = Spool(folder, self.patience)
-        self.hearing = Hearing(typed.program_path, words.pid, lambda: self.spool.lately(CAUGHT_UP))
-        self.running: Running | None = None
+        self.segments, self.state = Segments(folder), Exchange(folder)
+        self.results = Results(folder, words.out, Inputs(words.channel, words.stl, words.severity),
+                               self.call_command)
+        self.queue = Queue(Planned(words.channel, words, Journal(os.path.join(folder, "list")),
+                                   self.results.result), self.patience)
+        self.hearing = Hearing(Typed(called, words.program).program_path, words.pid, self.segments.begun(),
+                               self.segments.before)
+        self.machine = machine.Machine(words.out)
+        self.running: OnAir | None = None
+        self.progress = Progress()
+        self.rows: dict[str, Row] = {}
+        self.verdicts: list[str] = []
+        self.heard = -1  # the segment that is read, as the recorder knows it
+        self.came, self.next_write = time.monotonic(), 0.0
         self.is_stalled = self.is_stopped = False
-        self.lately: collections.deque[str] = collections.deque(maxlen=LATELY)  # of the feed
+        self.begin()
+
+    def begin(self) -> None:
+        """Takes what an earlier call has left."""
+        self.results.publish()
+        for path, known in objects_in(self.words.out) if self.words.out and os.path.isdir(
+                self.words.out) else []:
+            name = os.path.basename(path).removesuffix(ENDING)
+            if known is not None:
+                self.rows[name] = row_of(known, name)
+        self.queue.ended = self.queue.since = self.results.ended()
+        self.queue.planned.look(True)
+        kept = [known["verdict"] for one in self.queue.planned.programmes if one.has_ended
+                and (known := self.results.result(one.name))]
+        self.verdicts += kept
+        if kept:
+            self.say(f"{counted(len(kept), 'programme')} of an earlier call kept")
 
     @property
     def now(self) -> int:
-        """The time of the feed, by the page that came last."""
-        return max((heard.now for heard in [*self.hearing.by_page.values()]), default=0)
+        return self.hearing.now
+
+    def say(self, line: str) -> None:
+        """A line with the date and the time of day."""
+        self.progress.clear()
+        say(f"{time.strftime('%Y-%m-%d %H:%M:%S')}  {line}")
 
     # ---- what comes
 
     def hear(self, name: str) -> str:
-        """Hears a feed to its end; why what is left is not judged."""
-        with Source(name) as source:
+        """Hears what is recorded of a feed, to its end; why what is left is not judged."""
+        with contextlib.closing(Recorded(name, self.folder)) as recording:
             try:
                 self.go_on()
                 if not self.hearing.calls:
                     self.hearing.turn_to([self.words.page])
-                self.follow(source)
+                self.follow(recording)
+                self.take_all(self.hearing.end())
                 self.hearing.refuse(name)
             except (Stop, Unclear) as reason:
                 why = reason.reason if isinstance(reason, Unclear) else line_of(reason)
@@ -79,45 +112,82 @@ class Channel(Results):
                 return why
         return BEFORE_IT
 
-    def follow(self, source: Source) -> None:
-        """Takes what comes, to its end."""
-        for told in followed(source, self.hearing.open, self.keep_bytes):
-            if told is None:
-                self.take()
+    def follow(self, recording: Recorded) -> None:
+        """Takes what is recorded, to its end."""
+        while not self.hearing.has_ended():
+            has_ended = recording.has_ended()
+            data = self.segments.read()
+            if self.segments.at != self.heard:
+                self.heard = self.segments.at
+                self.state[HEARD] = self.heard + 1
+            if data is None:
+                self.lose()
                 continue
-            still, is_still = told
+            still = 0.0 if data else time.monotonic() - self.came
+            if data:
+                self.came = time.monotonic()
+                self.index()
+            elif has_ended:
+                return
+            else:
+                time.sleep(LOOK)
+            self.take_all(self.hearing.take(data))
             self.stall(still)
-            self.take(is_still)
+            self.take(is_still=still >= PATIENCE)
             self.keep()
-            self.show(still)
+            self.show()
 
-    def keep_bytes(self, data: bytes) -> None:
-        """Keeps bytes of the feed as they come."""
-        self.spool.write(data, self.now)
+    def index(self) -> None:
+        """Keeps when the segment began that is read."""
+        begin = self.hearing.begin(self.segments.at == self.segments.oldest)
+        if begin:
+            self.segments.begin(begin)
+
+    def lose(self) -> None:
+        """What comes next is behind a loss: it is heard anew."""
+        self.take_all(self.hearing.end())
+        if self.segments.at > self.segments.known:
+            self.say(f"{LOST}: {self.why_lost()}")
+        self.machine.lose()
+        self.begin_anew(LOST)
+        self.hearing.renew()
+
+    def why_lost(self) -> str:
+        """Why something was lost, as far as the recorder could tell."""
+        error = self.state[ERROR]
+        return os.strerror(error) if error else "it was recorded anew"
+
+    def take_all(self, told: Iterator[None]) -> None:
+        """Takes each line that is told of the feed."""
+        for _ in told:
+            self.take()
 
     def take(self, is_still: bool = False) -> None:
         """Takes what is told of the feed, and goes on as far as that allows."""
-        for line in self.hearing.take_said():
-            if line not in self.lately:
-                self.lately.append(line)
+        for line in dict.fromkeys(self.hearing.take_said()):
+            if self.segments.at > self.segments.known:
                 self.say(line)
         if self.hearing.take_anew():
-            self.begin_anew()
+            self.begin_anew(ANEW)
         self.go_on(is_still)
 
-    def keep(self) -> None:
-        """Forgets what no programme needs, and waits where the feed is far ahead."""
-        floor = self.floor()
-        self.spool.drop(floor)
-        self.hearing.drop(floor)
-        running = self.running
-        if running and running.call and self.now - running.end > self.patience // 2 + LATER:
-            running.call.wait()
+    def begin_anew(self, why: str) -> None:
+        """Nothing of what came before tells what comes."""
+        if self.running:
+            self.judge(self.running, why)
+        self.queue.wait_anew(self.queue.since, self.now)
 
-    def floor(self) -> int:
-        """What came before this time is asked for no more."""
-        floor = self.now - self.patience - MARGIN
-        return min(floor, self.running.begin - MARGIN) if self.running else floor
+    def keep(self) -> None:
+        """Forgets what no programme needs, and writes what could not be written before."""
+        if time.monotonic() < self.next_write:
+            return
+        self.next_write = time.monotonic() + PATIENCE
+        floor = self.running.since if self.running else \
+            max(self.now - self.patience, self.queue.ended - OVERLAP) - MARGIN
+        self.segments.drop(floor)
+        self.hearing.drop(floor)
+        self.publish()
+        self.tell_machine()
 
     def stall(self, still: float) -> None:
         """Tells a feed that stands still, once, and that it goes on."""
@@ -128,37 +198,17 @@ class Channel(Results):
             self.is_stalled = True
             self.say(f"nothing has come for {counted(round(still), 'second')}")
 
-    def begin_anew(self) -> None:
-        """What came before has another clock: nothing of it tells what comes."""
-        if self.running and self.running.came is None:
-            self.judge(self.running)
-        self.queue.wait_anew(self.queue.since, self.now)
-
     # ---- one programme after another
 
     def go_on(self, is_still: bool = False) -> None:
-        """Begins what can be begun, judges what has come, and ends what is over."""
+        """Judges what has come, and begins what can be begun."""
         self.look()
-        while True:
-            running = self.running
-            if running and running.came is None:
-                if not self.has_come(running, is_still):
-                    return
-                self.judge(running)
-            if running and running.call and not running.call.is_over():
-                return
-            if running:
-                self.end_running()
+        while not self.running or self.running.has_come(
+                self.hearing.of(self.running.asked), self.now, is_still):
+            if self.running:
+                self.judge(self.running)
             if not self.begin_next():
                 return
-
-    def has_come(self, running: Running, is_still: bool) -> bool:
-        """Whether all has come of a programme that is judged."""
-        if self.now < running.end:
-            return False
-        heard = self.hearing.of(running.asked)
-        return self.now > running.end + LATER or \
-            running.ending.is_over(heard, heard.packets, is_still)
 
     def begin_next(self) -> bool:
         """Begins with the first programme that is there, or leaves one that is not; whether there
@@ -167,33 +217,32 @@ class Channel(Results):
         self.look()
         if not queue.waiting:
             return False
-        reason = queue.waiting[0].reason
-        if reason is not None:
-            self.leave(reason)
+        first = queue.waiting[0]
+        if first.reason is not None:
+            self.leave(first.reason)
             return True
         seen = queue.seen(self.hearing)
         if seen is None and self.now <= queue.until:
             return False
         if seen is None:
-            self.leave(self.unseen(queue.waiting[0]), queue.until)
+            what = "its first five edges were not seen" if first.asked.origin is None else \
+                f"its first TCI did not come, by --origin {first.asked.origin},"
+            self.leave(f"{what} within {counted(self.words.patience, 'minute')}", queue.until)
         else:
             self.begin_seen(seen)
         return True
 
     def look(self) -> None:
-        """Waits for the next of the list, and hears their pages."""
-        self.queue.fill(self.now)
-        self.tell_list()
-        self.hearing.turn_to(one.asked.page for one in self.queue.waiting if one.programme.asked)
-
-    def tell_list(self) -> None:
-        """Tells what is new in the list; what is gone without a result is not judged."""
+        """Looks into the list; waits for the next of it that have no result, and hears their
+        pages. What is gone without a result is not judged."""
         planned = self.queue.planned
+        self.queue.fill(self.now)
         for line in planned.said:
             self.say(line)
         planned.said.clear()
         while planned.gone:
             self.unjudged(planned.gone.pop(0).name, f"it is gone from {planned.path}")
+        self.hearing.turn_to(one.asked.page for one in self.queue.waiting if one.programme.asked)
 
     def begin_seen(self, seen: Arrival) -> None:
         """Begins with a programme that is there; those before it in the list were not."""
@@ -202,181 +251,173 @@ class Channel(Results):
             one = self.queue.leave()
             self.unjudged(one.programme.name, one.reason or
                           f"not seen: {name}, which is behind it in the list, is sent")
-        self.begin(self.queue.leave(), seen.midnight)
-
-    def unseen(self, one: Waiting) -> str:
-        """Why a programme was waited for in vain."""
-        what = "its first five edges were not seen" if one.asked.origin is None else \
-            f"its first TCI did not come, by --origin {one.asked.origin},"
-        return f"{what} within {counted(self.words.patience, 'minute')}"
-
-    def begin(self, one: Waiting, midnight: int) -> None:
-        """Begins with a programme, by the time of its midnight."""
+        one = self.queue.leave()
         assert one.awaited
-        heard, first, last = self.hearing.of(one.asked), one.awaited.first, one.awaited.last
-        asked = dataclasses.replace(one.asked, origin=heard.clock.pts_at(midnight), pid=None)
-        ending = Ending(asked, first, last, lambda _: Origin())
-        self.running = Running(one.programme, asked, midnight, first, last, ending, heard.anew)
+        first, last = one.awaited.first, one.awaited.last
+        origin = self.hearing.of(one.asked).clock.pts_at(seen.midnight)
+        asked = dataclasses.replace(one.asked, origin=origin, pid=None)
+        self.running = OnAir(one.programme, asked, seen.midnight, first, last,
+                               Ending(asked, first, last, lambda _: Origin()))
+
+    def leave(self, reason: str, until: int | None = None) -> None:
+        """The first programme that is waited for is not judged; the next one is waited for, since
+        a time."""
+        self.unjudged(self.queue.leave().programme.name, reason)
+        self.queue.wait_anew(self.queue.since if until is None else until)
 
     # ---- its verdict
 
-    def judge(self, running: Running, why: str = ENDED) -> None:
-        """Judges a programme by what came of it."""
-        heard, frame = self.hearing.of(running.asked), running.frame_at
-        running.over, running.why = min(running.end, self.now), why
-        came = running.came = Came(
-            frame(heard.start) if heard.start > running.begin and not running.anew else None,
-            frame(self.now) if self.now < running.end and running.anew == heard.anew else None)
-        asked = running.asked
-        if not came.is_whole:
-            running.whole = self.whole_of(running, came)
-            if running.whole is None:
-                return
-            asked = asked.of_part(*running.whole.between)
-        since = running.begin - max(MARGIN, TICKS * asked.every)
-        failure = self.spool.failure(since)
-        if failure:
-            running.failure = f"the feed could not be kept: {failure}"
-            return
-        is_moved = any(since <= time for time in heard.moves)
-        asked = dataclasses.replace(asked, pid=None if is_moved else heard.pid or None)
-        paths = self.spool.between(since, running.end + LATER + TICKS * asked.every)
-        running.call = Call(self.command(running, asked), paths, self.folder)
-
-    def command(self, running: Running, asked: Asked) -> list[str]:
-        """The call that judges a programme, or what came of it."""
-        name, path = running.programme.name, self.path_of_call(running)
-        for old in {self.path(name), path}:
-            if os.path.lexists(old):
-                os.unlink(old)
-        files = ["-o", self.words.out, *["--keep"] * self.words.is_kept] \
-            if self.words.out and path == self.path(name) else ["--json", path]
-        return [*self.typed.call("qc"), f"--name={name}", *files,
-                *["--fitted"] * running.is_fitted, "--cut", "-p", self.typed.program_path,
-                *words_of(asked)]
-
-    def whole_of(self, running: Running, came: Came) -> Whole | None:
-        """Of which of its subtitles all came."""
-        path, between = running.asked.stl, running.asked.between
-        return whole_in([(begin, end) for begin, end in frames_of_all(
-            readable(path, stl_bytes(path))) if between.has(begin)], came)
-
-    def end_running(self) -> None:
-        """Takes the verdict of the programme that was judged."""
-        running = self.running
-        assert running and running.came
-        name, came = running.programme.name, running.came
-        known = unjudged(name, running.failure)
-        if running.call:
-            ended, told = running.call.end()
-            known = left_by_call(self.path_of_call(running), name, ended, told)
-        self.running = None
-        self.queue.wait_anew(running.over, running.over)
-        if not came.is_whole:
-            row = row_of(known, name)
-            self.unjudged(name, reason_of(came, running.why, running.whole, row.verdict,
-                                          row.line.split("\n")[0]), came.last is not None)
-        elif "asked" not in known:
-            self.unjudged(name, known["reason"])
+    def judge(self, running: OnAir, why: str = ENDED) -> None:
+        """Judges a programme by what came of it, and tells its verdict; one that did not come whole
+        is not judged."""
+        name, heard = running.programme.name, self.hearing.of(running.asked)
+        missing = running.missing(heard.start, self.now, why)
+        needed = running.begin - TICKS * (running.asked.every + AROUND)
+        paths = self.segments.between(needed, running.since, running.until)
+        folder = None
+        if missing is not None:
+            known = unjudged(name, missing, why == ENDED and self.now < running.end)
+        elif paths is None:
+            why_not = os.strerror(self.state[ERROR] or errno.ENOENT)
+            known = unjudged(name, f"the feed could not be kept: {why_not}")
         else:
-            row = row_of(known, name)
-            hint = f"; {row.hint}" if row.hint else ""
-            self.tell_row(row, hint + f"; {FITTED_SHORT}" * running.is_fitted)
+            is_moved = any(running.since <= one for one in heard.moves)
+            asked = dataclasses.replace(running.asked,
+                                        pid=None if is_moved else heard.pid or None)
+            folder, known = self.results.judge(
+                lambda into: self.judge_in(running, asked, into), name, paths)
+        over = min(running.end, self.now)
+        self.running = None
+        hint = row_of(known, name).hint
+        more = (f"; {hint}" if hint else "") + f"; {FITTED_SHORT}" * running.is_fitted
+        self.end(name, known, folder, over, more)
+        self.queue.wait_anew(over, over)
 
-    def leave(self, reason: str, until: int | None = None) -> None:
-        """The first programme that is waited for is not judged; the next one is waited for since a
-        time."""
-        one = self.queue.leave()
-        self.unjudged(one.programme.name, reason)
-        self.queue.wait_anew(self.queue.since if until is None else until)
+    def judge_in(self, running: OnAir, asked: Asked, folder: str) -> int:
+        """Judges what is read on standard input; what is written has its place in a folder now."""
+        tempfile.tempdir = folder
+        words = argparse.Namespace(**{**vars(self.words), **vars(asked)})
+        words.name, words.recording, words.here = running.programme.name, "-", folder
+        words.is_fitted = running.is_fitted
+        words.is_cut = words.is_claimed = True
+        if words.out is None:
+            words.here = None
+            words.json = os.path.join(folder, words.name + ENDING)
+        return single.judge(words, self.called)
+
+    def unjudged(self, name: str, reason: str, is_open: bool = False) -> None:
+        """A programme is not judged."""
+        self.end(name, unjudged(name, reason, is_open), None, self.queue.ended, "")
+
+    def end(self, name: str, known: dict[str, Any], folder: str | None, over: int, more: str
+            ) -> None:
+        """A programme has its result: kept, told, and written where it is wanted."""
+        self.results.keep(name, known, folder, over)
+        row = self.rows[name] = row_of(known, name)
+        self.verdicts.append(row.verdict)
+        line = row.line.splitlines()[0] if row.line else row.verdict
+        self.say(f"{name}  " + (line + more if row.is_judged else f"{NOT_JUDGED}: {line}"))
+        self.machine.judge(row)
+        self.publish(True)
+
+    def publish(self, is_new: bool = False) -> None:
+        """Writes what is to be written, again where that failed, and the page of all."""
+        if self.words.out is None:
+            return
+        before = dict(self.results.failed)
+        written = self.results.publish()
+        for name, why in self.results.failed.items():
+            if name not in before:
+                self.say(f"{name}: its result can't be written, and is tried again: {why}")
+        if written or is_new:
+            with contextlib.suppress(OSError):
+                collecting.write_index(self.words.out,
+                                       [self.rows[name] for name in sorted(self.rows)])
+
+    def call_command(self, path: str, verdict: str) -> None:
+        """Calls what the house wants to have called after each result."""
+        if self.words.on_result is not None:
+            failure = hook.failure_of(self.words.on_result, path, verdict)
+            if failure:
+                self.say(failure)
+
+    # ---- how it ends
 
     def stop(self, reason: str) -> None:
-        """Nothing more comes: what is sent is judged up to here; at the feed's end also what is
-        there of all that was kept, and nothing else."""
+        """At the feed's end what is there of all that was kept is judged, and nothing else."""
         if self.running:
-            self.end_now(STOPPED if self.is_stopped else ENDED)
+            self.judge(self.running)
         self.queue.end()
-        if not self.is_stopped:
-            while self.begin_next():
-                if self.running:
-                    self.end_now(ENDED)
-        self.queue.planned.look(True)
-        self.tell_list()
+        while self.begin_next():
+            if self.running:
+                self.judge(self.running)
+        self.look()
         for programme in self.queue.planned.open():
             programme.has_ended = True
             self.unjudged(programme.name, programme.reason or reason, programme.reason is None)
+        self.publish()
+        if all(self.has_result(one) for one in self.queue.planned.programmes):
+            self.segments.drop(1 << 62)
 
-    def end_now(self, why: str) -> None:
-        """Judges the programme that is sent by what came of it, and waits for its verdict."""
-        assert self.running
-        if self.running.came is None:
-            self.judge(self.running, why)
-        self.end_running()
+    def has_result(self, programme: Programme) -> bool:
+        """Whether a programme has a result that stays."""
+        known = self.results.result(programme.name)
+        return known is not None and not known.get("open")
 
-    def resume(self) -> None:
-        """Goes on with the programmes of the list that have no result, or whose turn had not come.
-        """
-        self.queue.planned.look(True)
-        kept = 0
-        for programme in self.queue.planned.open():
-            path = self.path(programme.name)
-            known = object_at(path) if os.path.exists(path) else None
-            if known is not None and has_had_its_turn(known, programme.asked):
-                programme.has_ended = True
-                self.verdicts.append(known["verdict"])
-                kept += 1
-        if kept:
-            self.say(f"{counted(kept, 'programme')} of an earlier call kept")
+    def tell_machine(self) -> None:
+        """What a machine asks."""
+        self.machine.tell(self.running.programme.name if self.running else None,
+                          [one.programme.name for one in self.queue.waiting],
+                          self.now - self.queue.since, self.segments)
 
-    def path_of_call(self, running: Running) -> str:
-        """The object that its call writes."""
-        name = running.programme.name
-        is_whole = running.came is None or running.came.is_whole
-        return self.path(name) if is_whole else os.path.join(self.folder, f"{name}.part{ENDING}")
-
-    def show(self, still: float = 0.0) -> None:
+    def show(self) -> None:
         """What is done, on a terminal."""
         if self.progress.is_due():
             waiting = self.queue.waiting
-            what = f"{self.running.programme.name} is judged" if self.running else \
+            what = f"{self.running.programme.name} is sent" if self.running else \
                 f"waiting for {waiting[0].programme.name if waiting else 'a programme'}"
-            self.progress.show(f"{what}; {self.time_of_feed()} of the feed"
-                               + (f"; nothing for {still:.0f} s" if still >= PATIENCE else ""))
+            self.progress.show(f"{shown(what)}; {self.time_of_feed()} of the feed")
 
     def time_of_feed(self) -> str:
         """How long the feed has been heard."""
         return time_of(self.now // TICKS % FRAMES_OF_A_DAY)
 
-    def close(self) -> None:
-        """Ends what is still running."""
-        self.hearing.close()
-
 
 def judge(words: argparse.Namespace, called: str) -> int:
     """Judges the programmes of a channel until the feed has ended, or a signal ends it."""
-    if words.is_resumed and words.out is None:
-        raise Stop("--resume goes with -o, where the results of an earlier call are")
     if words.passed_on.get(LAYOUT) == AUTO:
         raise Stop(AUTO_OF_FEED)
-    for one in (signal.SIGTERM, signal.SIGINT, signal.SIGHUP):
+    if words.on_result is not None:
+        hook.refuse_command(words.on_result)
+    for one in signals():
         signal.signal(one, signal.default_int_handler)
-    if words.out is not None:
-        os.makedirs(words.out, exist_ok=True)
-    with temporary_folder("subttx-qc-") as folder:
-        channel = Channel(words, Typed(called, words.program), folder)
-        reason = BEFORE_IT
+    with contextlib.ExitStack() as stack:
+        folder = spool_of(words) or stack.enter_context(temporary_folder("subttx-qc-"))
+        stack.enter_context(locking(folder, ".lock", "another channel is recorded in "))
+        channel = Channel(words, called, folder)
         try:
-            if words.is_resumed:
-                channel.resume()
             reason = channel.hear(words.stl)
-        except KeyboardInterrupt:
-            ignore_signals()  # what is known is written now
-            channel.is_stopped = True
-            reason = f"{STOPPED} at {channel.time_of_feed()} of the feed"
-        finally:
-            channel.close()
-        with contextlib.closing(channel.spool):
             channel.stop(reason)
+        except KeyboardInterrupt:
+            single.ignore_signals()
+            channel.is_stopped = True
+            channel.say(f"stopped at {channel.time_of_feed()} of the feed")
+        finally:
+            channel.hearing.close()
+    for name, why in channel.results.failed.items():
+        tell(f"{shown(name)}: its result was not written: {why}")
     if not channel.verdicts and not channel.is_stopped:
         tell(f"{words.channel} names no programme")
-    return of_all(channel.verdicts, channel.is_stopped)
+    return of_all(channel.verdicts, channel.is_stopped or bool(channel.results.failed))
+
+
+def spool_of(words: argparse.Namespace) -> str | None:
+    """The folder with the segments: the one in which another call records, that of --spool, or one
+    beside that of -o; `None` where it is temporary."""
+    if os.path.isdir(words.stl):
+        if words.spool is not None:
+            raise Stop(f"{words.stl} is the folder in which a feed is recorded: --spool is too many")
+        return str(words.stl)
+    if words.spool is None and words.out is not None:
+        return f"{os.path.normpath(words.out)}.feed"
+    return str(words.spool) if words.spool is not None else None

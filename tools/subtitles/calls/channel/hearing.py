@@ -1,232 +1,25 @@
-"""The pages of a feed that programmes are waited for on, by what `subttx survey` tells of each."""
+"""The pages of a feed that programmes are waited for on, each heard by a call of `subttx survey`."""
 from __future__ import annotations
 
-import collections
 import select
 from typing import Callable, Iterable, Iterator
 
-from ...core.teletext import Page, page_name
-from ...core.times import ticks_between
-from ...core.words import Stop, pid_name
+from ...core.teletext import Page
 from ...qc.asked import Asked
 from ...qc.feed import SOON, Listening
 from ...qc.recording import refuse
-from ...reading.gaps import Place, hole_of
-from ...reading import moving
-from ...reading.packets import HEADER, PES, Packets, Run
-from ...reading.survey import Survey
-from .awaited import Changes
-from .feed_clock import MINUTE, SECOND, FeedClock, jump_of, times_of
-from .lacking import KEPT, Losses, Silence
-
-BOTH = 5 * SECOND  # within which a second PID that sends the page is no later one
-PRUNED = 1000  # lines after which what is told is looked through for what is old
-
-
-class Heard(Survey):
-    """A page of a feed: what is sent of it, and the time. `clock` is that of its PES packets, and
-    `packets` are those of the PID that carries it now; `changes` are those of its text, also as
-    they are within some frames. `said` are lines for a person; `moves` are the times at which the
-    page went to another PID, and `anew` counts encoders that began anew."""
-
-    def __init__(self, page: Page, pid: int | None, clock: FeedClock | None = None) -> None:
-        super().__init__()
-        self.page, self.asked_pid, self.reference = page, pid, clock
-        self.pid: int | None = None
-        self.clock = FeedClock()
-        self.first: tuple[int, int] | None = None  # PTS, with its time
-        self.ahead: int | None = None  # the first ticks by which PTS are ahead of the PCR
-        self.changes = {is_within: Changes() for is_within in (False, True)}
-        self.said: list[str] = []
-        self.moves: list[int] = []
-        self.anew = self.count = 0
-        self.is_new_table = False
-        self.moved = ""  # what the PMT says, until something comes of the new PID
-        self.found: int | None = None  # the PTS of the first header of the page
-        self.silence, self.losses = Silence(self.said), Losses(self.said)
-
-    @property
-    def packets(self) -> Packets:
-        """The PES packets of the PID that carries the page."""
-        return self.by_pid.get(PES if self.pid is None else self.pid, Packets(PES))
-
-    @property
-    def now(self) -> int:
-        """The time of the feed; by the PCR where the PID is silent."""
-        return self.clock.now + self.silence.still
-
-    def take(self, line: str) -> None:
-        """Takes a line of the listing."""
-        word = line.partition(" ")[0]
-        if self.is_new_table and word not in ("stream", "announce"):
-            self.is_new_table = False
-            self.look_for_move()
-        super().take(line)
-        self.count += 1
-        if self.count % PRUNED == 0:
-            self.prune()
-
-    def take_size(self, size: str, *words: str) -> None:
-        super().take_size(size, *words)
-        if self.size == PES and self.asked_pid is not None:
-            raise Stop("it is PES packets, which have no PID")
-
-    # What comes of the page.
-
-    def take_pes(self, pid: str, *words: str) -> None:
-        super().take_pes(pid, *words)
-        own, run = int(pid), self.by_pid[int(pid)].runs[-1]
-        if HEADER in run.does and own != self.pid:
-            self.find(own, run)
-        if own == self.pid:
-            self.go_on(run)
-
-    def find(self, pid: int, run: Run) -> None:
-        """Takes the PID that carries the page: the first that sends a header of it. `Stop` where
-        another one sends it a little later."""
-        if self.pid is None:
-            self.pid, self.found = pid, run.pts
-            for earlier in self.by_pid[pid].runs[:-1]:
-                self.go_on(earlier)
-        elif self.asked_pid is None and not self.moves and None not in (self.found, run.pts) and \
-                abs(ticks_between(self.found or 0, run.pts or 0)) < BOTH:
-            raise Stop(f"page {page_name(*self.page)} is sent on {pid_name(self.pid)} and "
-                       f"{pid_name(pid)}: say which one by --pid")
-
-    def go_on(self, run: Run) -> None:
-        """Goes on with PES packets of the page's PID."""
-        for pts in times_of(run):
-            self.begin_clock(pts)
-            before = self.clock.pts
-            late = self.clock.take(pts)
-            self.tell_jump(before, pts, late)
-        if run.pts is not None and run.last is not None:
-            if self.moved:
-                self.said.append(f"{self.moved}, before PTS {run.pts}")
-                self.moved = ""
-            for pts in (run.pts, run.last):
-                self.silence.hear(self.pid or PES, pts)
-            self.losses.hear(run.pts)
-
-    def begin_clock(self, pts: int) -> None:
-        """The first PTS is that of time 0, or the one that it is by a clock that is known."""
-        known = self.reference
-        if self.clock.pts is None and known and known.pts is not None:
-            self.clock.now = max(known.now + ticks_between(known.pts_at(known.now), pts), 0)
-        if self.clock.pts is None:
-            self.first = pts, self.clock.now
-
-    @property
-    def start(self) -> int:
-        """The time from which on all that was sent has come: of the first PCR, or the first PTS."""
-        if self.first is None:
-            return self.clock.now
-        pts, now = self.first
-        pcr = self.clock_of(self.pid or PES)
-        before = ticks_between(pcr[0] + max(self.ahead or 0, 0), pts) if pcr else 0
-        return now - before if 0 < before < 60 * MINUTE else now
-
-    def tell_jump(self, before: int | None, pts: int, late: int) -> None:
-        """Tells a gap, and an encoder that begins anew."""
-        jump = jump_of(before, pts, late)
-        if jump is None:
-            return
-        self.said.append(jump.line)
-        if jump.is_anew:
-            self.anew += 1
-            self.changes = {is_within: Changes() for is_within in (False, True)}
-
-    def take_rows(self, pid: str, *words: str) -> None:
-        one = self.of(pid)
-        count = len(one.changes)
-        super().take_rows(pid, *words)
-        if int(pid) == self.pid and len(one.changes) > count:
-            for is_within, changes in self.changes.items():
-                changes.add(self.clock.now, one.changes[-1].letters, is_within)
-
-    # What is missing.
-
-    def take_gap(self, pid: str, *words: str) -> None:
-        super().take_gap(pid, *words)
-        if int(pid) == self.pid:
-            mark = self.packets.marks[-1]
-            self.losses.waiting.append(Place(mark.before, None, mark.lost, mark.scrambled))
-
-    def take_clock(self, pid: str, *words: str) -> None:
-        super().take_clock(pid, *words)
-        hole = hole_of(self.of(pid).clocked[-1]) if int(pid) == self.pid else None
-        if hole:
-            self.losses.take_hole(hole)
-
-    # A PID that is silent, and one that is another.
-
-    def take_ahead(self, pid: str, *words: str) -> None:
-        super().take_ahead(pid, *words)
-        if int(pid) == self.pid:
-            pts, ahead = self.packets.samples[-1]
-            self.ahead = ahead if self.ahead is None else self.ahead
-            self.silence.hear(self.pid or PES, pts)
-
-    def take_pcr(self, pid: str, pcr: str, *words: str) -> None:
-        super().take_pcr(pid, pcr, *words)
-        known = self.programmes_of(self.pid) if self.pid is not None else []
-        if known and known[-1].pcr_pid == int(pid):
-            samples = self.packets.samples
-            self.silence.take_pcr(self.pid or PES, int(pcr), samples[-1][1] if samples else 0)
-
-    def take_programme(self, *words: str) -> None:
-        super().take_programme(*words)
-        self.is_new_table = True
-
-    def look_for_move(self) -> None:
-        """Follows the page to another PID, where the PMT says that it is there now."""
-        if self.pid in (None, PES) or self.asked_pid is not None:
-            return
-        before, self.pid = self.pid, moving.way_of(self.programmes, self.page, self.pid or 0)[-1]
-        if self.pid == before:
-            return
-        self.moved = moving.words_of(page_name(*self.page), before or 0, self.pid)
-        self.moves.append(self.clock.now)
-        alive = self.silence.alive
-        for run in self.packets.runs:
-            if alive is not None and run.pts is not None and ticks_between(alive, run.pts) >= 0:
-                self.go_on(run)
-
-    # What is not needed any more.
-
-    def prune(self) -> None:
-        """Forgets what is told of PES packets that came long ago, since memory is to stay."""
-        for packets in self.by_pid.values():
-            floor = self.floor_of(packets)
-            if floor > 0:
-                first = packets.runs[floor].first
-                del packets.runs[:floor]
-                for several in (packets.held, packets.strays):
-                    several[:] = [one for one in several if one[0] >= first]
-                packets.changes[:] = [one for one in packets.changes[:-1] if one.number >= first] \
-                    + packets.changes[-1:]
-                packets.marks[:] = [one for one in packets.marks if one.number >= first]
-            del packets.samples[:-KEPT], packets.clocked[:-KEPT], packets.sets[:-KEPT]
-        del self.programmes[:-KEPT]
-
-    def floor_of(self, packets: Packets) -> int:
-        """How many runs of a PID are not needed any more."""
-        if packets.pid != self.pid:
-            return len(packets.runs) - 1
-        before = self.clock.now - self.kept_since
-        return next((at for at, run in enumerate(packets.runs) if run.last is not None and
-                     ticks_between(run.last, self.clock.pts or 0) <= before),
-                    len(packets.runs) - 1)
-
-    kept_since = 0  # the time from which on PES packets are asked for
+from .feed_clock import FeedClock
+from .heard import Heard
+from .segments import Begin
 
 
 class Hearing:
-    """All pages that are heard, each by a call of `survey` of its own; what begins to be heard
-    hears first what `begin` hands to it."""
+    """All pages that are heard. `before` gives what has come already, which a page that is new
+    hears first; `known` is what is known of a feed that was heard before."""
 
-    def __init__(self, program: str, pid: int | None, begin: Callable[[], Iterable[bytes]]) -> None:
-        self.program, self.pid, self.begin = program, pid, begin
+    def __init__(self, program: str, pid: int | None, known: Begin | None,
+                 before: Callable[[], Iterable[bytes]]) -> None:
+        self.program, self.pid, self.known, self.before = program, pid, known, before
         self.by_page: dict[Page, Heard] = {}
         self.calls: list[Listening] = []
         self.anew = 0
@@ -235,21 +28,83 @@ class Hearing:
         """What is heard of the page of a programme."""
         return self.by_page[asked.page]
 
+    def begin(self, is_first: bool = False) -> Begin | None:
+        """What is told so far, as the begin of a segment; of the first one its own. `None` where
+        nothing is."""
+        heard = next((one for one in self.by_page.values() if one.first), None)
+        if heard is None or heard.first is None:
+            return self.known
+        pts, time = heard.first if is_first else (heard.clock.pts_at(self.now), self.now)
+        return Begin(time, pts, True)
+
+    @property
+    def now(self) -> int:
+        """The time of the feed, by the page that came last."""
+        return max((heard.now for heard in self.by_page.values()),
+                   default=self.known.time if self.known else 0)
+
     def turn_to(self, pages: Iterable[Page]) -> None:
         """Hears these pages, too."""
         for page in pages:
             if page not in self.by_page:
                 known = next(iter(self.by_page.values()), None)
-                heard = self.by_page[page] = Heard(page, self.pid, known.clock if known else None)
-                call = Listening(self.program, heard, page, self.pid)
-                self.calls.append(call)
-                for data in self.begin():
-                    catch_up(call, data)
-                    heard.said.clear()  # nobody is told of it
+                self.hear(page, Heard(page, self.pid, known.clock) if known else self.first(page))
+                for data in self.before():
+                    for _ in self.hand(self.calls[-1], data):
+                        pass
+                self.by_page[page].said.clear()  # nobody is told of it
 
-    def open(self) -> list[Listening]:
-        """The calls that still hear the feed."""
-        return [call for call in self.calls if not call.has_ended]
+    def first(self, page: Page) -> Heard:
+        """The page that is heard first, at the time that is known."""
+        clock, known = FeedClock(), self.known
+        if known:
+            clock.now, clock.pts = known.time, known.pts
+        heard = Heard(page, self.pid, clock=clock)
+        if known and known.is_exact:
+            heard.first = known.pts, known.time
+        return heard
+
+    def hear(self, page: Page, heard: Heard) -> None:
+        """Begins to hear a page."""
+        self.by_page[page] = heard
+        self.calls.append(Listening(self.program, heard, page, self.pid))
+
+    def hand(self, call: Listening, data: bytes) -> Iterator[None]:
+        """Hands bytes on, and gives after each line that is told meanwhile."""
+        for at in range(0, len(data), call.room):
+            call.hand(data[at:at + call.room])
+            while not call.is_ready():
+                yield from told(call, SOON)
+        yield from told(call, 0)
+
+    def take(self, data: bytes) -> Iterator[None]:
+        """Hears bytes, on all pages; gives after each line that is told."""
+        for call in [*self.calls]:
+            yield from self.hand(call, data)
+
+    def end(self) -> Iterator[None]:
+        """Nothing more comes: gives after each line that is still told."""
+        for call in self.calls:
+            call.hand(b"")
+            while not call.has_ended:
+                yield from told(call, 1)
+
+    def renew(self) -> None:
+        """What comes next is behind a loss: it is heard anew, and time goes on."""
+        begin, pages = self.begin(), [*self.by_page.items()]
+        self.known = begin and begin._replace(is_exact=False)
+        self.close()
+        self.calls.clear()
+        for page, before in pages:
+            heard = self.first(page)
+            heard.kept_since = before.kept_since
+            heard.said += before.said
+            self.hear(page, heard)
+        self.anew = 0
+
+    def has_ended(self) -> bool:
+        """Whether none of them hears any more."""
+        return all(call.has_ended for call in self.calls)
 
     def take_said(self) -> Iterator[str]:
         """What was told of the feed since it was asked last."""
@@ -281,10 +136,9 @@ class Hearing:
             call.close()
 
 
-def catch_up(call: Listening, data: bytes) -> None:
-    """Hears what came before."""
-    for at in range(0, len(data), call.room):
-        call.hand(data[at:at + call.room])
-        while not call.is_ready():
-            if select.select([call], [], [], SOON)[0]:
-                collections.deque(call.lines.take(), 0)
+def told(call: Listening, seconds: float) -> Iterator[None]:
+    """Takes the lines that have come, or come soon; gives after each."""
+    while not call.has_ended and select.select([call], [], [], seconds)[0]:
+        for _ in call.lines.take():
+            yield None
+        seconds = 0

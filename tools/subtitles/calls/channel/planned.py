@@ -4,13 +4,15 @@ from __future__ import annotations
 import argparse
 import dataclasses
 import time
-from typing import NamedTuple, Sequence
+from typing import Any, Callable, NamedTuple, Sequence
 
 from ...core.lists import Line, lines_in, list_at
 from ...core.words import Stop, Words, line_of
 from ...qc.asked import AUTO_OF_FEED, Asked, add_pair_options, asked_of, pair_options
 from ...qc.names import NamesOfList
 from ..modes import CHANNEL_LINE, refuse_options
+from ..objects import has_had_its_turn
+from .journal import Journal
 
 MISSING = 60.0  # seconds for which a list that is not there is waited for
 
@@ -63,11 +65,13 @@ class Planned:
 
     A list that is being written is not taken at its word: what is more than lines at its end counts
     once it stood there at two looks. `said` is what is to be told of it; `gone` are programmes that
-    have left it and never had a result.
+    have left it and never had a result. `result` is that of a name. The list as it is known is kept
+    in a file, so that an edit is one whenever somebody looks.
     """
 
-    def __init__(self, path: str, defaults: argparse.Namespace) -> None:
-        self.path, self.defaults = path, defaults
+    def __init__(self, path: str, defaults: argparse.Namespace, kept: Journal | None = None,
+                 result: Callable[[str], dict[str, Any] | None] = lambda name: None) -> None:
+        self.path, self.defaults, self.kept, self.result = path, defaults, kept, result
         self.programmes: list[Programme] = []
         self.gone: list[Programme] = []
         self.said: list[str] = []
@@ -77,6 +81,16 @@ class Planned:
         self.first: str | None = None  # that of the first one
         self.missing: float | None = None  # since when the file is not there
         self.is_missed = False  # for so long that it was said
+        for name, is_gone, number, words, fault in kept.entries(5) if kept else ():
+            line = Line(number, tuple(words), fault)
+            known = result(self.names.take(name))
+            one = Programme(name, line, *self.read_line(line),
+                            known is not None and not known.get("open"))
+            if not is_gone:
+                self.programmes.append(one)
+            elif not one.has_ended:
+                self.gone.append(one)
+        self.was_known = bool(self.programmes)
 
     def open(self) -> list[Programme]:
         """Those that have no result."""
@@ -96,16 +110,24 @@ class Planned:
                 return False
         if text == self.taken:
             return False
-        is_first, self.taken = self.taken is None or text == self.first, text
+        is_first = not self.was_known and (self.taken is None or text == self.first)
+        self.taken = text
         self.take(edits_of(self.programmes, lines_in(text)), is_first)
+        self.keep()
         return True
+
+    def keep(self) -> None:
+        """Keeps the list as it is known, with those that are gone and have no result yet."""
+        if self.kept:
+            self.kept.replace((one.name, one in self.gone, *one.line)
+                              for one in (*self.gone, *self.programmes))
 
     def read(self) -> str | None:
         """The text of the list; `None` as long as it is not there."""
         try:
             text = list_at(self.path)
         except (Stop, OSError) as error:
-            if self.taken is None:
+            if self.taken is None and not self.was_known:
                 raise
             self.missing = time.monotonic() if self.missing is None else self.missing
             if not self.is_missed and time.monotonic() - self.missing >= MISSING:
@@ -140,10 +162,16 @@ class Planned:
         self.said += [f"{self.path}: {'; '.join(said)}"] if said else []
 
     def programme(self, line: Line) -> Programme:
-        """The programme of a line that is new."""
+        """The programme of a line that is new. A result that is there is its own, or takes the
+        name."""
         asked, reason = self.read_line(line)
-        name = self.names.pair(asked.stl) if asked else self.names.line(line.number)
-        return Programme(name, line, asked, reason)
+        while True:
+            name = self.names.pair(asked.stl) if asked else self.names.line(line.number)
+            known = self.result(name)
+            if known is None or known.get("open"):
+                return Programme(name, line, asked, reason)
+            if has_had_its_turn(known, asked):
+                return Programme(name, line, asked, reason, True)
 
     def read_line(self, line: Line) -> tuple[Asked | None, str | None]:
         """What a line asks, or why that is nothing."""

@@ -1,53 +1,181 @@
-"""The results of a channel, each told as it comes."""
+"""A programme that is judged, and its result: made in a folder of its own, which takes the name of
+the programme once all is there; then its files go where they are wanted, again and again until that
+can be done. So a result is whole, and there is one, however this ends.
+"""
 from __future__ import annotations
 
-import argparse
+import contextlib
+import errno
 import os
-import time
+import shutil
+import signal
+from typing import Any, Callable, Sequence
 
-from ...core.words import say
-from ...qc.progress import Progress
-from ...qc.status import NOT_JUDGED
-from .. import collecting
-from ..objects import ENDING, Row, objects_in, put, row_of, unjudged
+from ...core.outputs import Inputs, new_name, result_file
+from ...core.words import Stop, ended, line_of
+from ..claim import refuse
+from ..forked import INPUT, Forked, ended_of, signals_held
+from ..objects import ENDING, left_by_call, object_at, put, unjudged, value_at
+from ..result import FORMAT, misfit
+from .journal import Journal
+from .recorder import close_all_but
+
+LONGEST = 60.0  # seconds in which a programme is judged, and one more for each so many bytes:
+SLOWEST = 2_000_000
+WORK = "work-"  # before the name of a folder in which a programme is judged
 
 
 class Results:
-    """The results of programmes, in the folder that was asked for or in another one; `verdicts` are
-    those of this call, and those with which it goes on."""
+    """The results of programmes, in the folder `done` until they are in `out`, where that is
+    wanted, and somebody is `told`. `inputs` are files that are never written to."""
 
-    def __init__(self, words: argparse.Namespace, folder: str) -> None:
-        self.words, self.folder = words, folder
-        self.rows: dict[str, Row] = {}
-        self.progress = Progress()
-        self.verdicts: list[str] = []
-        for path, known in objects_in(words.out) if words.out else []:
-            name = os.path.basename(path).removesuffix(ENDING)
+    def __init__(self, folder: str, out: str | None, inputs: Inputs,
+                 told: Callable[[str, str], None]) -> None:
+        self.folder, self.out, self.inputs, self.told = folder, out, inputs, told
+        self.done = os.path.join(folder, "done")
+        self.journal = Journal(os.path.join(folder, "journal"))  # names, and when each was over
+        self.failed: dict[str, str] = {}  # what could not be written, and why
+        self.kept: dict[str, dict[str, Any]] = {}  # what could not even be kept
+        self.written = set[str]()
+        for name in os.listdir(folder):
+            if name.startswith(WORK):
+                shutil.rmtree(os.path.join(folder, name), ignore_errors=True)
+
+    def result(self, name: str) -> dict[str, Any] | None:
+        """The result of a programme, where there is one."""
+        for folder in filter(None, (os.path.join(self.done, name), self.out)):
+            known = result_at(os.path.join(folder, name + ENDING))
             if known is not None:
-                self.rows[name] = row_of(known, name)
+                return known
+        return self.kept.get(name)
 
-    def path(self, name: str) -> str:
-        """The object of a programme."""
-        return os.path.join(self.words.out or self.folder, name + ENDING)
+    def ended(self) -> int:
+        """When the last programme was over that has its result, by the time of the feed."""
+        return max((over for name, over in self.journal.entries(2)
+                    if self.result(name) is not None), default=0)
 
-    def say(self, line: str) -> None:
-        """A line with the date and the time of day."""
-        self.progress.clear()
-        say(f"{time.strftime('%Y-%m-%d %H:%M:%S')}  {line}")
+    def judge(self, call: Callable[[str], int], name: str, paths: Sequence[str]
+              ) -> tuple[str | None, dict[str, Any]]:
+        """Judges what is in some files, in this order, by a call that writes into a folder; answers
+        that, and the result."""
+        folder, longest = new_name(self.folder, WORK), LONGEST
+        try:
+            os.mkdir(folder)
+            longest += sum(map(os.path.getsize, paths)) / SLOWEST
+            status, told = called(lambda: ended_by(paths, lambda: call(folder)), longest)
+        except TimeoutError:
+            return folder, unjudged(name, f"it was not judged within {longest:.0f} seconds")
+        except (OSError, Stop) as reason:
+            return folder, unjudged(name, line_of(reason))
+        if not all(map(os.path.exists, paths)):
+            return folder, unjudged(name, "the feed could not be kept as long as it was judged")
+        return folder, left_by_call(os.path.join(folder, name + ENDING), name, status, told)
 
-    def tell_row(self, row: Row, more: str) -> None:
-        """Tells a verdict, and writes the page over all of them."""
-        self.verdicts.append(row.verdict)
-        line = row.line.splitlines()[0] if row.line else row.verdict
-        self.say(f"{row.name}  " + (f"{NOT_JUDGED}: {line}" if not row.is_judged else
-                                    line + more))
-        self.rows[row.name] = row
-        if self.words.out:
-            collecting.write_index(self.words.out,
-                                   [self.rows[name] for name in sorted(self.rows)])
+    def keep(self, name: str, known: dict[str, Any], folder: str | None, over: int) -> None:
+        """Keeps a result, with what else is in a folder, before it is told: it never changes."""
+        try:
+            if folder is None or not os.path.isdir(folder):
+                folder = new_name(self.folder, WORK)
+                os.mkdir(folder)
+            if "asked" not in known:
+                put(os.path.join(folder, name + ENDING), known)
+            self.journal.add(name, over)
+            os.makedirs(self.done, exist_ok=True)
+            shutil.rmtree(os.path.join(self.done, name), ignore_errors=True)
+            os.rename(folder, os.path.join(self.done, name))
+        except OSError:
+            self.kept[name] = known
 
-    def unjudged(self, name: str, reason: str, is_open: bool = False) -> None:
-        """A programme is not judged."""
-        known = unjudged(name, reason, is_open)
-        put(self.path(name), known)
-        self.tell_row(row_of(known, name), "")
+    def publish(self) -> list[str]:
+        """Writes results where they are wanted; the names of those that could be."""
+        written = []
+        for name in [*self.waiting(), *self.kept] if self.out is not None else ():
+            try:
+                self.write(name)
+                written.append(name)
+                self.failed.pop(name, None)
+            except (OSError, Stop) as reason:
+                self.failed[name] = line_of(reason)
+        return written
+
+    def waiting(self) -> list[str]:
+        """The names of those that are still to be written."""
+        with contextlib.suppress(OSError):
+            return sorted(os.listdir(self.done))
+        return []
+
+    def write(self, name: str) -> None:
+        """Writes the files of a programme, its result last; then somebody is told, once."""
+        assert self.out is not None
+        folder, path = os.path.join(self.done, name), os.path.join(self.out, name + ENDING)
+        os.makedirs(self.out, exist_ok=True)
+        if name in self.kept:
+            refuse(path, self.inputs)
+            put(path, self.kept.pop(name))
+        else:
+            for file in sorted(os.listdir(folder), key=lambda one: one == name + ENDING):
+                move(os.path.join(folder, file), os.path.join(self.out, file), self.inputs)
+        known = result_at(path)
+        if known and not known.get("open") and name not in self.written:
+            self.written.add(name)
+            self.told(path, known["verdict"])
+        shutil.rmtree(folder, ignore_errors=True)
+
+
+def result_at(path: str) -> dict[str, Any] | None:
+    """The result in a file, of whatever version; `None` where there is none, or half of one."""
+    try:
+        known = value_at(path)
+    except (OSError, ValueError, RecursionError, MemoryError):
+        return None
+    is_result = isinstance(known, dict) and "verdict" in known and (
+        known.get("format") != FORMAT or misfit(known) is None)
+    return object_at(path) if is_result else None
+
+
+def move(source: str, target: str, inputs: Inputs) -> None:
+    """Gives a file its place in the folder of results; on another disk it is copied."""
+    refuse(target, inputs)
+    try:
+        os.replace(source, target)
+    except OSError as error:
+        if error.errno != errno.EXDEV:
+            error.filename, error.filename2 = target, None
+            raise
+        with open(source, "rb") as own, result_file(target) as file:
+            shutil.copyfileobj(own, file)
+
+
+def called(does: Callable[[], int], longest: float) -> tuple[int, list[str]]:
+    """How a process ends that does something, and what it tells; `TimeoutError` where it takes
+    longer than so many seconds. However this ends, nothing of it goes on."""
+    with signals_held():
+        call = Forked(does)
+    try:
+        if not ended_of([call], longest):
+            raise TimeoutError
+        return call.end()
+    except BaseException:
+        for kill in (os.killpg, os.kill):  # it may have no group of its own yet
+            with contextlib.suppress(ProcessLookupError):
+                kill(call.pid, signal.SIGKILL)
+        call.end()
+        raise
+
+
+def ended_by(paths: Sequence[str], does: Callable[[], int]) -> int:
+    """The status of what reads some files, one after another, on standard input."""
+    own, into = os.pipe()
+    if not os.fork():
+        try:
+            close_all_but(into)
+            with open(into, "wb") as pipe:
+                for path in paths:
+                    with open(path, "rb") as file:
+                        shutil.copyfileobj(file, pipe)
+        finally:
+            os._exit(0)
+    os.close(into)
+    os.dup2(own, INPUT)
+    os.close(own)
+    return ended(lambda _: does(), [])

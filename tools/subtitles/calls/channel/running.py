@@ -1,27 +1,25 @@
-"""A programme of a channel that is judged: by a call of this tool, which is handed what came of the
-feed in its time, as a recording."""
+"""A programme of a channel that is sent, and what came of it."""
 from __future__ import annotations
 
-import contextlib
 import dataclasses
-import shutil
-import subprocess
-import tempfile
-import threading
-from typing import IO, Sequence
 
-from ...core.times import FRAMES_OF_A_DAY, TICKS
+from ...core.times import FRAMES_OF_A_DAY, TICKS, time_of
 from ...qc.asked import Asked
 from ...qc.ending import Ending
-from .whole import Came, Whole
+from .feed_clock import MINUTE
+from .heard import Heard
 from .planned import Programme
+
+LATER = MARGIN = 2 * MINUTE  # after a last TCO; before a first TCI what is sent may be of it
+ENDED = "the feed ended"
+ANEW = "PTS began anew"
+LOST = "something of the feed was not recorded"
 
 
 @dataclasses.dataclass(eq=False)
-class Running:
-    """A programme that is sent: what is asked of it, with its origin, the time of its midnight, and
-    the frames of its first TCI and its last TCO. Once it is judged, `came` is what came of it,
-    `over` the time up to which, and `call` judges that: all, or what is `whole` of it."""
+class OnAir:
+    """A programme: what is asked of it, with its origin, the time of its midnight, and the frames
+    of its first TCI and its last TCO."""
 
     programme: Programme
     asked: Asked
@@ -29,13 +27,6 @@ class Running:
     first: int
     last: int
     ending: Ending
-    anew: int  # encoders that had begun anew when it was seen
-    came: Came | None = None
-    why: str = ""  # nothing more comes
-    over: int = 0
-    whole: Whole | None = None
-    failure: str = ""
-    call: Call | None = None
 
     @property
     def begin(self) -> int:
@@ -43,56 +34,42 @@ class Running:
         return self.midnight + TICKS * self.first
 
     @property
+    def since(self) -> int:
+        """From when on what is sent may be of it."""
+        return self.begin - max(MARGIN, TICKS * self.asked.every)
+
+    @property
     def end(self) -> int:
         """The time of its last TCO."""
         return self.midnight + TICKS * self.last
+
+    @property
+    def until(self) -> int:
+        """Up to when what is sent may be of it."""
+        return self.end + LATER + TICKS * self.asked.every
 
     @property
     def is_fitted(self) -> bool:
         """Whether its clock was found in the feed."""
         return bool(self.programme.asked and self.programme.asked.origin is None)
 
-    def frame_at(self, time: int) -> int:
-        """The frame of the day at a time of the feed, or the first or the last of the day."""
-        return min(max((time - self.midnight) // TICKS, 0), FRAMES_OF_A_DAY - 1)
+    def has_come(self, heard: Heard, now: int, is_still: bool) -> bool:
+        """Whether all has come of it, and nothing more of it can."""
+        return now >= self.end and (
+            now > self.end + LATER or self.ending.is_over(heard, heard.packets, is_still))
 
+    def missing(self, start: int, now: int, why: str) -> str | None:
+        """Why it is not judged, where it did not come whole: the feed was heard from one time to
+        another, which is its last one since something happened."""
+        said = []
+        if start > self.begin:
+            said.append(f"its beginning was missed: the feed was heard from "
+                        f"{self.time_at(start)} on")
+        if now < self.end:
+            said.append(f"{why} at {self.time_at(now)}, in mid-programme")
+        return "; ".join(said) or None
 
-class Call:
-    """A call of this tool, which is handed files one after another on its standard input."""
-
-    def __init__(self, command: Sequence[str], paths: Sequence[str], folder: str) -> None:
-        self.told: IO[bytes] = tempfile.TemporaryFile(dir=folder)
-        self.process = subprocess.Popen(command, stdin=subprocess.PIPE, stdout=subprocess.DEVNULL,
-                                        stderr=self.told, start_new_session=True)
-        # What is opened now is there, whoever takes its name away.
-        self.files = [open(path, "rb") for path in paths]
-        self.thread = threading.Thread(target=self.hand, daemon=True)
-        self.thread.start()
-
-    def hand(self) -> None:
-        """Hands the files on, as long as they are wanted."""
-        assert self.process.stdin
-        with contextlib.suppress(OSError, ValueError):
-            for file in self.files:
-                shutil.copyfileobj(file, self.process.stdin)
-        with contextlib.suppress(OSError):
-            self.process.stdin.close()
-        for file in self.files:
-            file.close()
-
-    def is_over(self) -> bool:
-        """Whether it has ended."""
-        return self.process.poll() is not None
-
-    def wait(self) -> None:
-        """Waits until it has ended."""
-        self.process.wait()
-        self.thread.join()
-
-    def end(self) -> tuple[int, list[str]]:
-        """Its status, once it has ended, and what it said on standard error."""
-        self.wait()
-        self.told.seek(0)
-        with self.told:
-            lines = self.told.read().decode("utf-8", "replace").splitlines()
-        return self.process.returncode, lines
+    def time_at(self, time: int) -> str:
+        """The time of its day at a time of the feed, or the first or the last of the day."""
+        frame = (time - self.midnight) // TICKS
+        return time_of(min(max(frame, 0), FRAMES_OF_A_DAY - 1))

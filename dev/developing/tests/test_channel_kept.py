@@ -1,0 +1,304 @@
+"""What is kept of a feed: the segments that a recorder writes, and what is read of them."""
+from __future__ import annotations
+
+import contextlib
+import errno
+import os
+from typing import Iterator
+from unittest import mock
+
+from developing.pes import MARK, pes_packet
+from subtitles.calls.channel import recorder
+from subtitles.calls.channel.journal import Journal
+from subtitles.calls.channel.recorder import AHEAD, NotWanted, Recorder
+from subtitles.calls.channel.segments import (
+    LEAST, MANY, PART, Begin, Segments, numbers_in, path_of)
+from subtitles.calls.channel.state import ENDED, ERROR, FILE, HEARD, Exchange
+from subtitles.core.files import Input
+from .bench import Case
+from .listings import SECOND
+from .parts import CLOSING, HEADER
+
+PES = [pes_packet(SECOND * at, [HEADER, CLOSING]) for at in range(9)] + [MARK]
+
+
+class Folders(Case):
+    """Folders with segments."""
+
+    is_alone = True  # what a recorder waits is replaced, which threads share
+
+    def new(self, name: str) -> str:
+        """A new folder."""
+        os.mkdir(self.path(name))
+        return self.path(name)
+
+    def put(self, folder: str, number: int, data: bytes) -> None:
+        """Writes more to a segment."""
+        with open(path_of(folder, number), "ab") as file:
+            file.write(data)
+
+    def kept(self, folder: str) -> list[bytes]:
+        """What is in the segments."""
+        found = []
+        for number in numbers_in(folder):
+            with open(path_of(folder, number), "rb") as file:
+                found.append(file.read())
+        return found
+
+    @contextlib.contextmanager
+    def recorder(self, folder: str, name: str = os.devnull) -> Iterator[Recorder]:
+        """A recorder of a feed that is wanted."""
+        alive, own = os.pipe()
+        with Input(name) as source, mock.patch.object(recorder, "WAIT", 0):
+            yield Recorder(folder, source, alive)
+        os.close(alive)
+        os.close(own)
+
+
+class Read(Folders):
+    """Segments that are read."""
+
+    def test_as_they_grow(self) -> None:
+        """From the oldest on; a number that is left out is told once, and of several too; bytes
+        that come to a segment at last are read before the next one."""
+        folder = self.new("one")
+        segments = Segments(folder)
+        self.must("nothing", segments.read() == b"" and segments.at == -1)
+        self.put(folder, 3, b"abc")
+        self.must("the first", segments.read() == b"abc" and segments.at == 3)
+        self.put(folder, 3, b"d")
+        self.put(folder, 4, b"e")
+        self.must("it grows", [segments.read() for _ in range(3)] == [b"d", b"e", b""])
+        for number in (6, 9):
+            self.put(folder, number, b"%d" % number)
+        self.must("lost", [segments.read() for _ in range(5)] ==
+                  [None, b"6", None, b"9", b""] and segments.oldest == 9)
+        self.must("again", [Segments(folder).read() for _ in range(2)] == [b"abcd"] * 2)
+        for number in numbers_in(folder):
+            os.unlink(path_of(folder, number))
+        self.must("emptied", segments.read() == b"")
+        self.put(folder, 10, b"10")
+        self.must("it goes on", segments.read() == b"10")
+        self.put(folder, 11, b"x" * (PART + 1))
+        self.must("in pieces", [len(segments.read() or b"") for _ in range(2)] == [PART, 1])
+
+    def segments(self, folder: str, behind: int, count: int = 100) -> Segments:
+        """Segments of a second each, of which so many are read before something is told of them."""
+        for number in range(count):
+            self.put(folder, number, bytes([number]) * (LEAST // 4))
+        segments = Segments(folder)
+        for number in range(count):
+            segments.read()
+            segments.begin(Begin(SECOND * max(number - behind, 0), number, True))
+        return segments
+
+    def test_all_is_there(self) -> None:
+        """From a time on, and little more, though what is told is behind what came; what nobody
+        asks for is gone, and then what needs it is not there."""
+        for behind in (0, 3):  # segments by which what is told is behind
+            folder = self.new(f"{behind}")
+            segments = self.segments(folder, behind)
+            for first, last in ((0, 99), (50, 99), (50, 60), (96, 99)):
+                paths = segments.between(SECOND * first, SECOND * first, SECOND * last) or []
+                found = [int(os.path.basename(path)[:-4]) for path in paths]
+                self.must(f"{behind}: {first} to {last}", {*range(first, last + 1)} <= {*found}
+                          and first - found[0] <= 4, found)
+            segments.drop(SECOND * 50)
+            left = numbers_in(folder)
+            self.must("dropped", 45 < left[0] <= 50 and left == [*range(left[0], 100)], left)
+            for time, is_there in ((40, False), (49, False), (50, True), (99, True)):
+                paths = segments.between(SECOND * time, 0, SECOND * 99)
+                self.must(f"{time}", (paths is not None) == is_there, paths)
+            self.must("all that was read", b"".join(segments.before()) ==
+                      b"".join(self.kept(folder)))
+            segments.drop(1 << 60)
+            self.must("the last one", numbers_in(folder)[-1] == 99 and len(numbers_in(folder)) < 6)
+
+    def test_behind_a_loss(self) -> None:
+        """What came before it is of no use, and goes."""
+        folder = self.new("one")
+        segments = self.segments(folder, 0, 5)
+        self.put(folder, 6, b"six")
+        while segments.read() is not None:
+            pass
+        segments.read()
+        segments.begin(Begin(SECOND * 9, 0, False))
+        self.must("since then", segments.between(SECOND * 9, 0, SECOND * 9) ==
+                  [path_of(folder, 6)] and [*segments.before()] == [b"six"])
+        segments.drop(0)
+        self.must("gone", numbers_in(folder) == [6])
+
+    def test_goes_on(self) -> None:
+        """Who begins to read anew knows the time of the first segment, or an earlier one."""
+        folder = self.new("one")
+        self.must("a new folder", Segments(folder).begun() is None)
+        self.segments(folder, 0, 5)
+        self.must("as it was", Segments(folder).begun() == Begin(0, 0, True))
+        for number in (0, 1):
+            os.unlink(path_of(folder, number))
+        self.must("of the third", Segments(folder).begun() == Begin(SECOND * 2, 2, True))
+        for number in (2, 3, 4):
+            os.unlink(path_of(folder, number))
+        self.must("of the last", Segments(folder).begun() == Begin(SECOND * 4, 4, False))
+        self.put(folder, 7, b"seven")
+        segments = Segments(folder)
+        self.must("of one before it", segments.begun() == Begin(SECOND * 4, 4, False)
+                  and segments.known == 4)
+        for number in range(8, 8 + MANY):
+            segments.at = number
+            segments.begin(Begin(SECOND * number, number, True))
+            segments.begins = dict([max(segments.begins.items())])
+        self.put(folder, number, b"last")
+        segments.drop(1 << 60)
+        self.must("written anew", len([*segments.index.entries(4)]) == 1)
+
+    def test_journal(self) -> None:
+        """Half of an entry is none, and those behind it are there."""
+        journal = Journal(self.path("journal"))
+        self.must("none", [*journal.entries(2)] == [])
+        journal.add("one", 1)
+        whole = self.read("journal")
+        for count in range(len(whole) + 1):
+            self.write("journal", whole[:count])
+            journal.add("two", 2)
+            journal.add("other", 2, 3)
+            self.must(f"{count}", [*journal.entries(2)] == [["one", 1]] * (
+                count >= len(whole) - 1) + [["two", 2]], self.read("journal"))
+        Journal(self.path("none/journal")).add(1)
+        with mock.patch("os.replace", side_effect=OSError):
+            journal.replace([])
+        self.must("as it was", len([*journal.entries(2)]) == 2)
+
+    def test_state(self) -> None:
+        """Numbers, at once; of a file that is gone none."""
+        state = Exchange(self.new("one"))
+        self.must("none", [state[at] for at in (HEARD, ERROR, ENDED, FILE)] == [0] * 4)
+        state[ENDED] = 1
+        state.put(FILE, 2, 3, 1 << 63, 5)
+        self.must("known", state[ENDED] == 1 and state.several(FILE, 4) == [2, 3, 1 << 63, 5]
+                  and state[HEARD] == 0)
+        os.unlink(state.path)
+        state[HEARD] = 7
+        self.must("anew", (state[HEARD], state[ENDED]) == (7, 0))
+        Exchange(self.path("none"))[HEARD] = 7
+
+
+class Written(Folders):
+    """Segments that are written."""
+
+    def test_whole_pes_packets(self) -> None:
+        """Of PES packets in pieces of any size each is whole in one segment, up to what is none."""
+        for size in (1, 5, 183, 184, 500):
+            for data, count in ((b"".join(PES), 10), (b"".join(PES[:4]) + b"x" * 300 + PES[5], 4)):
+                folder = self.new(f"{size} {count}")
+                with self.recorder(folder) as one:
+                    for at in range(0, len(data), size):
+                        one.write(one.whole(data[at:at + size]))
+                        one.end()
+                found, own = self.kept(folder), b"".join(PES[:count])
+                self.must(f"{size} {count}", b"".join(found) == data[:len(b"".join(found))] and
+                          b"".join(found).startswith(own), found)
+                self.must("each is whole", count < 10 or not any(len(one) % 184 for one in found))
+
+    def test_other_bytes(self) -> None:
+        """A transport stream is kept as it comes, also one that begins with 00 00 01 BD 47."""
+        for data in (b"G" + bytes(187), b"\0\0\1\xbdG" + bytes(187), b"G"):
+            folder = self.new(f"{len(data)} {data[0]}")
+            with self.recorder(folder) as one:
+                one.write(one.whole(data[:4]))
+                one.write(one.whole(data[4:]))
+            self.must(f"{data[:5]!r}", b"".join(self.kept(folder)) == data * (len(data) > 5))
+
+    def test_length_of_a_segment(self) -> None:
+        """A new one after five seconds and a megabyte, or at 32 MB."""
+        folder, now = self.new("one"), [0.0]
+        with mock.patch("time.monotonic", lambda: now[0]), self.recorder(folder) as one:
+            for seconds, size, count in ((0, LEAST, 1), (4, 1, 1), (5, 1, 1), (6, 1, 2),
+                                         (60, LEAST - 2, 2), (61, 1, 2), (61, 1, 3),
+                                         (61, recorder.MOST, 3), (61, 1, 4)):
+                now[0] = float(seconds)
+                one.write(bytes(size))
+                self.must(f"{seconds} {size}", len(numbers_in(folder)) == count,
+                          numbers_in(folder))
+
+    def test_no_room(self) -> None:
+        """What was heard goes first; then bytes are lost, a number is left out once for each loss,
+        and why is told."""
+        folder = self.new("one")
+        with self.recorder(folder) as one:
+            for text in (b"a", b"b", b"c"):
+                one.write(text)
+                one.end()
+            one.state[HEARD] = 2  # the second one is being heard
+            real, left = one.opened, [1]
+
+            def opened() -> object:
+                if left[0]:
+                    left[0] -= 1
+                    raise OSError(errno.ENOSPC, "No space")
+                return real()
+
+            with mock.patch.object(one, "opened", opened):
+                one.write(b"d")
+                self.must("the oldest", numbers_in(folder) == [1, 2, 3] and
+                          one.state[ERROR] == errno.ENOSPC, numbers_in(folder))
+                for number, tries in ((5, 99), (5, 1), (7, 99)):
+                    left[0] = tries
+                    one.write(b"lost")
+                    self.must(f"{number} {tries}", one.is_lost and one.number == number, one.number)
+                    if number == 5 and tries == 1:
+                        left[0] = 0
+                        one.write(b"e")
+                        one.end()
+            self.must("kept", self.kept(folder) == [b"b", b"c", b"d", b"e"], self.kept(folder))
+
+    def test_recorded_anew(self) -> None:
+        """A number is left out, unless there was nothing; also where all that was heard is gone."""
+        folder = self.new("one")
+        for known, heard, wanted in (((), 0, 0), ((0,), 0, 2), ((0, 2), 1, 4), ((), 3, 4),
+                                     ((4, 5), 5, 7), ((), 6, 7)):
+            for number in range(9):
+                with contextlib.suppress(FileNotFoundError):
+                    os.unlink(path_of(folder, number))
+            for number in known:
+                self.put(folder, number, b"x")
+            Exchange(folder)[HEARD] = heard
+            with self.recorder(folder) as one:
+                self.must(f"{known} {heard}", one.number == wanted, one.number)
+
+    def test_file_goes_on(self) -> None:
+        """A file is read on from where it was, whenever its recorder ended, and nothing is left
+        out; another one is recorded anew."""
+        for kind, data in (("pes", b"".join(PES)), ("ts", b"".join(b"G%03d" % at + bytes(184)
+                                                               for at in range(40)))):
+            path = self.write(kind, data)
+            for size in (100, 184, 1000):
+                folder = self.new(f"{kind} {size}")
+                for turn in range(len(data) // size + 2):
+                    with self.recorder(folder, path) as one:
+                        for _ in range(2):
+                            one.write(one.whole(one.source.read(size + max(one.written, 0))))
+                        if turn % 2:
+                            one.end()
+                found = self.kept(folder)
+                self.must(f"{kind} {size}", b"".join(found) == data and
+                          numbers_in(folder) == [*range(len(found))], numbers_in(folder))
+            last = numbers_in(folder)[-1]
+            for other in (self.write("other", data), self.write(kind, data[:100])):
+                with self.recorder(folder, other) as one:
+                    self.must(other, one.number == last + 2 and one.written == 0, one.number)
+
+    def test_how_it_ends(self) -> None:
+        """A feed that ends, one that nobody wants, and a file that is far ahead."""
+        path = self.write("feed", b"G" * 1000)
+        folder = self.new("one")
+        with self.recorder(folder, path) as one:
+            self.must("its end", one.record() and one.state[ENDED] == 1)
+        with self.recorder(folder, path) as one:
+            self.must("it begins", one.state[ENDED] == 0)
+            one.number = one.state[HEARD] + AHEAD + 1
+            with mock.patch.object(one, "wait", side_effect=NotWanted):
+                self.must("ahead", not one.record() and one.state[ENDED] == 0)
+        with self.recorder(folder, path) as one, mock.patch.object(
+                one.source, "read", side_effect=OSError(errno.EIO, "x")):
+            self.must("an error", one.record() and one.state[ERROR] == errno.EIO)
