@@ -116,7 +116,7 @@ class Steps(Programmes):
     def test_what_a_call_left(self) -> None:
         """Its line, with what to know of its first fault; where it ended with another status, what
         it told last."""
-        refused = result("refused", line="refused 72 X")
+        refused = result("refused", line="refused 72 X", lead="refused 72 X")
         for left, ended, said in (
                 (refused, 1, f"refused 72 X; {FITTED_SHORT}"),
                 ({**refused, "hints": ["72: why"]}, 1, f"refused 72 X; why; {FITTED_SHORT}"),
