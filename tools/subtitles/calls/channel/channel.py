@@ -357,7 +357,9 @@ class Channel:
             self.unjudged(programme.name, programme.reason or reason, programme.reason is None)
         self.publish()
         if all(self.has_result(one) for one in self.queue.planned.programmes):
-            self.segments.drop(1 << 62)
+            self.segments.clear()
+        self.results.sweep()
+        self.tell_machine()
 
     def has_result(self, programme: Programme) -> bool:
         """Whether a programme has a result that stays."""
