@@ -55,9 +55,7 @@ class Words(Case):
             (words.start_word, {"tcp": "tcp", "10:00:00:00": "10:00:00:00", "TCP": none,
                                 "24:00:00:00": none}),
             (words.pid_word, {"0": 0, "8190": 8190, "0x1FFE": 8190, "8191": none, "-1": none,
-                              "0x101": 257, "x": none, "": none}),
-            (words.packet_size_word, {"188": 188, "192": 192, "204": 204, "0188": none,
-                                      "190": none})]
+                              "0x101": 257, "x": none, "": none})]
         for call, texts in of_words:
             for text, wanted in texts.items():
                 try:

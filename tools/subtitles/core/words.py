@@ -157,13 +157,6 @@ def pid_name(pid: int) -> str:
     return f"PID 0x{pid:X}"
 
 
-def packet_size_word(text: str) -> int:
-    """The bytes from a TS packet to the next one."""
-    if text not in map(str, PACKET_SIZES):
-        raise argparse.ArgumentTypeError(f"{text} is no size of packets: 188, 192 or 204")
-    return int(text)
-
-
 def stream_words(pid: int | None, packet_size: int = PACKET_SIZE) -> list[str]:
     """The options that tell the program what it reads of a transport stream; none for a file of PES
     packets."""
