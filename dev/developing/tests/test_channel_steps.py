@@ -133,7 +133,7 @@ class Steps(Programmes):
 
     def test_patience(self) -> None:
         """Two minutes after the one before, or after waiting began; then the next one has two."""
-        for options, why in (("", "its first five edges were not seen within 2 minutes"),
+        for options, why in (("", "its first five cues were not seen within 2 minutes"),
                              (" --origin 7000000000", "its first TCI did not come, by --origin "
                               "7000000000, within 2 minutes")):
             channel, lines = Told(self, self.listed("one", "two", options=options)), Lines()

@@ -157,7 +157,7 @@ CLOCK_OF_PART = Record(
     Member("source", OneOf(*SOURCES),
            "Fitted to the recording, given as --origin, or as --start by a time or tcp."),
     Member("delay_frames", Maybe(Integer(-FRAMES_OF_A_DAY, FRAMES_OF_A_DAY)), "How many frames later "
-           "than by the clock the edges of the subtitles came; null where that is not known, as "
+           "than by the clock the cues of the subtitles came; null where that is not known, as "
            "with a clock that was fitted to the recording."))
 
 

@@ -225,7 +225,7 @@ class Channel:
         if seen is None and self.now <= queue.until:
             return False
         if seen is None:
-            what = "its first five edges were not seen" if first.asked.origin is None else \
+            what = "its first five cues were not seen" if first.asked.origin is None else \
                 f"its first TCI did not come, by --origin {first.asked.origin},"
             self.leave(f"{what} within {counted(self.words.patience, 'minute')}", queue.until)
         else:
