@@ -127,8 +127,10 @@ class Ends(Case):
 
     def test_last_line(self) -> None:
         """What the program said last is no verdict where there is none."""
-        for last, wanted in (("accepted 5 frames 2 transmissions", ["not judged"]),
-                             ("3 faults", ["not judged"]), ("+ a command", []), ("", [])):
+        rows: list[tuple[str, list[str]]] = [
+            ("accepted 5 frames 2 transmissions", ["not judged"]), ("3 faults", ["not judged"]),
+            ("+ a command", []), ("", [])]
+        for last, wanted in rows:
             heard = Heard()
             heard.last = last
             end(self.verdict([], reason="why"), heard)
