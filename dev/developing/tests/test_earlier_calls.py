@@ -68,7 +68,7 @@ class EarlierCalls(Case):
         names = {field.name for field in dataclasses.fields(asked)}
         self.must("all words", names == {*OTHERS, "stl", "recording", "severity", "passed_on",
                                              "found_layout", "kept_stl"},
-                  names)  # those that are passed on: test_passed_on
+                  names)  # those that are passed on: test_options
 
     def test_object_of_another_program(self) -> None:
         asked, known = self.known()

@@ -69,7 +69,6 @@ class Words(Case):
                                   (0x101, 188, ["--pid", "0x101"]),
                                   (0, 192, ["--pid", "0x0", "--packet-size", "192"])):
             self.assertEqual(words.stream_words(pid, size), wanted)
-        self.assertEqual([words.within_words(one) for one in (0, 1)], [[], ["--within", "1"]])
         self.assertEqual([words.counted(one, "fault") for one in (0, 1, 2)],
                          ["0 faults", "1 fault", "2 faults"])
         self.assertEqual([words.range_words(*one) for one in ((0, 0), (1, 1), (0, 1), (0, 2))],
@@ -77,8 +76,7 @@ class Words(Case):
         self.assertEqual(words.pid_name(0x1A), "PID 0x1A")
         parser = words.Words("")
         words.add_page(parser)
-        words.add_within(parser)
-        self.assertEqual(vars(parser.parse_args([])), {"page": (0, 0x88), "within": 0})
+        self.assertEqual(vars(parser.parse_args([])), {"page": (0, 0x88)})
 
     def test_shown(self) -> None:
         """Characters that a terminal obeys, at each end of their ranges."""

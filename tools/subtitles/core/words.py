@@ -172,17 +172,6 @@ def add_page(parser: Words) -> None:
                         help="the page, 888 where it is left out")
 
 
-def add_within(parser: Words) -> None:
-    """The option --within, 0 where it is left out."""
-    parser.add_argument("--within", type=within_word, default=0, metavar="N",
-                        help="frames within which a page has to be whole, 0 where it is left out")
-
-
-def within_words(within: int) -> list[str]:
-    """That option, where it is not the one that is taken without."""
-    return ["--within", str(within)] if within else []
-
-
 def add_program(parser: Words) -> None:
     """The option -p, the program that is tried."""
     parser.add_argument("-p", dest="program", metavar="PROGRAM",
