@@ -1,6 +1,7 @@
-"""Man pages, completion and schema, made of what says it first: of the program the usage text of
-./subttx and the table of options in docs/manual/all-commands.md, of the tools what --help prints;
-the schema of JSON results of their table.
+"""Man pages, completion, the table of options in qc's chapter, and the schema, made of what says it
+first: of the program the usage text of ./subttx and the table of options in
+docs/manual/all-commands.md; of the tools what --help prints; of qc the table of its options, and
+that of JSON results.
 
 What is made stands between a line `made: NAME` and a line `end`, both of them comments; what stands
 outside is written by hand.
@@ -18,12 +19,15 @@ from typing import NamedTuple
 from subtitles.calls.result import schema
 from subtitles.core.built import TOP, read
 from subtitles.core.words import INSTALLED, Stop
+from subtitles.qc import options as of_pairs
 from .prefix import COMPLETION, TOOLS
 
 TABLE = os.path.join("docs", "manual", "all-commands.md")
 PROGRAM_PAGE, QC_PAGE = os.path.join("docs", "subttx.1"), os.path.join("docs", "subttx-qc.1")
 SCHEMA = os.path.join("docs", "verdict.schema.json")
-MADE = re.compile(r'^((?:\.\\"|#) made: (\w+)\n)(.*?)^((?:\.\\"|#) end\n)', re.M | re.S)
+QC_CHAPTER = os.path.join("docs", "manual", "qc.md")
+MADE = re.compile(r'^((?:\.\\"|#|<!--) made: (\w+)(?: -->)?\n)(.*?)'
+                  r'^((?:\.\\"|#|<!--) end(?: -->)?\n)', re.M | re.S)
 COMMAND = re.compile(r"^  ([a-z]+) ([A-Z]\S*(?: (?:[A-Z]\S*|--\w+))*) +(?=[a-z])", re.M)
 ROW = re.compile(r"^\| `(--[\w-]+)(?: (\S+))?` \| (`.*?`) \| (.*) \| (.*) \|$", re.M)
 ENTRY = re.compile(r"^  ((?:--?[\w-]+)(?: .*?)??)(?:, (--?[\w-]+)(?: .*?)??)?(?:  +|\n +)(\S.*)$",
@@ -176,6 +180,16 @@ def of_qc(text: str) -> dict[str, str]:
             "status": "".join(filled(one) + "\n" for one in status)}
 
 
+def of_chapter() -> dict[str, str]:
+    """The parts of qc's chapter, by the table of options of a pair."""
+    rows = ["| Option | Is | Without it | Not with |", "|---|---|---|---|"]
+    for one in of_pairs.OPTIONS:
+        form = one.form.replace("|", "\\|")
+        others = ", ".join(mode.name for mode in of_pairs.JUDGED if mode not in one.modes)
+        rows.append(f"| `{form}` | {one.means} | {one.without} | {others} |")
+    return {"options": "\n".join(rows) + "\n"}
+
+
 def completed(usage: str, table: str, helps: list[str]) -> dict[str, str]:
     """The parts of the completion."""
     them, known = commands(usage), options(table)
@@ -243,6 +257,6 @@ def made() -> dict[str, str]:
     usage, table = text("subttx").partition("usage: ")[2].partition("\nEND\n")[0], text(TABLE)
     helps = [help_of(tool) for tool in TOOLS]
     parts = {PROGRAM_PAGE: of_program(usage, table), QC_PAGE: of_qc(helps[TOOLS.index("qc")]),
-             COMPLETION: completed(usage, table, helps)}
+             QC_CHAPTER: of_chapter(), COMPLETION: completed(usage, table, helps)}
     return {**{name: with_parts(text(name), of) for name, of in parts.items()},
             SCHEMA: laid_out(schema()) + "\n"}

@@ -69,7 +69,8 @@ class Judging:
 
     made: list[Judging] = []
     ended = 0  # its status
-    left = result("accepted", line="accepted 5 frames")
+    left = result("accepted", line="accepted 5 frames",
+                  lead="accepted 5 frames")
 
     def __init__(self, words: argparse.Namespace, paths: Sequence[str]) -> None:
         self.words, self.paths, self.name = words, paths, str(words.name)

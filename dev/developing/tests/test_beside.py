@@ -112,7 +112,7 @@ class Beside(Case):
         self.must("case", words in "".join(case.itertext()))
         row = row_of(known, "one")
         self.must("collected", words in "".join(table_of([row])) and
-                  words in line_of(self.folder, row))
+                  words in line_of(self.folder, row).source)
         for more, counts in (((self.stl, self.pes, *WORDS), {"judged": 10, "refused": 0}),
                              ((self.stl,), {"judged": 10, "refused": 0}),
                              ((self.file(3),), None)):

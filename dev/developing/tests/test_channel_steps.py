@@ -116,7 +116,7 @@ class Steps(Programmes):
     def test_what_a_call_left(self) -> None:
         """Its line, with what to know of its first fault; where it ended with another status, what
         it told last."""
-        refused = result("refused", line="refused 72 X")
+        refused = result("refused", line="refused 72 X", lead="refused 72 X")
         for left, ended, said in (
                 (refused, 1, f"refused 72 X; {FITTED_SHORT}"),
                 ({**refused, "hints": ["72: why"]}, 1, f"refused 72 X; why; {FITTED_SHORT}"),
@@ -133,7 +133,7 @@ class Steps(Programmes):
 
     def test_patience(self) -> None:
         """Two minutes after the one before, or after waiting began; then the next one has two."""
-        for options, why in (("", "its first five edges were not seen within 2 minutes"),
+        for options, why in (("", "its first five cues were not seen within 2 minutes"),
                              (" --origin 7000000000", "its first TCI did not come, by --origin "
                               "7000000000, within 2 minutes")):
             channel, lines = Told(self, self.listed("one", "two", options=options)), Lines()

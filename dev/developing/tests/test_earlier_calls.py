@@ -13,6 +13,7 @@ from typing import Any, Iterator
 from unittest import mock
 
 from subtitles.calls import watching
+from subtitles.calls.claim import claimed
 from subtitles.calls.members import ASKED
 from subtitles.calls.objects import (
     Row, found, found_at, has_had_its_turn, is_current, left_by_call, may_take, object_at,
@@ -67,7 +68,7 @@ class EarlierCalls(Case):
         names = {field.name for field in dataclasses.fields(asked)}
         self.must("all words", names == {*OTHERS, "stl", "recording", "severity", "passed_on",
                                              "found_layout", "kept_stl"},
-                  names)  # those that are passed on: test_passed_on
+                  names)  # those that are passed on: test_options
 
     def test_object_of_another_program(self) -> None:
         asked, known = self.known()
@@ -267,6 +268,23 @@ class Watched(Case):
         for change, is_new in ((dict[str, Any](), False), (other, True), (other, False)):
             self.write("out/a.json", json.dumps({**have, **change}).encode())
             self.must(f"{change}", watch.is_new(item) == is_new)
+
+    def test_pair_in_use(self) -> None:
+        """One whose files another call was writing is told once, and judged again at each look."""
+        for name in ("in", "out"):
+            os.mkdir(self.path(name))
+        watch = Watch(self.words(), Typed("tools/qc", self.bench.program))
+        item = Item("a", asked_for(self.write("in/a.stl", b"1"), self.write("in/a.ts", b"1")), None)
+        out = io.StringIO()
+        with contextlib.redirect_stdout(out), claimed(self.path("out"), "a"):
+            for _ in range(3):
+                self.must("new", watch.is_new(item))
+                found_row = watch.calls.begin(item)
+                assert found_row
+                watch.end(found_row)
+        self.must("once", out.getvalue().count("another call is writing the files of a") == 1 and
+                  not os.path.exists(self.path("out/a.json")), out.getvalue())
+        self.must("again", watch.is_new(item) and not watch.is_new(item))
 
     def test_what_is_no_pair(self) -> None:
         """It is told once, and again where its reason is another one."""

@@ -65,7 +65,7 @@ class Headers(Case):
     def test_why_it_has_to_erase(self) -> None:
         """By what is asked, the header before, and whether the page is open."""
         other = of_subcode(KEEPS, 1)
-        subcode = f"{CLEAR}, and the subcode is another one than before: 0000 after 0001"
+        subcode = f"{CLEAR}, and the sub-code is another one than before: 0000 after 0001"
         is_open = f"{CLEAR}, and the page was still open: no header had ended it"
         for header, words, wanted in (
                 (Headed(NUMBERS, other, True), "", ""), (Headed(KEEPS), "", REPEATS),
@@ -109,7 +109,7 @@ class Counted(Case):
         head = f"{CLEAR} in 3 of 10 headers"
         out = f"{head}, and behind 2 of these rows are left out (at 00:00:10:00 row 22): " \
             "--keeping judges by it"
-        more = ", and refuses 2 of these: the subcode is another one than before, or the page " \
+        more = ", and refuses 2 of these: the sub-code is another one than before, or the page " \
             "was still open"
         for kept, wanted in (
                 (Kept(10, 3), f"{head}: --keeping judges by it"),
@@ -321,11 +321,11 @@ class Pairs(Case):
         """Another subcode is refused all the same."""
         found = self.judged("subcode")
         self.must("said", found.result["hints"][0].endswith(
-            ": --keeping judges by it, and refuses 2 of these: the subcode is another one than "
+            ": --keeping judges by it, and refuses 2 of these: the sub-code is another one than "
             "before, or the page was still open"), found.result["hints"])
         found = self.judged("subcode", "--keeping")
         self.must("by it", found.word == "refused" and found.result["hints"] == [
-            f"67: {CLEAR}, and the subcode is another one than before: 0001 after 0000"],
+            f"67: {CLEAR}, and the sub-code is another one than before: 0001 after 0000"],
             found.said)
 
     def test_later(self) -> None:

@@ -8,7 +8,7 @@ import random
 from developing.pes import address_of
 from developing.stl import gsi_block, subtitle_blocks
 from subtitles.core.layout import (
-    NAME_OF, PLAIN, Layout, Refused, drawn, layout_of, page_of, text_of)
+    PLAIN, Layout, Refused, drawn, layout_of, page_of, text_of)
 from subtitles.core.national import BY_WORD
 from subtitles.core.teletext import Page
 from subtitles.qc.evidence import Choice, choices_of
@@ -121,7 +121,6 @@ class Layouts(Case):
             assert layout is not None, text
             found = said_of(text_bytes(said), row, justify, layout)
             self.must(f"{said} {text}", found == want, (found, want))
-        self.must("names", sorted(NAME_OF) == [*range(50, 56)])
         pair = drawn(b"a\x0a\xc8a", 5, 2, Layout(strip=b"\x0a"), GERMAN)
         self.must("a pair", not isinstance(pair, Refused)
                   and pair[0].cells == b"\x0b\x0ba{\x0a\x0a", pair)

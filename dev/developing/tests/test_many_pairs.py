@@ -170,8 +170,7 @@ class Judged(Case):
             kept = f"-o {out}{' --keep' * is_kept}" if out else f"--json {path}"
             called, own, files = have["notes"] if have else TOLD
             self.must("words", called.startswith(
-                f"--name=pair --claimed {kept} -p {self.typed.program_path} --page 888 "
-                "--every 50 ") and
+                f"--name=pair --claimed {kept} -p {self.typed.program_path} --every 50 ") and
                 called.endswith(f" -- {self.path('one.stl')} {self.path('one.ts')}")
                 and own == "1" and files.split() == [os.devnull, os.devnull]
                 and not calls.running, have)

@@ -9,15 +9,15 @@ from unittest import mock
 
 from subtitles.calls import batch, collecting, main, single, watching
 from subtitles.calls.channel import channel, recorder
-from subtitles.calls.main import (
-    jobs_word, file_in, minutes_word, name_in, parser_of, seconds_word)
+from subtitles.calls.main import file_in, name_in, parser_of
 from subtitles.calls.modes import (
-    ALONE, BATCH, CHANNEL, CHANNEL_LINE, COLLECT, LINE, MODES, PAIR, RECORDER, TAKEN_BY, WATCH,
-    Mode, mode_of, refuse_options)
+    TAKEN_BY, jobs_word, minutes_word, mode_of, refuse_options, seconds_word)
 from subtitles.calls.channel.planned import Planned
 from subtitles.core.built import TOP
 from subtitles.core.words import Stop
 from subtitles.qc.asked import asked_of_line
+from subtitles.qc.options import (
+    ALONE, BATCH, CHANNEL, CHANNEL_LINE, COLLECT, LINE, MODES, PAIR, RECORDER, WATCH, Mode)
 from subtitles.qc.typed import Typed
 from .bench import Case, alone
 from .test_channel_tables import defaults

@@ -9,7 +9,7 @@ from subtitles.calls.main import parser_of
 
 OWN: dict[str, dict[str, object]] = {
     "calls.batch": {"WAIT": 0.2}, "calls.index_page": {"MOST_CAUSES": 6},
-    "calls.machine": {"MOST_BYTES": 67_108_864}, "calls.main": {"SETTLED": 5, "PATIENCE": 60},
+    "calls.machine": {"MOST_BYTES": 67_108_864}, 
     "calls.objects": {"LINES": 100, "MOST_READ": 134_217_728, "MOST_DIGITS": 20},
     "calls.result": {"FORMAT": 4, "MOST_LISTED": 20_000, "MOST_SUBTITLES": 100_000},
     "calls.single": {"SUMMED": 100, "SIGNALS": (2, 15, 1)},
@@ -82,8 +82,8 @@ OWN: dict[str, dict[str, object]] = {
     "reading.order": {"PAUSE": 2, "FEW": 20}, "reading.timeline": {"LEAST": 250},
     "reading.timing": {"MOST_LATE": 60}}
 NONE = ("batch", "channel", "collect", "csv", "found_layout", "here", "json", "junit", "jobs",
-        "name", "on_result", "origin", "out", "patience", "pes", "pid", "program", "recording",
-        "settled", "severity", "spool", "start", "stl", "watch")
+        "name", "on_result", "origin", "out", "pes", "pid", "program", "recording", "severity",
+        "spool", "start", "stl", "watch")
 FALSE = ("is_claimed", "is_cut", "is_fitted", "is_kept", "is_loss_allowed", "is_resumed",
          "is_strict")
 
@@ -100,4 +100,4 @@ class Numbers(unittest.TestCase):
         self.assertEqual(vars(parser_of("").parse_args([])), {
             **dict.fromkeys(NONE), **dict.fromkeys(FALSE, False), "page": (0, 0x88), "every": 250,
             "option": "english", "is_complete": True, "within": 0, "breaks": 0, "stall": 10,
-            "passed_on": {}})
+            "settled": 5, "patience": 60, "passed_on": {}})

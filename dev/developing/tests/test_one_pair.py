@@ -125,6 +125,17 @@ class Ends(Case):
             said = self.said(self.verdict(parts, reason="stopped at x", is_stopped=True))
             self.must(words, said[-2:] == [words, "! not judged: stopped at x"], said)
 
+    def test_last_line(self) -> None:
+        """What the program said last is no verdict where there is none."""
+        rows: list[tuple[str, list[str]]] = [
+            ("accepted 5 frames 2 transmissions", ["not judged"]), ("3 faults", ["not judged"]),
+            ("+ a command", []), ("", [])]
+        for last, wanted in rows:
+            heard = Heard()
+            heard.last = last
+            end(self.verdict([], reason="why"), heard)
+            self.must(last, heard.lines == [*wanted, "! why"], heard.lines)
+
 
 class Writes(Case):
     """The files of a pair."""

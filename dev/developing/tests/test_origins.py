@@ -122,7 +122,7 @@ class Origins(Case):
         rows: list[tuple[Times, int, Times, int, list[str], str]] = [
             ([one], 0, [other], 100, [], "as good as --origin 0 are --origin 360000"),
             (own[6:], 0, own[:6], 2000, [], "as good as --origin 7200000 are --origin 0"),
-            (own[6:], 1000, own[:6], 950, ["--pes 12-23 --origin 3420000"], "12 of 12 edges")]
+            (own[6:], 1000, own[:6], 950, ["--pes 12-23 --origin 3420000"], "12 of 12 cues")]
         for some, by, later, by_too, printed, line in rows:
             pes = [pes for times, frames in ((some, by), (later, by_too)) for pes in self.planned(
                 self.stl(times, "sent.stl"), "--origin", str(TICKS * frames))]
@@ -143,7 +143,7 @@ class Origins(Case):
                 f"--from {time_of(part[0][0])} --to {time_of(part[-1][1])} --origin {77_000 + late}"
                 for part, late in zip(parts, (0, frames * TICKS))] and
                       not any("reaches into" in line for line in found.told) and
-                      found.told[0] == f"2 parts: {4 * count} of {4 * count} edges agree", found)
+                      found.told[0] == f"2 parts: {4 * count} of {4 * count} cues agree", found)
         times = [*each(20, 70, 40), (1500, 1520, b"One"), (1600, 1650, b"Two")]
         pes = self.planned(self.stl(times[:20], "sent.stl")) + self.planned(
             self.stl(times[20:], "sent.stl"), "--origin", str(900 * TICKS))
@@ -161,7 +161,7 @@ class Origins(Case):
         return self.stl(each(COUNT, 70, 40, begin=FIRST))
 
     def test_a_part_that_is_not_clear(self) -> None:
-        """Neither is printed, where fewer than half of the edges of one agree: the first or the
+        """Neither is printed, where fewer than half of the cues of one agree: the first or the
         last."""
         late, other = [0] * 5, [1600, 1600, 1600, 1631, 1667, 1613, 1689]
         for row in ([*late, *other], [*(one - 1600 for one in other), *(1700 for _ in late)]):
@@ -215,7 +215,7 @@ class Origins(Case):
                       found.agreement.are_all == are_all, found.agreement)
 
     def test_agreement(self) -> None:
-        """How many edges agree, among how many, with how many letters, of how many: where a text is
+        """How many cues agree, among how many, with how many letters, of how many: where a text is
         another one, where less is sent, and where an edge is not."""
         pes, count = self.sent(5000), 2 * COUNT
         pes[6] = pes_packet(5000 + TICKS * 210, [HEADER, row(20, b"Another"), CLOSING])
@@ -225,9 +225,9 @@ class Origins(Case):
                 (pes[:10] + pes[11:], Agreement(count - 2, count, count - 3, count, False))):
             found = self.find(self.own(), some)
             self.must(f"{wanted}", found.agreement == wanted, found)
-            others = [line for line in found.told if line.startswith("the first edge that does")]
+            others = [line for line in found.told if line.startswith("the first cue that does")]
             self.must(f"{wanted}: first", others == [
-                f"the first edge that does not agree is {time_of(FIRST + 350)}"] * (
+                f"the first cue that does not agree is {time_of(FIRST + 350)}"] * (
                     not wanted.are_all), others)
 
     def test_breaks(self) -> None:

@@ -57,8 +57,7 @@ class Words(Case):
                  for words in ((), ("--pace", "none"), ("--pace", "16"))]
         for one in asked:
             words = ASKED.made(one)
-            known = {"asked": words, "found": found(one),
-                     "program": {"sha256": program.sha256, "version": program.version}}
+            known = {"asked": words, "found": found(one), "program": program._asdict()}
             self.must(f"{one.pace}", [is_current(known, other, program) for other in asked] ==
                       [other == one for other in asked])
             del words["pace"]

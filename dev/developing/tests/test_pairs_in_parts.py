@@ -256,7 +256,7 @@ class Within(Case):
                           abs(found.result["parts"][0]["origin"] - ORIGIN) < EARLY, found.said)
 
     def test_origins(self) -> None:
-        """The most edges agree within N frames, and of equals the one of which the first is not
+        """The most cues agree within N frames, and of equals the one of which the first is not
         late; within 0 that of the beginnings, as a page that each repeat erases does not change."""
         ways: list[tuple[str, Change, int, int | None]] = [
             ("fields", in_fields, 1, 0), ("late rows", with_late_rows, 1, 0),
@@ -270,7 +270,7 @@ class Within(Case):
                           (abs(found) < EARLY if off is None else found == off), origin)
                 told = [line for line in origin.told if " late" in line]
                 self.must(f"{name} {within}: how late", len(told) == 1 and (
-                    told[0] == "no edge is late" or "edges are 0 to " in told[0]), origin.told)
+                    told[0] == "no cue is late" or "cues are 0 to " in told[0]), origin.told)
         at_once: list[tuple[Change, int, str]] = [
             (with_late_rows, 3600, "1 frame"), (in_fields, 1800, "1 frame"),
             (in_three_frames, 7200, "2 frames")]

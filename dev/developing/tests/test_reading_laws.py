@@ -149,7 +149,7 @@ class Laws(unittest.TestCase):
                                  for pts, text in others)]
             one = found(shown, packets_of(sendings), 1)
             self.assertEqual([part.origin for part in one.parts], [origin % CLOCK], one.told)
-            self.assertIn("no edge is late", one.told)
+            self.assertIn("no cue is late", one.told)
 
     def test_breaks(self) -> None:
         """Each part of the programme has its own origin, also where an encoder begins anew."""

@@ -163,7 +163,7 @@ class Reasons(Case):
             (pts, some), (pts + 4 * TICKS, [changed(HEADER, 2, 15, 2), row(20, b"Other"),
                                             CLOSING]))]
         once = all_changed(self.sent[:20], 2, 15, 1) + all_changed(self.sent[20:], 2, 15, 2)
-        words = "sub-pages of 888 alternate, by the subcodes 0001 and 0002"
+        words = "sub-pages of 888 alternate, by the sub-codes 0001 and 0002"
         blank = [(pts, [HEADER, CLOSING]) for pts, _ in self.sent]
         for name, sent, is_told in (("alternate", alternate, True), ("once", once, False),
                                     ("one", blank, False)):

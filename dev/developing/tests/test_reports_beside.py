@@ -14,7 +14,6 @@ from developing.pes import whole_in
 from subtitles.core.teletext import page_name
 from subtitles.core.times import frame_of
 from subtitles.core.told import PASSED_OVER
-from subtitles.core.words import within_words
 from .bench import BENCH
 from .judged import Judged
 from .test_reports_at_random import HTML, made
@@ -57,7 +56,7 @@ class Beside:
         asked = self.asked
         self.receiver = ["--origin", str(asked.origin), "--page", page_name(*asked.page)]
         options = [*self.receiver, "--option", asked.option]
-        within = within_words(asked.within)
+        within = ["--within", str(asked.within)]
         more = [*["--complete"] * asked.is_complete, *within]
         pieces = ["--pes", "{}-{}".format(*self.pes)] if self.pes else []
         self.told = run("check", *options, "--every", str(asked.every), *more, *pieces, "--all",

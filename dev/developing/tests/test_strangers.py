@@ -9,11 +9,14 @@ import time
 from typing import Callable
 
 from .. import DEV
-from .bench import Case, example, tool_path
+from .bench import Case, example, example_bytes, tool_path
 
 SHARES, EACH = 3, 20  # of the gate; with --speed there are 500 calls
 ALL = 500
-STARTS = [*range(0, 100, 5), *range(100, 401, 50)]  # milliseconds after which a signal comes
+# Milliseconds after which a signal comes; with --speed one comes after each of ALL_STARTS.
+STARTS = {signal.SIGINT: range(0, 101, 10), signal.SIGTERM: range(0, 401, 80),
+          signal.SIGHUP: range(40, 401, 80)}
+ALL_STARTS = range(0, 401, 5)
 
 
 class Strangers(Case):
@@ -44,14 +47,38 @@ for FIRST in range(0, SHARES * EACH, EACH):
     setattr(Strangers, f"test_from_{FIRST:03}", share(FIRST))
 
 
+class Inputs(Case):
+    """Files that a call reads, of whatever pair, under the names of its outputs."""
+
+    def test_input_of_another_pair(self) -> None:
+        """The pair that would write over it is not judged, and nothing of it is written."""
+        os.mkdir(self.path("out"))
+        for name in ("a.stl", "b.stl", "c.stl", "b.pes", "out/b.json"):
+            self.write(name, example_bytes("hello.stl" if name.endswith("stl") else "hello.pes"))
+        self.write("list", b"a.stl out/b.json\nb.stl b.pes\na.stl b.pes --severity out/c.txt\n"
+                   b"c.stl b.pes\n")
+        self.write("out/c.txt", b"67 warning\n")
+        before = {name: self.read(f"out/{name}") for name in os.listdir(self.path("out"))}
+        done = self.call([tool_path("qc"), "--batch", "list", "-o", "out", "-p", self.bench.program])
+        table = done.out.decode()
+        self.must("told", done.status == 2 and "4 pairs: 2 accepted, 2 not judged" in table and all(
+            f" not judged          out/{name} is an input too" in table
+            for name in ("b.json", "c.txt")), (done, table))
+        self.must("as they were", all(self.read(f"out/{name}") == data
+                                      for name, data in before.items()))
+        self.must("of the others", sorted(os.listdir(self.path("out"))) == sorted([
+            *before, "index.html", *(f"{name}.{one}" for name in ("a", "a~2")
+                                     for one in ("html", "json", "txt"))]))
+
+
 class Starts(Case):
     """Signals at any moment from the start on."""
 
     def test_status(self) -> None:
         """It is 2, or the verdict's where that stands last; a process that a signal ends before
         anything of the tool has begun has none. Never is it 1, and nothing else is told."""
-        for number in (signal.SIGINT, signal.SIGTERM, signal.SIGHUP):
-            for after in STARTS:
+        for number, starts in STARTS.items():
+            for after in ALL_STARTS if self.bench.is_timed else starts:
                 with subprocess.Popen(
                         [tool_path("qc"), example("story.stl"), example("story.pes"), "-p",
                          self.bench.program], stdin=subprocess.DEVNULL, stdout=subprocess.PIPE,

@@ -55,9 +55,7 @@ class Words(Case):
             (words.start_word, {"tcp": "tcp", "10:00:00:00": "10:00:00:00", "TCP": none,
                                 "24:00:00:00": none}),
             (words.pid_word, {"0": 0, "8190": 8190, "0x1FFE": 8190, "8191": none, "-1": none,
-                              "0x101": 257, "x": none, "": none}),
-            (words.packet_size_word, {"188": 188, "192": 192, "204": 204, "0188": none,
-                                      "190": none})]
+                              "0x101": 257, "x": none, "": none})]
         for call, texts in of_words:
             for text, wanted in texts.items():
                 try:
@@ -71,7 +69,6 @@ class Words(Case):
                                   (0x101, 188, ["--pid", "0x101"]),
                                   (0, 192, ["--pid", "0x0", "--packet-size", "192"])):
             self.assertEqual(words.stream_words(pid, size), wanted)
-        self.assertEqual([words.within_words(one) for one in (0, 1)], [[], ["--within", "1"]])
         self.assertEqual([words.counted(one, "fault") for one in (0, 1, 2)],
                          ["0 faults", "1 fault", "2 faults"])
         self.assertEqual([words.range_words(*one) for one in ((0, 0), (1, 1), (0, 1), (0, 2))],
@@ -79,8 +76,7 @@ class Words(Case):
         self.assertEqual(words.pid_name(0x1A), "PID 0x1A")
         parser = words.Words("")
         words.add_page(parser)
-        words.add_within(parser)
-        self.assertEqual(vars(parser.parse_args([])), {"page": (0, 0x88), "within": 0})
+        self.assertEqual(vars(parser.parse_args([])), {"page": (0, 0x88)})
 
     def test_shown(self) -> None:
         """Characters that a terminal obeys, at each end of their ranges."""

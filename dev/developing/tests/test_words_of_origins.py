@@ -38,40 +38,40 @@ class Words(unittest.TestCase):
     def test_part(self) -> None:
         """How many agree, the next best, what is late, where one does not agree, what is apart."""
         rows: list[tuple[Any, int, list[str]]] = [
-            (self.part(20, 20, 18), 20, ["20 of 20 edges agree, 18 with the letters that are due; "
+            (self.part(20, 20, 18), 20, ["20 of 20 cues agree, 18 with the letters that are due; "
                                          "the file has 20; next best: none"]),
-            (self.part(1, 1, 0), 40, ["1 of 1 edge agrees, 0 with the letters that are due; this "
+            (self.part(1, 1, 0), 40, ["1 of 1 cue agrees, 0 with the letters that are due; this "
                                       "part has 20; next best: none"]),
             (self.part(9, 12, 9, others=[self.other(7, 8), self.other(5, 3)], exact=7,
                        first_other=50), 20,
-             ["9 of 12 edges agree, 9 with the letters that are due; the file has 20; next best: "
-              "--origin 7 with 8", "the first edge that does not agree is 00:00:02:00",
+             ["9 of 12 cues agree, 9 with the letters that are due; the file has 20; next best: "
+              "--origin 7 with 8", "the first cue that does not agree is 00:00:02:00",
               "2 of them only to the nearest frame: PTS that are not whole frames apart are refused "
               "as 61"]),
             (self.part(9, 9, 9, others=[self.other(7, 9), self.other(5, 9)]), 20,
-             ["9 of 9 edges agree, 9 with the letters that are due; the file has 20; next best: "
+             ["9 of 9 cues agree, 9 with the letters that are due; the file has 20; next best: "
               "--origin 7 with 9",
               "it is not unique: as good as --origin 9 are --origin 7, --origin 5"]),
             (self.part(9, 9, 9, others=[self.other(at, 9) for at in range(7)]), 20,
-             ["9 of 9 edges agree, 9 with the letters that are due; the file has 20; next best: "
+             ["9 of 9 cues agree, 9 with the letters that are due; the file has 20; next best: "
               "--origin 0 with 9", "it is not unique: as good as --origin 9 are --origin 0, "
               "--origin 1, --origin 2, --origin 3, --origin 4 and 2 more"]),
             (self.part(4, 9, 4), 20,
-             ["4 of 9 edges agree, 4 with the letters that are due; the file has 20; next best: "
-              "none", "fewer than half of the edges agree with --origin 9: check that this is the "
+             ["4 of 9 cues agree, 4 with the letters that are due; the file has 20; next best: "
+              "none", "fewer than half of the cues agree with --origin 9: check that this is the "
               "right subtitle file"]),
             (self.part(9, 9, 9, within=3, late=[2, 0, 1]), 20,
-             ["9 of 9 edges agree, 9 with the letters that are due; the file has 20; next best: "
-              "none", "edges are 0 to 2 frames late, 1 in the middle"]),
+             ["9 of 9 cues agree, 9 with the letters that are due; the file has 20; next best: "
+              "none", "cues are 0 to 2 frames late, 1 in the middle"]),
             (self.part(9, 9, 9, within=3, late=[0, 0]), 20,
-             ["9 of 9 edges agree, 9 with the letters that are due; the file has 20; next best: "
-              "none", "no edge is late"])]
+             ["9 of 9 cues agree, 9 with the letters that are due; the file has 20; next best: "
+              "none", "no cue is late"])]
         for is_begin, agree, late, line in (
                 (True, 5, 2, "all beginnings are 2 frames late compared with the ends"),
                 (False, 4, -1, "4 of 5 ends are 1 frame early compared with the beginnings")):
             apart = SimpleNamespace(is_begin=is_begin, agree=agree, of=5, late=late)
             rows.append((self.part(4, 9, 4, apart=apart), 20, [
-                "4 of 9 edges agree, 4 with the letters that are due; the file has 20; next best: "
+                "4 of 9 cues agree, 4 with the letters that are due; the file has 20; next best: "
                 "none", line]))
         for part, count, lines in rows:
             self.assertEqual(list(part_lines(part, count)), lines)

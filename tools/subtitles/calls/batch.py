@@ -12,7 +12,7 @@ from ..core.outputs import NOTHING, Inputs, temporary_folder
 from ..core.words import Stop, counted, line_of, tell
 from ..qc.asked import Asked
 from ..qc.made_with import program_at
-from ..qc.options import passed_words
+from ..qc.options import words_of as options_of
 from ..qc.progress import Progress
 from ..qc.status import ACCEPTED, NOT_JUDGED, WAIVED
 from ..qc.typed import Typed
@@ -136,19 +136,8 @@ class Calls:
 
 def words_of(asked: Asked) -> list[str]:
     """A pair as the words of a call."""
-    words = ["--page", asked.page_name, "--every", str(asked.every), "--option", asked.option]
-    words += ["--origin", str(asked.origin)] if asked.origin is not None else []
-    words += ["--within", str(asked.within)]
-    words += ["--breaks", str(asked.breaks)] if asked.breaks else []
-    words += ["--pes", f"{asked.pes[0]}-{asked.pes[1]}"] if asked.pes else []
-    words += ["--start", asked.start] if asked.start is not None else []
-    words += ["--pid", str(asked.pid)] if asked.pid is not None else []
-    words += ["--severity", asked.severity] if asked.severity is not None else []
-    words += ["--complete" if asked.is_complete else "--no-complete"]
-    words += ["--allow-lost"] if asked.is_loss_allowed else []
-    words += ["--strict"] if asked.is_strict else []
-    words += passed_words(asked.passed_on)
-    return [*words, "--", asked.stl, *([asked.recording] if asked.recording else [])]
+    return [*(word for words in options_of(asked) for word in words), "--", asked.stl,
+            *([asked.recording] if asked.recording else [])]
 
 
 def inputs_of(items: Iterable[Item], *more: str) -> Inputs:

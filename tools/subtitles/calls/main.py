@@ -11,31 +11,8 @@ from ..core.files import plain_name
 from ..core.outputs import IsInput, whole_file
 from ..core.words import Stop, Words, line_of
 from ..qc.asked import add_pair_options
+from ..qc.options import add_options
 from . import junit, modes, objects, single, table
-
-SETTLED = 5  # seconds
-PATIENCE = 60  # minutes
-
-
-def jobs_word(text: str) -> int:
-    """How many pairs are judged at a time."""
-    if not (text.isascii() and text.isdecimal() and len(text) < 5 and int(text)):
-        raise argparse.ArgumentTypeError(f"{text} is no number of pairs at a time")
-    return int(text)
-
-
-def seconds_word(text: str) -> int:
-    """Seconds for which a file does not change."""
-    if not (text.isascii() and text.isdecimal() and len(text) < 6):
-        raise argparse.ArgumentTypeError(f"{text} is no number of seconds")
-    return int(text)
-
-
-def minutes_word(text: str) -> int:
-    """Minutes of a feed, a day at most."""
-    if not (text.isascii() and text.isdecimal() and 0 < len(text) < 5 and 0 < int(text) <= 1440):
-        raise argparse.ArgumentTypeError(f"{text} is no number of minutes: 1 to 1440")
-    return int(text)
 
 
 def parser_of(text: str) -> Words:
@@ -44,38 +21,7 @@ def parser_of(text: str) -> Words:
     parser.add_argument("recording", metavar="RECORDING", nargs="?",
                         help="the recording, - for standard input")
     add_pair_options(parser)
-    parser.add_argument("-o", dest="out", metavar="DIR", help="the folder for report and list")
-    parser.add_argument("--keep", dest="is_kept", action="store_true",
-                        help="keep in DIR the PES packets of the recording, NAME.recording.pes; of "
-                             "a feed all that came, NAME.recording.ts")
-    parser.add_argument("--json", metavar="FILE", help="the verdict as a JSON result")
-    parser.add_argument("--csv", metavar="FILE", help="a line for each fault")
-    parser.add_argument("--junit", metavar="FILE", help="the verdict for a CI")
-    parser.add_argument("-p", dest="program", metavar="PROGRAM",
-                        help="the program that is asked, ./subttx where it is left out")
-    parser.add_argument("--batch", metavar="FOLDER|LIST", help="judge many pairs")
-    parser.add_argument("--resume", dest="is_resumed", action="store_true",
-                        help="keep what an earlier call has judged in the same way")
-    parser.add_argument("--collect", metavar="DIR",
-                        help="one table and one page of the JSON results in a folder")
-    parser.add_argument("--jobs", type=jobs_word, metavar="N",
-                        help="pairs at a time, as many as processors where it is left out")
-    parser.add_argument("--watch", metavar="IN", help="judge the pairs that come into a folder")
-    parser.add_argument("--settled", type=seconds_word, metavar="S",
-                        help="seconds after which a file that does not change is whole, 5 where "
-                             "it is left out")
-    parser.add_argument("--channel", metavar="LIST",
-                        help="judge the programmes of a list, one after another, out of a feed")
-    parser.add_argument("--patience", type=minutes_word, metavar="M",
-                        help="minutes within which a programme has to begin, 60 where it is left "
-                             "out")
-    parser.add_argument("--spool", metavar="DIR",
-                        help="the folder in which the feed is kept, beside that of -o where it is "
-                             "left out; without --channel the feed is recorded there")
-    parser.add_argument("--on-result", dest="on_result", metavar="COMMAND",
-                        help="a program that is called with each JSON result and its verdict")
-    parser.add_argument("--stall", type=seconds_word, default=10, metavar="S",
-                        help="seconds after which a feed that stands still is reported")
+    add_options(parser, [*modes.ASKING, *modes.OF_CALL])
     # For the calls that other ones make.
     parser.add_argument("--name", help=argparse.SUPPRESS)
     parser.add_argument("--claimed", dest="is_claimed", action="store_true",
@@ -169,11 +115,9 @@ def answer(text: str, called: str, line: list[str]) -> int:
         return batch.judge(words, called)
     if words.watch is not None:
         from . import watching
-        words.settled = SETTLED if words.settled is None else words.settled
         return watching.watch(words, called)
     if words.channel is not None:
         from .channel import channel
-        words.patience = PATIENCE if words.patience is None else words.patience
         return channel.judge(words, called)
     if words.spool is not None:
         from .channel import recorder

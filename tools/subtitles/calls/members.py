@@ -6,27 +6,21 @@ from __future__ import annotations
 from typing import NamedTuple
 
 from ..core.layout import text_of
-from ..core.national import WORDS
 from ..core.shapes import Flag, Listed, Maybe, Member, OneOf, Record, Text, Integer, named
-from ..core.times import CLOCK, FRAMES_OF_A_DAY
-from ..core.words import MOST_EVERY, MOST_WITHIN, NO_PID, PACKET_SIZES
+from ..core.times import FRAMES_OF_A_DAY
+from ..core.words import MOST_EVERY, PACKET_SIZES
 from ..qc.causes import NAMES
 from ..qc.clock import SOURCES
-from ..qc.options import passed_members
+from ..qc.options import members as option_members
 from ..qc.part import Part
 from ..qc.status import STATUSES
+from ..qc.values import COUNT, MOST_NUMBER, PID, PTS, TIME
 
 MOST_ITEMS = 1000  # of a layout
-MOST_NUMBER = (1 << 53) - 1  # the greatest that each reader of JSON takes as it is
 FIRST_FAULT, LAST_FAULT = 10, 79  # numbers of what is refused
 
-
-TIME = named("time", Text(r"[0-9]{2}:[0-9]{2}:[0-9]{2}:[0-9]{2}"))
 CODE_TIME = named("code_time", Text(r"[0-9]{2,3}(:[0-9]{2,3}){3}"))
 DATE = named("date", Text(r"[0-9]{4}-[0-9]{2}-[0-9]{2}T[0-9]{2}:[0-9]{2}:[0-9]{2}Z"))
-COUNT = named("count", Integer(0, MOST_NUMBER))
-PTS = named("pts", Integer(0, CLOCK - 1))
-PID = named("pid", Integer(0, NO_PID - 1))
 PART = named("part_number", Integer(1, MOST_NUMBER), "The part, from 1.")
 SUM = named("sum", Text(r"[0-9a-f]{64}"), "SHA-256.")
 STATUS = named("status", OneOf(*sorted({*STATUSES.values()})),
@@ -121,35 +115,7 @@ ASKED = Record(
     "asked", "",
     Member("stl", Text(), "The subtitle file as it was typed."),
     Member("recording", Maybe(Text())),
-    Member("page", Text(r"[1-8][0-9A-F]{2}"), of=lambda asked: asked.page_name),
-    Member("every", Integer(1, MOST_EVERY)),
-    Member("option", OneOf(*WORDS)),
-    Member("origin", Maybe(PTS),
-           "null where it was to be found; the one that was used is in the part."),
-    Member("complete", Flag(), of=lambda asked: asked.is_complete),
-    Member("pid", Maybe(PID)),
-    Member("allow_lost", Flag(), of=lambda asked: asked.is_loss_allowed),
-    Member("severity", Maybe(Text()), "The name of the file."),
-    Member("breaks", COUNT, "How many the programme has."),
-    Member("pes", Maybe(Listed(COUNT, 2, 2)),
-           "The numbers of the first and the last PES packet that may be judged."),
-    Member("start", Maybe(Text()), "The time code of the first picture, or tcp."),
-    Member("within", Integer(0, MOST_WITHIN), "The frames within which a page has to be whole."),
-    Member("strict", Flag(), "Whether warnings count.", lambda asked: asked.is_strict),
-    Member("from", Maybe(TIME), "Only the subtitles whose TCI is then or later were judged.",
-           lambda asked: passed_members(asked.passed_on)["from"]),
-    Member("to", Maybe(TIME), "Only the subtitles whose TCI is before were judged.",
-           lambda asked: passed_members(asked.passed_on)["to"]),
-    Member("layout", Maybe(Text()),
-           "How pages are drawn that are due; auto: as they were sent, see layout.",
-           lambda asked: passed_members(asked.passed_on)["layout"]),
-    Member("open", Flag(), "Whether open subtitles are taken too.",
-           lambda asked: passed_members(asked.passed_on)["open"]),
-    Member("keeping", Flag(), "Whether headers that repeat the page may keep it.",
-           lambda asked: passed_members(asked.passed_on)["keeping"]),
-    Member("pace", Maybe(Text(r"(none|[1-9][0-9]{0,6})")), "How many frames apart PES packets may "
-           "be at most; none: not asked; null where it was to be found: the one that was used is in "
-           "the part.", lambda asked: passed_members(asked.passed_on)["pace"]))
+    *option_members())
 
 CLOCK_OF_PART = Record(
     "clock", "Where the origin is from; null where no recording was judged.",
@@ -157,7 +123,7 @@ CLOCK_OF_PART = Record(
     Member("source", OneOf(*SOURCES),
            "Fitted to the recording, given as --origin, or as --start by a time or tcp."),
     Member("delay_frames", Maybe(Integer(-FRAMES_OF_A_DAY, FRAMES_OF_A_DAY)), "How many frames later "
-           "than by the clock the edges of the subtitles came; null where that is not known, as "
+           "than by the clock the cues of the subtitles came; null where that is not known, as "
            "with a clock that was fitted to the recording."))
 
 

@@ -1,65 +1,64 @@
-"""What tools/qc is called for, and which options go with which."""
+"""What tools/qc is called for, the options of the call itself, and which options go with which."""
 from __future__ import annotations
 
 import argparse
-from typing import NamedTuple, Sequence
+from typing import Callable, Sequence
 
 from ..core.words import Stop
-from ..qc.options import PASSED_ON, names_of
+from ..qc.options import (
+    ALONE, BATCH, CHANNEL, COLLECT, OPTIONS, PAIR, RECORDER, WATCH, Mode, Option)
+
+CALLS = (PAIR, ALONE, BATCH, WATCH, CHANNEL)
+OUTPUTS = (PAIR, ALONE, BATCH, COLLECT)
 
 
-class Mode(NamedTuple):
-    """A way to call the tool: its head in the table, and what it is called in a refusal."""
+def number_word(what: str, least: int, most: int) -> Callable[[str], int]:
+    """What reads a number of something, in bounds."""
 
-    name: str
-    words: str
+    def read(text: str) -> int:
+        is_number = text.isascii() and text.isdecimal() and len(text) <= len(str(most))
+        if not is_number or not least <= int(text) <= most:
+            raise argparse.ArgumentTypeError(f"{text} is no number of {what}: {least} to {most}")
+        return int(text)
+
+    return read
 
 
-PAIR = Mode("pair", "a recording")
-ALONE = Mode("STL alone", "a subtitle file alone")
-BATCH = Mode("`--batch`", "--batch")
-WATCH = Mode("`--watch`", "--watch")
-CHANNEL = Mode("`--channel`", "--channel")
-RECORDER = Mode("`--spool` alone", "--spool alone")
-COLLECT = Mode("`--collect`", "--collect")
-LINE = Mode("line of a batch", "a line of a batch's list")
-CHANNEL_LINE = Mode("line of a channel", "a line of a channel's list")
-MODES = (PAIR, ALONE, BATCH, WATCH, CHANNEL, RECORDER, COLLECT, LINE, CHANNEL_LINE)
+jobs_word = number_word("pairs at a time", 1, 9_999)
+seconds_word = number_word("seconds", 0, 99_999)
+minutes_word = number_word("minutes", 1, 1_440)  # a day at most
 
-PAIRS = (PAIR, BATCH, WATCH, LINE)
-TRANSMISSIONS = (*PAIRS, CHANNEL, CHANNEL_LINE)
-JUDGED = (*TRANSMISSIONS, ALONE)
-TAKEN_BY: dict[str, tuple[Mode, ...]] = {
-    "--page": TRANSMISSIONS,
-    "--every": TRANSMISSIONS,
-    "--within": TRANSMISSIONS,
-    "--option": JUDGED,
-    "--complete": TRANSMISSIONS,
-    "--no-complete": TRANSMISSIONS,
-    "--origin": TRANSMISSIONS,
-    "--start": PAIRS,
-    "--breaks": PAIRS,
-    "--pes": PAIRS,
-    "--pid": (*PAIRS, CHANNEL),
-    "--allow-lost": TRANSMISSIONS,
-    "--severity": JUDGED,
-    "--strict": JUDGED,
-    "-o": (PAIR, ALONE, BATCH, WATCH, CHANNEL),
-    "--keep": (PAIR, BATCH, WATCH, CHANNEL),
-    "--json": (PAIR, ALONE, BATCH, COLLECT),
-    "--csv": (PAIR, ALONE, BATCH, COLLECT),
-    "--junit": (PAIR, ALONE, BATCH, COLLECT),
-    "--stall": (PAIR, CHANNEL),
-    "-p": (PAIR, ALONE, BATCH, WATCH, CHANNEL),
-    "--resume": (BATCH, CHANNEL),
-    "--jobs": (BATCH, WATCH),
-    "--settled": (WATCH,),
-    "--patience": (CHANNEL,),
-    "--spool": (CHANNEL, RECORDER),
-    "--on-result": (CHANNEL,),
-    **dict.fromkeys(names_of(PASSED_ON, False), TRANSMISSIONS),
-    **dict.fromkeys(names_of(PASSED_ON, True), JUDGED),
-}
+ASKING = (
+    Option("--batch", "FOLDER|LIST", "judge many pairs", (BATCH,), field="batch"),
+    Option("--collect", "DIR", "one table and one page of the JSON results in a folder", (COLLECT,),
+           field="collect"),
+    Option("--watch", "IN", "judge the pairs that come into a folder", (WATCH,), field="watch"),
+    Option("--channel", "LIST", "judge the programmes of a list, one after another, out of a feed",
+           (CHANNEL,), field="channel"))
+OF_CALL = (
+    Option("-o", "DIR", "the folder for report and list", CALLS, field="out"),
+    Option("--keep", None, "keep in DIR the PES packets of the recording, NAME.recording.pes; of a "
+           "feed all that came, NAME.recording.ts", (PAIR, BATCH, WATCH, CHANNEL), field="is_kept",
+           default=False),
+    Option("--json", "FILE", "the verdict as a JSON result", OUTPUTS, field="json"),
+    Option("--csv", "FILE", "a line for each fault", OUTPUTS, field="csv"),
+    Option("--junit", "FILE", "the verdict for a CI", OUTPUTS, field="junit"),
+    Option("-p", "PROGRAM", "the program that is asked", CALLS, "./subttx", field="program"),
+    Option("--resume", None, "keep what an earlier call has judged in the same way",
+           (BATCH, CHANNEL), field="is_resumed", default=False),
+    Option("--jobs", "N", "pairs at a time", (BATCH, WATCH), "as many as processors", field="jobs",
+           read=jobs_word),
+    Option("--settled", "S", "seconds after which a file that does not change is whole", (WATCH,),
+           "5", field="settled", default=5, read=seconds_word),
+    Option("--patience", "M", "minutes within which a programme has to begin", (CHANNEL,), "60",
+           field="patience", default=60, read=minutes_word),
+    Option("--spool", "DIR", "the folder in which the feed is kept; without --channel the feed is "
+           "recorded there", (CHANNEL, RECORDER), "beside that of -o", field="spool"),
+    Option("--on-result", "COMMAND", "a program that is called with each JSON result and its "
+           "verdict", (CHANNEL,), field="on_result"),
+    Option("--stall", "S", "seconds after which a feed that stands still is reported",
+           (PAIR, CHANNEL), "10", field="stall", default=10, read=seconds_word))
+TAKEN_BY = {one.name: one.modes for one in (*OPTIONS, *OF_CALL)}
 
 
 def mode_of(words: argparse.Namespace) -> Mode:

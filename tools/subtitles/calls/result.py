@@ -18,9 +18,10 @@ from ..qc.faults import faults_of, words_of_subtitle
 from ..qc.made_with import MadeWith
 from ..qc.naming import counts_of
 from ..qc.status import NOT_JUDGED, STATUSES
+from ..qc.values import COUNT
 from ..qc.verdict import Verdict
 from .members import (
-    ASKED, COUNT, COUNTS, DATE, FAULT, FILE, FOUND_FILE, GAP, JUDGED_PART, LAYOUT, LISTED_CAUSE,
+    ASKED, COUNTS, DATE, FAULT, FILE, FOUND_FILE, GAP, JUDGED_PART, LAYOUT, LISTED_CAUSE,
     PROGRAM, SPREAD, STATUS, TRUSTED, WARNING, WHOLE, WORD, PartOf)
 
 FORMAT = 4

@@ -16,8 +16,6 @@ COLOURS, DRAWN_CODES = range(0x01, 0x08), range(0x01, 0x0E)
 MOST_BEFORE, MOST_AFTER, MOST_SHIFT = 6, 4, 22
 NEW_LINE, NO_CELL, CONTROLS = 0x8A, range(0x80, 0x86), (*range(0x20), *range(0x80, 0xA0))
 CHARACTER, CONTROL, TOO_LONG, PAST_BOTTOM, DOUBLE_ROW, HIDDEN = 50, 51, 52, 53, 54, 55
-NAME_OF = {CHARACTER: "Character", CONTROL: "Control", TOO_LONG: "RowTooLong",
-           PAST_BOTTOM: "PastBottom", DOUBLE_ROW: "DoubleRow", HIDDEN: "Hidden"}
 FLAGS = ("fit", "white", "trim", "text", "up", "double", "pack", "last")
 NUMBERS = {"left": range(40), "right": range(40), "free": range(1, 4),
            "row": range(-MOST_SHIFT, MOST_SHIFT + 1)}

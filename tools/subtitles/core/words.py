@@ -157,13 +157,6 @@ def pid_name(pid: int) -> str:
     return f"PID 0x{pid:X}"
 
 
-def packet_size_word(text: str) -> int:
-    """The bytes from a TS packet to the next one."""
-    if text not in map(str, PACKET_SIZES):
-        raise argparse.ArgumentTypeError(f"{text} is no size of packets: 188, 192 or 204")
-    return int(text)
-
-
 def stream_words(pid: int | None, packet_size: int = PACKET_SIZE) -> list[str]:
     """The options that tell the program what it reads of a transport stream; none for a file of PES
     packets."""
@@ -177,17 +170,6 @@ def add_page(parser: Words) -> None:
     """The option --page, 888 where it is left out."""
     parser.add_argument("--page", type=page_word, default=(0, 0x88), metavar="P",
                         help="the page, 888 where it is left out")
-
-
-def add_within(parser: Words) -> None:
-    """The option --within, 0 where it is left out."""
-    parser.add_argument("--within", type=within_word, default=0, metavar="N",
-                        help="frames within which a page has to be whole, 0 where it is left out")
-
-
-def within_words(within: int) -> list[str]:
-    """That option, where it is not the one that is taken without."""
-    return ["--within", str(within)] if within else []
 
 
 def add_program(parser: Words) -> None:

@@ -1,7 +1,8 @@
 """A pair judged, from a recording to a verdict, one idea each; tools/qc is called with `calls`.
 
 asked         what is asked of a pair
-options       options that `check` gets as they are: one table
+options       the table of the options of a pair
+values        kinds of values that results have in several places
 pair          a pair judged, from a recording to a verdict
 part          a part of a pair: what is judged by itself
 parting       which subtitles are judged in which part

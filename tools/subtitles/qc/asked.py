@@ -9,15 +9,13 @@ import stat
 from typing import Sequence
 
 from ..core.files import first_bytes, plain_name
-from ..core.national import WORDS, named_by
+from ..core.national import named_by
 from ..core.stl import stl_bytes
 from ..core.teletext import page_name
 from ..core.times import FRAMES_OF_A_DAY, Between, frame_of, time_of
-from ..core.words import (
-    Stop, Words, add_page, add_within, breaks_word, every_word, origin_word, pid_word, range_word,
-    start_word, within_words)
+from ..core.words import Stop, Words
 from .options import (
-    AUTO, FROM, KEEPING, LAYOUT, NONE, OPEN, PACE, TO, add_passed_on, passed_words, words_of_pages)
+    AUTO, FROM, KEEPING, LAYOUT, NONE, OPEN, PACE, TO, add_options, check_words, words_of_pages)
 
 AUTO_OF_FEED = ("--layout auto reads all that was sent before it judges: try a recording of the "
                 "feed first, and give the TEXT that is found there")
@@ -28,7 +26,7 @@ KEPT = "subtitles.stl"  # in the temporary folder
 
 @dataclasses.dataclass
 class Asked:
-    """A pair and its options; `page` is the magazine, 0 for 8, and the number.
+    """A pair and its options, by their table; `page` is the magazine, 0 for 8, and the number.
 
     `start` is the time code of the recording's first picture, or `tcp`: the GSI block has it.
     """
@@ -111,61 +109,18 @@ class Asked:
         return {name: word for name, word in words.items() if without.get(name) != word}
 
     def words_of_pages(self) -> list[str]:
-        """The options that say which pages are due, of those that are handed on."""
-        return words_of_pages(self.handed_on)
+        """The options that say how pages are drawn that are due, of those that are handed on."""
+        return words_of_pages(dataclasses.replace(self, passed_on=self.handed_on))
 
-    def page_words(self) -> list[str]:
-        """The page as an option, where it is not the one that is taken without."""
-        return [] if self.page == (0, 0x88) else ["--page", self.page_name]
-
-    def option_words(self) -> list[str]:
-        return [] if self.option == "english" else ["--option", self.option]
-
-    def every_words(self) -> list[str]:
-        return [] if self.every == 250 else ["--every", str(self.every)]
-
-    def within_words(self) -> list[str]:
-        return within_words(self.within)
-
-    def check_words(self) -> list[str]:
-        """The options of `check` that a person would type, but for the origin."""
-        return [*self.page_words(), *self.every_words(), *self.option_words(),
-                *(["--complete"] if self.is_complete else []), *self.within_words(),
-                *passed_words(self.handed_on)]
+    def check_words(self, is_file: bool = False) -> list[str]:
+        """The options of `check` that a person would type, but for the origin; of a subtitle file
+        alone those that change the verdict on it."""
+        return check_words(dataclasses.replace(self, passed_on=self.handed_on), is_file)
 
 
 def add_pair_options(parser: Words) -> None:
     """The options that a pair may have, on the command line or on a line of a list."""
-    add_page(parser)
-    parser.add_argument("--every", type=every_word, default=250, metavar="N",
-                        help="the repeat bound, 250 frames where it is left out")
-    add_within(parser)
-    parser.add_argument("--option", default="english", choices=(*WORDS, AUTO),
-                        help="the national option, english where it is left out; auto: the one "
-                             "of the language that the subtitle file names")
-    parser.add_argument("--complete", dest="is_complete", action="store_true", default=True,
-                        help="ask for complete pages, as is done where it is left out")
-    parser.add_argument("--no-complete", dest="is_complete", action="store_false",
-                        help="ask for none")
-    parser.add_argument("--origin", type=origin_word, metavar="T",
-                        help="the PTS of 00:00:00:00; it is found where it is left out")
-    parser.add_argument("--pid", type=pid_word, metavar="PID",
-                        help="the PID; the one that carries the page where it is left out")
-    parser.add_argument("--allow-lost", dest="is_loss_allowed", action="store_true",
-                        help="accept a recording of which TS packets are lost")
-    parser.add_argument("--strict", dest="is_strict", action="store_true",
-                        help="accept nothing of which there is a warning")
-    parser.add_argument("--severity", metavar="FILE",
-                        help="lines `NUMBER error` and `NUMBER warning`")
-    parser.add_argument("--breaks", type=breaks_word, default=0, metavar="N",
-                        help="the breaks of the programme, none where it is left out")
-    parser.add_argument("--pes", type=range_word, metavar="I-J",
-                        help="the numbers of the first and the last PES packet that may be judged, "
-                             "where the programme is in the recording more than once")
-    parser.add_argument("--start", type=start_word, metavar="TIME|tcp",
-                        help="the time code of the recording's first picture; tcp: the one of the "
-                             "GSI block")
-    add_passed_on(parser)
+    add_options(parser)
     parser.set_defaults(found_layout=None)
 
 

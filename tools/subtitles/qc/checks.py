@@ -11,7 +11,6 @@ from ..core.told import STL_FAULTS
 from ..reading.packets import Range
 from .asked import Asked
 from .checking import Answer, check
-from .options import passed_words
 from .unclear import Unclear
 
 if TYPE_CHECKING:
@@ -28,16 +27,15 @@ class Enough(Exception):
 def check_alone(pair: Pair) -> Answer:
     """What is wrong with the subtitle file; nothing is said of it yet."""
     asked = pair.asked
-    return check([pair.typed.program_path, "check", "--option", asked.option,
-                  *passed_words(asked.handed_on, True), "--all", "--", pair.names.given, NO_PES],
+    return check([pair.typed.program_path, "check", *asked.check_words(True), "--all", "--",
+                  pair.names.given, NO_PES],
                  Answer(pair.names.temporary("alone.txt")), lambda line: None)
 
 
 def say_alone(pair: Pair) -> None:
     """Says the command for that."""
     pair.speech.command(pair.typed.program_word, "check", pair.asked.stl, NO_PES,
-                        *pair.asked.option_words(), *passed_words(pair.asked.handed_on, True),
-                        "--all")
+                        *pair.asked.check_words(True), "--all")
 
 
 def words_of(part: Part, asked: Asked, pes: Range | None = None, origin: int | None = None) \

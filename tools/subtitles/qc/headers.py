@@ -64,7 +64,7 @@ def unerased_words(one: Headed, asked: Asked) -> str:
         return REPEATS
     codes = [subcode_of(header) for header in (one.numbers, one.before or one.numbers)]
     if codes[0] != codes[1]:
-        return f"{CLEAR}, and the subcode is another one than before: {codes[0]} after {codes[1]}"
+        return f"{CLEAR}, and the sub-code is another one than before: {codes[0]} after {codes[1]}"
     if asked.is_complete and one.is_open:
         return f"{CLEAR}, and the page was still open: no header had ended it"
     return ""

@@ -44,7 +44,7 @@ class Kept(NamedTuple):
         head = f"{CLEAR} in {self.keeping} of {counted(self.headers, 'header')}"
         judges = f"{KEEPING} {'accepts that' if self.is_accepted else 'judges by it'}"
         if self.refused:
-            judges += f", and refuses {self.refused} of these: the subcode is another one than " \
+            judges += f", and refuses {self.refused} of these: the sub-code is another one than " \
                 "before, or the page was still open"
         if self.left is None:
             return f"{head}: {judges}"

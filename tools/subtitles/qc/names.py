@@ -18,7 +18,7 @@ import re
 from ..core.files import is_utf_8
 from ..core.words import HIDDEN
 from .asked import Asked
-from .options import passed_options
+from .options import words_of
 from .typed import Typed, line_of
 
 
@@ -148,14 +148,7 @@ class Names:
 def again(asked: Asked, typed: Typed, *more: str) -> str:
     """The call of this tool for the pair, with more words, or with others of an option."""
     words = [typed.tool("qc"), asked.stl, *([asked.recording] if asked.recording else [])]
-    options = [asked.page_words(), asked.every_words(), asked.option_words(),
-               [] if asked.is_complete else ["--no-complete"], asked.within_words(),
-               ["--pid", f"0x{asked.pid:X}"] if asked.pid is not None else [],
-               ["--origin", str(asked.origin)] if asked.origin is not None else [],
-               ["--start", asked.start] if asked.start is not None else [],
-               ["--breaks", str(asked.breaks)] if asked.breaks else [],
-               ["--pes", f"{asked.pes[0]}-{asked.pes[1]}"] if asked.pes else [],
-               *passed_options(asked.passed_on)]
+    options = words_of(asked)
     instead = {"--origin": ["--origin", "--start"]}.get(more[0], [more[0]]) if more else []
     words += [word for option in options if not set(option[:1]) & set(instead) for word in option]
     return line_of(*words, *more)

@@ -1,36 +1,121 @@
-"""Options of qc that `check` gets as they are: a new one is a row of the table here, and a member
-`asked` in docs/verdict.schema.json. Its help, its place in completion and man pages, what a printed
-call has, what --resume compares and what a batch or a channel takes come from the row.
+"""The table of the options of a pair: a row for each.
+
+Of it are made how an option is read and its help, so the man page and completion; the manual's
+table; the words of a call for a pair, printed or forked, and those of `check`; which calls and lines
+of a list take it; the member of a JSON result, so the schema, and what --resume compares. A new one
+is a row here; a field of `Asked` beside it where the tools themselves look at its value.
 """
 from __future__ import annotations
 
 import argparse
-from typing import Any, Callable, NamedTuple, Sequence
+from typing import Any, Callable, Iterable, NamedTuple, Sequence
 
 from ..core.layout import fault_in
-from ..core.words import pace_word, time_word
+from ..core.national import WORDS
+from ..core.shapes import Flag, Integer, Listed, Maybe, Member, OneOf, Shape, Text
+from ..core.teletext import page_name
+from ..core.words import (
+    MOST_EVERY, MOST_WITHIN, breaks_word, every_word, origin_word, pace_word, page_word, pid_word,
+    range_word, start_word, time_word, within_word)
+from .values import COUNT, PID, PTS, TIME
 
 
-class PassedOn(NamedTuple):
-    """An option: its name, what its value is called, `None` where it has none, its help, and what
-    takes the word, or says by `ArgumentTypeError` why it is none. `is_of_file`: it changes the
-    verdict on a subtitle file alone, too; `is_of_pages`: and the pages that are due, so `schedule`
-    takes it."""
+class Mode(NamedTuple):
+    """A way to call the tool, or a line of a list: as the manual names it, and in a refusal."""
+
+    name: str
+    words: str
+
+
+PAIR = Mode("a pair", "a recording")
+ALONE = Mode("STL alone", "a subtitle file alone")
+BATCH = Mode("`--batch`", "--batch")
+WATCH = Mode("`--watch`", "--watch")
+CHANNEL = Mode("`--channel`", "--channel")
+RECORDER = Mode("`--spool` alone", "--spool alone")
+COLLECT = Mode("`--collect`", "--collect")
+LINE = Mode("a line of a batch", "a line of a batch's list")
+CHANNEL_LINE = Mode("a line of a channel", "a line of a channel's list")
+MODES = (PAIR, ALONE, BATCH, WATCH, CHANNEL, RECORDER, COLLECT, LINE, CHANNEL_LINE)
+
+PAIRS = (PAIR, BATCH, WATCH, LINE)
+TRANSMISSIONS = (*PAIRS, CHANNEL, CHANNEL_LINE)
+JUDGED = (*TRANSMISSIONS, ALONE)
+
+NOT = object()  # an option that `check` does not take
+
+
+class Option(NamedTuple):
+    """An option.
+
+    `metavar` is what its value is called, None where it has none; `means` what it is, with links for
+    the manual, and `without` what holds where it is left out. `modes` are the calls and lines that
+    take it, `field` where `Asked`, or the words of a call, have its value: that of one without a
+    field stands in `passed_on`, as it was typed. `read` takes the word, or says by
+    `ArgumentTypeError` why it is none, and `write` makes it again; `sets` is what one without a
+    value sets. `of_check` is what `check` takes where the same option is left out. One `of_pages`
+    changes the pages that are due, so `schedule` takes it. `shape`, `said` and `in_result` are its
+    member of a JSON result: what it may be, what it means, and what it is of the value.
+    """
 
     name: str
     metavar: str | None
-    help: str
-    read: Callable[[str], str] = str
-    is_of_file: bool = False
-    is_of_pages: bool = False
+    means: str
+    modes: Sequence[Mode]
+    without: str = ""
+    field: str = ""
+    default: Any = None
+    read: Callable[[str], Any] = str
+    write: Callable[[Any], str] = str
+    sets: Any = True
+    choices: Sequence[str] = ()
+    of_check: Any = NOT
+    of_pages: bool = False
+    shape: Shape | None = None
+    said: str = ""
+    in_result: Callable[[Any], Any] = lambda value: value
 
     @property
-    def member(self) -> str:
-        """Its name in a JSON result."""
-        return self.name.strip("-").replace("-", "_")
+    def help(self) -> str:
+        """What --help says of it."""
+        without = f"; without it: {self.without}" if self.without and self.metavar else ""
+        return plain(self.means + without)
+
+    @property
+    def form(self) -> str:
+        """It as it is typed."""
+        return f"{self.name} {self.metavar}" if self.metavar else self.name
+
+    @property
+    def member(self) -> Member | None:
+        """The member of a JSON result."""
+        if self.shape is None:
+            return None
+        return Member(self.name.strip("-").replace("-", "_"), self.shape, self.said,
+                      lambda asked: self.in_result(self.value_in(asked)))
+
+    def value_in(self, asked: Any) -> Any:
+        """Its value in what is asked."""
+        if self.field:
+            return getattr(asked, self.field)
+        return asked.passed_on.get(self.name) if self.metavar else self.name in asked.passed_on
+
+    def words(self, value: Any, default: Any) -> list[str]:
+        """The words that give a value, none for that which is taken without them."""
+        if value is None or value == default:
+            return []
+        if self.metavar:
+            return [self.name, self.write(value)]
+        return [self.name] if value == self.sets else []
 
 
-FROM, TO = "--from", "--to"
+def plain(text: str) -> str:
+    """A text of the table as a terminal has it: links as their words, no marks."""
+    while "](" in text:
+        before, _, rest = text.partition("](")
+        start = before.rindex("[")
+        text = before[:start] + before[start + 1:] + rest.partition(")")[2]
+    return text.replace("`", "")
 
 
 def time_text(text: str) -> str:
@@ -39,9 +124,8 @@ def time_text(text: str) -> str:
     return text
 
 
-LAYOUT, OPEN = "--layout", "--open"
+FROM, TO, LAYOUT, OPEN, KEEPING = "--from", "--to", "--layout", "--open", "--keeping"
 AUTO = "auto"  # what is found takes the place of this word
-KEEPING = "--keeping"
 PACE, NONE = "--pace", "none"  # none: no pace is looked for either
 
 
@@ -63,22 +147,80 @@ def pace_or_none(text: str) -> str:
     return text if text == NONE else str(pace_word(text))
 
 
-PASSED_ON: tuple[PassedOn, ...] = (
-    PassedOn(FROM, "TIME", "only the subtitles whose TCI is at TIME or later", time_text,
-             is_of_file=True),
-    PassedOn(TO, "TIME", "only the subtitles whose TCI is before TIME", time_text,
-             is_of_file=True),
-    PassedOn(LAYOUT, "TEXT|auto", "how the house draws its subtitles; auto: the layout that draws "
-             "them as they were sent", layout_or_auto, is_of_file=True, is_of_pages=True),
-    PassedOn(OPEN, None, "take a file of open subtitles too", is_of_file=True, is_of_pages=True),
-    PassedOn(KEEPING, None, "headers that repeat the page may keep it, with C4 (erase page) clear"),
-    PassedOn(PACE, "K|none", "frames from a PES packet to the next one at most; it is measured "
-             "where it is left out; none: ask for none", pace_or_none),
+def range_text(pes: tuple[int, int]) -> str:
+    """PES packets as they are typed."""
+    return f"{pes[0]}-{pes[1]}"
+
+
+OPTIONS: tuple[Option, ...] = (
+    Option("--page", "P", "the page", TRANSMISSIONS, "888", field="page", default=(0, 0x88),
+           read=page_word, write=lambda page: page_name(*page), of_check=(0, 0x88),
+           shape=Text(r"[1-8][0-9A-F]{2}"), in_result=lambda page: page_name(*page)),
+    Option("--every", "N", "the repeat bound", TRANSMISSIONS, "250 frames", field="every",
+           default=250, read=every_word, of_check=250, shape=Integer(1, MOST_EVERY)),
+    Option("--option", "O", "the national option; `auto`: the one of the language that the subtitle "
+           "file names (LC): 08 `german`; 27, 28, 1B `swedish`; 15 `italian`; 0F `french`; 0A, 21 "
+           "`spanish`; 06, 25 `czech`; any other `english`", JUDGED, "english", field="option",
+           default="english", choices=(*WORDS, AUTO), of_check="english", shape=OneOf(*WORDS)),
+    Option("--origin", "T", "the clock: the PTS of 00:00:00:00", TRANSMISSIONS, "it is fitted",
+           field="origin", read=origin_word, shape=Maybe(PTS),
+           said="null where it was to be found; the one that was used is in the part."),
+    Option("--complete", None, "ask for [closing headers]"
+           "(transmissions.md#closing-headers---complete)", TRANSMISSIONS, "they are asked for",
+           field="is_complete", default=True, of_check=False, shape=Flag()),
+    Option("--no-complete", None, "ask for none", TRANSMISSIONS, "they are asked for",
+           field="is_complete", default=True, sets=False),
+    Option("--pid", "PID", "the PID of a transport stream", (*PAIRS, CHANNEL),
+           "the one that carries the page", field="pid", read=pid_word,
+           write=lambda pid: f"0x{pid:X}", shape=Maybe(PID)),
+    Option("--allow-lost", None, "lost TS packets are a warning (45, and 79)", TRANSMISSIONS,
+           "they are refused", field="is_loss_allowed", default=False, shape=Flag()),
+    Option("--severity", "FILE", "lines `NUMBER error`, `NUMBER warning` and `others warning` (for "
+           "all numbers that it does not name); a warning does not count for the status", JUDGED,
+           "all are errors", field="severity", shape=Maybe(Text()), said="The name of the file."),
+    Option("--breaks", "N", "the [breaks](recording.md#programmes-with-breaks) of the programme: "
+           "each part has its own clock", PAIRS, "none", field="breaks", default=0,
+           read=breaks_word, shape=COUNT, said="How many the programme has."),
+    Option("--pes", "I-J", "the numbers of the first and the last PES packet that may be judged, "
+           "where the programme is in the recording more than once", PAIRS, "all", field="pes",
+           read=range_word, write=range_text, shape=Maybe(Listed(COUNT, 2, 2)),
+           said="The numbers of the first and the last PES packet that may be judged."),
+    Option("--start", "TIME|tcp", "the clock: the time code of the recording's [first picture]"
+           "(recording.md#the-clock-by-the-first-picture); `tcp`: that of the GSI block", PAIRS,
+           "it is fitted", field="start", read=start_word, shape=Maybe(Text()),
+           said="The time code of the first picture, or tcp."),
+    Option("--within", "N", "the frames within which a page has to be whole", TRANSMISSIONS, "0",
+           field="within", default=0, read=within_word, of_check=0, shape=Integer(0, MOST_WITHIN),
+           said="The frames within which a page has to be whole."),
+    Option("--strict", None, "[warnings](#warnings) about the recording count, also that the clock "
+           "was fitted", JUDGED, "they change nothing", field="is_strict", default=False,
+           shape=Flag(), said="Whether warnings count."),
+    Option(FROM, "TIME", "only the subtitles whose TCI is at TIME or later", JUDGED, "all",
+           read=time_text, of_check=None, shape=Maybe(TIME),
+           said="Only the subtitles whose TCI is then or later were judged."),
+    Option(TO, "TIME", "only the subtitles whose TCI is before TIME", JUDGED, "all", read=time_text,
+           of_check=None, shape=Maybe(TIME),
+           said="Only the subtitles whose TCI is before were judged."),
+    Option(LAYOUT, "TEXT|auto", "how the house draws its subtitles; `auto`: [the layout]"
+           "(#the-layout) that draws them as they were sent", JUDGED, "as of `check`",
+           read=layout_or_auto, of_check=None, of_pages=True, shape=Maybe(Text()),
+           said="How pages are drawn that are due; auto: as they were sent, see layout."),
+    Option(OPEN, None, "take a file of open subtitles too", JUDGED, "it is refused",
+           default=False, of_check=False, of_pages=True, shape=Flag(),
+           said="Whether open subtitles are taken too."),
+    Option(KEEPING, None, "headers that repeat the page may keep it, with C4 (erase page) clear",
+           TRANSMISSIONS, "they may not", default=False, of_check=False, shape=Flag(),
+           said="Whether headers that repeat the page may keep it."),
+    Option(PACE, "K|none", "the frames from a PES packet to the next one at most, its [pace]"
+           "(#the-pace); `none`: ask for none", TRANSMISSIONS, "it is measured", read=pace_or_none,
+           of_check=None, shape=Maybe(Text(r"(none|[1-9][0-9]{0,6})")),
+           said="How many frames apart PES packets may be at most; none: not asked; null where it "
+           "was to be found: the one that was used is in the part."),
 )
 
 
 class Keep(argparse.Action):
-    """Keeps the word of such an option, by its name, beside those of others."""
+    """Keeps the word of an option without a field, by its name, beside those of others."""
 
     def __call__(self, parser: object, names: argparse.Namespace, value: Any,
                  option: str | None = None) -> None:
@@ -86,42 +228,40 @@ class Keep(argparse.Action):
                                    self.option_strings[0]: "" if value == [] else value})
 
 
-def add_passed_on(parser: argparse.ArgumentParser) -> None:
-    """These options."""
+def add_options(parser: argparse.ArgumentParser, options: Iterable[Option] | None = None) -> None:
+    """The options of a table, those of a pair where none is given."""
     parser.set_defaults(passed_on={})
-    for one in PASSED_ON:
+    for one in OPTIONS if options is None else options:
+        known: dict[str, Any] = {"help": one.help}
+        known |= {"dest": one.field, "default": one.default} if one.field else \
+            {"dest": "passed_on", "action": Keep, "default": {}}
         if one.metavar is None:
-            parser.add_argument(one.name, action=Keep, dest="passed_on", nargs=0, help=one.help,
-                                default={})
+            known |= {"action": "store_const", "const": one.sets} if one.field else {"nargs": 0}
+        elif one.choices:
+            known["choices"] = one.choices
         else:
-            parser.add_argument(one.name, action=Keep, dest="passed_on", metavar=one.metavar,
-                                type=one.read, help=one.help, default={})
+            known |= {"metavar": one.metavar, "type": one.read}
+        parser.add_argument(one.name, **known)
 
 
-def passed_options(given: dict[str, str], is_file: bool = False) -> list[list[str]]:
-    """Those that are given, each as words; of a subtitle file alone those that change its verdict.
-    """
-    return [[one.name] if one.metavar is None else [one.name, given[one.name]]
-            for one in PASSED_ON if one.name in given and (one.is_of_file or not is_file)]
+def words_of(asked: Any) -> list[list[str]]:
+    """The options of what is asked, each as words."""
+    return [one.words(one.value_in(asked), one.default) for one in OPTIONS]
 
 
-def passed_words(given: dict[str, str], is_file: bool = False) -> list[str]:
-    """The same, one word after another."""
-    return [word for words in passed_options(given, is_file) for word in words]
+def check_words(asked: Any, is_file: bool = False) -> list[str]:
+    """Those that `check` takes too, as a person would type them there; of a subtitle file alone
+    those that change the verdict on it."""
+    return [word for one in OPTIONS if one.of_check is not NOT and (ALONE in one.modes or not is_file)
+            for word in one.words(one.value_in(asked), one.of_check)]
 
 
-def words_of_pages(given: dict[str, str]) -> list[str]:
-    """Those that change the pages that are due, as words."""
-    return passed_words({one.name: given[one.name] for one in PASSED_ON
-                         if one.is_of_pages and one.name in given})
+def words_of_pages(asked: Any) -> list[str]:
+    """Those that change the pages that are due, for `schedule`."""
+    return [word for one in OPTIONS if one.of_pages
+            for word in one.words(one.value_in(asked), one.of_check)]
 
 
-def passed_members(given: dict[str, str]) -> dict[str, object]:
-    """The same as members of a JSON result: `None`, or false, where one is not given."""
-    return {one.member: one.name in given if one.metavar is None else given.get(one.name)
-            for one in PASSED_ON}
-
-
-def names_of(several: Sequence[PassedOn], is_of_file: bool) -> list[str]:
-    """The names of those that a subtitle file alone takes, or does not."""
-    return [one.name for one in several if one.is_of_file == is_of_file]
+def members() -> list[Member]:
+    """Their members of a JSON result."""
+    return [member for one in OPTIONS if (member := one.member)]

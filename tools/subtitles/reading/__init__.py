@@ -17,7 +17,7 @@ receiver     what a model receiver holds, and marks in its cells
 subcodes     sub-pages that alternate
 repeat       how often a page is repeated
 languages    languages of subtitle files as PMTs have them
-alignment    for which origins edges agree
+alignment    for which origins cues agree
 stretches    origins one after another: parts, and the programme more than once
 finding      the origin that is found, and what is said of it
 cutting      which PES packets are of some frames

@@ -1,4 +1,4 @@
-"""Subtitles held against what is sent: the origins with which edges agree.
+"""Subtitles held against what is sent: the origins with which cues agree.
 
 An edge is a frame at which the due page changes; a change is where the page's text does. Both agree
 for an origin where they are at the same frame, within N where the letters that are due come at most
@@ -43,7 +43,7 @@ class Edge(NamedTuple):
 
 
 class Fit(NamedTuple):
-    """An origin: how many edges agree, how many of these with their letters, with those of a text,
+    """An origin: how many cues agree, how many of these with their letters, with those of a text,
     with the very PTS; of how many in the time in which the page was sent; the first of these that
     does not; the frame at the first PTS; how late each is."""
 
@@ -75,7 +75,7 @@ class Apart(NamedTuple):
 
 
 class Agreed(NamedTuple):
-    """A change with which an edge agrees: how many frames late, its letters, ticks off."""
+    """A change with which a cue agrees: how many frames late, its letters, ticks off."""
 
     late: int
     letters: bytes
@@ -141,7 +141,7 @@ class Base:
         return one
 
     def agreed(self, edge: Edge, start: int) -> Agreed | None:
-        """The change with which an edge agrees, where the first PTS has a frame."""
+        """The change with which a cue agrees, where the first PTS has a frame."""
         if not self.within:
             return self.changes.get(edge.frame - start)
         for late in range(self.within + 1):
@@ -185,7 +185,7 @@ class Base:
             if letters and len(frames[letters]) <= REPEATED for frame in frames[letters])
 
     def fit(self, start: int) -> Fit:
-        """How the edges agree with an origin."""
+        """How the cues agree with an origin."""
         inside = self.edges[bisect.bisect_left(self.frames, start):
                             bisect.bisect_right(self.frames, start + self.length)]
         found = [(edge, change) for edge in inside if (change := self.agreed(edge, start))]

@@ -48,7 +48,7 @@ class OfPart(NamedTuple):
 
 
 class Agreement(NamedTuple):
-    """How many edges agree with the origin of the first part, among how many in the time in which
+    """How many cues agree with the origin of the first part, among how many in the time in which
     the page was sent, with how many the letters do, and how many `edges` there are. `are_all`: each
     agrees, but where all beginnings are late compared with the ends, or all ends with them."""
 
@@ -101,7 +101,7 @@ def find(asked: Sought, packets: Packets) -> Origin:
         return origin
     bases = bases_of(subtitles, packets, asked.within, asked.inside)
     if not bases:
-        origin.told += [*other_words(packets, asked.page), "no edge agrees with any origin"]
+        origin.told += [*other_words(packets, asked.page), "no cue agrees with any origin"]
         return origin
     runs = runs_of(bases)
     if len(runs) > 1:
@@ -149,7 +149,7 @@ def take_one(origin: Origin, asked: Sought, bases: Sequence[Base],
              row: Sequence[Stretch], parts: Sequence[FittedPart]) -> None:
     """Takes one origin, that of the first part, where it is clear."""
     if not parts:
-        origin.told.append("no edge agrees with any origin")
+        origin.told.append("no cue agrees with any origin")
         return
     part, edges = parts[0], bases[0].edges
     if is_clear(part):
@@ -184,7 +184,7 @@ def take_parts(origin: Origin, asked: Sought, bases: Sequence[Base],
                                (part.begin, part.end)))
     count = sum(len(part.sent.edges) for part in parts)
     origin.told += [f"{len(parts)} parts: {sum(part.best.agree for part in parts)} of "
-                    f"{counted(count, 'edge')} agree", *break_lines(parts)]
+                    f"{counted(count, 'cue')} agree", *break_lines(parts)]
     for part in parts:
         origin.told += part_lines(part, count)
         if part is parts[0]:
@@ -262,13 +262,13 @@ def part_lines(part: FittedPart, count: int) -> Iterator[str]:
     """What there is to know of the best origin of a part; the file has so many edges."""
     best, others, edges = part.best, part.others, len(part.sent.edges)
     following = f"--origin {others[0].origin} with {others[0].agree}" if others else "none"
-    yield (f"{best.agree} of {counted(best.among, 'edge')} "
+    yield (f"{best.agree} of {counted(best.among, 'cue')} "
            f"{'agrees' if best.agree == 1 else 'agree'}, {best.letters} with the letters that are "
            f"due; {'the file' if edges == count else 'this part'} has {edges}; next best: "
            f"{following}")
     if part.sent.within:
         late = sorted(best.late)
-        yield "no edge is late" if not late[-1] else f"edges are " \
+        yield "no cue is late" if not late[-1] else f"cues are " \
             f"{range_words(late[0], late[-1])} late, {late[len(late) // 2]} in the middle"
     equal, apart = as_good(part), part.sent.apart(best)
     if equal:
@@ -276,7 +276,7 @@ def part_lines(part: FittedPart, count: int) -> Iterator[str]:
         yield (f"it is not unique: as good as --origin {best.origin} are {names}"
                + (f" and {len(equal) - NAMED} more" if len(equal) > NAMED else ""))
     if best.first_other is not None:
-        yield f"the first edge that does not agree is {time_of(best.first_other)}"
+        yield f"the first cue that does not agree is {time_of(best.first_other)}"
     if apart:
         some, others_ = ("beginnings", "ends") if apart.is_begin else ("ends", "beginnings")
         which = "all" if apart.agree == apart.of else f"{apart.agree} of {apart.of}"
@@ -285,7 +285,7 @@ def part_lines(part: FittedPart, count: int) -> Iterator[str]:
         yield (f"{best.agree - best.exact} of them only to the nearest frame: PTS that are not "
                "whole frames apart are refused as 61")
     if best.agree * 2 < best.among and not apart:
-        yield (f"fewer than half of the edges agree with --origin {best.origin}: check that this "
+        yield (f"fewer than half of the cues agree with --origin {best.origin}: check that this "
                "is the right subtitle file")
 
 

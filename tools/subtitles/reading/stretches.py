@@ -34,7 +34,7 @@ class Track:
 
     @functools.cached_property
     def in_a_row(self) -> list[int]:
-        """How many edges agree one after another, from each one on."""
+        """How many cues agree one after another, from each one on."""
         rows = itertools.accumulate(reversed(self.points), lambda row, one: row + 1 if one else 0,
                                     initial=0)
         return list(rows)[:0:-1]
@@ -151,7 +151,7 @@ class FittedPart(NamedTuple):
 def parts_of(subtitles: Sequence[Shown], bases: Sequence[Base],
              row: Sequence[Stretch]) -> list[FittedPart]:
     """The parts of a row of stretches; of an empty one the part of all subtitles, none where no
-    edge agrees with any origin."""
+    cue agrees with any origin."""
     if len(row) > 1:
         return [part_of(subtitles, bases, row, number) for number in range(len(row))]
     number = row[0].track.base if row else max(
@@ -213,7 +213,7 @@ class Airing(NamedTuple):
 
 
 def runs_of(bases: Sequence[Base]) -> list[Airing]:
-    """The runs of the programme, in their order: the one with which the most edges agree, and those
+    """The runs of the programme, in their order: the one with which the most cues agree, and those
     outside of its time with which at least half of them do."""
     row = find_row(bases)
     if len(row) > 1:  # the end of another run may be taken for the end of the first

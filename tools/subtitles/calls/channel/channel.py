@@ -225,7 +225,7 @@ class Channel:
         if seen is None and self.now <= queue.until:
             return False
         if seen is None:
-            what = "its first five edges were not seen" if first.asked.origin is None else \
+            what = "its first five cues were not seen" if first.asked.origin is None else \
                 f"its first TCI did not come, by --origin {first.asked.origin},"
             self.leave(f"{what} within {counted(self.words.patience, 'minute')}", queue.until)
         else:
@@ -357,7 +357,9 @@ class Channel:
             self.unjudged(programme.name, programme.reason or reason, programme.reason is None)
         self.publish()
         if all(self.has_result(one) for one in self.queue.planned.programmes):
-            self.segments.drop(1 << 62)
+            self.segments.clear()
+        self.results.sweep()
+        self.tell_machine()
 
     def has_result(self, programme: Programme) -> bool:
         """Whether a programme has a result that stays."""

@@ -10,7 +10,8 @@ from ...core.lists import Line, lines_in, list_at
 from ...core.words import Stop, Words, line_of
 from ...qc.asked import AUTO_OF_FEED, Asked, add_pair_options, asked_of, pair_options
 from ...qc.names import NamesOfList
-from ..modes import CHANNEL_LINE, refuse_options
+from ...qc.options import CHANNEL_LINE
+from ..modes import refuse_options
 from ..objects import has_had_its_turn
 from .journal import Journal
 

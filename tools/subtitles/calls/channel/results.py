@@ -37,9 +37,13 @@ class Results:
         self.failed: dict[str, str] = {}  # what could not be written, and why
         self.kept: dict[str, dict[str, Any]] = {}  # what could not even be kept
         self.written = set[str]()
-        for name in os.listdir(folder):
+        self.sweep()
+
+    def sweep(self) -> None:
+        """Takes away what was made of programmes that were not judged to their end."""
+        for name in os.listdir(self.folder):
             if name.startswith(WORK):
-                shutil.rmtree(os.path.join(folder, name), ignore_errors=True)
+                shutil.rmtree(os.path.join(self.folder, name), ignore_errors=True)
 
     def result(self, name: str) -> dict[str, Any] | None:
         """The result of a programme, where there is one."""

@@ -149,6 +149,13 @@ class Segments:
             self.index.replace([number, *known] for number, known in self.begins.items())
             self.count = len(self.begins)
 
+    def clear(self) -> None:
+        """Takes away all that was read: no programme needs any of it."""
+        for number in numbers_in(self.folder):
+            if number <= self.at:
+                with contextlib.suppress(OSError):
+                    os.unlink(path_of(self.folder, number))
+
     def close(self) -> None:
         if self.file:
             self.file.close()
