@@ -131,7 +131,10 @@ class Calls:
         for call in self.running:
             call.stop()
         while self.running:
-            self.end(next(iter(self.running)))
+            call, one = next(iter(self.running.items()))
+            if not self.end(call).is_judged:  # else it ended by itself
+                with contextlib.suppress(OSError):
+                    os.unlink(self.path(one.item))
 
 
 def words_of(asked: Asked) -> list[str]:
