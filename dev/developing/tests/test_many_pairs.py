@@ -104,7 +104,7 @@ class Batches(Case):
         words = argparse.Namespace(**{**vars(defaults()), "batch": self.write("list", "".join(
             f"{self.path(name)}.stl {self.path('one.ts')}\n" for name in ("one", "two", "three")
         ).encode()), "out": None, "program": self.bench.program, "is_kept": False, "jobs": None,
-            "is_resumed": False, "json": None, "csv": None, "junit": None, **more})
+            "is_resumed": False, "line": None, "json": None, "csv": None, "junit": None, **more})
 
         def all_rows(calls: Calls, items: list[Item], kept: dict[str, Row], jobs: int) \
                 -> dict[str, Row]:
