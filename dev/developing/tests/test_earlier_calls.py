@@ -8,7 +8,6 @@ import dataclasses
 import io
 import json
 import os
-from types import SimpleNamespace
 from typing import Any, Iterator
 from unittest import mock
 
@@ -19,8 +18,7 @@ from subtitles.calls.objects import (
     Row, found, found_at, has_had_its_turn, is_current, left_by_call, may_take, object_at,
     objects_in, row_of, unjudged)
 from subtitles.calls.pairs import Item
-from subtitles.calls.single import SIGNALS
-from subtitles.calls.watching import Stopping, Watch, refuse_folders
+from subtitles.calls.watching import Watch, refuse_folders
 from subtitles.core.words import Stop
 from subtitles.qc.asked import Asked
 from subtitles.qc.made_with import MadeWith, program_at
@@ -304,14 +302,14 @@ class Watched(Case):
         for name in ("in", "out"):
             os.mkdir(self.path(name))
         begun, looks, running = list[str](), list[int](), list[Item]()
-        stopping, due = SimpleNamespace(is_asked=False), Watch.due
+        due = Watch.due
 
         def judged_next(_: object, waiting: collections.deque[Item], *more: object) \
                 -> Iterator[Row]:
             while waiting:
                 running.append(waiting.popleft())
                 begun.append(running[-1].name)
-            while stopping.is_asked and running:
+            while len(looks) == 7 and running:
                 yield row(running.pop().name, "accepted")
 
         def look(watch: Watch, busy: set[str], now: float) -> list[Item]:
@@ -319,25 +317,15 @@ class Watched(Case):
             if len(looks) in (1, 4):
                 for name in ("a.stl", "a.ts", "b.stl", "b.ts"):
                     self.write(f"in/{name}", b"x" * len(looks))
-            if len(looks) == 7:
-                stopping.is_asked = True
+            if len(looks) == 8:
+                raise KeyboardInterrupt
             return due(watch, busy, now)
 
-        with mock.patch.object(watching, "Stopping", lambda: stopping), \
-                mock.patch.object(watching, "LOOK", 0.01), mock.patch.object(Watch, "due", look), \
+        with mock.patch("signal.signal"), mock.patch.object(watching, "LOOK", 0.01), mock.patch.object(Watch, "due", look), \
                 mock.patch.object(watching, "judged_next", judged_next), \
                 mock.patch("subtitles.calls.batch.Calls.items", lambda calls: running), \
                 contextlib.redirect_stdout(io.StringIO()) as out:
-            watching.watch(self.words(program=self.bench.program, jobs=4), "tools/qc")
+            status = watching.watch(self.words(program=self.bench.program, jobs=4), "tools/qc")
+        self.must("its status", status == 2, status)
         self.must("once", sorted(begun) == ["a", "b"] and len(out.getvalue().splitlines()) == 2,
                   (begun, out.getvalue()))
-
-    def test_signals(self) -> None:
-        """The first asks for the end, the second ends at once."""
-        with mock.patch("signal.signal") as heeded:
-            stopping = Stopping()
-        self.must("all that end a call", {one.args[0] for one in heeded.call_args_list} <= {
-            *SIGNALS})
-        stopping.take(15, None)
-        self.must("asked", stopping.is_asked)
-        self.assertRaises(KeyboardInterrupt, stopping.take, 15, None)

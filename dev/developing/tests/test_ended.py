@@ -288,7 +288,7 @@ class Mistakes(Story):
     def test_what_is_outside_of_the_steps(self) -> None:
         """An error before judging, while words are read, and while a file is made."""
         for place in ("calls.main.parser_of", "calls.single.asked_of", "calls.single.Typed",
-                      "calls.single.found", "calls.machine.causes_of", "calls.machine.head_of",
+                      "calls.single.found", "calls.machine.listed", "calls.machine.fitting",
                       "calls.single.program_at"):
             with self.subTest(place):
                 self.failing(place, ValueError("odd"))

@@ -94,7 +94,7 @@ def judges_what_comes(case: Case, process: subprocess.Popen[bytes]) -> None:
     case.write("in/now.pes", example_bytes("hello.pes"))
     case.must("again", comes(lambda: "now  accepted" in lines()), lines())
     process.send_signal(signal.SIGTERM)
-    case.must("it ends", process.wait(SOON) == 0)
+    case.must("it ends", process.wait(SOON) == 2)
     case.must("no more than that", len(lines()) == 3 and b"Traceback" not in case.read("log"),
               case.read("log"))
 
@@ -186,15 +186,34 @@ class Sites(Case):
             finally:
                 process.kill()
 
-    def test_has_a_unit(self) -> None:
-        """The unit of the manual, with a path that exists here."""
+    def test_signal_while_a_pair_is_judged(self) -> None:
+        """It has no result, and is judged after a new start."""
+        os.mkdir(self.path("in"))
+        for name in ("one.stl", "one.pes"):
+            self.write(f"in/{name}", example_bytes(name.replace("one", "hello")))
+        self.write("in/one.done", b"")
+        slow = self.program_but("*check*", f"touch '{self.path('begun')}'; sleep 60")
+        for program, wanted in ((slow, "begun"), (self.bench.program, "out/one.json")):
+            words = [tool_path("qc"), "--watch", "in", "-o", "out", "-p", program]
+            with subprocess.Popen(words, cwd=self.folder, stdout=subprocess.DEVNULL) as process:
+                end = time.monotonic() + SOON
+                while not os.path.exists(self.path(wanted)) and time.monotonic() < end:
+                    time.sleep(0.1)
+                process.send_signal(signal.SIGTERM)
+                self.must(f"{wanted}: it ends", process.wait(SOON) == 2)
+            self.must(f"{wanted}: its result", os.path.exists(self.path("out/one.json")) ==
+                      (program != slow), os.listdir(self.path("out")))
+        self.must("accepted", json.loads(self.read("out/one.json"))["verdict"] == "accepted")
+
+    def test_has_units(self) -> None:
+        """The units of the manual, with a path that exists here."""
         if not shutil.which("systemd-analyze"):
-            self.skipTest("the unit, since there is no systemd-analyze")
-        with open(os.path.join(TOP, "docs", "manual", "subttx-watch.service"),
-                  encoding="utf-8") as file:
-            text = file.read()
-        path = self.write("subttx-watch.service", text.replace(
-            "/usr/bin/subttx-qc", tool_path("qc")).replace("User=subtitles", "User=root").encode())
-        done = self.call(["systemd-analyze", "verify", path])
-        self.must("systemd-analyze verify", done.status == 0 and not any(
-            "subttx-watch.service" in line for line in done.told), done)
+            self.skipTest("the units, since there is no systemd-analyze")
+        for name in ("watch", "recorder", "channel"):
+            unit = f"subttx-{name}.service"
+            with open(os.path.join(TOP, "docs", "manual", unit), encoding="utf-8") as file:
+                text = file.read()
+            path = self.write(unit, text.replace("/usr/bin/subttx-qc", tool_path("qc")).replace(
+                "User=subtitles", "User=root").encode())
+            done = self.call(["systemd-analyze", "verify", path])
+            self.must(unit, done.status == 0 and not any(unit in line for line in done.told), done)

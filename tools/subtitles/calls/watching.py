@@ -17,26 +17,10 @@ from .batch import Calls, inputs_of, judged_next
 from .claim import refuse_files_of_all
 from .objects import ENDING, Row, found, is_current, object_at, objects_in, row_of
 from .pairs import Item, of_folder
-from .single import SIGNALS
+from .single import SIGNALS, ignore_signals
 
 LOOK = 1.0  # seconds between two looks: no notice comes of what another machine writes
 DONE = ".done"  # after the name of a pair: both of its files are whole
-
-
-class Stopping:
-    """Whether a signal has asked for the end; a second one ends at once."""
-
-    def __init__(self) -> None:
-        self.is_asked = False
-        for one in SIGNALS:
-            if signal.getsignal(one) != signal.SIG_IGN:  # nohup lets a hang-up pass
-                signal.signal(one, self.take)
-
-    def take(self, number: int, frame: object) -> None:
-        """Takes a signal."""
-        if self.is_asked:
-            raise KeyboardInterrupt
-        self.is_asked = True
 
 
 class Sighting(NamedTuple):
@@ -128,21 +112,26 @@ def refuse_folders(words: argparse.Namespace) -> None:
 
 
 def watch(words: argparse.Namespace, called: str) -> int:
-    """Judges what comes, until a signal asks for the end; answers the status 0."""
+    """Judges what comes, until a signal ends that; answers the status 2. Pairs that are judged then
+    have no result, and are judged after a new start."""
     refuse_folders(words)
     watching = Watch(words, Typed(called, words.program))
-    stopping = Stopping()
+    for one in SIGNALS:
+        if signal.getsignal(one) != signal.SIG_IGN:  # nohup lets a hang-up pass
+            signal.signal(one, signal.default_int_handler)
     calls, waiting, next_look = watching.calls, collections.deque[Item](), 0.0
     try:
-        while waiting or calls.running or not stopping.is_asked:
-            if not stopping.is_asked and time.monotonic() >= next_look:
+        while True:
+            if time.monotonic() >= next_look:
                 busy = {item.name for item in [*waiting, *calls.items()]}
                 waiting += watching.due(busy, time.monotonic())
                 next_look = time.monotonic() + LOOK
-            for row in judged_next(calls, waiting, words.jobs or os.cpu_count() or 1,
-                                   LOOK / 10 if stopping.is_asked else LOOK):
+            for row in judged_next(calls, waiting, words.jobs or os.cpu_count() or 1, LOOK):
                 watching.end(row)
+    except KeyboardInterrupt:
+        ignore_signals()  # what was judged by now is known
+        calls.stop()
+        return 2
     except BaseException:
         calls.stop()
         raise
-    return 0

@@ -7,7 +7,7 @@ import hashlib
 import select
 import subprocess
 import time
-from typing import BinaryIO, Callable, Iterator, Sequence
+from typing import BinaryIO, Callable, Iterator
 
 from ..core.files import STANDARD, naming
 from ..core.teletext import Page
@@ -77,25 +77,23 @@ class Listening:
             self.into.close()
 
 
-def followed(source: Source, calls: Callable[[], Sequence[Listening]],
-             keep: Callable[[bytes], None]) -> Iterator[tuple[float, bool] | None]:
-    """Hands a feed on to all that hear it, up to its end, some of it once all is told of what came
+def followed(source: Source, call: Listening, keep: Callable[[bytes], None]) \
+        -> Iterator[tuple[float, bool] | None]:
+    """Hands a feed on to who hears it, up to its end, some of it once all is told of what came
     before. After each line that is told gives nothing; then for how many seconds nothing has come,
     and whether all is told of what did."""
-    while open_calls := calls():
-        is_ready = all(call.is_ready() for call in open_calls)
+    while not call.has_ended:
+        is_ready = call.is_ready()
         is_wanted = is_ready and not source.is_over
-        ready, _, _ = select.select([*open_calls, *[source] * is_wanted], [], [],
+        ready, _, _ = select.select([call, *[source] * is_wanted], [], [],
                                     PATIENCE if is_ready else SOON)
-        told = [call for call in open_calls if call in ready]
-        for call in told:
+        if call in ready:
             for _ in call.lines.take():
                 yield None
-        if source in ready and not told:
-            data = source.read(min(call.room for call in open_calls))
+        elif ready:
+            data = source.read(call.room)
             keep(data)
-            for call in calls():
-                call.hand(data)
+            call.hand(data)
         if not is_ready:
             source.came = time.monotonic()  # nobody looks whether something has come
         still = 0.0 if source.is_over else time.monotonic() - source.came
@@ -118,7 +116,7 @@ def read(name: str, path: str, asked: Asked, program: str, survey: Survey, endin
             kept.write(data)
 
     with contextlib.closing(call), Source(name) as source, open(path, "wb") as kept:
-        for told in followed(source, lambda: [call] * (not call.has_ended), keep):
+        for told in followed(source, call, keep):
             if told is None:
                 continue
             still, is_still = told
