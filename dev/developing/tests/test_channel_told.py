@@ -25,7 +25,7 @@ class Machine(Programmes):
         known = json.loads(self.read("out/channel.json"))
         self.must("its dates", len(known.pop("date")) == 20 and all(
             one is None or len(one) == 20 for one in (
-                known["loss"], (known["verdict"] or {"date": None}).pop("date", None))), known)
+                known["last_loss"], (known["last_verdict"] or {"date": None}).pop("date", None))), known)
         return dict(known)
 
     def look(self, channel: Told) -> dict[str, object]:
@@ -38,8 +38,8 @@ class Machine(Programmes):
         """Which is sent, which are waited for and since when, the last loss and the last verdict,
         and what is kept."""
         channel, lines = Told(self, self.listed("one", "two"), self.path("out")), Lines()
-        nothing = {"format": 1, "sent": None, "loss": None, "verdict": None, "waiting_seconds": 0,
-                   "waiting": ["one", "two"], "segments": 0, "bytes": 0}
+        nothing = {"format": 1, "sent": None, "last_loss": None, "last_verdict": None,
+                   "waiting_seconds": 0, "waiting": ["one", "two"], "segments": 0, "bytes": 0}
         self.must("at first", self.look(channel) == nothing, self.told())
         channel.give([*lines.sent(texts_of("one"), BEGIN)][:14])
         self.must("one is sent", self.look(channel) == {
@@ -49,7 +49,7 @@ class Machine(Programmes):
             file.write(bytes(188))
         channel.lose()
         found = self.look(channel)
-        self.must("a loss", found["loss"] is not None and found["verdict"] == {
+        self.must("a loss", found["last_loss"] is not None and found["last_verdict"] == {
             "name": "one", "verdict": "accepted"}, found)
         self.must("what is kept", (found["segments"], found["bytes"]) == (1, 188), found)
 
