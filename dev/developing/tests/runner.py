@@ -1,6 +1,8 @@
 """Finds the tests of this folder and runs them side by side."""
 from __future__ import annotations
 
+import ast
+import functools
 import itertools
 import os
 import sys
@@ -73,13 +75,38 @@ def flattened(tests: unittest.TestSuite) -> Iterator[unittest.TestCase]:
 
 
 def found(names: Sequence[str]) -> list[unittest.TestCase]:
-    """All tests, or those in whose names one of some words is; each word has to be in one."""
+    """All tests, or those that are of one of some words: in whose names it is, or which call the
+    module of the tools that it names; each word has to be of one."""
     everything = list(flattened(unittest.TestLoader().discover(FOLDER, PATTERN, DEV)))
     for name in names:
-        if not any(name in one.id() for one in everything):
-            raise Stop(f"no test is named {name}")
-    return [one for one in everything
-            if not names or any(name in one.id() for name in names)]
+        if not any(is_of(one, name) for one in everything):
+            raise Stop(f"no test is named {name}, and none calls a module of that name")
+    return [one for one in everything if not names or any(is_of(one, name) for name in names)]
+
+
+def is_of(test: unittest.TestCase, name: str) -> bool:
+    """Whether a test is of a word."""
+    return name in test.id() or module_of(name) in called_by(type(test).__module__)
+
+
+def module_of(name: str) -> str:
+    """The module of the tools that a path or a dotted name is of, as `qc/pace.py` or `qc.pace`."""
+    dotted = name.removesuffix(".py").replace("/", ".").removeprefix("tools.")
+    return "subtitles." + dotted.removeprefix("subtitles.")
+
+
+@functools.lru_cache(None)
+def called_by(module: str) -> frozenset[str]:
+    """The modules of the tools of which the module of a test takes something by itself."""
+    path = getattr(sys.modules.get(module), "__file__", None)
+    if path is None:
+        return frozenset()
+    with open(path, encoding="utf-8") as file:
+        tree = ast.parse(file.read())
+    taken = [(one.module or "", alias.name) for one in ast.walk(tree)
+             if isinstance(one, ast.ImportFrom) for alias in one.names]
+    return frozenset(name for base, alias in taken for name in (base, f"{base}.{alias}")
+                     if base.startswith("subtitles"))
 
 
 def has_fixture(kind: Type[unittest.TestCase]) -> bool:

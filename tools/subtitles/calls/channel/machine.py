@@ -41,7 +41,8 @@ class Machine:
         if self.path is None:
             return
         numbers = numbers_in(segments.folder)
-        known = {"sent": sent, "waiting": [*waiting], "loss": self.loss, "verdict": self.verdict}
+        known = {"sent": sent, "waiting": [*waiting], "last_loss": self.loss,
+                 "last_verdict": self.verdict}
         if known == self.known and time.monotonic() < self.next:
             return
         self.known, self.next = known, time.monotonic() + EACH
