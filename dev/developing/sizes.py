@@ -12,7 +12,8 @@ import re
 from subtitles.core.built import read
 
 KINDS = ("code", "contracts", "specs", "proofs", "tests")
-TESTS = ("tests", "check_tests", "program_tests", "fixtures", "answer_fixtures")  # crates
+TESTS = ("tests", "check_tests", "word_tests", "file_tests", "program_tests", "fixtures",
+         "answer_fixtures")  # crates
 IMPORT = re.compile(r"(ghost use|use|pub use|mod|pub mod)\b")
 CONTRACT = re.compile(r"(requires|ensures)\b")
 

@@ -17,6 +17,8 @@ LONG_LOG = 1 << 20  # bytes of strace's log: a run with more of them does not en
 CALL = re.compile(r"^\d+ +(\w+)\((.*)\) += (-?\w+)(.*)$")
 CALLS = "trace=openat,read,write,statx,mmap,brk,rt_sigaction"
 STRACE = ["strace", "-f", "--seccomp-bpf", "-y", "-s", "0", "-e", CALLS]
+# What others say on standard error: the shell that starts a run, and strace.
+OTHERS = re.compile(r"(sh|strace): ")
 # How many faults `check --all` tells of each PES packet, but the last, of an input.
 TOLD_OF_EACH = {"long.pes": 0, "even.pes": 2, "unread.pes": 1}
 
@@ -87,12 +89,15 @@ class Call(NamedTuple):
 
 class Ran(NamedTuple):
     """What a run did; printed is `None` where nothing can be seen, written where there is no file.
-    The status of a program that could not be run is the reason."""
+    The status of a program that could not be run is the reason. `told` is what came on standard
+    error, `changed` names the files of the folder, beside its output, that are not as they were."""
 
     status: int | str
     printed: bytes | None
     written: bytes | None
     calls: list[Call]
+    told: str = ""
+    changed: tuple[str, ...] = ()
 
 
 # Of a case its name, the run, and what was wrong; and what runs one case or several.
@@ -106,6 +111,14 @@ def read(path: str) -> bytes | None:
         return None
     with open(path, "rb") as file:
         return file.read()
+
+
+def files_of(place: str, command: Command) -> dict[str, bytes | None]:
+    """The files of a folder, but the output of a command, by whatever name, and strace's log."""
+    out = os.path.realpath(os.path.join(place, command.out)) if command.out else ""
+    return {name: read(os.path.join(place, name)) for name in os.listdir(place)
+            if name not in (command.out, "calls")
+            and os.path.realpath(os.path.join(place, name)) != out}
 
 
 def calls_of(log: bytes) -> list[Call]:
@@ -168,17 +181,22 @@ class Trial:
             os.chmod(place, 0o777)
             if prepare:
                 prepare(place)
+            before_it = files_of(place, command)
             script = f'ulimit -c 0; ulimit -t {SECONDS}; {setup} exec "$@"'
             line = ["sh", "-c", script, "sh", *before, self.program, *command.words]
             try:
-                done = subprocess.run(line, stdout=stdout, stderr=subprocess.DEVNULL, cwd=place,
+                done = subprocess.run(line, stdout=stdout, stderr=subprocess.PIPE, cwd=place,
                                       stdin=subprocess.DEVNULL, timeout=30 * SECONDS, check=False,
                                       **more)
             except (OSError, subprocess.SubprocessError) as error:
                 return Ran(str(error), b"", None, [])
             calls = calls_of(read(os.path.join(place, "calls")) or b"")
             written = read(os.path.join(place, command.out)) if command.out else None
-            return Ran(done.returncode, done.stdout, written, calls)
+            after, told = files_of(place, command), done.stderr.decode("utf-8", "replace")
+            names = sorted(before_it.keys() | after.keys())
+            return Ran(done.returncode, done.stdout, written, calls,
+                       "\n".join(line for line in told.splitlines() if not OTHERS.match(line)),
+                       tuple(name for name in names if before_it.get(name) != after.get(name)))
 
     def traced(self, command: Command, *more: str) -> Ran:
         """Runs a command under strace, with more of strace's words."""
@@ -200,6 +218,10 @@ def wrong(ran: Ran, status: int | str, printed: bytes, written: bytes | None) ->
         faults.append(f"printed {shown(ran.printed)}, and not {shown(printed)}")
     if ran.written != written:
         faults.append(f"wrote {size(ran.written)}, and not {size(written)}")
+    if ran.changed:
+        faults.append(f"changed {', '.join(ran.changed)}")
+    if ran.told and ran.status in (0, 1, 2):
+        faults.append(f"told {ran.told!r} on standard error")
     return faults
 
 

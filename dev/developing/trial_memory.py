@@ -1,5 +1,5 @@
-"""The program where memory is short, for dev/faults: each request refused, little to ask for, and a
-small stack."""
+"""The program where memory is short, for dev/faults: each request refused, little to ask for, a
+small stack, and many subtitles in few megabytes."""
 from __future__ import annotations
 
 import itertools
@@ -10,7 +10,9 @@ from functools import partial
 from typing import Iterator
 
 from subtitles.core.built import TOP
+from subtitles.core.stl import TTI
 
+from .stl import boxed, gsi_block, tti_block
 from .trial import (
     REFUSER, Case, Command, Found, Trial, as_before, whole_or_no_memory)
 from .trial_inputs import HEADER
@@ -19,6 +21,9 @@ KIBIBYTES = [96 * 1024, 64 * 1024, 32 * 1024, 16 * 1024, *range(8192, 1024, -48)
 MUCH = 8192  # KiB: with as much the program has to start
 STACK = 64  # KiB: each command takes less than 48
 STACK_OF_SURVEY = 128  # KiB: that one takes between 80 and 96
+MANY = 99_999  # subtitles of one block each: as many as a file may have
+BESIDE_TEXTS = 10_000_000  # bytes that they may take but for their texts
+TOO_LITTLE = 1_000_000  # in so many they can't be kept
 # Those of which each request for memory is refused, with files of examples/.
 REFUSED = [line.split() for line in f"""
 packet {HEADER}
@@ -105,3 +110,30 @@ def refused_memory(trial: Trial) -> Iterator[Case]:
 
     for number, words in enumerate(REFUSED):
         yield partial(in_turn, number, words)
+
+
+def many_subtitles(trial: Trial) -> Iterator[Case]:
+    """A file of as many subtitles as it may have takes little memory beside their texts."""
+    texts = [boxed(b"Subtitle %05d" % number) for number in range(MANY)]
+    blocks = [tti_block(number & 0xFFFF, 20 * number, 20 * number + 20, 22, 2, text)
+              for number, text in enumerate(texts)]
+    trial.give("many.stl", gsi_block(b"Many", len(blocks), MANY) + b"".join(blocks))
+    assert len(trial.inputs["many.stl"]) == 1024 + MANY * TTI
+    schedule = trial.command("schedule", ["schedule", "../many.stl", "out.pes", "--every", "25"])
+    trial.give("many.pes", schedule.written or b"")
+    files = ["../many.stl", "../many.pes", "--every", "25"]
+    commands = [schedule, trial.command("check", ["check", *files]),
+                trial.command("check --all", ["check", *files, "--all"])]
+    most = BESIDE_TEXTS + sum(map(len, texts))
+    for command in commands:
+        def run(command: Command = command) -> list[Found]:
+            ran, short = (trial.run(command, setup=f"ulimit -d {size // 1024};")
+                          for size in (most, TOO_LITTLE))
+            kept = whole_or_no_memory(command, short)
+            if short.status != 2:
+                kept.append("it kept them all the same, so the limit tells nothing")
+            accepted = [] if command.status == 0 else [f"status {command.status} without a limit"]
+            name = f"{command.name} of {MANY} subtitles"
+            return [(f"{name} in {most} bytes", ran, accepted + as_before(command, ran)),
+                    (f"{name} in {TOO_LITTLE} bytes", short, kept)]
+        yield run

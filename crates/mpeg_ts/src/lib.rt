@@ -23,6 +23,7 @@ mod passing;
 mod pes_source;
 mod pid;
 mod stream;
+mod survey_options;
 mod transport_packet;
 mod window;
 
@@ -30,6 +31,7 @@ pub use joining::Joining;
 pub use packet_size::PacketSize;
 pub use pes_source::PesSource;
 pub use pid::Pid;
+pub use survey_options::SurveyOptions;
 pub use transport_packet::{
     PACKET, SYNC_BYTE, announces_jump, begins, counter_of, has_adaptation, has_payload, is_wrong,
     payload_of, pid_of,

@@ -1,8 +1,7 @@
-//! Tests of the program's other answers, over devices in memory, and of the words that ask for
-//! them. Nothing here is part of the product.
+//! Tests of the program's other answers, over devices in memory. Nothing here is part of the product.
 //!
-//! They stand apart from the tests of the libraries and of checks, since the tests of a crate are
-//! proved by one job.
+//! They stand apart from the tests of the libraries, of checks, of words and of files, since the
+//! tests of a crate are proved by one job.
 #![tactic(auto)]
 
 #[cfg(test)]
@@ -10,17 +9,9 @@ mod answers;
 #[cfg(test)]
 mod asserting;
 #[cfg(test)]
-mod failing_recordings;
-#[cfg(test)]
-mod files;
-#[cfg(test)]
-mod files_in_memory;
-#[cfg(test)]
 mod layouts;
 #[cfg(test)]
 mod listen;
-#[cfg(test)]
-mod lost_packets;
 #[cfg(test)]
 mod normal;
 #[cfg(test)]
@@ -28,23 +19,11 @@ mod packet;
 #[cfg(test)]
 mod packets;
 #[cfg(test)]
-mod pes_ranges;
-#[cfg(test)]
-mod recorded;
-#[cfg(test)]
-mod recordings;
-#[cfg(test)]
 mod refused_memory;
-#[cfg(test)]
-mod requests;
 #[cfg(test)]
 mod schedule;
 #[cfg(test)]
 mod show;
-#[cfg(test)]
-mod survey;
-#[cfg(test)]
-mod values;
 #[cfg(test)]
 mod words;
 #[cfg(test)]

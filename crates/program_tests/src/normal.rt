@@ -1,7 +1,7 @@
 //! `normal`: what is printed of subtitle files, whole and refused.
 use crate::answers::{assert_prints, assert_prints_of};
 use answer_fixtures::answer_words;
-use fixtures::{Drip, Endless, HEAD, block, file_of_two, gsi};
+use fixtures::{Drip, Endless, HEAD, block, commented, file_of_two, gsi, normal_form};
 use std::alloc::Global;
 use std::process::Abort;
 use sub_answer::Status;
@@ -9,31 +9,6 @@ use sub_io::{FailAt, MemSink, MemSource, Sink};
 
 /// The words of it.
 pub const NORMAL: [&str; 4] = ["subttx", "normal", "a", "b"];
-
-// A block with these EBN and CF, and a text field of one byte.
-fn part(ebn: u8, cf: u8, text: u8) -> [u8; 128] {
-    let mut head = HEAD;
-    (head[3], head[15]) = (ebn, cf);
-    block(&head, &[text; 112])
-}
-
-/// A GSI block, a comment, user data, and a subtitle of two blocks.
-pub fn commented() -> [u8; 1536] {
-    let mut file = [0; 1536];
-    let (front, subtitle) = file.split_at_mut(1280);
-    front.copy_from_slice(&file_of_two(&part(0xFF, 1, 0x43), &part(0xFE, 0, 0x55)));
-    let (first, last) = subtitle.split_at_mut(128);
-    first.copy_from_slice(&part(0x00, 0, 0x41));
-    last.copy_from_slice(&part(0xFF, 0, 0x42));
-    file
-}
-
-/// The normal form of that: two blocks, and the counts TNB and TNS.
-pub fn normal_form() -> [u8; 1280] {
-    let mut file = file_of_two(&part(0x00, 0, 0x41), &part(0xFF, 0, 0x42));
-    file[238..248].copy_from_slice(b"0000200001");
-    file
-}
 
 // Asserts the line where a byte of the file of a comment, user data and a subtitle has this value.
 fn assert_refuses(rt: &(impl Abort + Alloc<A = Global>), place: usize, value: u8, line: &[u8]) {

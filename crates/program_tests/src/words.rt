@@ -27,10 +27,20 @@ fn prints_the_line_of_refused_words_into_any_output(rt: HostRuntime) {
 
 // Words that are no command.
 #[rattlefmt::skip]
-const NO_WORDS: [&[&str]; 55] = [
+const NO_WORDS: [&[&str]; 64] = [
     &[], // not even the program's name
     &["subttx"],
     &["subttx", "help", "packet", "15"],
+    &["subttx", "help", "--help", "me"],
+    &["subttx", "help", "Packet"],
+    &["subttx", "help", "help"],
+    &["subttx", "--help", "-h"],
+    // status 0 of a check is a verdict: no word of it asks for help
+    &["subttx", "check", "a.stl", "b.pes", "-h"],
+    &["subttx", "check", "a.stl", "b.pes", "--help"],
+    &["subttx", "check", "a.stl", "b.pes", "--page", "-h"],
+    &["subttx", "check", "a.stl", "-h"],
+    &["subttx", "-h", "check", "a.stl", "b.pes"],
     &["subttx", "--version"],
     &["subttx", "-V"],
     &["subttx", "packet"],

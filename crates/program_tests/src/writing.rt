@@ -2,9 +2,9 @@
 ghost use Rattle.sub_io.specs.Device.{CanFail};
 
 use crate::answers::assert_fills;
-use crate::normal::{NORMAL, commented, normal_form};
+use crate::normal::NORMAL;
 use answer_fixtures::{SCHEDULE, answer_words};
-use fixtures::{Watched, file_of_hi, schedule_of_hi};
+use fixtures::{Watched, commented, file_of_hi, normal_form, schedule_of_hi};
 use std::alloc::Global;
 use std::process::Abort;
 use sub_answer::Status;

@@ -171,7 +171,7 @@ unfolding drawn_by plainly_drawn drawn_of
 drawn_by-default national t low =
     grind (arith, nat_tests, drawn_of, none_stripped, lines-default, faults-all, page-all)
 
--- Where a drawing has no items, and where it has some: for `first_fault` and `drawn_page`.
+-- Where a drawing has no items, and where it has some: for `first_fault` and `draw_on`.
 pub drawn-none : (drawing : Drawing) (t : SubtitleValue)
     → drawing.layout.items ≡ None
     → 1 ≤ t.vp

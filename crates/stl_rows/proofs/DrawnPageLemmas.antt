@@ -139,13 +139,13 @@ no_faults : (n : National) (t : SubtitleValue) → IsOk (plainly_drawn n t) → 
 unfolding plainly_drawn
 no_faults n t ok = grind (arith, nat_tests)
 
--- The lines of a subtitle that draws a page have no fault. For `drawn_page`.
+-- The lines of a subtitle that draws a page have no fault. For `draw_on`.
 pub no_line_faults : (n : National) (t : SubtitleValue)
     → IsOk (plainly_drawn n t)
     → line_faults 0 t.vp false (lines n t) ≡ []
 no_line_faults n t ok = (empty_parts (refused_codes (text_codes n 0 t.text)) _ (no_faults n t ok)).1
 
--- It draws the page of its lines. For `drawn_page`.
+-- It draws the page of its lines. For `draw_on`.
 pub drawn-page : (n : National) (t : SubtitleValue)
     → IsOk (plainly_drawn n t)
     → plainly_drawn n t ≡ Ok (page_of_lines t.jc t.vp (lines n t))

@@ -107,7 +107,7 @@ module _ (n : Drawing) (ts : List SubtitleValue) (f at : ℕ) (t : SubtitleValue
   pub ends_after : f < t.tco
   ends_after = rw (← is) at (first.after at t (omega arith) inside)
 
-  -- In a gap before it none is due: for `page_at`.
+  -- In a gap before it none is due: for `draw_near`.
   pub none-between : f < t.tci
       → (k : ℕ) (d : SubtitleValue)
       → k < length ts
@@ -261,3 +261,31 @@ pub tco_rises : (n : Drawing) (ts : List SubtitleValue)
     → IsProgramme n ts
     → IsNonDecreasingBy (λ (t : SubtitleValue). t.tco) ts
 tco_rises n ts ok i j d le inside = grind (arith, nat_tests, cases_lt)
+
+-- So all before one that has ended have ended, and none behind one that has not: for
+-- `is_first_after`.
+pub ended-until : (n : Drawing) (ts : List SubtitleValue) (f at : ℕ)
+    → IsProgramme n ts
+    → at < length ts
+    → ((d : SubtitleValue) → (get_or ts (at - 1) d).tco ≤ f)
+    → (k : ℕ) (d : SubtitleValue)
+    → k < at
+    → (get_or ts k d).tco ≤ f
+ended-until n ts f at ok inside ended k d b =
+    let up = tco_rises n ts ok k (at - 1) d (omega arith) (omega arith) in
+    omega (arith, up, ended d)
+
+pub left-from : (n : Drawing) (ts : List SubtitleValue) (f at : ℕ) (t : SubtitleValue)
+    → IsProgramme n ts
+    → at < length ts
+    → t ≡ get_or ts at t
+    → f < t.tco
+    → (k : ℕ) (d : SubtitleValue)
+    → at ≤ k
+    → k < length ts
+    → f < (get_or ts k d).tco
+left-from n ts f at t ok inside is late k d a b =
+    let own : t ≡ get_or ts at d = get_or_read ts at t inside is d in
+    let same = ap (λ (s : SubtitleValue). s.tco) own in
+    let up = tco_rises n ts ok at k d a b in
+    omega (arith, up, same, late)

@@ -26,3 +26,4 @@ pub mod LoadingLaw
 pub mod PartLemmas
 pub mod JudgedLemmas
 pub mod KeepingLemmas
+pub mod CuesLemmas

@@ -58,7 +58,7 @@ pub prepared_longer : (cells : List ℕ) → length cells ≤ length (prepared c
 unfolding prepared
 prepared_longer cells = grind (arith, nat_tests, length-append)
 
--- Codes with one code after them are codes. For `page_of_text`.
+-- Codes with one code after them are codes. For `draw_text`.
 pub codes_push : (cells : List ℕ) (code : ℕ)
     → AreCodes cells
     → IsCode code

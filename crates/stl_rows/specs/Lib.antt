@@ -16,3 +16,4 @@ pub mod EveryFault
 pub mod Fault
 pub mod Judged
 pub mod Keeping
+pub mod Cues

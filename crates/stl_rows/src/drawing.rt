@@ -14,6 +14,7 @@ use crate::laid_out::draw_by;
 use crate::layout::{Drawing, Layout};
 use crate::line::{prepare, row_codes};
 use crate::national::National;
+use crate::record::Record;
 use crate::text_code::{TextCode, text_code_at};
 use crate::text_faults::first_fault;
 use arrayvec::ArrayVec;
@@ -43,16 +44,16 @@ fn put_line(jc: u8, row: u16, cells: &[u8], page: &mut Page)
     page.set_row(row as u8, &row_codes(jc, line.as_slice()));
 }
 
-// Draws the lines of a text without faults, the first on row VP.
-fn page_of_text(national: National, jc: u8, vp: u8, text: &[u8]) -> Page
+// Draws the lines of a text without faults on a blank page, the first on row VP.
+fn draw_text(national: National, jc: u8, vp: u8, text: &[u8], page: &mut Page)
     requires first { 1 ≤ vp }
     requires last { vp ≤ 23 }
     requires short { length text.now ≤ 1008 }
     requires whole { line_faults 0 vp false (prepared_lines [] (text_codes national 0 text.now))
         ≡ [] }
-    ensures { page_of_lines jc vp (prepared_lines [] (text_codes national 0 text.now)) ≡ result }
+    ensures { page_of_lines jc vp (prepared_lines [] (text_codes national 0 text.now)) ≡ page.new }
 {
-    let mut page = Page::blank();
+    *page = Page::blank();
     let mut row = u16::from(vp);
     let mut cells = ArrayVec::<u8, 40>::new();
     let mut at = 0;
@@ -61,7 +62,7 @@ fn page_of_text(national: National, jc: u8, vp: u8, text: &[u8]) -> Page
         match code {
             TextCode::Cell(cell) => push_cell(&mut cells, cell),
             TextCode::NewLine => {
-                put_line(jc, row, cells.as_slice(), &mut page);
+                put_line(jc, row, cells.as_slice(), page);
                 row += 1;
                 cells.clear();
             }
@@ -69,24 +70,24 @@ fn page_of_text(national: National, jc: u8, vp: u8, text: &[u8]) -> Page
         }
         at = next;
     }
-    put_line(jc, row, cells.as_slice(), &mut page);
-    page
+    put_line(jc, row, cells.as_slice(), page);
 }
 
-/// The page that a subtitle draws which has no fault.
-pub(crate) fn drawn_page(subtitle: &Subtitle, drawing: &Drawing) -> Page
+/// Draws the page of a subtitle which has no fault, in place of another: a page is long to copy.
+pub(crate) fn draw_on(subtitle: &Record<'_>, drawing: &Drawing, page: &mut Page)
     requires { IsOk (drawn drawing.now subtitle.now) }
-    ensures { drawn drawing.now subtitle.now ≡ Ok result }
+    ensures { drawn drawing.now subtitle.now ≡ Ok page.new }
 {
     match &drawing.layout.items {
-        None => page_of_text(
+        None => draw_text(
             drawing.national,
             subtitle.jc(),
             subtitle.vp(),
             subtitle.text(),
+            page,
         ),
         Some(items) => match draw_by(drawing.national, items, subtitle) {
-            Ok(page) => page,
+            Ok(drawn) => *page = drawn,
             Err(_) => unreachable!(),
         },
     }
@@ -107,9 +108,14 @@ pub fn draw(subtitle: &Subtitle, national: National, layout: Layout) -> Result<P
     ensures { result ≡ drawn (drawing_by national layout) subtitle.now }
 {
     let drawing = Drawing::new(national, layout, Scope::whole());
-    match first_fault(subtitle, &drawing) {
+    let subtitle = Record::of(subtitle);
+    match first_fault(&subtitle, &drawing) {
         Some(fault) => Err(fault),
-        None => Ok(drawn_page(subtitle, &drawing)),
+        None => {
+            let mut page = Page::blank();
+            draw_on(&subtitle, &drawing, &mut page);
+            Ok(page)
+        }
     }
 }
 

@@ -24,6 +24,7 @@ use crate::judged::JudgedProgramme;
 use crate::keeping::Kept;
 use crate::layout::{Drawing, Layout};
 use crate::national::National;
+use crate::record::Record;
 use crate::text_faults::first_fault;
 use crate::times::Times;
 use std::alloc::{Allocator, Global};
@@ -153,8 +154,8 @@ pub fn load_all_in<A: Allocator + Copy, S: Source, D: Audience<LoadFault>>(
     };
     let mut kept = Kept::new(alloc);
     let mut before = None;
+    let mut subtitle = Subtitle::empty();
     'subtitles: loop {
-        let mut subtitle = Subtitle::empty();
         match reader.next_into(source, &mut subtitle) {
             Err(fault) => match tell_end(fault, reader.block(), audience) {
                 Ok(()) => return Ok(None),
@@ -176,7 +177,7 @@ pub fn load_all_in<A: Allocator + Copy, S: Source, D: Audience<LoadFault>>(
                 let times = Times::of(&subtitle);
                 let in_order = times.fault_after(before).is_none();
                 before = Some(times);
-                if let Err(kind) = kept.put(in_order, clean, subtitle) {
+                if let Err(kind) = kept.put(in_order, clean, &subtitle) {
                     return Err(LoadFault { block, kind });
                 }
             }
@@ -260,7 +261,7 @@ fn tell_fault<D: Audience<LoadFault>>(
 fn row_fault(subtitle: &Subtitle, drawing: &Drawing) -> Option<LoadFaultKind>
     ensures { first_alone result ≡ row_faults (drawn drawing.now subtitle.now) }
 {
-    match first_fault(subtitle, drawing) {
+    match first_fault(&Record::of(subtitle), drawing) {
         None => None,
         Some(fault) => Some(LoadFaultKind::Row(fault)),
     }

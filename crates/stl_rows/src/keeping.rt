@@ -6,6 +6,7 @@ ghost use Rattle.stl_rows.specs.Keeping.{bits_after, is_enough, is_whole, kept_a
 ghost use Rattle.stl_rows.specs.Keeping.{refused_one, broken_one, without_last, with_one};
 ghost use Rattle.stl_rows.specs.declared.fault.LoadFaultKind.TheVariants.{Memory};
 
+use crate::cues::Cues;
 use crate::fault::LoadFaultKind;
 use std::alloc::Allocator;
 use std::marker::Model;
@@ -17,7 +18,7 @@ use stl_file::Subtitle;
 /// whether one stands behind the last.
 #[derive(Drop)]
 pub struct Kept<A: Allocator + Copy> {
-    pub(crate) subtitles: Vec<Subtitle, A>,
+    pub(crate) subtitles: Cues<A>,
     // Those from the first on, up to the last that is set.
     pub(crate) behind_other: Vec<bool, A>,
     // Whether another one stands behind the last.
@@ -32,7 +33,7 @@ impl<A: Allocator + Copy> Model for Kept<A> {
     ghost Value = { KeptRecords };
 
     ghost view = { λ k. record {
-      records = k.subtitles.items;
+      records = k.subtitles;
       behind_other = k.behind_other.items;
       is_before_other = k.is_before_other;
       is_latest = k.is_latest;
@@ -54,13 +55,13 @@ fn push_bit<A: Allocator + Copy>(bits: &mut Vec<bool, A>, at: usize) -> Result<(
 }
 
 // Whether none of these starts before one before it has ended.
-fn are_in_order(subtitles: &[Subtitle]) -> bool
+fn are_in_order<A: Allocator + Copy>(subtitles: &Cues<A>) -> bool
     ensures { result ≡ are_in_order (with_bits subtitles.now []) }
 {
     let mut last = 0;
     let mut i = 0;
     while i < subtitles.len() {
-        let subtitle = &subtitles[i];
+        let subtitle = subtitles.at(i);
         if subtitle.tci().frame() < last {
             return false;
         }
@@ -76,7 +77,7 @@ impl<A: Allocator + Copy> Kept<A> {
         ensures { result ≡ nothing_kept }
     {
         Kept {
-            subtitles: Vec::new(alloc),
+            subtitles: Cues::new(alloc),
             behind_other: Vec::new(alloc),
             is_before_other: false,
             is_latest: false,
@@ -91,8 +92,8 @@ impl<A: Allocator + Copy> Kept<A> {
     }
 
     // One more is kept.
-    fn push(&mut self, subtitle: Subtitle) -> Result<(), LoadFaultKind>
-        ensures kept { OnOk result (self.new ≡ with_one subtitle self.old) }
+    fn push(&mut self, subtitle: &Subtitle) -> Result<(), LoadFaultKind>
+        ensures kept { OnOk result (self.new ≡ with_one subtitle.now self.old) }
         ensures memory { IfErr result (λ kind. kind ≡ Memory) }
     {
         if self.is_before_other {
@@ -121,9 +122,9 @@ impl<A: Allocator + Copy> Kept<A> {
         &mut self,
         in_order: bool,
         clean: bool,
-        subtitle: Subtitle,
+        subtitle: &Subtitle,
     ) -> Result<(), LoadFaultKind>
-        ensures kept { OnOk result (self.new ≡ kept_after in_order clean subtitle self.old) }
+        ensures kept { OnOk result (self.new ≡ kept_after in_order clean subtitle.now self.old) }
         ensures memory { IfErr result (λ kind. (kind ≡ Memory) × (clean ≡ true)) }
     {
         if clean {
@@ -155,7 +156,7 @@ impl<A: Allocator + Copy> Kept<A> {
         if self.subtitles.is_empty() {
             return false;
         }
-        are_in_order(self.subtitles.as_slice())
+        are_in_order(&self.subtitles)
     }
 
     // What is kept, where a transmission is judged by it.
@@ -166,8 +167,8 @@ impl<A: Allocator + Copy> Kept<A> {
     }
 
     // The subtitles alone.
-    pub(crate) fn into_subtitles(self) -> Vec<Subtitle, A>
-        ensures { result.items ≡ self.records }
+    pub(crate) fn into_subtitles(self) -> Cues<A>
+        ensures { result ≡ self.records }
     {
         let Kept {
             subtitles,

@@ -17,9 +17,9 @@ use crate::layout::LayoutItems;
 use crate::line::codes_from;
 use crate::national::National;
 use crate::prepared_line::{LineCells, is_double, prepare_by, start_by};
+use crate::record::Record;
 use crate::text_code::{TextCode, text_code_at};
 use arrayvec::ArrayVec;
-use stl_file::Subtitle;
 use ttx_page::Page;
 
 // The bytes of a text, or its cells and the new lines between them.
@@ -247,7 +247,7 @@ fn draw_lines(
 pub(crate) fn draw_by(
     national: National,
     items: &LayoutItems,
-    subtitle: &Subtitle,
+    subtitle: &Record<'_>,
 ) -> Result<Page, RowFault>
     ensures { result ≡ drawn_by national items.now subtitle.now }
 {

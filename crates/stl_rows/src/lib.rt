@@ -13,6 +13,7 @@
 //! draws. `sub_plan` makes schedules of programmes, `sub_check` checks what was sent against them.
 #![tactic(auto)]
 
+mod cues;
 mod drawing;
 mod every_fault;
 mod fault;
@@ -26,11 +27,13 @@ mod loading;
 mod national;
 mod prepared_line;
 mod programme;
+mod record;
 mod sub_sets;
 mod text_code;
 mod text_faults;
 mod times;
 
+pub use cues::Cues;
 pub use drawing::{draw, law_of_default_layout, law_of_letters};
 pub use every_fault::{load_all, load_all_in};
 pub use fault::{LoadFault, LoadFaultKind, RowFault, RowFaultKind};

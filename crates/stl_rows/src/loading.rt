@@ -12,13 +12,14 @@ ghost use Rattle.stl_rows.specs.Loading.{TellsFault, loaded};
 ghost use Rattle.stl_rows.specs.Judged.{LawOfDecided, LawOfJudged};
 ghost use Rattle.stl_rows.specs.Programme.{IsProgramme};
 
+use crate::cues::Cues;
 use crate::every_fault::load_all_in;
 use crate::fault::LoadFault;
 use crate::layout::{Drawing, Layout};
 use crate::national::National;
 use crate::programme::Programme;
 use std::alloc::{Allocator, Global};
-use stl_file::{Scope, Subtitle, law_of_files, law_of_scope};
+use stl_file::{Scope, law_of_files, law_of_scope};
 use sub_io::{FirstTold, Source};
 
 /// Loads the subtitles of an STL file, to be drawn by the table of a national option as a layout
@@ -77,14 +78,14 @@ pub fn load_in<A: Allocator + Copy, S: Source>(
     alloc: A,
     source: &mut S,
     drawing: Drawing,
-) -> Result<Vec<Subtitle, A>, LoadFault>
+) -> Result<Cues<A>, LoadFault>
     requires { CanFail (S.failure_count source.old) }
     ensures exact { IfTold (S.remaining source.old) (λ bytes. IfOk result (λ v.
-        loaded drawing bytes ≡ Ok (record { drawing = drawing; records = v.items }))) }
+        loaded drawing bytes ≡ Ok (record { drawing = drawing; records = v }))) }
     ensures fault { IfTold (S.remaining source.old) (λ bytes. IfErr result (λ f.
         TellsFault drawing bytes f.block f.kind)) }
     ensures never { IfErr result (λ f. f.kind ≢ File Ended) }
-    ensures programme { IfOk result (λ v. IsProgramme drawing v.items) }
+    ensures programme { IfOk result (λ v. IsProgramme drawing v) }
     ensures read { IfErr result (λ f. is_load_read f ≡ true → FailsLoading drawing
         (S.remaining source.old) (S.remaining source.new) f.block) }
     ensures count { CountsIf S.failure_count source.old (failed is_load_read result) source.new }

@@ -10,9 +10,11 @@ ghost use Rattle.stl_rows.specs.DuePage.{LawOfEdges, TellsLastEdge, TellsNextEdg
 ghost use Rattle.stl_rows.specs.Judged.{is_undecided_from, is_undecided_in, with_bits};
 ghost use Rattle.stl_rows.specs.Programme.{IsProgramme, first_in, last_out};
 
-use crate::drawing::drawn_page;
+use crate::cues::Cues;
+use crate::drawing::draw_on;
 use crate::layout::{Drawing, Layout};
 use crate::national::National;
+use std::alloc::Global;
 use std::marker::Model;
 use stl_file::Subtitle;
 use ttx_page::Page;
@@ -23,7 +25,7 @@ use ttx_page::Page;
 #[derive(Drop)]
 pub struct Programme {
     drawing: Drawing,
-    subtitles: Vec<Subtitle>,
+    subtitles: Cues<Global>,
 }
 
 impl Model for Programme {
@@ -31,13 +33,13 @@ impl Model for Programme {
 
     ghost Value = { ProgrammeValue };
 
-    ghost view = { λ p. record { drawing = p.drawing; records = p.subtitles.items } };
+    ghost view = { λ p. record { drawing = p.drawing; records = p.subtitles } };
 
-    ghost invariant = { λ p. IsProgramme p.drawing p.subtitles.items };
+    ghost invariant = { λ p. IsProgramme p.drawing p.subtitles };
 }
 
 // The first subtitle whose TCO is after a frame: a binary search.
-fn first_after(drawing: &Drawing, subtitles: &[Subtitle], frame: u32) -> usize
+fn first_after(drawing: &Drawing, subtitles: &Cues<Global>, frame: u32) -> usize
     requires { IsProgramme drawing.now subtitles.now }
     ensures bound { result ≤ length subtitles.now }
     ensures before { (k : ℕ) (d : SubtitleValue)
@@ -45,28 +47,85 @@ fn first_after(drawing: &Drawing, subtitles: &[Subtitle], frame: u32) -> usize
     ensures after { (k : ℕ) (d : SubtitleValue)
         → result ≤ k → k < length subtitles.now → frame < (slice_index_or subtitles.now k d).tco }
 {
-    subtitles.partition_point(|s| s.tco().frame() <= frame)
+    subtitles.ended_by(frame)
 }
 
-// The page that is due at a frame.
-fn page_at(drawing: &Drawing, subtitles: &[Subtitle], frame: u32) -> Page
+// Whether a subtitle is the first whose TCO is after a frame.
+fn is_first_after(drawing: &Drawing, subtitles: &Cues<Global>, frame: u32, at: usize) -> bool
     requires { IsProgramme drawing.now subtitles.now }
-    ensures { result ≡ due drawing.now subtitles.now frame }
+    ensures bound { IsTrue result → at < length subtitles.now }
+    ensures before { IsTrue result → (k : ℕ) (d : SubtitleValue)
+        → k < at → (slice_index_or subtitles.now k d).tco ≤ frame }
+    ensures after { IsTrue result → (k : ℕ) (d : SubtitleValue)
+        → at ≤ k → k < length subtitles.now → frame < (slice_index_or subtitles.now k d).tco }
 {
-    let at = first_after(drawing, subtitles, frame);
-    if at == subtitles.len() {
-        return Page::blank();
+    if at >= subtitles.len() {
+        return false;
     }
-    let subtitle = &subtitles[at];
+    let subtitle = subtitles.at(at);
+    let tco = subtitle.tco().frame();
+    if tco <= frame {
+        return false;
+    }
+    match tco_before(subtitles, at) {
+        Some(before) => before <= frame,
+        None => true,
+    }
+}
+
+// The first subtitle whose TCO is after a frame: the one that is guessed or the next, else by a
+// binary search.
+fn first_after_near(drawing: &Drawing, subtitles: &Cues<Global>, frame: u32, guess: usize) -> usize
+    requires { IsProgramme drawing.now subtitles.now }
+    ensures bound { result ≤ length subtitles.now }
+    ensures before { (k : ℕ) (d : SubtitleValue)
+        → k < result → (slice_index_or subtitles.now k d).tco ≤ frame }
+    ensures after { (k : ℕ) (d : SubtitleValue)
+        → result ≤ k → k < length subtitles.now → frame < (slice_index_or subtitles.now k d).tco }
+{
+    if guess < subtitles.len() {
+        if is_first_after(drawing, subtitles, frame, guess) {
+            return guess;
+        }
+        let next = guess + 1;
+        if is_first_after(drawing, subtitles, frame, next) {
+            return next;
+        }
+    }
+    first_after(drawing, subtitles, frame)
+}
+
+// Draws the page that is due at a frame, and gives the least edge after it and the number of the
+// subtitle that was found.
+fn draw_near(
+    drawing: &Drawing,
+    subtitles: &Cues<Global>,
+    frame: u32,
+    guess: usize,
+    page: &mut Page,
+) -> (Option<u32>, usize)
+    requires { IsProgramme drawing.now subtitles.now }
+    ensures page { page.new ≡ due drawing.now subtitles.now frame }
+    ensures edge { TellsNextEdge subtitles.now frame result.0 }
+{
+    let at = first_after_near(drawing, subtitles, frame, guess);
+    if at == subtitles.len() {
+        *page = Page::blank();
+        return (None, at);
+    }
+    let subtitle = subtitles.at(at);
     let tci = subtitle.tci().frame();
     if frame < tci {
-        return Page::blank();
+        *page = Page::blank();
+        return (Some(tci), at);
     }
-    drawn_page(subtitle, drawing)
+    draw_on(&subtitle, drawing, page);
+    let tco = subtitle.tco().frame();
+    (Some(tco), at)
 }
 
 // The least edge after a frame.
-fn edge_after(drawing: &Drawing, subtitles: &[Subtitle], frame: u32) -> Option<u32>
+fn edge_after(drawing: &Drawing, subtitles: &Cues<Global>, frame: u32) -> Option<u32>
     requires { IsProgramme drawing.now subtitles.now }
     ensures { TellsNextEdge subtitles.now frame result }
 {
@@ -74,7 +133,7 @@ fn edge_after(drawing: &Drawing, subtitles: &[Subtitle], frame: u32) -> Option<u
     if at == subtitles.len() {
         return None;
     }
-    let subtitle = &subtitles[at];
+    let subtitle = subtitles.at(at);
     let tci = subtitle.tci().frame();
     if frame < tci {
         return Some(tci);
@@ -84,7 +143,7 @@ fn edge_after(drawing: &Drawing, subtitles: &[Subtitle], frame: u32) -> Option<u
 }
 
 // The TCO of the subtitle before a number; `None` where that is the first.
-fn tco_before(subtitles: &[Subtitle], at: usize) -> Option<u32>
+fn tco_before(subtitles: &Cues<Global>, at: usize) -> Option<u32>
     requires { at ≤ length subtitles.now }
     ensures { MatchOption result (at ≡ 0) (λ tco. (1 ≤ at) × ((d : SubtitleValue)
         → tco ≡ (slice_index_or subtitles.now (at - 1) d).tco)) }
@@ -92,13 +151,13 @@ fn tco_before(subtitles: &[Subtitle], at: usize) -> Option<u32>
     if at == 0 {
         return None;
     }
-    let subtitle = &subtitles[at - 1];
+    let subtitle = subtitles.at(at - 1);
     let tco = subtitle.tco().frame();
     Some(tco)
 }
 
 // The greatest edge up to a frame.
-fn edge_until(drawing: &Drawing, subtitles: &[Subtitle], frame: u32) -> Option<u32>
+fn edge_until(drawing: &Drawing, subtitles: &Cues<Global>, frame: u32) -> Option<u32>
     requires { IsProgramme drawing.now subtitles.now }
     ensures { TellsLastEdge subtitles.now frame result }
 {
@@ -106,7 +165,7 @@ fn edge_until(drawing: &Drawing, subtitles: &[Subtitle], frame: u32) -> Option<u
     if at == subtitles.len() {
         return tco_before(subtitles, at);
     }
-    let subtitle = &subtitles[at];
+    let subtitle = subtitles.at(at);
     let tci = subtitle.tci().frame();
     if tci <= frame {
         return Some(tci);
@@ -115,7 +174,7 @@ fn edge_until(drawing: &Drawing, subtitles: &[Subtitle], frame: u32) -> Option<u
 }
 
 // The TCI of the subtitle that ends at a frame.
-fn tci_ending_at(drawing: &Drawing, subtitles: &[Subtitle], frame: u32) -> Option<u32>
+fn tci_ending_at(drawing: &Drawing, subtitles: &Cues<Global>, frame: u32) -> Option<u32>
     requires { IsProgramme drawing.now subtitles.now }
     ensures { result ≡ tci_of_ending subtitles.now frame }
 {
@@ -126,7 +185,7 @@ fn tci_ending_at(drawing: &Drawing, subtitles: &[Subtitle], frame: u32) -> Optio
     if at == subtitles.len() {
         return None;
     }
-    let subtitle = &subtitles[at];
+    let subtitle = subtitles.at(at);
     let tco = subtitle.tco().frame();
     if tco != frame {
         return None;
@@ -147,7 +206,7 @@ fn bit_at(bits: &[bool], at: usize) -> bool
 // Whether it is not known what is due at a frame.
 fn is_undecided_at(
     drawing: &Drawing,
-    subtitles: &[Subtitle],
+    subtitles: &Cues<Global>,
     behind_other: &[bool],
     is_before_other: bool,
     frame: u32,
@@ -163,7 +222,7 @@ fn is_undecided_at(
     if at == subtitles.len() {
         return is_before_other;
     }
-    let subtitle = &subtitles[at];
+    let subtitle = subtitles.at(at);
     let tci = subtitle.tci().frame();
     if tci <= frame {
         return false;
@@ -173,9 +232,9 @@ fn is_undecided_at(
 
 impl Programme {
     // The programme of these subtitles.
-    pub(crate) fn of(drawing: Drawing, subtitles: Vec<Subtitle>) -> Programme
-        requires { IsProgramme drawing subtitles.items }
-        ensures { result ≡ record { drawing = drawing; records = subtitles.items } }
+    pub(crate) fn of(drawing: Drawing, subtitles: Cues<Global>) -> Programme
+        requires { IsProgramme drawing subtitles }
+        ensures { result ≡ record { drawing = drawing; records = subtitles } }
     {
         Programme { drawing, subtitles }
     }
@@ -196,11 +255,11 @@ impl Programme {
     }
 
     /// A subtitle by its index, from 0 and below `len`.
-    pub fn subtitle(&self, i: usize) -> &Subtitle
+    pub fn subtitle(&self, i: usize) -> Subtitle
         requires { i < length self.now.records }
-        ensures { slice_get self.now.records i ≡ Some result.now }
+        ensures { slice_get self.now.records i ≡ Some result }
     {
-        &self.subtitles[i]
+        self.subtitles.subtitle(i)
     }
 
     /// The first TCI, as a frame of the day. `None` where there is no subtitle.
@@ -244,7 +303,22 @@ impl Programme {
         ensures value { result ≡ due self.now.drawing self.now.records frame }
         ensures programme { IsProgramme self.now.drawing self.now.records }
     {
-        page_at(&self.drawing, self.subtitles.as_slice(), frame)
+        let mut page = Page::blank();
+        self.draw_due(frame, 0, &mut page);
+        page
+    }
+
+    /// Draws the page that is due at a frame, in place of another, and gives the next edge
+    /// (`next_edge`) and a number to pass as `guess` at the next call.
+    ///
+    /// Any number will do, 0 at first. With that of a call at a frame shortly before, the subtitle
+    /// is found without a search.
+    pub fn draw_due(&self, frame: u32, guess: usize, page: &mut Page) -> (Option<u32>, usize)
+        ensures page { page.new ≡ due self.now.drawing self.now.records frame }
+        ensures edge { TellsNextEdge self.now.records frame result.0 }
+        ensures programme { IsProgramme self.now.drawing self.now.records }
+    {
+        draw_near(&self.drawing, &self.subtitles, frame, guess, page)
     }
 
     /// Finds the least TCI or TCO that is after a frame, by binary search.
@@ -254,7 +328,7 @@ impl Programme {
         ensures value { TellsNextEdge self.now.records frame result }
         ensures programme { IsProgramme self.now.drawing self.now.records }
     {
-        edge_after(&self.drawing, self.subtitles.as_slice(), frame)
+        edge_after(&self.drawing, &self.subtitles, frame)
     }
 
     /// Finds the greatest TCI or TCO that is at or before a frame, by binary search.
@@ -264,7 +338,7 @@ impl Programme {
         ensures value { TellsLastEdge self.now.records frame result }
         ensures programme { IsProgramme self.now.drawing self.now.records }
     {
-        edge_until(&self.drawing, self.subtitles.as_slice(), frame)
+        edge_until(&self.drawing, &self.subtitles, frame)
     }
 
     /// Finds the subtitle whose TCO is a frame, by binary search, and gives its TCI.
@@ -274,7 +348,7 @@ impl Programme {
         ensures value { result ≡ tci_of_ending self.now.records frame }
         ensures programme { IsProgramme self.now.drawing self.now.records }
     {
-        tci_ending_at(&self.drawing, self.subtitles.as_slice(), frame)
+        tci_ending_at(&self.drawing, &self.subtitles, frame)
     }
 
     // Whether it is not known what is due at a frame, where other subtitles stand before these and
@@ -292,7 +366,7 @@ impl Programme {
           is_before_other = is_before_other;
         }) frame }
     {
-        let subtitles = self.subtitles.as_slice();
+        let subtitles = &self.subtitles;
         is_undecided_at(
             &self.drawing,
             subtitles,

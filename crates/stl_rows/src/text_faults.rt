@@ -10,8 +10,8 @@ use crate::fault::{RowFault, RowFaultKind};
 use crate::laid_out::draw_by;
 use crate::layout::Drawing;
 use crate::national::National;
+use crate::record::Record;
 use crate::text_code::{TextCode, text_code_at};
-use stl_file::Subtitle;
 
 // The line that is being read: its number and row, and of its cells what its faults depend on.
 #[derive(Clone, Copy)]
@@ -138,7 +138,7 @@ fn fault_of_text(national: National, vp: u8, text: &[u8]) -> Option<RowFault>
 }
 
 /// What keeps a subtitle from being drawn. `None` where it draws a page.
-pub(crate) fn first_fault(subtitle: &Subtitle, drawing: &Drawing) -> Option<RowFault>
+pub(crate) fn first_fault(subtitle: &Record<'_>, drawing: &Drawing) -> Option<RowFault>
     ensures { MatchOption result (IsOk (drawn drawing.now subtitle.now))
         (λ fault. drawn drawing.now subtitle.now ≡ Err fault) }
 {

@@ -22,7 +22,7 @@ use Rattle.stl_rows.specs.declared.layout.Drawing.{Drawing}
 use Rattle.sub_plan.specs.Options.{OptionsValue}
 use Rattle.sub_check.specs.CheckedFiles.{all_events_by, all_events_of, answer_by, first_answer}
 use Rattle.sub_rules.specs.Events.{first_told}
-use Rattle.sub_check.proofs.FilesLemmas.{accepted-loads, accepted-loads_by, accepted-loads_within}
+use Rattle.sub_check.proofs.FilesLemmas.{accepted-loads, accepted-loads_by}
 use Rattle.sub_check.proofs.RuleToldLemmas.{first_of_rule}
 use Rattle.sub_check.proofs.FirstToldLemmas.{of_rule}
 use Rattle.sub_rules.specs.declared.event.Event.TheVariants.{Ended, PassedUntil, Told, Trusted}
@@ -44,7 +44,6 @@ use Rattle.sub_listing.specs.declared.status.Status.{Status}
 use Rattle.sub_listing.specs.declared.status.Status.TheVariants.{Done, Fault, Refused}
 use Rattle.sub_listing.proofs.PrintingLemmas.{printed-status}
 use Rattle.sub_answer.proofs.BothFilesLemmas.{Exactly, exactly-accepted, exactly-accepted_by}
-use Rattle.sub_answer.proofs.BothFilesLemmas.{exactly-accepted_within}
 use Rattle.sub_answer.proofs.BothFilesLemmas.{pes-fails, status-told, stl-fails}
 
 -- A sink in a call, by what it had taken and has taken.
@@ -261,16 +260,8 @@ answers_end
           (λ a is.
           exactly-accepted drawing options file bytes (first_answer t.events a) loading
           (λ p loads.
-          ((rw is at (t.checked holds file heard bytes known)) p loads).2 none at_once))
+          ((rw is at (t.checked holds file heard bytes known)) p loads).1 none at_once))
           (accepted-loads drawing options file bytes loading))
-          (λ none runs file heard bytes known.
-          done-exactly drawing options file bytes pes.told t.number t.events t.answer _ known runs
-          t.ended
-          (t.listed file heard)
-          (λ a is.
-          exactly-accepted_within drawing options file bytes (first_answer t.events a) loading
-          (λ p loads. ((rw is at (t.checked holds file heard bytes known)) p loads).1 none))
-          (accepted-loads_within drawing options file bytes loading))
           (λ runs file heard bytes known.
           done-exactly drawing options file bytes pes.told t.number t.events t.answer _ known runs
           t.ended

@@ -16,7 +16,7 @@ use Rattle.stl_rows.specs.declared.layout.Drawing.{Drawing}
 use Rattle.stl_rows.specs.Loading.{FailsLoading, LawOfLoading, TellsFault, loaded}
 use Rattle.stl_rows.specs.Programme.{ProgrammeValue}
 use Rattle.sub_plan.specs.Options.{OptionsValue}
-use Rattle.sub_check.specs.CheckedFiles.{AreChecked, IsCheckedBy, IsCheckedWithin}
+use Rattle.sub_check.specs.CheckedFiles.{AreChecked, IsCheckedBy}
 use Rattle.sub_check.specs.CheckedFiles.{TellsSubtitles}
 use Rattle.ttx_pes.specs.declared.fault.PesFault.TheVariants as pes_fault
 use Rattle.sub_answer.proofs.FailedReadLemmas.{no_events}
@@ -37,7 +37,6 @@ use Rattle.sub_listing.specs.Listing.{PrintsOrFails}
 use Rattle.sub_listing.specs.declared.status.Status.{Status}
 use Rattle.sub_listing.specs.declared.status.Status.TheVariants.{Done, Fault}
 use Rattle.sub_answer.proofs.BothFilesLemmas.{Exactly, exactly-accepted, exactly-accepted_by}
-use Rattle.sub_answer.proofs.BothFilesLemmas.{exactly-accepted_within}
 use Rattle.sub_answer.proofs.BothFilesLemmas.{status-told}
 use Rattle.sub_answer.proofs.BothFilesLemmas.{told-fails, told-not_done, told-runs}
 
@@ -137,11 +136,6 @@ as_answered
           done-exactly drawing options file bytes number answer _ are
           (exactly-accepted drawing options file bytes answer loading
           (λ p loads. are.checked p loads none at_once bytes refl)) other)
-          (λ none other file told bytes heard.
-          let are = rw heard at (checked file told) in
-          done-exactly drawing options file bytes number answer _ are
-          (exactly-accepted_within drawing options file bytes answer loading
-          (λ p loads. are.within p loads none bytes refl)) other)
           (λ other file told bytes heard.
           let are = rw heard at (checked file told) in
           done-exactly drawing options file bytes number answer _ are
@@ -157,15 +151,11 @@ as_answered
           ));
     }
 
--- What is answered where the source failed before its first PES packet was found: by whatever
--- options, and where each header has to erase the page. For `check_from`.
+-- What is answered where the source failed before its first PES packet was found, by whatever
+-- options. For `check_from`.
 pub no_piece_read : (programme : ProgrammeValue) (options : OptionsValue) (bytes : List ℕ)
     → IsCheckedBy programme options bytes (Err (fault.Pes 0 pes_fault.Read))
 no_piece_read programme options bytes = grind (arith, nat_tests, no_events)
-
-pub no_piece_read_within : (programme : ProgrammeValue) (options : OptionsValue) (bytes : List ℕ)
-    → IsCheckedWithin programme options bytes (Err (fault.Pes 0 pes_fault.Read))
-no_piece_read_within programme options bytes = grind (arith, nat_tests)
 
 -- An answer that tells that a source failed has the status `Fault`.
 verdict-fault : (is_one : CheckFault → Bool)

@@ -1,5 +1,5 @@
 -- What the status of a check tells of both files, by the listing that goes with it. Main lemmas:
--- status-told, exactly-accepted, exactly-accepted_within, exactly-accepted_by.
+-- status-told, exactly-accepted, exactly-accepted_by.
 use Rattle.std.proofs.Common.{◌≡◌, ◌≢◌, ◌↔◌, ◌∙◌, ap, arith, refl, sym, ℕ, List, Bool, true}
 use Rattle.std.proofs.Common.{false, Result, Ok, Err}
 use Rattle.std.specs.Prelude.{IsFalse, IsOk}
@@ -23,11 +23,9 @@ use Rattle.sub_rules.specs.Fault.{is_subtitle_fault}
 use Rattle.sub_rules.specs.declared.fault.CheckFault.{CheckFault}
 use Rattle.sub_rules.specs.declared.fault.CheckFault.TheVariants as fault
 use Rattle.sub_checker.specs.declared.telling.Accepted.{Accepted}
-use Rattle.sub_check.specs.CheckedFiles.{IsAccepted, IsAcceptedBy, IsAcceptedWithin, IsChecked}
-use Rattle.sub_check.specs.CheckedFiles.{IsCheckedBy, IsCheckedWithin}
-use Rattle.sub_check.proofs.FilesLemmas.{accepted-loads, accepted-loads_by, accepted-loads_within}
-use Rattle.sub_check.proofs.FilesLemmas.{as_accepted, as_accepted_by, as_accepted_within}
-use Rattle.sub_check.proofs.FilesLemmas.{of_accepted, of_accepted_by, of_accepted_within}
+use Rattle.sub_check.specs.CheckedFiles.{IsAccepted, IsAcceptedBy, IsChecked, IsCheckedBy}
+use Rattle.sub_check.proofs.FilesLemmas.{accepted-loads, accepted-loads_by, as_accepted}
+use Rattle.sub_check.proofs.FilesLemmas.{as_accepted_by, of_accepted, of_accepted_by}
 use Rattle.sub_listing.specs.DeviceCall.{SinkCall, SourceCall}
 use Rattle.sub_listing.specs.Faults.{kind_by}
 use Rattle.sub_listing.specs.Listing.{Listing, PrintsOrFails}
@@ -115,23 +113,6 @@ exactly-accepted drawing options file bytes answer loading checked = record {
   loads = accepted-loads drawing options file bytes loading;
 }
 
-pub exactly-accepted_within :
-    (drawing : Drawing) (options : OptionsValue) (file bytes : List ℕ)
-    (answer : Result Accepted CheckFault)
-    → LawOfLoading
-    → ((programme : ProgrammeValue)
-    → loaded drawing file ≡ Ok programme
-    → IsCheckedWithin programme options bytes answer)
-    → Exactly drawing file answer (IsAcceptedWithin drawing options file bytes)
-exactly-accepted_within drawing options file bytes answer loading checked = record {
-  exactly = λ p loads looked fine.
-      let exact = (checked p loads).accepted looked fine in (
-        λ ok. as_accepted_within drawing options file bytes loading p loads (exact.0 ok),
-        λ is. exact.1 (of_accepted_within drawing options file bytes loading p loads is),
-      );
-  loads = accepted-loads_within drawing options file bytes loading;
-}
-
 pub exactly-accepted_by :
     (drawing : Drawing) (options : OptionsValue) (file bytes : List ℕ)
     (answer : Result Accepted CheckFault)
@@ -163,11 +144,6 @@ pub status-told :
     → IfTold stl.told (λ file.
     IfTold pes.told (λ bytes.
     (listing.status ≡ Done) ↔ IsAccepted drawing options file bytes)))
-    → (IsFalse options.keeps
-    → listing.status ≢ Fault
-    → IfTold stl.told (λ file.
-    IfTold pes.told (λ bytes.
-    (listing.status ≡ Done) ↔ IsAcceptedWithin drawing options file bytes)))
     → (listing.status ≢ Fault
     → IfTold stl.told (λ file.
     IfTold pes.told (λ bytes.
@@ -179,14 +155,11 @@ pub status-told :
     → PrintsMemory)
     → TellsStatus drawing options stl pes out PrintsMemory status
 status-told drawing options stl pes out listing status answer PrintsMemory printed sources done
-    done_within done_by fails memory =
+    done_by fails memory =
     record {
       done = λ none at_once file told bytes heard other.
           let is = printed-status out listing status printed other in
           rw is (done none at_once (λ failing. other (is ∙ failing)) file told bytes heard);
-      done_within = λ none file told bytes heard other.
-          let is = printed-status out listing status printed other in
-          rw is (done_within none (λ failing. other (is ∙ failing)) file told bytes heard);
       done_by = λ file told bytes heard other.
           let is = printed-status out listing status printed other in
           rw is (done_by (λ failing. other (is ∙ failing)) file told bytes heard);

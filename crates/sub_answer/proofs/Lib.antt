@@ -1,10 +1,11 @@
-pub mod BothFilesLemmas
+pub mod AllAnswerLemmas
 pub mod AnsweringLemmas
-pub mod ListenListingLemmas
-pub mod PesEventLemmas
+pub mod BothFilesLemmas
+pub mod EndingLemmas
 pub mod EveryFaultLemmas
 pub mod FailedReadLemmas
-pub mod AllAnswerLemmas
-pub mod EndingLemmas
-pub mod PartLemmas
+pub mod ListenListingLemmas
 pub mod MemoryLemmas
+pub mod PartLemmas
+pub mod PesEventLemmas
+pub mod SurveyListingLemmas

@@ -15,7 +15,7 @@ use Rattle.stl_rows.specs.Judged.{JudgedValue, known}
 use Rattle.stl_rows.specs.Programme.{ProgrammeValue}
 use Rattle.sub_plan.specs.FrameTime.{clock_of}
 use Rattle.sub_plan.specs.Options.{OptionsValue}
-use Rattle.sub_check.specs.CheckedFiles.{IsChecked, IsCheckedBy, IsCheckedWithin, TellsEvents}
+use Rattle.sub_check.specs.CheckedFiles.{IsChecked, IsCheckedBy, TellsEvents}
 use Rattle.sub_check.specs.CheckedFiles.{all_events_by}
 use Rattle.sub_check.specs.CheckedFiles.{all_events_of, events_of_first_by, first_answer}
 use Rattle.sub_check.specs.CheckedFiles.{frames_read}
@@ -91,19 +91,14 @@ read_at : (f : CheckFault)
 read_at (fault.Pes n pes_fault.Read) is = (n, refl)
 read_at f is = cc
 
--- What `check_all` answers by whatever options, where each header has to erase the page, and where
--- the page has to be whole at once too, of a programme of which all is known. For
+-- What `check_all` answers by whatever options, and where each header has to erase the page, and
+-- that has to be whole at each frame's end, of a programme of which all is known. For
 -- `tell_transmission`.
 pub all_answers : (judged : JudgedValue) (options : OptionsValue) (pes : Option (List ℕ))
     (r : Result (Option Accepted) CheckFault)
     → ((programme : ProgrammeValue)
     → judged ≡ known programme
     → IfTold pes (λ bytes. IfOk r (λ counts. IfSome counts (λ a. IsCheckedBy programme options
-    bytes (first_answer (all_events_of programme options bytes) a)))))
-    → ((programme : ProgrammeValue)
-    → judged ≡ known programme
-    → IsFalse options.keeps
-    → IfTold pes (λ bytes. IfOk r (λ counts. IfSome counts (λ a. IsCheckedWithin programme options
     bytes (first_answer (all_events_of programme options bytes) a)))))
     → ((programme : ProgrammeValue)
     → judged ≡ known programme
@@ -116,13 +111,12 @@ pub all_answers : (judged : JudgedValue) (options : OptionsValue) (pes : Option 
     → judged ≡ known programme
     → IfOk r (λ counts. IfSome counts (λ a. IsAnswer programme options
     bytes (first_answer (all_events_of programme options bytes) a))))
-all_answers judged options pes (Ok (Some a)) by within at_once bytes heard programme is = (
+all_answers judged options pes (Ok (Some a)) by at_once bytes heard programme is = (
   by programme is bytes heard,
-  λ none. within programme is none bytes heard,
   λ none whole. at_once programme is none whole bytes heard,
 )
-all_answers judged options pes (Ok None) by within at_once bytes heard programme is = tt
-all_answers judged options pes (Err f) by within at_once bytes heard programme is = tt
+all_answers judged options pes (Ok None) by at_once bytes heard programme is = tt
+all_answers judged options pes (Err f) by at_once bytes heard programme is = tt
 
 -- What is told where nothing of the subtitle file is refused is told of its programme.
 events_known : (judged : JudgedValue) (programme : ProgrammeValue) (options : OptionsValue)

@@ -32,7 +32,7 @@ use Rattle.sub_answer.specs.ListenListing.{listen_line, Listens}
 use Rattle.sub_listing.specs.Listing.{Listing, PrintsListing, PrintsOrFails, done, packet_listing}
 use Rattle.sub_listing.specs.Listing.{fault_listing}
 use Rattle.sub_listing.specs.PacketsListing.{ListsPackets}
-use Rattle.sub_listing.specs.SurveyListing.{PrintsSurvey}
+use Rattle.sub_answer.specs.SurveyListing.{PrintsSurvey}
 use Rattle.sub_listing.specs.FaultLine.{counted_from}
 use Rattle.sub_listing.specs.ShowListing.{ListsSubtitles}
 use Rattle.sub_listing.specs.Writing.{EndsWork, Normalizes, PrintsMemory, Schedules}

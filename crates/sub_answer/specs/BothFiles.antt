@@ -7,7 +7,7 @@ use Rattle.stl_rows.specs.Fault.{is_load_read}
 use Rattle.stl_rows.specs.declared.fault.LoadFault.{LoadFault}
 use Rattle.stl_rows.specs.declared.layout.Drawing.{Drawing}
 use Rattle.sub_plan.specs.Options.{OptionsValue}
-use Rattle.sub_check.specs.CheckedFiles.{IsAccepted, IsAcceptedBy, IsAcceptedWithin}
+use Rattle.sub_check.specs.CheckedFiles.{IsAccepted, IsAcceptedBy}
 use Rattle.sub_rules.specs.Fault.{is_pes_read, is_stl_read}
 use Rattle.sub_rules.specs.declared.fault.CheckFault.{CheckFault}
 use Rattle.sub_rules.specs.declared.fault.CheckFault.TheVariants.{Pes, Subtitles}
@@ -37,7 +37,8 @@ pub record TellsStatus
     (PrintsMemory : Type 0) (status : Status)
     : Type 0 where
   -- Failing devices and want of memory aside, it is `Done` exactly where the files are accepted:
-  -- where each header of the page has to erase it, and where repeats may keep it too, `done_by`.
+  -- where each header of the page has to erase it, and the page has to be whole at the end of each
+  -- frame; and by whatever options, `done_by`.
   pub done :
       IsFalse options.keeps
       → options.within ≡ 0
@@ -45,12 +46,6 @@ pub record TellsStatus
       IfTold pes.told (λ bytes.
       status ≢ Fault
       → (status ≡ Done) ↔ IsAccepted drawing options file bytes))
-  pub done_within :
-      IsFalse options.keeps
-      → IfTold stl.told (λ file.
-      IfTold pes.told (λ bytes.
-      status ≢ Fault
-      → (status ≡ Done) ↔ IsAcceptedWithin drawing options file bytes))
   pub done_by :
       IfTold stl.told (λ file.
       IfTold pes.told (λ bytes.

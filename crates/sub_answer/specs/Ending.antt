@@ -2,7 +2,7 @@
 -- the status.
 use Rattle.std.specs.Prelude.{◌≡◌, ◌⊎◌, ℕ, ◌+◌, List, [], ◌∷◌, ◌++◌, Option, Some, None, false}
 use Rattle.std.specs.Io.KnownBytes.{Keeps, append_known, prepend_known}
-use Rattle.sub_io.specs.Buffered.{HeldBack, ReadAhead, failures_and_refused}
+use Rattle.sub_io.specs.Buffered.{HandsOn, HeldBack, ReadAhead, failures_and_refused}
 use Rattle.sub_request.specs.Files.{files_of}
 use Rattle.sub_request.specs.declared.request.Request.{Request}
 use Rattle.sub_request.specs.declared.request.UsageFault.{UsageFault}
@@ -16,7 +16,7 @@ use Rattle.sub_listing.specs.DeviceCall.{SinkCall, sink_call}
 use Rattle.sub_listing.specs.Faults.{usage_line}
 use Rattle.sub_listing.specs.Listing.{PrintsOrFails, fault_listing}
 use Rattle.sub_listing.specs.declared.status.Status.{Status}
-use Rattle.sub_listing.specs.declared.status.Status.TheVariants.{Fault}
+use Rattle.sub_listing.specs.declared.status.Status.TheVariants.{Done, Fault}
 use Rattle.sub_answer.specs.Answering.{Answers, InputCall}
 use Rattle.sub_answer.specs.Part.{IsPartOf, part_asked, whole_file}
 use Rattle.sub_answer.specs.declared.part.Part.{Part}
@@ -115,6 +115,8 @@ pub record IsClosedAfter
   pub left : HeldBack D
   pub call_is : call ≡ buffered_call contents failure_count old left
   pub closed : IsClose left.device new.device
+  -- What it holds back stays so.
+  pub held_is : new.held ≡ left.held
 
 -- A file of which this part is read, in the calls of an answer, which leave it so, by what is told
 -- of it and how often it has failed: there is a buffer before it, which held nothing, and no other
@@ -132,10 +134,11 @@ pub record IsReadFrom
       input
 
 -- A file that is written, in the calls of an answer, and was closed as they left it; so it is then:
--- there is a buffer before it, which held nothing, and no other device.
+-- there is a buffer before it, which held nothing, and no other device. Where the run ends with
+-- `Done` the buffer holds nothing back, and no call has failed.
 pub record IsWrittenTo
     {O : Type 0} (contents : O → Option (List ℕ)) (failure_count : O → ℕ) (IsClose : O → O → Type 0)
-    (file left : O) (call : SinkCall)
+    (result : Status) (file left : O) (call : SinkCall)
     : Type 0 where
   pub room : ℕ
   pub new : HeldBack O
@@ -143,6 +146,10 @@ pub record IsWrittenTo
   pub closed :
       IsClosedAfter contents failure_count IsClose
       (record { device = file; held = []; room = room; failed = false; refused = 0 }) new call
+  pub whole :
+      result ≡ Done
+      → HandsOn failure_count
+      (record { device = file; held = []; room = room; failed = false; refused = 0 }) new
 
 -- What is told of files that are read and of those that are written: the bytes that they have still
 -- to give, and those that they have taken; and how often they have failed.
@@ -175,11 +182,11 @@ IsSourceOf told part opened left = λ input. ⊥
 -- A file is the one that was created, which is left so, or an empty one where none was.
 abbrev pub IsSinkOf :
     {I O : Type 0}
-    → ToldOfFiles I O → (O → O → Type 0) → (created left : Option O) → SinkCall → Type 0
-IsSinkOf told IsClose (Some file) (Some left) =
-    IsWrittenTo told.contents told.writes_failed IsClose file left
-IsSinkOf told IsClose None None = IsEmptyFile
-IsSinkOf told IsClose created left = λ call. ⊥
+    → ToldOfFiles I O → (O → O → Type 0) → Status → (created left : Option O) → SinkCall → Type 0
+IsSinkOf told IsClose result (Some file) (Some left) =
+    IsWrittenTo told.contents told.writes_failed IsClose result file left
+IsSinkOf told IsClose result None None = IsEmptyFile
+IsSinkOf told IsClose result created left = λ call. ⊥
 
 -- The sources of a request and its file, of those that were opened and created, and which part of
 -- its first source is read.
@@ -240,7 +247,7 @@ EndsOver told IsClose request devices left old new result =
     EndsWith request (IsSourceOf told devices.part devices.first left.first)
     (IsSourceOf told (part_asked request) devices.second left.second)
     (left.second ≡ devices.second)
-    (IsSinkOf told IsClose devices.file left.file) old new result
+    (IsSinkOf told IsClose result devices.file left.file) old new result
 
 -- A request was answered over devices, and then the files were let go as that left them, by the
 -- calls that were made.

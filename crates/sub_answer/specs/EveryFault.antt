@@ -17,7 +17,7 @@ use Rattle.stl_rows.specs.declared.layout.Drawing.{Drawing}
 use Rattle.stl_file.specs.declared.fault.StlFault.TheVariants as stl_fault
 use Rattle.sub_plan.specs.FrameTime.{clock_of}
 use Rattle.sub_plan.specs.Options.{OptionsValue}
-use Rattle.sub_check.specs.CheckedFiles.{IsChecked, IsCheckedBy, IsCheckedWithin, all_events_by}
+use Rattle.sub_check.specs.CheckedFiles.{IsChecked, IsCheckedBy, all_events_by}
 use Rattle.sub_check.specs.CheckedFiles.{events_of_first_by, first_answer, frames_read}
 use Rattle.sub_checker.specs.Telling.{CountsRead}
 use Rattle.sub_rules.specs.Fault.{is_failure, is_subtitle_fault}
@@ -101,14 +101,13 @@ pub record FailsAtBlock (told left : Option (List ℕ)) (block : ℕ) : Type 0 w
   pub consumed : Consumes told left bytes
   pub block_is : block ≡ block_of_byte (length bytes)
 
--- The answer is that of `check` for the bytes of a PES file, by whatever options; where each header
--- of the page has to erase it, within as many frames as they give, and where these are none, in
--- the words of the seven rules too.
+-- The answer is that of `check` for the bytes of a PES file, by whatever options; and where each
+-- header of the page has to erase it, and that has to be whole at each frame's end, in the words of
+-- the seven rules too.
 abbrev pub IsAnswer :
     ProgrammeValue → OptionsValue → List ℕ → Result Accepted CheckFault → Type 0
 IsAnswer programme options bytes answer =
     IsCheckedBy programme options bytes answer
-    × (IsFalse options.keeps → IsCheckedWithin programme options bytes answer)
     × (IsFalse options.keeps → options.within ≡ 0 → IsChecked programme options bytes answer)
 
 -- Where both files were read, the answer of `check`, which the first event decides, is one of the

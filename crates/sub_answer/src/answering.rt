@@ -6,6 +6,7 @@
 mod check;
 mod check_all;
 mod listen;
+mod survey;
 
 ghost use Rattle.std.specs.Prelude.{◌≡◌, ◌+◌, ◌<◌, false, true};
 ghost use Rattle.sub_answer.specs.Answering.{Answers, HandsOnBefore, WritesBefore, input_call};
@@ -24,9 +25,10 @@ use stl_rows::Drawing;
 use sub_io::{Flush, Sink, Source};
 use sub_listing::{
     FirstPacket, Status, extract_packets, line_of_usage, list_packets, list_subtitles,
-    print_fault_line, print_help, print_survey, show_packet, write_normal, write_schedule,
+    print_fault_line, print_help, show_packet, write_normal, write_schedule,
 };
 use sub_request::{Request, UsageFault};
+use survey::print_survey;
 
 /// Answers a request that `Request::parse` gave.
 ///

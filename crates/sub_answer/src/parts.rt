@@ -1,7 +1,7 @@
 //! Answers a request over a part of what a source gives: the source of that part is made here, of
 //! one type for each of the four ways, so that a whole file costs nothing.
 ghost use Rattle.std.specs.Prelude.{◌≡◌, ⊤, Some, []};
-ghost use Rattle.sub_io.specs.Buffered.{failures_and_refused};
+ghost use Rattle.sub_io.specs.Buffered.{HandsOn, failures_and_refused};
 ghost use Rattle.sub_io.specs.Device.{CanFail};
 ghost use Rattle.sub_answer.specs.Answering.{input_call};
 ghost use Rattle.sub_answer.specs.Ending.{EndsWith, IsClosedAfter, IsEmptyFile, IsEmptySource};
@@ -32,11 +32,12 @@ pub fn answer_part<S: Source + Drop, F: Close, O: HandOn<F>>(
     requires file { (failures_and_refused (F.failure_count file.old.device) file.old.refused ≡ 0)
         × (file.old.held ≡ []) }
     requires out { O.failure_count out.old ≡ 0 }
-    ensures { EndsWith request.now (IsPartOf part S.remaining S.failure_count whole result.1)
+    ensures ends { EndsWith request.now (IsPartOf part S.remaining S.failure_count whole result.1)
         IsEmptySource ⊤
         (IsClosedAfter F.contents F.failure_count F.is_close file.old file.new)
         (lines_in O.contents O.held_back O.failure_count out.old)
         (lines_in O.contents O.held_back O.failure_count out.new) result.0 }
+    ensures done { result.0 ≡ Status.Done → HandsOn F.failure_count file.old file.new }
 {
     match (part.stream, part.range) {
         (None, None) => {

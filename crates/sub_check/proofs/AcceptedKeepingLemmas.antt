@@ -1,7 +1,7 @@
 -- For `law_of_accepted_keeping` and `law_of_accepted_none_keeps`: what both files mean by some
 -- options they mean by others, by which repeats may keep the page or may not, `mean-keeps`; and
 -- what is good by the ones is good by the others, `good-keeps`.
-use Rattle.std.proofs.Common.{◌≡◌, ℕ, Bool, true, false, List, sym, subst}
+use Rattle.std.proofs.Common.{ℕ, Bool, true, List, sym, subst}
 use Rattle.stl_file.specs.Subtitle.{SubtitleValue}
 use Rattle.stl_rows.specs.Programme.{ProgrammeValue}
 use Rattle.stl_rows.specs.declared.layout.Drawing.{Drawing}

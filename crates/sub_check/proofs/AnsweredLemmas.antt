@@ -19,24 +19,21 @@ use Rattle.sub_rules.specs.declared.event.Event.{Event}
 use Rattle.sub_rules.specs.declared.fault.CheckFault.{CheckFault}
 use Rattle.sub_checker.specs.PieceTelling.{TellsPieces}
 use Rattle.sub_checker.specs.declared.telling.Accepted.{Accepted}
-use Rattle.sub_check.specs.CheckedFiles.{IsChecked, IsCheckedBy}
-use Rattle.sub_check.specs.CheckedFiles.{IsCheckedWithin, TellsEvents}
-use Rattle.sub_check.specs.CheckedFiles.{all_events_of, answer_by}
-use Rattle.sub_check.specs.CheckedFiles.{first_answer}
+use Rattle.sub_check.specs.CheckedFiles.{IsChecked, IsCheckedBy, TellsEvents, all_events_of}
+use Rattle.sub_check.specs.CheckedFiles.{answer_by, first_answer}
 use Rattle.sub_check.specs.FirstTold.{IsRuleFault}
 use Rattle.sub_check.proofs.FirstToldLemmas.{no_read, of_rule}
 use Rattle.sub_check.proofs.RuleToldLemmas.{first_of_rule}
 use Rattle.sub_check.proofs.VerdictLemmas.{Decides, IsAllRead, ReadsSoFar, checked_at_once}
-use Rattle.sub_check.proofs.VerdictLemmas.{checked_by, checked_within}
+use Rattle.sub_check.proofs.VerdictLemmas.{checked_by}
 
--- What `check` answers: by whatever options; where each header has to erase the page; and where the
--- page has to be whole at once too.
+-- What `check` answers: by whatever options; and where each header has to erase the page, and that
+-- has to be whole at the end of each frame.
 pub record IsAnswered
     (programme : ProgrammeValue) (options : OptionsValue) (bytes : List ℕ)
     (answer : Result Accepted CheckFault)
     : Type 0 where
   pub by : IsCheckedBy programme options bytes answer
-  pub within : IsFalse options.keeps → IsCheckedWithin programme options bytes answer
   pub at_once :
       IsFalse options.keeps → options.within ≡ 0 → IsChecked programme options bytes answer
 
@@ -51,7 +48,6 @@ module _ (programme : ProgrammeValue) (options : OptionsValue) (fine : IsOptions
       → IsAnswered programme options bytes result
   answered result decides so_far = record {
     by = checked_by programme options fine p bytes result decides so_far;
-    within = checked_within programme options fine p bytes result decides so_far;
     at_once = checked_at_once programme options fine p bytes result decides so_far;
   }
 
@@ -107,7 +103,7 @@ checked_first programme options bytes IsTold old new (Ok (Some a)) fine p told =
 checked_first programme options bytes IsTold old new (Ok None) fine p told = tt
 checked_first programme options bytes IsTold old new (Err f) fine p told = tt
 
--- The three of it.
+-- The two of it.
 pub answers_by : (programme : ProgrammeValue) (options : OptionsValue) (bytes : List ℕ)
     (r : Result (Option Accepted) CheckFault)
     → IfOk r (λ counts. IfSome counts (λ a. IsAnswered programme options bytes
@@ -117,17 +113,6 @@ pub answers_by : (programme : ProgrammeValue) (options : OptionsValue) (bytes : 
 answers_by programme options bytes (Ok (Some a)) all = all.by
 answers_by programme options bytes (Ok None) all = tt
 answers_by programme options bytes (Err f) all = tt
-
-pub answers_within : (programme : ProgrammeValue) (options : OptionsValue) (bytes : List ℕ)
-    (r : Result (Option Accepted) CheckFault)
-    → IsFalse options.keeps
-    → IfOk r (λ counts. IfSome counts (λ a. IsAnswered programme options bytes
-    (first_answer (all_events_of programme options bytes) a)))
-    → IfOk r (λ counts. IfSome counts (λ a. IsCheckedWithin programme options bytes
-    (first_answer (all_events_of programme options bytes) a)))
-answers_within programme options bytes (Ok (Some a)) none all = all.within none
-answers_within programme options bytes (Ok None) none all = tt
-answers_within programme options bytes (Err f) none all = tt
 
 pub answers_at_once : (programme : ProgrammeValue) (options : OptionsValue) (bytes : List ℕ)
     (r : Result (Option Accepted) CheckFault)

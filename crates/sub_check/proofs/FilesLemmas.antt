@@ -1,7 +1,6 @@
--- What is told of both files, for `check_files`: `files_accepted`, `files_refused`, within frames
--- `files_accepted_within`, `files_refused_within`, and by any options `files_accepted_by`,
--- `files_refused_by`. Both files are accepted where the one gives a programme and the other has a
--- good transmission of it: `as_accepted`, `of_accepted`.
+-- What is told of both files, for `check_files`: `files_accepted`, `files_refused`, and by any
+-- options `files_accepted_by`, `files_refused_by`. Both files are accepted where the one gives a
+-- programme and the other has a good transmission of it: `as_accepted`, `of_accepted`.
 use Rattle.std.proofs.lemmas.Bool.Decides.{nat_tests}
 use Rattle.std.proofs.Common.{◌≡◌, ℕ, List, Result, Ok, Err, false, sym, ap, ◌∙◌, subst, arith}
 use Rattle.std.specs.Prelude.{IsTrue}
@@ -17,20 +16,17 @@ use Rattle.sub_plan.specs.FrameTime.{clock_of}
 use Rattle.sub_plan.specs.Options.{OptionsValue}
 use Rattle.sub_rules.specs.Fault.{is_failure, is_failure_kind, is_pes_read, is_subtitle_fault}
 use Rattle.sub_rules.specs.Good.{Good}
-use Rattle.sub_rules.specs.GoodWithin.{GoodWithin}
 use Rattle.sub_rules.specs.PesFrames.{Carries, CarriesBy}
 use Rattle.sub_rules.specs.Repeats.{GoodBy}
 use Rattle.sub_rules.specs.Transmission.{Transmission}
 use Rattle.sub_rules.specs.declared.fault.CheckFault.{CheckFault}
 use Rattle.sub_rules.specs.declared.fault.CheckFault.TheVariants as fault
 use Rattle.sub_checker.specs.declared.telling.Accepted.{Accepted}
-use Rattle.sub_laws.specs.Delay.{HasPromisesWithDelay}
 use Rattle.sub_laws.specs.OnScreen.{Complete}
+use Rattle.sub_laws.specs.Repeats.{HasPromisesBy}
 use Rattle.sub_laws.specs.Stretch.{HasPromises}
-use Rattle.sub_check.specs.CheckedFiles.{AreAccepted, AreAcceptedBy, AreAcceptedWithin}
-use Rattle.sub_check.specs.CheckedFiles.{HasPromisesOfRepeats, IsAccepted, IsAcceptedBy}
-use Rattle.sub_check.specs.CheckedFiles.{IsAcceptedWithin, IsChecked, IsCheckedBy}
-use Rattle.sub_check.specs.CheckedFiles.{IsCheckedWithin, Mean, MeanWithin}
+use Rattle.sub_check.specs.CheckedFiles.{AreAccepted, AreAcceptedBy, IsAccepted, IsAcceptedBy}
+use Rattle.sub_check.specs.CheckedFiles.{IsChecked, IsCheckedBy, Mean, MeanWithin}
 
 -- A file gives one programme. For `check_files`.
 pub same_programme :
@@ -80,13 +76,6 @@ module _ (drawing : Drawing) (options : OptionsValue) (stl pes : List ℕ)
   accepted-loads is = (
     record { drawing = drawing; records = is.subtitles },
     loads is.subtitles is.transmission is.mean,
-  )
-
-  pub accepted-loads_within : IsAcceptedWithin drawing options stl pes
-      → (programme : ProgrammeValue) × (loaded drawing stl ≡ Ok programme)
-  accepted-loads_within is = (
-    record { drawing = drawing; records = is.subtitles },
-    loads_within is.subtitles is.transmission is.mean,
   )
 
   pub accepted-loads_by : IsAcceptedBy drawing options stl pes
@@ -144,38 +133,6 @@ module _ (drawing : Drawing) (options : OptionsValue) (stl pes : List ℕ)
           is.complete,
         )
 
-    -- The same within frames.
-    pub as_accepted_within : (t : Transmission)
-        × CarriesBy (clock_of options) options.within pes t
-        × GoodWithin programme t options
-        → IsAcceptedWithin drawing options stl pes
-    as_accepted_within (t, carries, good) =
-        let file = (loading drawing stl programme.records).0 (given ∙ ap (λ p. Ok p) of) in
-        record {
-          subtitles = programme.records;
-          transmission = t;
-          mean = record {
-            gsi = file.0;
-            subtitle_file = file.1;
-            in_order = file.2;
-            drawable = file.3;
-            carries = carries;
-          };
-          good = subst (λ (p : ProgrammeValue). GoodWithin p t options) of good;
-        }
-
-    pub of_accepted_within : IsAcceptedWithin drawing options stl pes
-        → (t : Transmission)
-        × CarriesBy (clock_of options) options.within pes t
-        × GoodWithin programme t options
-    of_accepted_within is =
-        let same =
-        programme_is is.subtitles (loads_within is.subtitles is.transmission is.mean) in (
-          is.transmission,
-          is.mean.carries,
-          subst (λ (p : ProgrammeValue). GoodWithin p is.transmission options) (sym same) is.good,
-        )
-
     -- The same by any options.
     pub as_accepted_by : (t : Transmission)
         × CarriesBy (clock_of options) options.within pes t
@@ -226,19 +183,6 @@ module _ (drawing : Drawing) (options : OptionsValue) (stl pes : List ℕ)
             );
       }
 
-      -- Both files, within frames. For `check_files`.
-      pub files_accepted_within : IsCheckedWithin programme options pes answer
-          → AreAcceptedWithin drawing options stl pes answer
-      files_accepted_within checked = record {
-        accepted = λ fine.
-            let exactly = checked.accepted looked (looked_at answer looked fine) in
-            (λ ok. as_accepted_within (exactly.0 ok), λ is. exactly.1 (of_accepted_within is));
-        serves = λ subtitles t mean ok.
-            subst (λ (p : ProgrammeValue). HasPromisesWithDelay p t options)
-            (programme_is subtitles (loads_within subtitles t mean))
-            (checked.serves t mean.carries ok).1;
-      }
-
       -- Both files, by any options. For `check_files`.
       pub files_accepted_by : IsCheckedBy programme options pes answer
           → AreAcceptedBy drawing options stl pes answer
@@ -247,7 +191,7 @@ module _ (drawing : Drawing) (options : OptionsValue) (stl pes : List ℕ)
             let exactly = checked.accepted looked (looked_at answer looked fine) in
             (λ ok. as_accepted_by (exactly.0 ok), λ is. exactly.1 (of_accepted_by is));
         serves = λ subtitles t mean ok.
-            subst (λ (p : ProgrammeValue). HasPromisesOfRepeats p t options)
+            subst (λ (p : ProgrammeValue). HasPromisesBy options.keeps p t options)
             (programme_is subtitles (loads_within subtitles t mean))
             (checked.serves t mean.carries ok).1;
       }
@@ -272,17 +216,6 @@ module _ (drawing : Drawing) (options : OptionsValue) (stl pes : List ℕ) (f : 
       λ g.
           absurd (own_fault drawing stl _ f.block f.kind told fine
           (accepted-loads drawing options stl pes loading g).1),
-    );
-    serves = λ subtitles transmission mean ok. cc;
-  }
-
-  pub files_refused_within : AreAcceptedWithin drawing options stl pes (Err (fault.Subtitles f))
-  files_refused_within = record {
-    accepted = λ fine. (
-      λ ok. cc,
-      λ g.
-          absurd (own_fault drawing stl _ f.block f.kind told fine
-          (accepted-loads_within drawing options stl pes loading g).1),
     );
     serves = λ subtitles transmission mean ok. cc;
   }

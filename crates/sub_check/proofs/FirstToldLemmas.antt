@@ -1,6 +1,5 @@
 -- A device that keeps the first fault of a rule keeps what is told first, `kept_is`; and where that
--- is a cell that is not right, receivers show what is kept there: `different_of_first`, and where
--- each header has to erase the page, `undue_of_first`.
+-- is a cell that is not right, receivers show what is kept there: `different_of_first`.
 use Rattle.std.proofs.lemmas.Bool.Decides.{nat_tests}
 use Rattle.std.proofs.Common.{◌≡◌, ℕ, List, [], ◌∷◌, length, Option, Some, None, Result, Err, refl}
 use Rattle.std.proofs.Common.{sym, subst, arith, All, false, true}
@@ -27,8 +26,8 @@ use Rattle.sub_rules.specs.declared.event.Event.TheVariants.{Ended, PassedUntil,
 use Rattle.sub_rules.specs.declared.fault.CheckFault.{CheckFault}
 use Rattle.sub_rules.specs.declared.fault.CheckFault.TheVariants as fault
 use Rattle.sub_rules.proofs.JoinedLemmas.{joined_after-read}
-use Rattle.sub_laws.specs.UndueContent.{IsDifferentEverywhere, IsUndueEverywhere}
-use Rattle.sub_laws.proofs.ContentLemmas.{different_everywhere, undue_everywhere}
+use Rattle.sub_laws.specs.UndueContent.{IsDifferentEverywhere}
+use Rattle.sub_laws.proofs.ContentLemmas.{different_everywhere}
 use Rattle.sub_laws.proofs.EventLemmas.{FirstOf, all_told, is_plain}
 use Rattle.sub_laws.proofs.FirstContentLemmas.{content_first}
 use Rattle.sub_laws.proofs.FrameByFrame.{AllOk, IsReadTo}
@@ -141,47 +140,18 @@ module _ (programme : ProgrammeValue) (options : OptionsValue) (bytes : List ℕ
       (joined_after-read IsPacket options.within [] file.frames tt
       (file_sound (clock_of options) 0 bytes)))
 
-  -- Where the page is refused at a cell, what is so of each that is found broken.
-  so_of_first : (IsSo : ℕ → ℕ → ℕ → Type 0)
-      → ((unread : Option Unread) (n f : ℕ) (x : ℕ × ℕ)
-      → IsReadTo (task_of programme options unread) (joined options.within file.frames) n f
-      → broken_cell (task_of programme options unread) (joined options.within file.frames) n f
-      ≡ Some x
-      → IsSo f x.0 x.1)
-      → (frame row column : ℕ)
-      → first_told (all_events_of programme options bytes)
-      ≡ Some (fault.Content frame row column)
-      → IsSo frame row column
-  unfolding file_at
-  so_of_first IsSo so frame row column e =
-      let pieces = piece_file_of (clock_of options) bytes in
-      so_of_events (task_of programme options pieces.unread) (joined options.within file.frames)
-      file_whole IsSo (so pieces.unread) frame row column
-      (content_first frame row column (task_of programme options pieces.unread) pieces.pieces e)
-
-  -- It is not right there. For `check`.
+  -- Where the page is refused at a cell, it is not right there. For `check`.
   pub different_of_first : (frame row column : ℕ)
       → first_told (all_events_of programme options bytes)
       ≡ Some (fault.Content frame row column)
       → IsDifferentEverywhere programme options (joined options.within file.frames) frame row column
-  different_of_first =
-      so_of_first
-      (λ f row column.
-      IsDifferentEverywhere programme options (joined options.within file.frames) f row column)
-      (λ unread n f x read broken.
-      different_everywhere programme options unread (joined options.within file.frames) n f read x
-      broken)
-
-  -- Every receiver shows what it may not show there. For `check`.
-  pub undue_of_first : options.keeps ≡ false
-      → (frame row column : ℕ)
-      → first_told (all_events_of programme options bytes)
-      ≡ Some (fault.Content frame row column)
-      → IsUndueEverywhere programme options (joined options.within file.frames) frame row column
-  undue_of_first none =
-      so_of_first
-      (λ f row column.
-      IsUndueEverywhere programme options (joined options.within file.frames) f row column)
-      (λ unread n f x read broken.
-      undue_everywhere programme options unread (joined options.within file.frames) n f read x
-      broken none)
+  unfolding file_at
+  different_of_first frame row column e =
+      let pieces = piece_file_of (clock_of options) bytes in
+      let frames = joined options.within file.frames in
+      so_of_events (task_of programme options pieces.unread) frames file_whole
+      (λ f row column. IsDifferentEverywhere programme options frames f row column)
+      (λ n f x read broken.
+      different_everywhere programme options pieces.unread frames n f read x broken)
+      frame row column
+      (content_first frame row column (task_of programme options pieces.unread) pieces.pieces e)

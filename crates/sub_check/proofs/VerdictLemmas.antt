@@ -1,6 +1,6 @@
 -- What is told of the whole file decides what is accepted and what it keeps: by whatever options,
--- `checked_by`, where each header has to erase the page, `checked_within`, and where the page has
--- to be whole at the end of each frame too, `checked_at_once`.
+-- `checked_by`; and where each header has to erase the page, and that has to be whole at the end of
+-- each frame, `checked_at_once`.
 use Rattle.std.proofs.lemmas.Bool.Decides.{nat_tests}
 use Rattle.std.proofs.lemmas.Slice.Zip.{AllZip-long}
 use Rattle.std.proofs.Common.{◌≡◌, ◌≢◌, ◌↔◌, ℕ, ◌≤◌, List, [], Bool, All, Some, None}
@@ -9,7 +9,7 @@ use Rattle.std.proofs.Common.{subst, arith, length, append-nil}
 use Rattle.std.proofs.lemmas.List.Elements.{All-from_recursion}
 use Rattle.std.proofs.lemmas.Option.{none-some}
 use Rattle.std.specs.List.{concat}
-use Rattle.std.specs.Prelude.{IfErr, IfSome}
+use Rattle.std.specs.Prelude.{IfErr, IfSome, IsTrue}
 use Rattle.sub_io.specs.Device.{failed}
 use Rattle.ttx_packet.specs.PacketAddress.{IsPacket}
 use Rattle.ttx_pes.specs.PesPacket.{IsPesPacket}
@@ -21,7 +21,7 @@ use Rattle.sub_plan.specs.Schedule.{plan}
 use Rattle.sub_rules.specs.Events.{first_told}
 use Rattle.sub_rules.specs.Fault.{is_pes_read}
 use Rattle.sub_rules.specs.FrameRules.{Task, task_of}
-use Rattle.sub_rules.specs.GoodWithin.{GoodWithin}
+use Rattle.sub_rules.specs.Good.{Good}
 use Rattle.sub_rules.specs.PesFrames.{Carries, CarriesBy, IsReadAs}
 use Rattle.sub_rules.specs.PesReading.{pes_file_of}
 use Rattle.sub_rules.specs.Pieces.{PieceFileValue, frames_of, joined}
@@ -35,27 +35,25 @@ use Rattle.sub_rules.proofs.JoinedLemmas.{joined-within, joined_after-read}
 use Rattle.sub_checker.specs.PieceTelling.{IsReadOn}
 use Rattle.sub_checker.specs.Telling.{CountsRead}
 use Rattle.sub_checker.specs.declared.telling.Accepted.{Accepted}
+use Rattle.sub_laws.specs.OnScreen.{Complete}
 use Rattle.sub_laws.specs.Planned.{planned}
+use Rattle.sub_laws.proofs.ContentLemmas.{wrong_everywhere}
+use Rattle.sub_laws.proofs.GoodByLemmas.{law_of_good_repeats, law_of_no_delay}
+use Rattle.sub_laws.proofs.GoodByLemmas.{law_of_plan_repeats}
 use Rattle.sub_laws.proofs.GoodLemmas.{rises_each, whole-is}
-use Rattle.sub_laws.proofs.GoodWithinLemmas.{begins_in, law_of_good_within, law_of_no_delay}
-use Rattle.sub_laws.proofs.GoodWithinLemmas.{law_of_plan_repeats}
 use Rattle.sub_laws.proofs.JoinedRisingLemmas.{joined-rising}
 use Rattle.sub_laws.proofs.PesFileLemmas.{carried_is_read, law_of_exact_frames}
 use Rattle.sub_laws.proofs.PlanLemmas.{law_of_plan_read}
 use Rattle.sub_laws.proofs.PrefixLemmas.{first-same, last-same}
 use Rattle.sub_laws.proofs.ReadFileLemmas.{file_pieces_sound, sent_whole}
-use Rattle.sub_laws.proofs.RepeatLemmas.{law_of_good_repeats, law_of_no_repeats}
 use Rattle.sub_laws.proofs.RisingEndLemmas.{latest_at}
 use Rattle.sub_laws.proofs.RobustLemmas.{law_of_good}
 use Rattle.sub_laws.proofs.UntoldLemmas.{pieces_unrefused}
 use Rattle.sub_laws.proofs.ToldLemmas.{none_refused}
 use Rattle.sub_laws.proofs.ToldWithinLemmas.{none_told_repeats}
-use Rattle.sub_check.specs.CheckedFiles.{HasCounts, HasPromisesOfRepeats, IsChecked, IsCheckedBy}
-use Rattle.sub_check.specs.CheckedFiles.{IsCheckedWithin}
-use Rattle.sub_check.specs.CheckedFiles.{all_events_of}
+use Rattle.sub_check.specs.CheckedFiles.{HasCounts, IsChecked, IsCheckedBy, all_events_of}
 use Rattle.sub_check.specs.CheckedFiles.{events_of_first_pieces, frames_read}
 use Rattle.sub_check.proofs.FirstToldLemmas.{different_of_first, each_whole}
-use Rattle.sub_check.proofs.FirstToldLemmas.{undue_of_first}
 use Rattle.sub_check.proofs.ReadOnLemmas.{read_whole}
 
 -- All pieces of the bytes were read.
@@ -80,27 +78,6 @@ ReadsSoFar programme options bytes result =
     → result ≡ Err (fault.Pes pes Pes.Read)
     → (pes ≤ length (piece_file_of (clock_of options) bytes).pieces)
     × (first_told (events_of_first_pieces programme options bytes pes) ≡ None)
-
--- What is good by options keeps the promises of a transmission whose repeats may keep the page.
-promises_of_repeats :
-    (programme : ProgrammeValue) (transmission : Transmission) (options : OptionsValue)
-    → IsProgramme programme.drawing programme.records
-    → GoodBy options.keeps programme transmission options
-    → HasPromisesOfRepeats programme transmission options
-promises_of_repeats programme transmission options is good =
-    let both = law_of_good_repeats options.keeps in
-    record {
-      recovers = λ anew class. (both anew class programme transmission options good).0;
-      shown = λ anew class. (both anew class programme transmission options good).1;
-      finishes = record {
-        again = good.again;
-        subtitles = λ k d within low high. good.subtitles k d within;
-        begun = λ from k d within before.
-            let begins =
-            begins_in programme transmission is good.rules.starts good.rules.lasts k d within in
-            absurd (omega arith);
-      };
-    }
 
 module _ (programme : ProgrammeValue) (options : OptionsValue) (is : IsOptions options)
     (p : IsProgramme programme.drawing programme.records) (bytes : List ℕ) where
@@ -304,7 +281,7 @@ module _ (programme : ProgrammeValue) (options : OptionsValue) (is : IsOptions o
       accepted = λ looked fine. accepted_from result (decides fine);
       serves = λ t carries ok.
           let good = accepted_is t result decides carries ok in
-          (good, promises_of_repeats programme t options p good);
+          (good, (law_of_good_repeats options.keeps programme t options good).1 p);
       counts = λ t carries. counts_from t result decides carries;
       first = λ looked fine. first_from result (decides fine);
       read = so_far;
@@ -315,69 +292,52 @@ module _ (programme : ProgrammeValue) (options : OptionsValue) (is : IsOptions o
           plan_accepted serial result written some slow (decides fine);
     }
 
-    module _ (none : options.keeps ≡ false) where
-      -- What is good by options that let no repeat keep is good within their frames.
-      within_is : (t : Transmission)
-          → GoodBy options.keeps programme t options
-          ↔ GoodWithin programme t options
-      within_is t =
-          let same = law_of_no_repeats programme t options in (
-            λ good.
-                same.0 (subst (λ (k : Bool). GoodBy k programme t options) none good),
-            λ good.
-                subst (λ (k : Bool). GoodBy k programme t options) (sym none) (same.1 good),
-          )
+    -- What is checked where each header has to erase the page, and that has to be whole at the end
+    -- of each frame.
+    pub checked_at_once : options.keeps ≡ false
+        → options.within ≡ 0
+        → IsChecked programme options bytes result
+    checked_at_once none at_once =
+        let by = checked_by in
+        record {
+          accepted = λ looked fine.
+              let exactly = by.accepted looked fine in (
+                λ ok.
+                    let (t, carries, good) = exactly.0 ok in
+                    let both = (good_is t).0 good in
+                    (t, (exact t).0 carries, both.0, both.1),
+                λ any.
+                    exactly.1 (
+                      any.0,
+                      (exact any.0).1 any.1,
+                      (good_is any.0).1 (any.2, any.3),
+                    ),
+              );
+          serves = λ t carries ok.
+              let both = (good_is t).0 (by.serves t ((exact t).1 carries) ok).0 in
+              (law_of_good programme t options both.0, both.1);
+          content = λ frame row column e.
+              subst
+              (λ (t : Transmission). IsWrongEverywhere programme options t frame row column)
+              (joined-within options.within (pes_file_of (clock_of options) bytes).frames at_once)
+              (wrong_everywhere programme options _ frame row column none
+              (by.content frame row column e));
+        }
+      where
+        exact : (t : Transmission)
+            → CarriesBy (clock_of options) options.within bytes t
+            ↔ Carries options.origin bytes t
+        exact t = law_of_exact_frames options bytes t at_once
 
-      -- What is checked where each header has to erase the page.
-      pub checked_within : IsCheckedWithin programme options bytes result
-      checked_within =
-          let by = checked_by in
-          record {
-            accepted = λ looked fine.
-                let exactly = by.accepted looked fine in (
-                  λ ok.
-                      let (t, carries, good) = exactly.0 ok in
-                      (t, carries, (within_is t).0 good),
-                  λ any. exactly.1 (any.0, any.1, (within_is any.0).1 any.2),
-                );
-            serves = λ t carries ok.
-                let good = (within_is t).0 (by.serves t carries ok).0 in
-                (good, law_of_good_within programme t options p good);
-            content = λ frame row column e.
-                undue_of_first programme options bytes none frame row column
-                (cell_told frame row column e);
-          }
-
-      -- What is checked where the page has to be whole at the end of each frame too.
-      pub checked_at_once : options.within ≡ 0 → IsChecked programme options bytes result
-      checked_at_once at_once =
-          let within = checked_within in
-          record {
-            accepted = λ looked fine.
-                let exactly = within.accepted looked fine in (
-                  λ ok.
-                      let (t, carries, good) = exactly.0 ok in
-                      let both = (law_of_no_delay programme t options p at_once).0 good in
-                      (t, (exact t).0 carries, both.0, both.1),
-                  λ any.
-                      exactly.1 (
-                        any.0,
-                        (exact any.0).1 any.1,
-                        (law_of_no_delay programme any.0 options p at_once).1 (any.2, any.3),
-                      ),
-                );
-            serves = λ t carries ok.
-                let good = (within.serves t ((exact t).1 carries) ok).0 in
-                let both = (law_of_no_delay programme t options p at_once).0 good in
-                (law_of_good programme t options both.0, both.1);
-            content = λ frame row column e.
-                subst
-                (λ (t : Transmission). IsWrongEverywhere programme options t frame row column)
-                (joined-within options.within (pes_file_of (clock_of options) bytes).frames at_once)
-                (within.content frame row column e).wrong;
-          }
-        where
-          exact : (t : Transmission)
-              → CarriesBy (clock_of options) options.within bytes t
-              ↔ Carries options.origin bytes t
-          exact t = law_of_exact_frames options bytes t at_once
+        -- What is good by these options is good.
+        good_is : (t : Transmission)
+            → GoodBy options.keeps programme t options
+            ↔ (Good programme t options
+            × (IsTrue options.asks_complete → Complete t options))
+        good_is t =
+            subst
+            (λ (k : Bool).
+            GoodBy k programme t options
+            ↔ (Good programme t options
+            × (IsTrue options.asks_complete → Complete t options)))
+            (sym none) (law_of_no_delay programme t options p at_once)

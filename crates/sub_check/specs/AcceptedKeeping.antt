@@ -1,6 +1,6 @@
 -- What is accepted where each header of the page has to erase it is accepted where repeats may keep
 -- it; and the other way, where none keeps it.
-use Rattle.std.specs.Prelude.{◌≡◌, ℕ, Bool, true, false, List, IsFalse, IsOk, Result}
+use Rattle.std.specs.Prelude.{◌≡◌, ℕ, true, false, List, IsFalse, IsOk, Result}
 use Rattle.sub_io.specs.Device.{failed}
 use Rattle.ttx_page.specs.Noise.{ErasesPage}
 use Rattle.stl_file.specs.Subtitle.{SubtitleValue}

@@ -17,7 +17,6 @@ use Rattle.sub_plan.specs.Options.{OptionsValue}
 use Rattle.sub_plan.specs.Schedule.{plan}
 use Rattle.sub_io.specs.Telling.{Tells, TellsPrefix}
 use Rattle.ttx_packet.specs.PageId.{PageIdValue}
-use Rattle.ttx_page.specs.Receiver.{ReceiverClass}
 use Rattle.sub_rules.specs.Events.{first_told}
 use Rattle.sub_rules.specs.FrameRules.{is_undecided_beside, task_beside, task_of}
 use Rattle.sub_rules.specs.PacketRules.{header_count}
@@ -25,20 +24,16 @@ use Rattle.sub_rules.specs.Transmission.{SentFrame, first_frame, last_frame, Tra
 use Rattle.sub_rules.specs.declared.event.Event.{Event}
 use Rattle.sub_rules.specs.declared.event.Event.TheVariants.{Trusted}
 use Rattle.sub_trusted.specs.TrustedFrames.{MayStay, StaysAsRead, rising_of}
-use Rattle.sub_trusted.specs.TrustedRepeats.{MayStayRepeats}
-use Rattle.sub_trusted.specs.TrustedWithDelay.{MayStayWithDelay}
+use Rattle.sub_trusted.specs.TrustedRepeats.{MayStayBy}
 use Rattle.sub_rules.specs.Fault.{is_failure, is_pes_read, is_subtitle_fault}
 use Rattle.sub_rules.specs.Good.{Good}
-use Rattle.sub_rules.specs.GoodWithin.{GoodWithin}
 use Rattle.sub_rules.specs.Repeats.{GoodBy}
-use Rattle.sub_laws.specs.Delay.{HasPromisesWithDelay}
 use Rattle.sub_laws.specs.OnScreen.{Complete}
-use Rattle.sub_laws.specs.Repeats.{RecoversForgetting, ShownForgetting}
-use Rattle.sub_laws.specs.ToldRepeats.{FinishesInTimeBy}
+use Rattle.sub_laws.specs.Repeats.{HasPromisesBy}
 use Rattle.sub_rules.specs.PesFrames.{Carries, CarriesBy}
 use Rattle.sub_rules.specs.PesReading.{pes_file_of}
 use Rattle.sub_laws.specs.Stretch.{HasPromises}
-use Rattle.sub_laws.specs.UndueContent.{IsDifferentEverywhere, IsUndueEverywhere}
+use Rattle.sub_laws.specs.UndueContent.{IsDifferentEverywhere}
 use Rattle.sub_rules.specs.PieceEvents.{all_of_pieces, events_of_pieces}
 use Rattle.sub_rules.specs.Pieces.{frames_of, joined, piece_file_of}
 use Rattle.sub_rules.specs.WrongContent.{IsWrongEverywhere}
@@ -107,7 +102,7 @@ pub record AreAccepted
       → HasPromises (record { drawing = drawing; records = subtitles }) transmission options
       × (IsTrue options.asks_complete → Complete transmission options)
 
--- ---- both files, within frames
+-- ---- both files, by any options
 
 -- The bytes of a subtitle file and of a PES file mean these subtitles and this transmission, by the
 -- clock of the options: as in `Mean`, but that a PTS may be a little early or late, and PES packets
@@ -121,55 +116,6 @@ pub record MeanWithin
   pub in_order : AreInOrder subtitles
   pub drawable : All (λ t. IsOk (drawn drawing t)) subtitles
   pub carries : CarriesBy (clock_of options) options.within pes transmission
-
--- The bytes of both files are accepted, within as many frames as the options give: they mean some
--- subtitles and a transmission of these that is good within these frames.
-pub record IsAcceptedWithin
-    (drawing : Drawing) (options : OptionsValue) (stl pes : List ℕ) : Type 0 where
-  pub subtitles : List SubtitleValue
-  pub transmission : Transmission
-  pub mean : MeanWithin drawing options stl pes subtitles transmission
-  pub good : GoodWithin (record { drawing = drawing; records = subtitles }) transmission options
-
--- What is answered for the bytes of both files, within as many frames as the options give.
-pub record AreAcceptedWithin
-    (drawing : Drawing) (options : OptionsValue) (stl pes : List ℕ)
-    (answer : Result Accepted CheckFault)
-    : Type 0 where
-  -- It is `Ok` exactly where they are accepted so, but for sources that failed and memory that was
-  -- refused.
-  pub accepted :
-      failed is_failure answer ≡ false → IsOk answer ↔ IsAcceptedWithin drawing options stl pes
-  -- What is accepted keeps all promises of a transmission that may be late.
-  pub serves :
-      (subtitles : List SubtitleValue) (transmission : Transmission)
-      → MeanWithin drawing options stl pes subtitles transmission
-      → IsOk answer
-      → HasPromisesWithDelay (record { drawing = drawing; records = subtitles }) transmission
-      options
-
--- ---- both files, by whether repeats may keep
-
--- What is promised of a good transmission whose repeats may keep the page, in all its frames, to
--- receivers of both classes: to those that may forget the page at a header that does not erase it,
--- and to those that begin anew at each header.
-pub record HasPromisesOfRepeats
-    (programme : ProgrammeValue) (transmission : Transmission) (options : OptionsValue)
-    : Type 0 where
-  -- They recover: those with old text in their memory from the next header on that erases it.
-  pub recovers :
-      (anew : Bool) (class : ReceiverClass)
-      → RecoversForgetting options.keeps anew class programme transmission options
-      (first_frame transmission) (last_frame transmission)
-  -- And where a page has ended, what is due is on their screens.
-  pub shown :
-      (anew : Bool) (class : ReceiverClass)
-      → ShownForgetting options.keeps anew class programme transmission options
-      (first_frame transmission) (last_frame transmission)
-  -- Each page is whole in time: without frames that may be late, at the end of each frame.
-  pub finishes :
-      FinishesInTimeBy options.keeps programme transmission options (first_frame transmission)
-      (last_frame transmission)
 
 -- The bytes of both files are accepted by options, whatever these are: they mean some subtitles and
 -- a transmission of these that is good by them.
@@ -190,13 +136,13 @@ pub record AreAcceptedBy
   -- refused.
   pub accepted :
       failed is_failure answer ≡ false → IsOk answer ↔ IsAcceptedBy drawing options stl pes
-  -- What is accepted keeps the promises of a transmission whose repeats may keep the page.
+  -- What is accepted keeps the promises of a transmission that is good by them.
   pub serves :
       (subtitles : List SubtitleValue) (transmission : Transmission)
       → MeanWithin drawing options stl pes subtitles transmission
       → IsOk answer
-      → HasPromisesOfRepeats (record { drawing = drawing; records = subtitles }) transmission
-      options
+      → HasPromisesBy options.keeps (record { drawing = drawing; records = subtitles })
+      transmission options
 
 -- ---- a PES file, against a programme
 
@@ -234,14 +180,13 @@ pub record IsCheckedBy
       ↔ ((transmission : Transmission)
       × CarriesBy (clock_of options) options.within bytes transmission
       × GoodBy options.keeps programme transmission options)
-  -- What is accepted is such a transmission, and keeps the promises of one whose repeats may keep
-  -- the page.
+  -- What is accepted is such a transmission, and keeps its promises.
   pub serves :
       (transmission : Transmission)
       → CarriesBy (clock_of options) options.within bytes transmission
       → IsOk answer
       → GoodBy options.keeps programme transmission options
-      × HasPromisesOfRepeats programme transmission options
+      × HasPromisesBy options.keeps programme transmission options
   -- The counts of what is accepted are those of the transmission.
   pub counts :
       (transmission : Transmission)
@@ -278,39 +223,9 @@ pub record IsCheckedBy
       → failed is_pes_read answer ≡ false
       → IsOk answer
 
--- What is answered where each header of the page has to erase it, within as many frames as the
--- options give. All else that `IsCheckedBy` says is said of that too.
-pub record IsCheckedWithin
-    (programme : ProgrammeValue) (options : OptionsValue) (bytes : List ℕ)
-    (answer : Result Accepted CheckFault)
-    : Type 0 where
-  -- Failing devices and want of memory aside, they are accepted exactly where they are a PES file
-  -- that carries a transmission of the programme that is good within these frames.
-  pub accepted :
-      failed is_subtitle_fault answer ≡ false
-      → failed is_pes_read answer ≡ false
-      → IsOk answer
-      ↔ ((transmission : Transmission)
-      × CarriesBy (clock_of options) options.within bytes transmission
-      × GoodWithin programme transmission options)
-  -- What is accepted is such a transmission, and keeps all promises of one that may be late.
-  pub serves :
-      (transmission : Transmission)
-      → CarriesBy (clock_of options) options.within bytes transmission
-      → IsOk answer
-      → GoodWithin programme transmission options
-      × HasPromisesWithDelay programme transmission options
-  -- Where the page is refused at a cell, every receiver that starts at the first packet, with no
-  -- bit wrong, shows another code there than is due; and where that end is not late, none that is
-  -- due there at a frame within these before it.
-  pub content :
-      (frame row column : ℕ)
-      → answer ≡ Err (fault.Content frame row column)
-      → IsUndueEverywhere programme options
-      (joined options.within (pes_file_of (clock_of options) bytes).frames) frame row column
-
--- What is answered where the page has to be whole at the end of each frame too: in the words of the
--- seven rules.
+-- What is answered where each header of the page has to erase it, and the page has to be whole at
+-- the end of each frame: in the words of the seven rules. All else that `IsCheckedBy` says is said
+-- of that too.
 pub record IsChecked
     (programme : ProgrammeValue) (options : OptionsValue) (bytes : List ℕ)
     (answer : Result Accepted CheckFault)
@@ -361,11 +276,6 @@ pub record AreChecked
       → IsFalse options.keeps
       → options.within ≡ 0
       → IfTold pes (λ bytes. IsChecked programme options bytes answer)
-  pub within :
-      (programme : ProgrammeValue)
-      → loaded drawing file ≡ Ok programme
-      → IsFalse options.keeps
-      → IfTold pes (λ bytes. IsCheckedWithin programme options bytes answer)
   pub checked_by :
       (programme : ProgrammeValue)
       → loaded drawing file ≡ Ok programme
@@ -405,24 +315,15 @@ TellsWhatMayStay judged options bytes =
     → StaysAsRead (task_beside judged options file.unread) file.pieces from to
     (λ on_air. MayStay judged.programme on_air options from to)
 
--- So they may within frames: receivers recover there with a delay, and one of the frames at least
--- is finished.
-abbrev pub TellsWhatMayStayWithDelay : JudgedValue → OptionsValue → List ℕ → Type 0
-TellsWhatMayStayWithDelay judged options bytes =
-    let file = piece_file_of (clock_of options) bytes in
-    (from to : ℕ)
-    → Contains (all_events_by judged options bytes) (Trusted from to)
-    → StaysAsRead (task_beside judged options file.unread) file.pieces from to
-    (λ on_air. MayStayWithDelay judged.programme on_air options from to)
-
--- So they may whether repeats may keep or not: by receivers that may forget the page, too.
+-- So they may by any options, within frames, and whether repeats may keep or not: by receivers that
+-- may forget the page, too.
 abbrev pub TellsWhatMayStayBy : JudgedValue → OptionsValue → List ℕ → Type 0
 TellsWhatMayStayBy judged options bytes =
     let file = piece_file_of (clock_of options) bytes in
     (from to : ℕ)
     → Contains (all_events_by judged options bytes) (Trusted from to)
     → StaysAsRead (task_beside judged options file.unread) file.pieces from to
-    (λ on_air. MayStayRepeats judged.programme on_air options from to)
+    (λ on_air. MayStayBy judged.programme on_air options from to)
 
 -- At each of these frames it is known what is due; and within frames at each of so many before one
 -- of them that is not before the first frame that was read.

@@ -6,7 +6,7 @@ pub use Rattle.sub_rules.specs.Transmission
 pub use Rattle.sub_rules.specs.PesFrames
 pub use Rattle.sub_rules.specs.PesReading
 pub use Rattle.sub_rules.specs.Good
-pub use Rattle.sub_rules.specs.GoodWithin
+pub use Rattle.sub_rules.specs.Repeats
 pub use Rattle.sub_rules.specs.PacketRules
 pub use Rattle.sub_rules.specs.PacketTests
 pub use Rattle.sub_rules.specs.FrameRules
@@ -20,8 +20,7 @@ pub use Rattle.sub_laws.specs.Recovery
 pub use Rattle.sub_laws.specs.OnScreen
 pub use Rattle.sub_laws.specs.Stretch
 pub use Rattle.sub_laws.specs.Sufficient
-pub use Rattle.sub_laws.specs.Delay
-pub use Rattle.sub_laws.specs.DelayLaws
+pub use Rattle.sub_laws.specs.AtOnce
 pub use Rattle.sub_laws.specs.CleanStretch
 pub use Rattle.sub_trusted.specs.TrustedFrames
 pub use Rattle.sub_laws.specs.Laws

@@ -1,5 +1,5 @@
 //! The exact checker: a PES file against a programme.
-ghost use Rattle.std.specs.Prelude.{◌≡◌, ◌<◌, ℕ, Err, IfErr, IfOk, IfSome, IsFalse, List, Option};
+ghost use Rattle.std.specs.Prelude.{◌≡◌, ℕ, Err, IfErr, IfOk, IfSome, IsFalse, List, Option};
 ghost use Rattle.std.specs.Prelude.{false, is_none, length, take, true};
 ghost use Rattle.sub_io.specs.Device.{CanFail, CountsIf, failed};
 ghost use Rattle.sub_io.specs.Reading.{IfTold};
@@ -14,9 +14,8 @@ ghost use Rattle.sub_rules.specs.FrameRules.{Unread, task_of};
 ghost use Rattle.sub_rules.specs.Pieces.{FailsAtPiece, Piece, ReadsPieces, frames_of};
 ghost use Rattle.sub_checker.specs.PieceTelling.{TellsPieces};
 ghost use Rattle.sub_check.specs.CheckedFiles.{BeginsWhatIsTold, IsChecked, IsCheckedBy};
-ghost use Rattle.sub_check.specs.CheckedFiles.{IsCheckedWithin, TellsEvents, TellsWhatMayStay};
-ghost use Rattle.sub_check.specs.CheckedFiles.{TellsWhatIsKnown, TellsWhatMayStayBy};
-ghost use Rattle.sub_check.specs.CheckedFiles.{TellsWhatMayStayWithDelay};
+ghost use Rattle.sub_check.specs.CheckedFiles.{TellsEvents, TellsWhatIsKnown, TellsWhatMayStay};
+ghost use Rattle.sub_check.specs.CheckedFiles.{TellsWhatMayStayBy};
 ghost use Rattle.sub_check.specs.CheckedFiles.{all_events_of};
 ghost use Rattle.sub_check.specs.CheckedFiles.{first_answer};
 
@@ -61,11 +60,8 @@ pub fn check<S: Source>(
     ensures checked { IsFalse options.now.keeps → options.now.within ≡ 0
         → IfTold (S.remaining source.old) (λ bytes.
         IsChecked programme.now options.now bytes result) }
-    // Where the options allow for frames that are late, they are accepted exactly where it is good
-    // within as many of them.
-    ensures within { IsFalse options.now.keeps → IfTold (S.remaining source.old) (λ bytes.
-        IsCheckedWithin programme.now options.now bytes result) }
-    // And where repeats may keep the page, exactly where it is good by that.
+    // By whatever options, where these allow for frames that are late, and where repeats may keep
+    // the page, they are accepted exactly where it is good by that.
     ensures checked_by { IfTold (S.remaining source.old) (λ bytes.
         IsCheckedBy programme.now options.now bytes result) }
     // That the source failed is told at the PES packet within which it failed: those before it were
@@ -163,28 +159,19 @@ pub fn check_all<S: Source, A: LiveAudience<Event>>(
         → IfTold (S.remaining source.old) (λ bytes.
         IfOk result (λ counts. IfSome counts (λ a. IsChecked programme options.now bytes
         (first_answer (all_events_of programme options.now bytes) a)))) }
-    ensures first_within { (programme : ProgrammeValue)
-        → judging.now ≡ known programme
-        → IsFalse options.now.keeps
-        → IfTold (S.remaining source.old) (λ bytes.
-        IfOk result (λ counts. IfSome counts (λ a. IsCheckedWithin programme options.now bytes
-        (first_answer (all_events_of programme options.now bytes) a)))) }
     ensures first_by { (programme : ProgrammeValue)
         → judging.now ≡ known programme
         → IfTold (S.remaining source.old) (λ bytes.
         IfOk result (λ counts. IfSome counts (λ a. IsCheckedBy programme options.now bytes
         (first_answer (all_events_of programme options.now bytes) a)))) }
-    // The next five are laws of what it is told: they name neither the answer nor the device, and
+    // The next four are laws of what it is told: they name neither the answer nor the device, and
     // stand here so that this call carries them.
     // What is told as trusted may stay on air as it is, whatever is on air elsewhere.
     ensures trusted { IsFalse options.now.keeps → options.now.within ≡ 0
         → IfTold (S.remaining source.old) (λ bytes.
         TellsWhatMayStay judging.now options.now bytes) }
-    // So it may, with a delay, within frames.
-    ensures trusted_within { IsFalse options.now.keeps → 0 < options.now.within
-        → IfTold (S.remaining source.old) (λ bytes.
-        TellsWhatMayStayWithDelay judging.now options.now bytes) }
-    // And so it may by receivers that may forget the page, where repeats may keep it too.
+    // So it may by any options, with a delay within frames, and by receivers that may forget the
+    // page where repeats may keep it.
     ensures trusted_by { IfTold (S.remaining source.old) (λ bytes.
         TellsWhatMayStayBy judging.now options.now bytes) }
     // It is known there what is due.

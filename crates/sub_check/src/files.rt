@@ -7,8 +7,7 @@ ghost use Rattle.stl_rows.specs.Layout.{drawing_within};
 ghost use Rattle.stl_rows.specs.Fault.{is_load_read};
 ghost use Rattle.stl_rows.specs.Loading.{FailsLoading};
 ghost use Rattle.stl_rows.specs.declared.fault.LoadFault.{LoadFault};
-ghost use Rattle.sub_check.specs.CheckedFiles.{AreAccepted, AreAcceptedBy, AreAcceptedWithin};
-ghost use Rattle.sub_check.specs.CheckedFiles.{AreChecked};
+ghost use Rattle.sub_check.specs.CheckedFiles.{AreAccepted, AreAcceptedBy, AreChecked};
 ghost use Rattle.sub_rules.specs.Fault.{is_pes_read, is_pes_write, is_stl_read, is_subtitle_fault};
 
 use crate::checking::check;
@@ -47,12 +46,9 @@ pub fn check_files<S: Source, P: Source>(
         → IfTold (S.remaining stl.old) (λ file.
         IfTold (P.remaining pes.old) (λ bytes.
         AreAccepted (drawing_within national layout scope) options.now file bytes result)) }
-    // Where the options allow for frames that are late, they are accepted exactly where that
-    // transmission is good within as many of them, and what is accepted is as robust as that is.
-    ensures accepted_within { IsFalse options.now.keeps → IfTold (S.remaining stl.old) (λ file.
-        IfTold (P.remaining pes.old) (λ bytes.
-        AreAcceptedWithin (drawing_within national layout scope) options.now file bytes result)) }
-    // And where repeats may keep the page, exactly where it is good by that.
+    // By whatever options, where these allow for frames that are late, and where repeats may keep
+    // the page, they are accepted exactly where that transmission is good by these, and what is
+    // accepted is as robust as that is.
     ensures accepted_by { IfTold (S.remaining stl.old) (λ file.
         IfTold (P.remaining pes.old) (λ bytes.
         AreAcceptedBy (drawing_within national layout scope) options.now file bytes result)) }

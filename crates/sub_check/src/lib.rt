@@ -24,13 +24,12 @@ pub use laws::{law_of_accepted_keeping, law_of_accepted_none_keeps, law_of_accep
 pub use sub_checker::Accepted;
 pub use sub_laws::{
     law_of_all_kept, law_of_broken_places, law_of_complete_plan, law_of_exact_frames,
-    law_of_finished_stretch, law_of_first_told, law_of_good, law_of_good_within,
-    law_of_longer_delay, law_of_longer_delay_of_files, law_of_no_delay, law_of_nothing_told,
-    law_of_nothing_told_within, law_of_plan, law_of_plan_read, law_of_plan_within, law_of_stretch,
-    law_of_stretch_with_delay, law_of_sufficient_parts, law_of_sufficient_parts_with_delay,
-    law_of_trust_without_delay, law_of_untold_stretch, law_of_whole_recovery, law_of_whole_stretch,
-    law_of_whole_stretch_with_delay, law_of_window,
+    law_of_first_told, law_of_good, law_of_good_repeats, law_of_longer_delay_of_files,
+    law_of_longer_repeats, law_of_no_delay, law_of_nothing_told, law_of_nothing_told_repeats,
+    law_of_plan, law_of_plan_read, law_of_plan_repeats, law_of_repeated_stretch, law_of_stretch,
+    law_of_sufficient_parts, law_of_trust_without_delay, law_of_untold_stretch,
+    law_of_whole_recovery, law_of_whole_stretch, law_of_window,
 };
 pub use sub_packets::law_of_sent_again;
 pub use sub_rules::{CheckFault, EndRule, Event, FaultPlace, PacketRule, Watched};
-pub use sub_trusted::{law_of_all_trusted, law_of_trusted, law_of_trusted_with_delay};
+pub use sub_trusted::{law_of_all_trusted, law_of_trusted, law_of_trusted_repeats};

@@ -3,16 +3,18 @@
 use Rattle.std.proofs.lemmas.Bool.Decides.{nat_tests}
 use Rattle.std.proofs.Common.{◌≡◌, ℕ, zero, suc, ◌<◌, Bool, true, false, ◌&&◌, ◌||◌, not}
 use Rattle.std.proofs.Common.{cond, is_some, List, [], ◌∷◌, ◌++◌, length, Option, Some, None, refl}
-use Rattle.std.proofs.Common.{sym, subst, ap, ap₂, ◌∙◌, arith, flat_map, ◌==◌, map, Result}
+use Rattle.std.proofs.Common.{sym, subst, ap, ap₂, ◌∙◌, arith, flat_map, ◌==◌, map}
 use Rattle.std.specs.List.{list_any}
 use Rattle.stl_rows.specs.Programme.{last_out}
 use Rattle.sub_checker.specs.Checker.{CheckerValue, is_overdue_at, is_pending_now}
 use Rattle.sub_checker.specs.Following.{Follows}
-use Rattle.sub_checker.specs.Relay.{RelaysMarks, relay_after, relayed}
+use Rattle.sub_io.specs.Telling.{Tells}
+use Rattle.sub_checker.specs.Latch.{IsLatched}
+use Rattle.sub_checker.specs.Relay.{StageRelays, relay_after, relayed}
+use Rattle.sub_checker.specs.declared.relaying.Stage.{Stage}
 use Rattle.sub_checker.specs.Steps.{closing_now, ending_fault, fault_events, last_fault}
 use Rattle.sub_checker.specs.Steps.{last_fault_after}
 use Rattle.sub_checker.specs.Trust.{after_mark, doubted, is_order, told_by, told_with, trust_after}
-use Rattle.sub_checker.specs.declared.relaying.Relay.{Relay}
 use Rattle.sub_checker.specs.declared.trust.Trust.{Trust}
 use Rattle.sub_rules.specs.Events.{broken_at, closing_events, end_events, end_rules, endings}
 use Rattle.sub_rules.specs.Events.{is_late, is_overdue, is_pending, is_short, late_events}
@@ -32,7 +34,6 @@ use Rattle.sub_rules.specs.declared.standing.Standing.{Standing}
 use Rattle.sub_rules.proofs.EndRuleLemmas.{nothing_at}
 use Rattle.sub_rules.proofs.TrustedLemmas.{tells_none-two}
 use Rattle.sub_checker.proofs.EndingLemmas.{overdue_is, since_last}
-use Rattle.sub_checker.proofs.TellingLemmas.{ok_map, told_same}
 
 -- ---- the last end
 
@@ -202,22 +203,20 @@ closing_are g list pes last c given follows is = rw is (go (length list) refl fo
         (by n all here g.unread)
 
 -- Marks with such events are relayed alike.
-module _ {D X E : Type 0} {IsTold : D → Event → D → Type 0} {old new : D} {p then : Relay}
-    {r : Result X E}
-  where
-    pub relays_alike : (es fs : List Event) → AreAlike es fs
-        → RelaysMarks IsTold old p (map Says fs) new then r
-        → RelaysMarks IsTold old p (map Says es) new then r
-    unfolding relayed relay_after
-    relays_alike es fs alike relays =
-        let told : relayed p (map Says es) ≡ relayed p (map Says fs) =
-        rw (alike.told_are p.trust) refl in
-        let kept : relay_after p (map Says es) ≡ relay_after p (map Says fs) =
-        rw (alike.told_are p.trust, alike.kept_are p.trust) refl in
-        record {
-          told = told_same IsTold old new _ _ r told relays.told;
-          kept = ok_map _ _ r relays.kept (λ e. e ∙ sym kept);
-        }
+pub relays_alike : {D : Type 0} {d : _} {IsTold : D → Event → D → Type 0} {a b : Stage D d}
+    (es fs : List Event) → AreAlike es fs
+    → StageRelays IsTold a (map Says fs) b
+    → StageRelays IsTold a (map Says es) b
+unfolding relayed relay_after
+relays_alike {IsTold = IsTold} {a = a} {b = b} es fs alike relays =
+    let told : relayed a.relay (map Says es) ≡ relayed a.relay (map Says fs) =
+    rw (alike.told_are a.relay.trust) refl in
+    let kept : relay_after a.relay (map Says es) ≡ relay_after a.relay (map Says fs) =
+    rw (alike.told_are a.relay.trust, alike.kept_are a.relay.trust) refl in
+    record {
+      told = subst (Tells (IsLatched IsTold) a.latch b.latch) (sym told) relays.told;
+      kept = relays.kept ∙ sym kept;
+    }
 
 -- Whether anything is told of a change.
 tells_end : (s : Standing) (f : ℕ) → tells_none (end_events s f nothing_stands f) ≡ stands_none s

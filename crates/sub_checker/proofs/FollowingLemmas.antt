@@ -21,12 +21,10 @@ use Rattle.sub_rules.specs.Events.{standing_at, standing_before, unfinished_sinc
 use Rattle.sub_rules.specs.FrameRules.{Task, frame_at, packets_before}
 use Rattle.sub_rules.specs.PieceEvents.{marks_at_end, marks_of_gap}
 use Rattle.sub_rules.specs.Transmission.{Transmission}
-use Rattle.sub_rules.specs.Trusted.{Mark}
 use Rattle.sub_rules.specs.Trusted.Mark.{Says}
 use Rattle.sub_rules.specs.declared.event.Event.TheVariants.{Told}
 use Rattle.sub_rules.specs.declared.fault.CheckFault.TheVariants as fault
 use Rattle.sub_rules.proofs.EndLemmas.{standing_before_is}
-use Rattle.sub_rules.proofs.GrowingLists.{grows_to}
 use Rattle.sub_rules.proofs.PrefixEventLemmas.{frame_at-prefix, latest-prefix}
 use Rattle.sub_rules.proofs.PrefixEventLemmas.{packets_before-prefix, standing_at-prefix}
 use Rattle.sub_rules.proofs.PrefixEventLemmas.{unfinished_since-prefix}
@@ -202,17 +200,6 @@ pub gap_start : (g : Task) (frames : Transmission) (n latest_is : ℕ)
 unfolding marks_of_gap
 gap_start g frames n latest_is is =
     let none : latest_is + 1 - (latest frames n + 1) ≡ 0 = omega (arith, is) in rw none refl
-
--- And the ends that follow.
-pub gap_split :
-    (g : Task) (frames : Transmission) (n m whole : ℕ)
-    → m ≤ whole
-    → (rest : List Mark)
-    × (marks_of_gap g frames n whole ≡ marks_of_gap g frames n m ++ rest)
-unfolding marks_of_gap
-gap_split g frames n m whole l =
-    grows_to (marks_of_gap g frames n) (λ k. marks_at_end g frames n n (latest frames n + suc k))
-    (λ k. refl) m whole l
 
 -- After the last of them. For `cross_gap`.
 pub gap_ended :

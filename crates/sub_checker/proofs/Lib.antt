@@ -3,10 +3,12 @@ pub mod EdgeLemmas
 pub mod EndingLemmas
 pub mod FollowingLemmas
 pub mod HearingLemmas
+pub mod LatchLemmas
 pub mod MoreLemmas
-pub mod RelayLemmas
+pub mod NextPieceLemmas
 pub mod PieceWaysLemmas
 pub mod ReadsOnLemmas
+pub mod RelayLemmas
 pub mod StageLemmas
 pub mod TakingLemmas
 pub mod TellingLemmas

@@ -1,5 +1,5 @@
--- What each way out of the loop over pieces shows of the whole file: `step_sent`, `step_passed`,
--- `told_stop`, `told_before`, `told_whole`.
+-- What each way out of the loop over pieces shows of the whole file: `step`, `told_stop`,
+-- `told_before`, `told_whole`.
 use Rattle.std.proofs.lemmas.Bool.Decides.{nat_tests}
 use Rattle.std.proofs.Common.{◌≡◌, ℕ, ◌+◌, ◌≤◌, Bool, true, false, List, [], ◌∷◌, ◌++◌, length}
 use Rattle.std.proofs.Common.{take, Option, Some, None, Ok, Result, Err, refl, sym, ap, subst, ◌∙◌}
@@ -20,7 +20,7 @@ use Rattle.sub_rules.specs.PieceEvents.{marks_of_each}
 use Rattle.sub_rules.specs.PieceEvents.{marks_of_sent, no_run}
 use Rattle.sub_rules.specs.PieceEvents.{sent_by_pieces, told_of_pieces}
 use Rattle.sub_rules.specs.Pieces.{Piece, PieceFileValue, ReadsPiece, ReadsPieces, frames_of}
-use Rattle.sub_rules.specs.Pieces.{joined_after, piece_of, pieces_at, sent_after}
+use Rattle.sub_rules.specs.Pieces.{TellsPiece, joined_after, piece_of, pieces_at, sent_after}
 use Rattle.sub_rules.specs.Pieces.Piece.{Passed, Sent}
 use Rattle.sub_rules.specs.Transmission.{SentFrame, Transmission}
 use Rattle.sub_rules.specs.Trusted.{Mark, told_after}
@@ -28,11 +28,15 @@ use Rattle.sub_rules.specs.Trusted.Mark.{AtPes, Says}
 use Rattle.sub_rules.specs.declared.event.Event.{Event}
 use Rattle.sub_rules.specs.declared.event.Event.TheVariants.{Told}
 use Rattle.sub_rules.specs.declared.fault.CheckFault.{CheckFault}
+use Rattle.sub_rules.specs.declared.piece.NextPiece.{NextPiece}
+use Rattle.sub_rules.specs.declared.piece.NextPiece.TheVariants as next
+use Rattle.sub_rules.specs.declared.sending.Sending.{Sending}
 use Rattle.sub_rules.proofs.JoinedLemmas.{frames_of-append, joined_after-push}
 use Rattle.sub_rules.proofs.JoinedLemmas.{marks_of_each-append}
 use Rattle.sub_rules.proofs.PieceFileLemmas.{pieces_at-next, pieces_stop, reads_bad}
 use Rattle.sub_checker.specs.Checker.{CheckerValue}
 use Rattle.sub_checker.specs.Following.{Keeps, last_marks}
+use Rattle.sub_checker.specs.NextPieces.{frame_with, last_with, marks_of_read, sent_with}
 use Rattle.sub_checker.specs.Relay.{nothing_relayed, relayed, relay_after}
 use Rattle.sub_checker.specs.PieceTelling.{IsReadOn, TellsPieces, finished}
 use Rattle.sub_checker.specs.Steps.{FinishesTelling}
@@ -268,14 +272,14 @@ module _ (judging : JudgedValue) {options : OptionsValue} {bytes : List ℕ}
         (TellsPrefix-first a b _ _ (TellsPrefix-whole a b _ told))
 
     -- So was one that said stop at it.
-    pub told_stop : {D : Type 0} {IsTold : D → Event → D → Type 0} (p : Piece)
+    stop_at : {D : Type 0} {IsTold : D → Event → D → Type 0} (p : Piece)
         (more : List Piece) (ms : List Mark) (a b d : D)
         → at.ahead ≡ p ∷ more
         → marks_of_each g (frames_sent g done) pes (p ∷ []) ≡ ms
         → Tells IsTold a b (events_of_pieces g done)
         → TellsPrefix IsTold b d (relayed q ms)
         → TellsPrefix IsTold a d (all_of_pieces g all)
-    told_stop {D} {IsTold} p more ms a b d first of told part =
+    stop_at {D} {IsTold} p more ms a b d first of told part =
         let front = front_of g all (done ++ p ∷ []) more
         (at.parts ∙ ap (λ (l : List Piece). done ++ l) first
         ∙ sym (append_assoc done (p ∷ []) more)) in
@@ -284,6 +288,23 @@ module _ (judging : JudgedValue) {options : OptionsValue} {bytes : List ℕ}
         (more_events g done pes at.count p q tracks.relay_is)))
         (TellsPrefix-first a d _ _ (TellsPrefix-second a b d _ _ told
         (subst (λ (l : List Mark). TellsPrefix IsTold b d (relayed q l)) (sym of) part)))
+
+    -- By what was read of it. For `tell_pieces`.
+    pub told_stop : {D : Type 0} {IsTold : D → Event → D → Type 0} (v : PesValue) (r : NextPiece)
+        (a b d : D)
+        → TellsPiece clock pes at.rest at.ahead unread v (Ok (Some r))
+        → Tells IsTold a b (events_of_pieces g done)
+        → TellsPrefix IsTold b d
+        (relayed q (marks_of_read g (frames_sent g done) pes r (packets_of_units v.units)))
+        → TellsPrefix IsTold a d (all_of_pieces g all)
+    told_stop {D} {IsTold} v (next.Passed f) a b d is told part =
+        stop_at (Passed is.0) is.2.more _ a b d is.2.first
+        (passed_marks g done pes at.count is.0
+        ∙ ap (λ (x : CheckFault). AtPes pes ∷ Says (Told x) ∷ []) (sym is.1))
+        told part
+    told_stop {D} {IsTold} v (next.Sent s) a b d is told part =
+        stop_at (Sent (frame_with s (packets_of_units v.units))) is.0.more _ a b d is.0.first
+        (sent_marks g done pes at.count (frame_with s (packets_of_units v.units))) told part
 
     module _ (few : pes ≤ most_packets) (last_piece : at.ahead ≡ []) where
       is_all : done ≡ all
@@ -360,24 +381,25 @@ module _ (judging : JudgedValue) {options : OptionsValue} {bytes : List ℕ}
         (Tells-trans a b d _ _ first
         (subst (λ (l : List Mark). Tells IsTold b d (relayed q l)) (sym of) second))
 
-    -- One that is passed over. For `tell_pieces`.
-    pub step_passed : {D : Type 0} (IsTold : D → Event → D → Type 0) (after : Option (List ℕ))
-        (u : Unread) (f : CheckFault) (then : Relay) (a b d : D)
+    -- One that is passed over.
+    step_passed : {D : Type 0} (IsTold : D → Event → D → Type 0) (after : Option (List ℕ))
+        (u : Unread) (f : CheckFault) (e : CheckerValue) (then : Relay) (a b d : D)
         → after ≡ Some (behind_piece at.rest)
         → ReadsPiece clock pes at.rest at.ahead unread (Passed u)
         → f ≡ unread_fault pes (Some u)
+        → Keeps g (frames_sent g done) last e
         → then ≡ relay_after q (AtPes pes ∷ Says (Told f) ∷ [])
         → Tells IsTold a b (events_of_pieces g done)
         → Tells IsTold b d (relayed q (AtPes pes ∷ Says (Told f) ∷ []))
-        → Steps IsTold (Passed u) after last c then a d
-    step_passed {D} IsTold after u f then a b d left next is kept first second =
+        → Steps IsTold (Passed u) after last e then a d
+    step_passed {D} IsTold after u f e then a b d left next is keeps kept first second =
         let same : AtPes pes ∷ Says (Told f) ∷ []
         ≡ AtPes pes ∷ Says (Told (unread_fault pes (Some u))) ∷ [] =
         ap (λ (x : CheckFault). AtPes pes ∷ Says (Told x) ∷ []) is in
         record {
           reads = reads_on_passed options bytes all unread remaining after pes done at left u next;
           kept =
-              tracks_passed g done pes at.count u last c q then tracks.relay_is tracks.keeps
+              tracks_passed g done pes at.count u last e q then tracks.relay_is keeps
               (kept ∙ ap (relay_after q) same);
           told =
               told_more (Passed u) _ a b d (passed_marks g done pes at.count u) first
@@ -385,7 +407,7 @@ module _ (judging : JudgedValue) {options : OptionsValue} {bytes : List ℕ}
         }
 
     -- One that is sent.
-    pub step_sent : {D : Type 0} (IsTold : D → Event → D → Type 0) (after : Option (List ℕ))
+    step_sent : {D : Type 0} (IsTold : D → Event → D → Type 0) (after : Option (List ℕ))
         (v : PesValue) (frame : ℕ) (heard : List (List ℕ)) (e : CheckerValue) (then : Relay)
         (a b d : D) (left : after ≡ Some (behind_piece at.rest))
         → ReadsPiece clock pes at.rest at.ahead unread
@@ -411,3 +433,29 @@ module _ (judging : JudgedValue) {options : OptionsValue} {bytes : List ℕ}
           kept = tracks_sent g done pes at.count s heard e q then tracks.relay_is keeps kept;
           told = told_more (Sent s) _ a b d (sent_marks g done pes at.count s) first second;
         }
+
+    -- By what was read of it, a PES packet of this value where it is sent. For `tell_pieces`.
+    pub step : {D : Type 0} (IsTold : D → Event → D → Type 0) (after : Option (List ℕ))
+        (v : PesValue) (r : NextPiece) (e : CheckerValue) (then : Relay) (a b d : D)
+        → after ≡ Some (behind_piece at.rest)
+        → TellsPiece clock pes at.rest at.ahead unread v (Ok (Some r))
+        → ((s : Sending) → r ≡ next.Sent s → TakesPesPacket remaining after v × IsPesValue v)
+        → Keeps g (sent_with g (frames_sent g done) r (packets_of_units v.units))
+        (last_with last r (packets_of_units v.units)) e
+        → then
+        ≡ relay_after q (marks_of_read g (frames_sent g done) pes r (packets_of_units v.units))
+        → Tells IsTold a b (events_of_pieces g done)
+        → Tells IsTold b d
+        (relayed q (marks_of_read g (frames_sent g done) pes r (packets_of_units v.units)))
+        → (p : Piece)
+        × Steps IsTold p after (last_with last r (packets_of_units v.units)) e then a d
+    step {D} IsTold after v (next.Passed f) e then a b d left is sent keeps kept first second = (
+      Passed is.0,
+      step_passed IsTold after is.0 f e then a b d left is.2 is.1 keeps kept first second,
+    )
+    step {D} IsTold after v (next.Sent s) e then a b d left is sent keeps kept first second =
+        let both = sent s refl in (
+          Sent (frame_with s (packets_of_units v.units)),
+          step_sent IsTold after v s.frame (packets_of_units v.units) e then a b d left is.0 is.1
+              both.0 both.1 keeps kept first second,
+        )

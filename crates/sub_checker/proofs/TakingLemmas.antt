@@ -3,37 +3,31 @@
 -- another frame, `arrived`, `next_is`; and what is kept then, `more_keeps`, `next_keeps`.
 use Rattle.std.proofs.lemmas.Bool.Decides.{nat_tests}
 use Rattle.std.proofs.Common.{◌≡◌, ℕ, suc, ◌+◌, ◌-◌, ◌<◌, ◌==◌, Bool, ◌&&◌}
-use Rattle.std.proofs.Common.{true, false, cond, List, [], ◌∷◌, ◌++◌, length, map, refl, sym, ap}
-use Rattle.std.proofs.Common.{◌∙◌, subst, arith, append_assoc, ap₂, length-append, Result}
-use Rattle.std.specs.Prelude.{OnOk}
+use Rattle.std.proofs.Common.{true, false, List, [], ◌∷◌, ◌++◌, length, refl, sym, ap}
+use Rattle.std.proofs.Common.{◌∙◌, subst, arith, ap₂, length-append}
 use Rattle.std.proofs.lemmas.List.{append-nil}
-use Rattle.ttx_page.specs.PacketKind.{kind}
-use Rattle.ttx_page.specs.Span.{holds_beginning}
-use Rattle.sub_rules.specs.Events.{first_header_events, since_before, standing_at}
 use Rattle.sub_rules.specs.FrameRules.{Task, frame_at, packets_before}
 use Rattle.sub_rules.specs.FrameRules.{packets_of_frame}
-use Rattle.sub_rules.specs.PieceEvents.{marks_at_end, marks_of_arrival, marks_of_ending}
-use Rattle.sub_rules.specs.PieceEvents.{marks_before, marks_of_more}
+use Rattle.sub_rules.specs.PieceEvents.{marks_of_arrival, marks_of_ending}
+use Rattle.sub_rules.specs.PieceEvents.{marks_of_more}
 use Rattle.sub_rules.specs.PieceEvents.{marks_of_packets, marks_of_sent, marks_of_waiting}
 use Rattle.sub_rules.specs.Pieces.{goes_on_with, with_packets}
 use Rattle.sub_rules.proofs.JoinedLemmas.{with_packets-length}
 use Rattle.sub_rules.specs.Sendings.{IsSentFrame}
 use Rattle.sub_rules.specs.Transmission.{SentFrame, Transmission}
-use Rattle.sub_rules.specs.Trusted.{Mark, stands_none}
-use Rattle.sub_rules.specs.Trusted.Mark.{AtPes, Begins, Ends, Says}
+use Rattle.sub_rules.specs.Trusted.{Mark}
+use Rattle.sub_rules.specs.Trusted.Mark.{AtPes, Begins}
 use Rattle.sub_rules.specs.declared.event.Event.{Event}
-use Rattle.sub_checker.specs.Checker.{AreFew, CheckerValue, HasHeard, after_headers}
+use Rattle.sub_checker.specs.Checker.{CheckerValue, HasHeard, after_headers}
 use Rattle.sub_checker.specs.Following.{Arrives, Follows, Heard, Keeps, StaysOpen, next_marks}
 use Rattle.sub_checker.specs.Following.{back_stage, reaching_marks}
 use Rattle.sub_checker.proofs.EndingLemmas.{back_are}
-use Rattle.sub_checker.specs.Relay.{at_mark}
+use Rattle.sub_checker.specs.Relay.{StageRelays, at_mark}
 use Rattle.sub_checker.specs.declared.counts.Counts.{Counts}
 use Rattle.sub_checker.specs.declared.relaying.Stage.{Stage}
-use Rattle.sub_checker.specs.declared.relaying.Relay.{Relay}
 use Rattle.sub_checker.proofs.HearingLemmas.{heard_here}
 use Rattle.sub_checker.proofs.MoreLemmas.{opens_more}
-use Rattle.sub_checker.proofs.RelayLemmas.{IsWhole}
-use Rattle.sub_checker.proofs.StageLemmas.{whole_begun, whole_two}
+use Rattle.sub_checker.proofs.StageLemmas.{relays_begun, relays_two}
 
 -- ---- what is kept between two PES packets
 
@@ -159,20 +153,19 @@ pub one_longer : (sent : Transmission) (s : SentFrame)
 one_longer sent s = length-append sent (s ∷ []) ∙ omega arith
 
 -- The way to its frame, and then the mark there. For `take_next`.
-pub arrived : {D : Type 0} {IsTold : D → Event → D → Type 0} {a : D} {p : Relay}
-    (s t : Stage D) (g : Task) (frames : Transmission) (n : ℕ) (last : List (List ℕ))
-    (c : CheckerValue)
+pub arrived : {D : Type 0} {d : _} {IsTold : D → Event → D → Type 0} {a s t : Stage D d}
+    (g : Task) (frames : Transmission) (n : ℕ) (last : List (List ℕ)) (c : CheckerValue)
     → Arrives g frames n last c
-    → IsWhole IsTold a p (reaching_marks g frames n) s.device.now s.relay
+    → StageRelays IsTold a (reaching_marks g frames n) s
     → t ≡ back_stage c (at_mark (Begins c.frame) s)
-    → IsWhole IsTold a p (marks_of_arrival g frames n) t.device.now t.relay
-arrived s t g frames n last c arrives reached begins =
+    → StageRelays IsTold a (marks_of_arrival g frames n) t
+arrived {a = a} {s = s} {t = t} g frames n last c arrives reached begins =
     let back =
     back_are g frames n n (frame_at frames n) last c arrives.waits.known arrives.waits.since_is in
-    whole_two
+    relays_two
     (ap₂ (λ (f : ℕ) (ms : List Mark). reaching_marks g frames n ++ Begins f ∷ ms)
     (sym arrives.frame_is) (sym back))
-    reached (whole_begun s t c begins)
+    reached (relays_begun s t c begins)
 
 -- Its marks where its end comes at once, and where it does not. For `take_next`.
 pub next_each : (g : Task) (frames : Transmission) (n : ℕ) → g.within ≡ 0
@@ -183,38 +176,6 @@ next_each g frames n each = grind (arith, nat_tests)
 pub next_within : (g : Task) (frames : Transmission) (n : ℕ) → 0 < g.within
     → next_marks g frames n ≡ marks_of_arrival g frames n ++ marks_of_packets g frames n
 next_within g frames n within = grind (arith, nat_tests, append-nil)
-
--- ---- what is counted
-
--- One piece more.
-pub few_later : (pes : ℕ) (n : Counts) → AreFew pes n → AreFew (pes + 1) n
-few_later pes n few = grind (arith, nat_tests)
-
--- What comes where it begins.
-abbrev pub begun_marks : Task → Transmission → ℕ → List Mark
-begun_marks g frames n =
-    Begins (frame_at frames n) ∷ marks_before g (since_before g frames n (frame_at frames n))
-
--- The way to its frame comes first, and then its packets.
-pub reached_part : (g : Task) (frames : Transmission) (n : ℕ)
-    → next_marks g frames n
-    ≡ reaching_marks g frames n
-    ++ (begun_marks g frames n
-    ++ (marks_of_packets g frames n ++ cond (g.within == 0) (marks_of_ending g frames n) []))
-reached_part g frames n = grind (arith, nat_tests, append_assoc)
-
--- What comes at the end of a frame, the events of the first one before the rest. For `end_sent`.
-abbrev pub ending_rest : Task → Transmission → ℕ → List Mark
-ending_rest g frames n =
-    marks_at_end g frames n (suc n) (frame_at frames n)
-    ++ Ends (frame_at frames n)
-    (holds_beginning g.watched.keeps (kind g.watched.page) (packets_of_frame frames n))
-    (stands_none (standing_at g frames (suc n) (frame_at frames n))) ∷ []
-
-pub ending_part : (g : Task) (frames : Transmission) (n : ℕ)
-    → marks_of_ending g frames n
-    ≡ map Says (first_header_events g frames n) ++ ending_rest g frames n
-ending_part g frames n = append_assoc (map Says (first_header_events g frames n)) _ _
 
 -- ---- the packets of another frame
 
@@ -285,10 +246,9 @@ module _ (g : Task) (frames : Transmission) (n : ℕ) (last ps : List (List ℕ)
         ∙ e
 
 -- The last end was that of all frames. For `end_open`.
-pub follows_all : {X E : Type 0} (r : Result X E) (g : Task) (sent : Transmission)
-    (last : List (List ℕ)) (c : CheckerValue)
+pub follows_all : (g : Task) (sent : Transmission) (last : List (List ℕ)) (c : CheckerValue)
     → 0 < length sent
-    → OnOk r (Follows g sent (suc (length sent - 1)) last c)
-    → OnOk r (Follows g sent (length sent) last c)
-follows_all r g sent last c some follows =
-    subst (λ (k : ℕ). OnOk r (Follows g sent k last c)) (omega (arith, some)) follows
+    → Follows g sent (suc (length sent - 1)) last c
+    → Follows g sent (length sent) last c
+follows_all g sent last c some follows =
+    subst (λ (k : ℕ). Follows g sent k last c) (omega (arith, some)) follows

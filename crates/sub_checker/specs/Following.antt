@@ -131,10 +131,10 @@ abbrev pub last_marks : Task → Transmission → ℕ → List Mark
 last_marks g list pes = marks_of_waiting g list ++ marks_of_closing g list pes (length list)
 
 -- Before a frame, or its end: since which one the page is not whole, where that is told.
-unfoldable pub back_stage : {D : Type 0} → CheckerValue → Stage D → Stage D
+unfoldable pub back_stage : {D : Type 0} {g : _} → CheckerValue → Stage D g → Stage D g
 back_stage c s = if goes_back_now c then at_mark (GoesBack c.since) s else s
 
 -- After an end at which nothing stands broken, and nothing did at the one before.
-abbrev pub quiet_stage : {D : Type 0} → CheckerValue → Stage D → Stage D
+abbrev pub quiet_stage : {D : Type 0} {g : _} → CheckerValue → Stage D g → Stage D g
 quiet_stage c s =
     if c.within == 0 then s else at_mark (AtEnd c.frame None false) (back_stage c s)

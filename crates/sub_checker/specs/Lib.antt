@@ -1,9 +1,11 @@
 pub mod Checker
 pub mod Following
+pub mod Latch
 pub mod Lending
+pub mod NextPieces
 pub mod PassedPieces
-pub mod Relay
 pub mod PieceTelling
+pub mod Relay
 pub mod Steps
 pub mod Telling
 pub mod Trust

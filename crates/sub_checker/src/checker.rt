@@ -39,6 +39,9 @@ pub(crate) struct Checker<'a> {
     pub frame: u32,
     // The next frame at which another page may be due.
     pub edge: Option<u32>,
+    // The number of a subtitle near it, to be guessed where the next page is drawn. Contracts don't
+    // see it.
+    pub near: usize,
     // Up to the next edge, from which frame on it is known what is due, and what was within the
     // frames that count.
     pub known_from: u64,
@@ -119,6 +122,7 @@ impl<'a> Checker<'a> {
             latest: 0,
             frame: 0,
             edge: programme.next_edge(0),
+            near: 0,
             known_from: known_from(judging, is_beside, 0, 0, within),
             last: 0,
             standing: Standing::none(),
@@ -149,8 +153,9 @@ impl<'a> Checker<'a> {
         ensures { self.new ≡ at_frame f self.old }
     {
         let programme = self.programme;
-        self.listener.draw(programme.due_page(f));
-        self.edge = programme.next_edge(f);
+        let (edge, near) = self.listener.draw_due(programme, f, self.near);
+        self.edge = edge;
+        self.near = near;
         self.known_from = known_from(self.judging, self.is_beside, self.first, f, self.within);
         self.frame = f;
     }
@@ -181,7 +186,6 @@ impl<'a> Checker<'a> {
     pub fn begin_frame<A: Audience<Event>>(&self, stage: &mut Stage<'_, A>)
         ensures begun { stage.new
             ≡ back_stage self.now (at_mark (Begins self.now.frame) stage.old) }
-        ensures same { stage.new.device ≡ stage.old.device }
     {
         stage.begin_frame(self.frame);
         self.go_back(stage);
@@ -193,7 +197,6 @@ impl<'a> Checker<'a> {
     #[tactic(auto, unfolding(crate::specs::Following::back_stage))]
     pub fn go_back<A: Audience<Event>>(&self, stage: &mut Stage<'_, A>)
         ensures back { stage.new ≡ back_stage self.now stage.old }
-        ensures same { stage.new.device ≡ stage.old.device }
     {
         if self.is_beside && self.within > 0 {
             stage.go_back(self.since);

@@ -1,6 +1,6 @@
 //! What is told after the last frame.
-ghost use Rattle.std.specs.Prelude.{◌≡◌, false, is_err, not};
-ghost use Rattle.sub_io.specs.Telling.{TellsSome, TellsUntilStopped};
+ghost use Rattle.std.specs.Prelude.{◌≡◌, not};
+ghost use Rattle.sub_io.specs.Telling.{Tells};
 ghost use Rattle.sub_rules.specs.Events.{is_short};
 ghost use Rattle.sub_rules.specs.Trusted.{tells_none};
 ghost use Rattle.sub_checker.specs.Checker.{is_pending_now};
@@ -8,32 +8,19 @@ ghost use Rattle.sub_checker.specs.Steps.{closing_now, fault_events, last_fault}
 
 use crate::checker::Checker;
 use crate::standing::tell_change;
-use sub_io::{Audience, Stopped};
+use sub_packets::Taker;
 use sub_rules::{CheckFault, Event, Standing};
 
 impl<'a> Checker<'a> {
     /// What is told after the end of the last frame and so many pieces, where this fault ended
     /// reading, if one did: what stands broken has ended, and then the last fault.
-    ///
-    /// # Errors
-    ///
-    /// `Stopped` where the audience said stop.
-    #[tactic(auto, using(sub_io::proofs::TellingLemmas::some))]
-    pub fn close<A: Audience<Event>>(
-        &self,
-        pes: u32,
-        fault: Option<CheckFault>,
-        audience: &mut A,
-    ) -> Result<(), Stopped>
-        requires goes_on { A.has_stopped audience.old ≡ false }
-        ensures stopped { A.has_stopped audience.new ≡ is_err result }
-        ensures some { TellsSome A.is_told audience.old audience.new }
-        ensures told { TellsUntilStopped A.is_told audience.old audience.new
-            (closing_now pes fault self.now) result }
+    pub fn close<A: Taker>(&self, pes: u32, fault: Option<CheckFault>, taker: &mut A)
+        ensures { Tells A.is_told taker.old taker.new
+            (closing_now pes fault self.now) }
     {
         let none = Standing::none();
-        tell_change(&self.standing, self.last, &none, self.last, audience)?;
-        tell_fault(self.last_fault(pes, fault), audience)
+        tell_change(&self.standing, self.last, &none, self.last, taker);
+        tell_fault(self.last_fault(pes, fault), taker);
     }
 
     /// Whether anything is told then.
@@ -74,18 +61,13 @@ impl<'a> Checker<'a> {
 }
 
 // Tells a fault, if there is one.
-fn tell_fault<A: Audience<Event>>(
-    fault: Option<CheckFault>,
-    audience: &mut A,
-) -> Result<(), Stopped>
-    requires goes_on { A.has_stopped audience.old ≡ false }
-    ensures stopped { A.has_stopped audience.new ≡ is_err result }
-    ensures told { TellsUntilStopped A.is_told audience.old audience.new
-        (fault_events fault) result }
+#[tactic(auto, using(sub_io::proofs::TellingLemmas::tellings))]
+fn tell_fault<A: Taker>(fault: Option<CheckFault>, taker: &mut A)
+    ensures { Tells A.is_told taker.old taker.new
+        (fault_events fault) }
 {
-    match fault {
-        Some(fault) => audience.tell(Event::Told(fault)),
-        None => Ok(()),
+    if let Some(fault) = fault {
+        taker.tell(Event::Told(fault));
     }
 }
 

@@ -1,12 +1,12 @@
 //! The end of a frame: what stands broken there, and what is told of it.
-ghost use Rattle.std.specs.Prelude.{◌≡◌, ◌==◌, ◌&&◌, ℕ, suc, ◌+◌, ◌<◌, List, OnOk, IsTrue, None};
+ghost use Rattle.std.specs.Prelude.{◌≡◌, ◌==◌, ◌&&◌, ℕ, suc, ◌+◌, ◌<◌, List, IsTrue, None};
 ghost use Rattle.std.specs.Prelude.{false, is_err, length, nat_le, not, true};
 ghost use Rattle.stl_file.specs.TimeCode.{day};
 ghost use Rattle.sub_checker.specs.Checker.{after_end, end_marks, quiet_end, stands};
 ghost use Rattle.sub_checker.specs.Checker.{AreFew, differs_now, is_overdue_at, late_now};
 ghost use Rattle.sub_checker.specs.Checker.{is_undecided_by, since_now, undecided_now, undue_now};
 ghost use Rattle.sub_checker.specs.Following.{Follows, Heard, Keeps, quiet_stage};
-ghost use Rattle.sub_checker.specs.Relay.{Moves, StageRelays};
+ghost use Rattle.sub_checker.specs.Relay.{StageRelays};
 ghost use Rattle.sub_packets.specs.Listener.{Knows};
 ghost use Rattle.sub_rules.specs.Events.{nothing_stands, silent_for};
 ghost use Rattle.sub_rules.specs.FrameRules.{Task, packets_of_frame};
@@ -20,7 +20,7 @@ use crate::checker::Checker;
 use crate::late_end::{is_overdue, unfinished_from};
 use crate::relaying::Stage;
 use crate::standing::tell_change;
-use sub_io::{Audience, Stopped};
+use sub_io::Audience;
 use sub_packets::tell_if;
 use sub_rules::{CheckFault, Event, Standing};
 
@@ -194,7 +194,6 @@ impl<'a> Checker<'a> {
     fn end_quietly<A: Audience<Event>>(&mut self, stage: &mut Stage<'_, A>)
         ensures kept { self.new ≡ quiet_end self.old }
         ensures stage { stage.new ≡ quiet_stage self.old stage.old }
-        ensures same { stage.new.device ≡ stage.old.device }
     {
         self.last = self.frame;
         if self.within > 0 {
@@ -207,178 +206,132 @@ impl<'a> Checker<'a> {
     // The end of the frame that was reached, where the page has to be whole at the end of each:
     // what changes of what stands broken is told.
     #[inline(always)]
-    fn end_at_once<A: Audience<Event>>(&mut self, stage: &mut Stage<'_, A>) -> Result<(), Stopped>
-        requires goes_on { A.has_stopped stage.old.device.now ≡ false }
+    fn end_at_once<A: Audience<Event>>(&mut self, stage: &mut Stage<'_, A>)
         requires each { self.old.within ≡ 0 }
-        ensures stopped { A.has_stopped stage.new.device.now ≡ is_err result }
-        ensures moves { Moves A.is_told A.has_stopped stage.old stage.new }
         ensures counts { self.new.counts ≡ self.old.counts }
         ensures latest { self.new.latest ≡ self.old.latest }
         ensures told { (heard : List (List ℕ)) → Knows heard self.old.listener
-            → StageRelays A.is_told stage.old (end_marks heard self.old) stage.new result }
+            → StageRelays A.is_told stage.old (end_marks heard self.old) stage.new }
         ensures ended { (heard : List (List ℕ)) → Knows heard self.old.listener
-            → OnOk result (self.new ≡ after_end heard self.old) }
+            → self.new ≡ after_end heard self.old }
     {
         let frame = self.frame;
         let standing = self.standing_now();
-        tell_change(&self.standing, self.last, &standing, frame, stage)?;
+        tell_change(&self.standing, self.last, &standing, frame, stage);
         self.standing = standing;
         self.last = frame;
-        Ok(())
     }
 
     // The same, where it need not be whole at each.
     #[inline(never)]
-    fn end_within<A: Audience<Event>>(&mut self, stage: &mut Stage<'_, A>) -> Result<(), Stopped>
-        requires goes_on { A.has_stopped stage.old.device.now ≡ false }
+    fn end_within<A: Audience<Event>>(&mut self, stage: &mut Stage<'_, A>)
         requires within { 0 < self.old.within }
-        ensures stopped { A.has_stopped stage.new.device.now ≡ is_err result }
-        ensures moves { Moves A.is_told A.has_stopped stage.old stage.new }
         ensures counts { self.new.counts ≡ self.old.counts }
         ensures latest { self.new.latest ≡ self.old.latest }
         ensures told { (heard : List (List ℕ)) → Knows heard self.old.listener
-            → StageRelays A.is_told stage.old (end_marks heard self.old) stage.new result }
+            → StageRelays A.is_told stage.old (end_marks heard self.old) stage.new }
         ensures ended { (heard : List (List ℕ)) → Knows heard self.old.listener
-            → OnOk result (self.new ≡ after_end heard self.old) }
+            → self.new ≡ after_end heard self.old }
     {
         let frame = self.frame;
         let end = self.end_now();
         self.go_back(stage);
         stage.at_end(frame, end.since, end.is_late);
-        tell_change(&self.standing, self.last, &end.standing, frame, stage)?;
+        tell_change(&self.standing, self.last, &end.standing, frame, stage);
         self.standing = end.standing;
         self.since = end.since;
         self.last = frame;
-        Ok(())
     }
 
     /// The end of the frame that was reached: what changes of what stands broken is told.
-    ///
-    /// # Errors
-    ///
-    /// `Stopped` where the device said stop.
     #[inline(always)]
-    pub fn end_of_frame<A: Audience<Event>>(
-        &mut self,
-        stage: &mut Stage<'_, A>,
-    ) -> Result<(), Stopped>
-        requires goes_on { A.has_stopped stage.old.device.now ≡ false }
-        ensures stopped { A.has_stopped stage.new.device.now ≡ is_err result }
-        ensures moves { Moves A.is_told A.has_stopped stage.old stage.new }
+    pub fn end_of_frame<A: Audience<Event>>(&mut self, stage: &mut Stage<'_, A>)
         ensures counts { self.new.counts ≡ self.old.counts }
         ensures latest { self.new.latest ≡ self.old.latest }
         ensures due { self.old.listener.comparison.due ≡ due_in self.old.programme self.old.frame }
         ensures told { (heard : List (List ℕ)) → Knows heard self.old.listener
-            → StageRelays A.is_told stage.old (end_marks heard self.old) stage.new result }
+            → StageRelays A.is_told stage.old (end_marks heard self.old) stage.new }
         ensures ended { (heard : List (List ℕ)) → Knows heard self.old.listener
-            → OnOk result (self.new ≡ after_end heard self.old) }
+            → self.new ≡ after_end heard self.old }
     {
         // Most ends are quiet: what else is asked within frames would cost each of them something.
         if self.within == 0 && self.is_quiet() {
             self.end_quietly(stage);
-            return Ok(());
+            return;
         }
-        self.end_otherwise(stage)
+        self.end_otherwise(stage);
     }
 
     // The end of a frame at which something changes or stands broken, or any end within frames.
     // Apart from `end_of_frame`, which stands in each loop over frames.
     #[inline(never)]
-    fn end_otherwise<A: Audience<Event>>(&mut self, stage: &mut Stage<'_, A>) -> Result<(), Stopped>
-        requires goes_on { A.has_stopped stage.old.device.now ≡ false }
-        ensures stopped { A.has_stopped stage.new.device.now ≡ is_err result }
-        ensures moves { Moves A.is_told A.has_stopped stage.old stage.new }
+    fn end_otherwise<A: Audience<Event>>(&mut self, stage: &mut Stage<'_, A>)
         ensures counts { self.new.counts ≡ self.old.counts }
         ensures latest { self.new.latest ≡ self.old.latest }
         ensures told { (heard : List (List ℕ)) → Knows heard self.old.listener
-            → StageRelays A.is_told stage.old (end_marks heard self.old) stage.new result }
+            → StageRelays A.is_told stage.old (end_marks heard self.old) stage.new }
         ensures ended { (heard : List (List ℕ)) → Knows heard self.old.listener
-            → OnOk result (self.new ≡ after_end heard self.old) }
+            → self.new ≡ after_end heard self.old }
     {
         if self.is_quiet() {
             self.end_quietly(stage);
-            return Ok(());
+            return;
         }
         if self.within == 0 {
-            self.end_at_once(stage)
+            self.end_at_once(stage);
         } else {
-            self.end_within(stage)
+            self.end_within(stage);
         }
     }
 
     /// The end of the frame of the PES packets that were heard last, among which there is a header
     /// of the page or none: that the first one has one, and what stands broken.
-    ///
-    /// # Errors
-    ///
-    /// `Stopped` where the device said stop.
     #[inline(always)]
-    pub fn end_sent<A: Audience<Event>>(
-        &mut self,
-        has_header: bool,
-        stage: &mut Stage<'_, A>,
-    ) -> Result<(), Stopped>
-        requires goes_on { A.has_stopped stage.old.device.now ≡ false }
-        ensures stopped { A.has_stopped stage.new.device.now ≡ is_err result }
-        ensures moves { Moves A.is_told A.has_stopped stage.old stage.new }
+    pub fn end_sent<A: Audience<Event>>(&mut self, has_header: bool, stage: &mut Stage<'_, A>)
         ensures counts { self.new.counts ≡ self.old.counts }
         ensures told { (g : Task) (frames : Transmission) (n : ℕ) (last : List (List ℕ))
             → Heard g frames n last self.old → n < length frames
             → has_header ≡ holds_header (kind g.watched.page) (packets_of_frame frames n)
-            → StageRelays A.is_told stage.old (marks_of_ending g frames n) stage.new result
-            × OnOk result (Follows g frames (suc n) last self.new) }
+            → StageRelays A.is_told stage.old (marks_of_ending g frames n) stage.new
+            × Follows g frames (suc n) last self.new }
     {
         let is_told = lacks_first(self.counts.frames, has_header);
         let fault = CheckFault::NoFirstHeader { frame: self.frame };
-        tell_if(is_told, Event::Told(fault), stage)?;
-        self.end_of_frame(stage)?;
+        tell_if(is_told, Event::Told(fault), stage);
+        self.end_of_frame(stage);
         stage.end_frame(self.frame, self.listener.begun, self.standing.has_none());
-        Ok(())
     }
 
     /// The end of the last frame, where it is still to come.
-    ///
-    /// # Errors
-    ///
-    /// `Stopped` where the device said stop.
     #[inline(always)]
-    pub fn end_waiting<A: Audience<Event>>(
-        &mut self,
-        stage: &mut Stage<'_, A>,
-    ) -> Result<(), Stopped>
-        requires goes_on { A.has_stopped stage.old.device.now ≡ false }
-        ensures stopped { A.has_stopped stage.new.device.now ≡ is_err result }
-        ensures moves { Moves A.is_told A.has_stopped stage.old stage.new }
+    pub fn end_waiting<A: Audience<Event>>(&mut self, stage: &mut Stage<'_, A>)
         ensures closed { self.new.counts.is_open ≡ false }
         ensures few { (pes : ℕ) → AreFew pes self.old.counts → AreFew pes self.new.counts }
         ensures told { (g : Task) (sent : Transmission) (last : List (List ℕ))
             → Keeps g sent last self.old
-            → StageRelays A.is_told stage.old (marks_of_waiting g sent) stage.new result
-            × OnOk result (Follows g sent (length sent) last self.new) }
+            → StageRelays A.is_told stage.old (marks_of_waiting g sent) stage.new
+            × Follows g sent (length sent) last self.new }
     {
         if !self.counts.is_open {
-            return Ok(());
+            return;
         }
-        self.end_open(stage)
+        self.end_open(stage);
     }
 
     // The end of the last frame, where it is still to come.
     #[inline(never)]
-    fn end_open<A: Audience<Event>>(&mut self, stage: &mut Stage<'_, A>) -> Result<(), Stopped>
-        requires goes_on { A.has_stopped stage.old.device.now ≡ false }
+    fn end_open<A: Audience<Event>>(&mut self, stage: &mut Stage<'_, A>)
         requires opened { self.old.counts.is_open ≡ true }
-        ensures stopped { A.has_stopped stage.new.device.now ≡ is_err result }
-        ensures moves { Moves A.is_told A.has_stopped stage.old stage.new }
         ensures closed { self.new.counts.is_open ≡ false }
         ensures few { (pes : ℕ) → AreFew pes self.old.counts → AreFew pes self.new.counts }
         ensures told { (g : Task) (sent : Transmission) (last : List (List ℕ))
             → Keeps g sent last self.old
-            → StageRelays A.is_told stage.old (marks_of_waiting g sent) stage.new result
-            × OnOk result (Follows g sent (length sent) last self.new) }
+            → StageRelays A.is_told stage.old (marks_of_waiting g sent) stage.new
+            × Follows g sent (length sent) last self.new }
     {
         self.counts.is_open = false;
         let has_header = self.counts.headers_before < self.counts.headers;
-        self.end_sent(has_header, stage)
+        self.end_sent(has_header, stage);
     }
 }
 

@@ -9,6 +9,7 @@ ghost use Rattle.sub_plan.specs.FrameTime.{clock_of};
 ghost use Rattle.sub_rules.specs.Fault.{is_pes_read};
 ghost use Rattle.sub_checker.specs.Lending.{ReadsNext};
 
+use crate::latch::Latch;
 use sub_io::{Live, LiveAudience, Source};
 use sub_plan::Options;
 use sub_rules::{CheckFault, Event, NextPiece, next_piece};
@@ -19,30 +20,32 @@ use ttx_pes::{ComparingReader, hand_on_first};
 pub(crate) fn next_followed<S: Source, A: LiveAudience<Event>>(
     reader: &mut ComparingReader,
     source: &mut S,
-    audience: &mut A,
+    latch: &mut Latch<'_, A>,
     options: &Options,
     pes: u32,
 ) -> Option<Result<Option<NextPiece>, CheckFault>>
     requires failures { CanFail (S.failure_count source.old) }
-    requires goes_on { A.has_stopped audience.old ≡ false }
+    requires goes_on { latch.old.stopped ≡ false }
     requires reading { reader.old.progress ≡ Reading pes }
     requires few { pes ≤ most_packets }
-    ensures told { KeepsTold A.is_told A.is_waiting audience.old audience.new }
-    ensures stopped { A.has_stopped audience.new ≡ is_none result }
+    ensures told { KeepsTold A.is_told A.is_waiting latch.old.device.now latch.new.device.now }
+    ensures same { latch.new.device.ghost_name ≡ latch.old.device.ghost_name }
+    ensures stopped { latch.new.stopped ≡ is_none result }
     ensures refused { IfNone result (S.failure_count source.new ≡ S.failure_count source.old) }
     ensures count { IfSome result (λ read.
         CountsIf S.failure_count source.old (failed is_pes_read read) source.new) }
     ensures reads { IfSome result (λ read. ReadsNext (clock_of options.now) pes
         (S.remaining source.old) (S.remaining source.new) reader.old reader.new read) }
-    ensures holds { HoldsWhileWaiting A.is_waiting A.held audience.old
-        → IfSome result (λ _. HoldsWhileWaiting A.is_waiting A.held audience.new) }
-    ensures asked { HoldsWhileWaiting A.is_waiting A.held audience.old
-        → IfSome result (λ read. failed is_pes_read read ≡ true → A.held audience.new ≡ 0) }
+    ensures holds { HoldsWhileWaiting A.is_waiting A.held latch.old.device.now
+        → IfSome result (λ _. HoldsWhileWaiting A.is_waiting A.held latch.new.device.now) }
+    ensures asked { HoldsWhileWaiting A.is_waiting A.held latch.old.device.now
+        → IfSome result (λ read. failed is_pes_read read ≡ true → A.held latch.new.device.now ≡ 0) }
 {
-    if hand_on_first(source, audience).is_err() {
+    latch.stopped = hand_on_first(source, latch.device).is_err();
+    if latch.stopped {
         return None;
     }
-    Some(read_settled(reader, source, audience, options, pes))
+    Some(read_settled(reader, source, latch.device, options, pes))
 }
 
 // Reads the next piece, beside an audience at which nothing waits meanwhile.

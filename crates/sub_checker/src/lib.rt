@@ -16,6 +16,8 @@ mod closing;
 mod closing_pieces;
 mod counts;
 mod ending;
+mod latch;
+mod latching;
 mod late_end;
 mod lending;
 mod passed_run;

@@ -1,19 +1,20 @@
 //! What the checker tells, relayed to a device: with the frames that may stay on air as they are,
 //! and of PES packets that are passed over one directly after the other the first, and up to which
 //! one they go.
-ghost use Rattle.std.specs.Prelude.{◌≡◌, ◌<◌, ◌++◌, [], ◌∷◌, OnOk, false, is_err};
-ghost use Rattle.stl_file.specs.TimeCode.{day};
-ghost use Rattle.sub_io.specs.Telling.{TellsUntilStopped, first_alone};
+ghost use Rattle.std.specs.Prelude.{◌≡◌, [], ◌∷◌};
+ghost use Rattle.sub_io.specs.Telling.{Tells, first_alone};
 ghost use Rattle.sub_rules.specs.PieceEvents.{all_announced, announced, passed_after};
 ghost use Rattle.sub_rules.specs.PieceEvents.{passed_after_all};
 ghost use Rattle.sub_rules.specs.Trusted.Mark.{AtEnd, AtPes, Begins, Closes, Ends, GoesBack};
 ghost use Rattle.sub_rules.specs.Trusted.Mark.{Says};
 ghost use Rattle.sub_checker.specs.PassedPieces.{as_run, kept_run};
-ghost use Rattle.sub_checker.specs.Relay.{Relays, RelaysMarks, at_mark, nothing_relayed};
+ghost use Rattle.sub_checker.specs.Relay.{IsRelayed, StageRelays, at_mark, nothing_relayed};
 
+use crate::latch::Latch;
 use crate::passed_run::PassedPieces;
 use crate::trust::Trust;
-use sub_io::{Audience, Stopped};
+use sub_io::Audience;
+use sub_packets::Taker;
 use sub_rules::Event;
 
 /// What is kept from one mark to the next.
@@ -27,9 +28,9 @@ pub(crate) struct Relay {
 
 /// Stands between the checker and a device.
 #[derive(Drop)]
-pub(crate) struct Stage<'a, A> {
-    /// The device.
-    pub device: &'a mut A,
+pub(crate) struct Stage<'a, A: Audience<Event>> {
+    /// The device, which may have said stop.
+    pub latch: Latch<'a, A>,
     /// What is kept.
     pub relay: Relay,
 }
@@ -89,133 +90,66 @@ impl<A: Audience<Event>> Stage<'_, A> {
 
     /// Tells what is trusted of the last run, where anything was told or will be. The last frame is
     /// not trusted where bytes are left after it.
-    ///
-    /// # Errors
-    ///
-    /// `Stopped` where the device said stop.
-    pub fn close(&mut self, are_left: bool, tells_more: bool) -> Result<(), Stopped>
-        requires goes_on { A.has_stopped self.old.device.now ≡ false }
-        requires day { self.old.relay.trust.last < day }
-        ensures same { self.new.device.ghost_name ≡ self.old.device.ghost_name }
-        ensures stopped { A.has_stopped self.new.device.now ≡ is_err result }
-        ensures relays { RelaysMarks A.is_told self.old.device.now self.old.relay
-            (Closes are_left tells_more ∷ []) self.new.device.now self.new.relay result }
+    pub fn close(&mut self, are_left: bool, tells_more: bool)
+        ensures { StageRelays A.is_told self.old (Closes are_left tells_more ∷ []) self.new }
     {
         let last = self.relay.trust.close(are_left, tells_more);
-        announce_some(last, &mut self.relay.run, self.device)
+        announce_some(last, &mut self.relay.run, &mut self.latch);
     }
 
     /// Hands on an event, and tells before it what is trusted of the run that it ends.
-    ///
-    /// # Errors
-    ///
-    /// `Stopped` where the device said stop.
-    pub fn relay(&mut self, event: Event) -> Result<(), Stopped>
-        requires goes_on { A.has_stopped self.old.device.now ≡ false }
-        ensures same { self.new.device.ghost_name ≡ self.old.device.ghost_name }
-        ensures stopped { A.has_stopped self.new.device.now ≡ is_err result }
-        ensures relays { RelaysMarks A.is_told self.old.device.now self.old.relay
-            (Says event ∷ []) self.new.device.now self.new.relay result }
+    pub fn relay(&mut self, event: Event)
+        ensures { StageRelays A.is_told self.old (Says event ∷ []) self.new }
     {
         let first = self.relay.trust.say(&event);
         let event = self.relay.trust.at_pes(event);
-        announce_both(first, event, &mut self.relay.run, self.device)
+        announce_some(first, &mut self.relay.run, &mut self.latch);
+        announce(event, &mut self.relay.run, &mut self.latch);
     }
 }
 
-impl<A: Audience<Event>> Audience<Event> for Stage<'_, A> {
-    ghost is_told = { λ s event t. (t.device.ghost_name ≡ s.device.ghost_name)
-        × Relays A.is_told A.has_stopped s.device.now s.relay event t.device.now t.relay };
-
-    ghost has_stopped = { λ s. A.has_stopped s.device.now };
+impl<A: Audience<Event>> Taker for Stage<'_, A> {
+    ghost is_told = { IsRelayed A.is_told };
 
     /// Hands it on, unless it is told already.
-    ///
-    /// # Errors
-    ///
-    /// `Stopped` where the device said stop, at this or at what is told before it.
-    fn tell(&mut self, item: Event) -> Result<(), Stopped> {
-        self.relay(item)
+    fn tell(&mut self, event: Event) {
+        self.relay(event);
     }
-}
-
-// Tells an event after a run of PES packets that were passed over, and before it what is trusted,
-// if anything is.
-fn announce_both<A: Audience<Event>>(
-    first: Option<Event>,
-    event: Event,
-    run: &mut PassedPieces,
-    audience: &mut A,
-) -> Result<(), Stopped>
-    requires goes_on { A.has_stopped audience.old ≡ false }
-    ensures stopped { A.has_stopped audience.new ≡ is_err result }
-    ensures told { TellsUntilStopped A.is_told audience.old audience.new
-        (all_announced (as_run run.old) (first_alone first ++ event ∷ [])) result }
-    ensures kept { OnOk result
-        (run.new ≡ kept_run (passed_after_all (as_run run.old) (first_alone first ++ event ∷ []))) }
-{
-    announce_some(first, run, audience)?;
-    announce(event, run, audience)
 }
 
 // Tells one, if there is one.
 #[tactic(auto, unfolding(sub_rules::specs::PieceEvents::all_announced, sub_rules::specs::PieceEvents::passed_after_all))]
-fn announce_some<A: Audience<Event>>(
-    event: Option<Event>,
-    run: &mut PassedPieces,
-    audience: &mut A,
-) -> Result<(), Stopped>
-    requires goes_on { A.has_stopped audience.old ≡ false }
-    ensures stopped { A.has_stopped audience.new ≡ is_err result }
-    ensures told { TellsUntilStopped A.is_told audience.old audience.new
-        (all_announced (as_run run.old) (first_alone event)) result }
+fn announce_some<T: Taker>(event: Option<Event>, run: &mut PassedPieces, taker: &mut T)
+    ensures told { Tells T.is_told taker.old taker.new
+        (all_announced (as_run run.old) (first_alone event)) }
     ensures kept { run.new ≡ kept_run (passed_after_all (as_run run.old) (first_alone event)) }
 {
-    match event {
-        Some(event) => announce(event, run, audience),
-        None => Ok(()),
+    if let Some(event) = event {
+        announce(event, run, taker);
     }
 }
 
 // Tells an event after a run of PES packets that were passed over, unless it goes on with it.
 #[tactic(auto, using(sub_io::proofs::TellingLemmas::tellings), unfolding(sub_rules::specs::PieceEvents::announced))]
-fn announce<A: Audience<Event>>(
-    event: Event,
-    run: &mut PassedPieces,
-    audience: &mut A,
-) -> Result<(), Stopped>
-    requires goes_on { A.has_stopped audience.old ≡ false }
-    ensures stopped { A.has_stopped audience.new ≡ is_err result }
-    ensures told { TellsUntilStopped A.is_told audience.old audience.new
-        (announced (as_run run.old) event) result }
+fn announce<T: Taker>(event: Event, run: &mut PassedPieces, taker: &mut T)
+    ensures told { Tells T.is_told taker.old taker.new (announced (as_run run.old) event) }
     ensures kept { run.new ≡ kept_run (passed_after (as_run run.old) event) }
 {
     let before = *run;
     *run = before.after(&event);
     if before.joins(&event) {
-        return Ok(());
+        return;
     }
-    tell_some(before.ended(), audience)?;
-    audience.tell(event)
+    tell_some(before.ended(), taker);
+    taker.tell(event);
 }
 
 /// Tells an event, if there is one.
-///
-/// # Errors
-///
-/// `Stopped` where the audience said stop.
 #[tactic(auto, using(sub_io::proofs::TellingLemmas::tellings))]
-pub(crate) fn tell_some<A: Audience<Event>>(
-    event: Option<Event>,
-    audience: &mut A,
-) -> Result<(), Stopped>
-    requires goes_on { A.has_stopped audience.old ≡ false }
-    ensures stopped { A.has_stopped audience.new ≡ is_err result }
-    ensures told { TellsUntilStopped A.is_told audience.old audience.new
-        (first_alone event) result }
+pub(crate) fn tell_some<T: Taker>(event: Option<Event>, taker: &mut T)
+    ensures { Tells T.is_told taker.old taker.new (first_alone event) }
 {
-    match event {
-        Some(event) => audience.tell(event),
-        None => Ok(()),
+    if let Some(event) = event {
+        taker.tell(event);
     }
 }

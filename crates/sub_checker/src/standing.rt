@@ -1,10 +1,9 @@
 //! What is told where another rule of a frame's end stands broken than at the end before.
-ghost use Rattle.std.specs.Prelude.{◌≡◌, ◌==◌, ◌&&◌, ℕ, false, is_err};
-ghost use Rattle.sub_io.specs.Telling.{TellsUntilStopped};
+ghost use Rattle.std.specs.Prelude.{◌≡◌, ◌==◌, ◌&&◌, ℕ};
+ghost use Rattle.sub_io.specs.Telling.{Tells};
 ghost use Rattle.sub_rules.specs.Events.{broken_at, end_events, end_fault, end_rules, rule_events};
 
-use sub_io::{Audience, Stopped};
-use sub_packets::tell_if;
+use sub_packets::{Taker, tell_if};
 use sub_rules::{CheckFault, EndRule, Event, Standing};
 
 // The rules, in the order in which they are told.
@@ -18,77 +17,68 @@ const RULES: [EndRule; 5] = [
 
 /// Tells what changes from an end of a frame `before`, where these stood broken, to one of another
 /// frame, where the others stand: of each rule in their order.
-///
-/// # Errors
-///
-/// `Stopped` where the audience said stop at one of them.
 #[inline(never)]
-pub(crate) fn tell_change<A: Audience<Event>>(
+pub(crate) fn tell_change<A: Taker>(
     old: &Standing,
     before: u32,
     new: &Standing,
     frame: u32,
-    audience: &mut A,
-) -> Result<(), Stopped>
-    requires goes_on { A.has_stopped audience.old ≡ false }
-    ensures stopped { A.has_stopped audience.new ≡ is_err result }
-    ensures told { TellsUntilStopped A.is_told audience.old audience.new
-        (end_events old.now before new.now frame) result }
+    taker: &mut A,
+)
+    ensures { Tells A.is_told taker.old taker.new
+        (end_events old.now before new.now frame) }
 {
     for rule in &RULES {
-        tell_of(*rule, old, before, new, frame, audience)?;
+        tell_of(*rule, old, before, new, frame, taker);
     }
-    Ok(())
 }
 
 // Tells what changes of a rule.
-fn tell_of<A: Audience<Event>>(
+fn tell_of<A: Taker>(
     rule: EndRule,
     old: &Standing,
     before: u32,
     new: &Standing,
     frame: u32,
-    audience: &mut A,
-) -> Result<(), Stopped>
-    requires goes_on { A.has_stopped audience.old ≡ false }
-    ensures stopped { A.has_stopped audience.new ≡ is_err result }
-    ensures told { TellsUntilStopped A.is_told audience.old audience.new
-        (rule_events rule (broken_at rule old.now) before (broken_at rule new.now) frame) result }
+    taker: &mut A,
+)
+    ensures { Tells A.is_told taker.old taker.new
+        (rule_events rule (broken_at rule old.now) before (broken_at rule new.now) frame) }
 {
-    tell_rule(rule, old.at(rule), before, new.at(rule), frame, audience)
+    tell_rule(rule, old.at(rule), before, new.at(rule), frame, taker)
 }
 
 // Tells where a rule is broken no more, and where it is broken anew, or at another place.
 #[tactic(auto, using(sub_io::proofs::TellingLemmas::tellings))]
-fn tell_rule<A: Audience<Event>>(
+fn tell_rule<A: Taker>(
     rule: EndRule,
     old: Option<(u8, u8)>,
     before: u32,
     new: Option<(u8, u8)>,
     frame: u32,
-    audience: &mut A,
-) -> Result<(), Stopped>
-    requires goes_on { A.has_stopped audience.old ≡ false }
-    ensures stopped { A.has_stopped audience.new ≡ is_err result }
-    ensures told { TellsUntilStopped A.is_told audience.old audience.new
-        (rule_events rule old before new frame) result }
+    taker: &mut A,
+)
+    ensures { Tells A.is_told taker.old taker.new
+        (rule_events rule old before new frame) }
 {
     let ended = Event::Ended {
         rule,
         frame: before,
     };
     let Some(cell) = new else {
-        return tell_if(old.is_some(), ended, audience);
+        tell_if(old.is_some(), ended, taker);
+        return;
     };
     let told = Event::Told(fault_of(rule, frame, cell));
     let Some(old_cell) = old else {
-        return audience.tell(told);
+        taker.tell(told);
+        return;
     };
     if is_same_cell(old_cell, cell) {
-        return Ok(());
+        return;
     }
-    audience.tell(ended)?;
-    audience.tell(told)
+    taker.tell(ended);
+    taker.tell(told);
 }
 
 // The refusal of a rule that is broken at this place.

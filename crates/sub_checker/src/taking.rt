@@ -1,6 +1,6 @@
 //! A PES packet that is sent: the way to its frame, its packets, and the end of its frame.
-ghost use Rattle.std.specs.Prelude.{◌≡◌, ℕ, suc, ◌+◌, ◌<◌, ◌≤◌, ◌==◌, ◌&&◌, List, OnOk, map};
-ghost use Rattle.std.specs.Prelude.{IfOk, false, is_err, length, true};
+ghost use Rattle.std.specs.Prelude.{◌≡◌, ℕ, suc, ◌+◌, ◌<◌, ◌≤◌, ◌==◌, ◌&&◌, List, map};
+ghost use Rattle.std.specs.Prelude.{false, length, true};
 ghost use Rattle.stl_file.specs.TimeCode.{day};
 ghost use Rattle.ttx_pes.specs.PesPacket.{most_units};
 ghost use Rattle.ttx_pes.specs.Reading.{most_packets};
@@ -15,11 +15,11 @@ ghost use Rattle.sub_rules.specs.Transmission.{Transmission};
 ghost use Rattle.sub_rules.specs.Trusted.Mark.{Says};
 ghost use Rattle.sub_checker.specs.Checker.{AreFew, HasHeard, sent_as, with_headers};
 ghost use Rattle.sub_checker.specs.Following.{Follows, Keeps, next_marks};
-ghost use Rattle.sub_checker.specs.Relay.{Moves, StageRelays};
+ghost use Rattle.sub_checker.specs.Relay.{StageRelays};
 
 use crate::checker::Checker;
 use crate::relaying::Stage;
-use sub_io::{Audience, Stopped};
+use sub_io::Audience;
 use sub_rules::{Event, Sending};
 use ttx_pes::SentUnits;
 
@@ -27,40 +27,34 @@ impl<'a> Checker<'a> {
     /// A PES packet: its number, what is sent, and its units. The end of its frame comes at once
     /// where the page has to be whole at the end of each; else where a PES packet of another frame
     /// does, or none.
-    ///
-    /// # Errors
-    ///
-    /// `Stopped` where the device said stop. What is kept is then of no use.
     pub fn go_on<A: Audience<Event>>(
         &mut self,
         pes: u32,
         sending: Sending,
         units: &SentUnits<'_>,
         stage: &mut Stage<'_, A>,
-    ) -> Result<(), Stopped>
-        requires goes_on { A.has_stopped stage.old.device.now ≡ false }
+    )
         requires few { length units.now ≤ most_units }
         requires day { sending.frame < day }
         requires fewer { pes ≤ most_packets }
         requires room { AreFew pes self.old.counts }
-        ensures stopped { A.has_stopped stage.new.device.now ≡ is_err result }
-        ensures moves { Moves A.is_told A.has_stopped stage.old stage.new }
-        ensures room { OnOk result (AreFew (pes + 1) self.new.counts) }
+        ensures room { AreFew (pes + 1) self.new.counts }
         ensures told { (g : Task) (sent : Transmission) (last : List (List ℕ))
             → Keeps g sent last self.old
             → (sending.again ≡ true → last ≡ packets_of_units units.now)
             → StageRelays A.is_told stage.old
-            (marks_of_sent g sent pes (sent_as sending units.now)) stage.new result
-            × OnOk result (Keeps g (sent_after g.within sent (sent_as sending units.now))
-            (packets_of_units units.now) self.new) }
+            (marks_of_sent g sent pes (sent_as sending units.now)) stage.new
+            × Keeps g (sent_after g.within sent (sent_as sending units.now))
+            (packets_of_units units.now) self.new }
     {
         if self.goes_on(sending.frame) {
             stage.go_to(pes);
-            return self.take_more(pes, sending.again, units, stage);
+            self.take_more(pes, sending.again, units, stage);
+            return;
         }
-        self.end_waiting(stage)?;
+        self.end_waiting(stage);
         stage.go_to(pes);
-        self.take_next(pes, sending, units, stage)
+        self.take_next(pes, sending, units, stage);
     }
 
     // Whether a PES packet of a frame goes on with the last one.
@@ -78,33 +72,30 @@ impl<'a> Checker<'a> {
         sending: Sending,
         units: &SentUnits<'_>,
         stage: &mut Stage<'_, A>,
-    ) -> Result<(), Stopped>
-        requires goes_on { A.has_stopped stage.old.device.now ≡ false }
+    )
         requires few { length units.now ≤ most_units }
         requires day { sending.frame < day }
         requires fewer { pes ≤ most_packets }
         requires room { AreFew pes self.old.counts }
         requires closed { self.old.counts.is_open ≡ false }
-        ensures stopped { A.has_stopped stage.new.device.now ≡ is_err result }
-        ensures moves { Moves A.is_told A.has_stopped stage.old stage.new }
-        ensures room { OnOk result (AreFew (pes + 1) self.new.counts) }
+        ensures room { AreFew (pes + 1) self.new.counts }
         ensures told { (g : Task) (frames : Transmission) (n : ℕ) (last : List (List ℕ))
             → Follows g frames n last self.old
             → length frames ≡ suc n
             → IsSentFrame frames n sending.frame (packets_of_units units.now)
             → (sending.again ≡ true → last ≡ packets_of_units units.now)
-            → StageRelays A.is_told stage.old (next_marks g frames n) stage.new result
-            × OnOk result (Keeps g frames (packets_of_units units.now) self.new) }
+            → StageRelays A.is_told stage.old (next_marks g frames n) stage.new
+            × Keeps g frames (packets_of_units units.now) self.new }
     {
-        self.reach(sending.frame, stage)?;
+        self.reach(sending.frame, stage);
         self.begin_frame(stage);
-        let headers = self.hear(sending.again, 0, units, stage)?;
+        let headers = self.hear(sending.again, 0, units, stage);
         self.counts.frames += 1;
         if self.within == 0 {
-            return self.end_sent(headers > 0, stage);
+            self.end_sent(headers > 0, stage);
+            return;
         }
         self.counts.leave_open(headers, units.len() as u32);
-        Ok(())
     }
 
     // More packets of the frame that was reached.
@@ -115,27 +106,23 @@ impl<'a> Checker<'a> {
         again: bool,
         units: &SentUnits<'_>,
         stage: &mut Stage<'_, A>,
-    ) -> Result<(), Stopped>
-        requires goes_on { A.has_stopped stage.old.device.now ≡ false }
+    )
         requires few { length units.now ≤ most_units }
         requires fewer { pes ≤ most_packets }
         requires room { AreFew pes self.old.counts }
         requires opened { self.old.counts.is_open ≡ true }
-        ensures stopped { A.has_stopped stage.new.device.now ≡ is_err result }
-        ensures moves { Moves A.is_told A.has_stopped stage.old stage.new }
-        ensures room { OnOk result (AreFew (pes + 1) self.new.counts) }
+        ensures room { AreFew (pes + 1) self.new.counts }
         ensures told { (g : Task) (sent : Transmission) (last : List (List ℕ))
             → Keeps g sent last self.old
             → (again ≡ true → last ≡ packets_of_units units.now)
             → StageRelays A.is_told stage.old (marks_of_more g sent (packets_of_units units.now))
-            stage.new result
-            × OnOk result (Keeps g (with_packets (packets_of_units units.now) sent)
-            (packets_of_units units.now) self.new) }
+            stage.new
+            × Keeps g (with_packets (packets_of_units units.now) sent)
+            (packets_of_units units.now) self.new }
     {
         let from = self.counts.packets;
-        self.hear(again, from, units, stage)?;
+        self.hear(again, from, units, stage);
         self.counts.packets += units.len() as u32;
-        Ok(())
     }
 
     // Packets of the frame that was reached, the first of them this one of it: how many headers of
@@ -147,29 +134,25 @@ impl<'a> Checker<'a> {
         from: u32,
         units: &SentUnits<'_>,
         stage: &mut Stage<'_, A>,
-    ) -> Result<u8, Stopped>
-        requires goes_on { A.has_stopped stage.old.device.now ≡ false }
+    ) -> u8
         requires few { length units.now ≤ most_units }
         requires room { self.old.counts.headers < 0xFFFF_FFFF_FF00 }
         requires from { from + most_units ≤ u32.MAX }
-        ensures stopped { A.has_stopped stage.new.device.now ≡ is_err result }
-        ensures moves { Moves A.is_told A.has_stopped stage.old stage.new }
-        ensures counts { IfOk result (λ headers. (headers ≤ 255)
-            × (self.new.counts ≡ with_headers headers self.old.counts)) }
+        ensures counts { (result ≤ 255)
+            × (self.new.counts ≡ with_headers result self.old.counts) }
         ensures told { (heard last : List (List ℕ))
             → KnowsLast heard last self.old.listener
             → (again ≡ true → last ≡ packets_of_units units.now)
             → StageRelays A.is_told stage.old
             (map Says (packets_told self.old.listener.watched self.old.frame from heard
-            (packets_of_units units.now) (length (packets_of_units units.now)))) stage.new result
-            × IfOk result (λ headers.
-            HasHeard from heard (packets_of_units units.now) self.old self.new × (headers
-            ≡ header_count self.old.listener.watched.page (packets_of_units units.now))) }
+            (packets_of_units units.now) (length (packets_of_units units.now)))) stage.new
+            × HasHeard from heard (packets_of_units units.now) self.old self.new × (result
+            ≡ header_count self.old.listener.watched.page (packets_of_units units.now)) }
     {
         let headers = self
             .listener
-            .hear_sending(units, again, self.frame, from, stage)?;
+            .hear_sending(units, again, self.frame, from, stage);
         self.count(headers);
-        Ok(headers)
+        headers
     }
 }

@@ -1,27 +1,37 @@
 //! What is told of a PES file that is read on behind the pieces that are passed over.
-ghost use Rattle.std.specs.Prelude.{◌≡◌, ℕ, ◌+◌, ◌<◌, ◌≤◌, [], ◌∷◌, Err, IfErr, IfOk, List, OnOk};
+ghost use Rattle.std.specs.Prelude.{◌≡◌, ℕ, ◌+◌, ◌<◌, ◌≤◌, [], ◌∷◌, Err, IfErr, IfOk, List};
 ghost use Rattle.std.specs.Prelude.{Option, false, is_err, is_none, length, take, true};
 ghost use Rattle.sub_io.specs.Device.{CanFail, CountsIf, failed};
 ghost use Rattle.sub_io.specs.Reading.{IfTold};
 ghost use Rattle.sub_io.specs.Telling.{TellsSome};
+ghost use Rattle.stl_file.specs.TimeCode.{day};
+ghost use Rattle.ttx_pes.specs.PesPacket.{IsPesValue};
 ghost use Rattle.ttx_pes.specs.Reader.{FailsAtPacket};
+ghost use Rattle.ttx_pes.specs.Reading.{most_packets};
 ghost use Rattle.stl_rows.specs.Programme.{IsProgramme};
 ghost use Rattle.sub_plan.specs.FrameTime.{clock_of};
 ghost use Rattle.sub_plan.specs.Options.{IsOptions};
 ghost use Rattle.sub_rules.specs.Fault.{is_pes_read};
-ghost use Rattle.sub_rules.specs.FrameRules.{Unread, task_beside};
+ghost use Rattle.sub_rules.specs.FrameRules.{Task, Unread, task_beside};
+ghost use Rattle.sub_rules.specs.PacketRules.{packets_of_units};
 ghost use Rattle.sub_rules.specs.Pieces.{FailsAtPiece, Piece, ReadsPieces, frames_of};
+ghost use Rattle.sub_rules.specs.Transmission.{Transmission};
 ghost use Rattle.sub_rules.specs.Trusted.Mark.{AtPes, Says};
+ghost use Rattle.sub_checker.specs.Checker.{AreFew};
+ghost use Rattle.sub_checker.specs.Following.{Keeps};
+ghost use Rattle.sub_checker.specs.NextPieces.{IsAgain, is_passed, last_with, marks_of_read};
+ghost use Rattle.sub_checker.specs.NextPieces.{sent_with};
 ghost use Rattle.sub_checker.specs.Relay.{StageRelays};
 ghost use Rattle.sub_checker.specs.PieceTelling.{TellsPieces};
 
 use crate::checker::Checker;
 use crate::closing_pieces::finish;
+use crate::latch::Latch;
 use crate::lending::next_followed;
 use crate::relaying::{Relay, Stage};
 use crate::telling::{Accepted, is_source_failure};
 use stl_rows::Judging;
-use sub_io::{Audience, LiveAudience, Source, Stopped};
+use sub_io::{Audience, LiveAudience, Source};
 use sub_plan::Options;
 use sub_rules::{CheckFault, Event, NextPiece, Sending, units_of};
 use ttx_pes::{ComparingReader, PesFault};
@@ -71,13 +81,16 @@ pub fn tell_pieces<S: Source, A: LiveAudience<Event>>(
     let mut reader = ComparingReader::new();
     let mut checker = Checker::new(judging, options);
     let mut stage = Stage {
-        device: audience,
+        latch: Latch {
+            device: audience,
+            stopped: false,
+        },
         relay: Relay::new(),
     };
     let mut passed = false;
     let mut pes = 0;
     'pieces: loop {
-        let Some(read) = next_followed(&mut reader, source, stage.device, options, pes) else {
+        let Some(read) = next_followed(&mut reader, source, &mut stage.latch, options, pes) else {
             return Ok(None);
         };
         let next = match read {
@@ -92,20 +105,49 @@ pub fn tell_pieces<S: Source, A: LiveAudience<Event>>(
         let Some(piece) = next else {
             return Ok(finish(&mut checker, pes, None, &mut stage));
         };
-        match piece {
-            NextPiece::Passed(fault) => match tell_passed(pes, fault, &mut stage) {
-                Err(_) => return Ok(None),
-                Ok(()) => passed = true,
-            },
-            NextPiece::Sent(sending) => {
-                let units = units_of(&reader);
-                match checker.go_on(pes, after_piece(passed, sending), &units, &mut stage) {
-                    Err(_) => return Ok(None),
-                    Ok(()) => passed = false,
-                }
-            }
+        passed = tell_piece(piece, pes, passed, &reader, &mut checker, &mut stage);
+        if stage.latch.stopped {
+            return Ok(None);
         }
         pes += 1;
+    }
+}
+
+// Tells a piece that was read, and says whether it is passed over. `passed` says whether the one
+// before it was.
+fn tell_piece<A: Audience<Event>>(
+    piece: NextPiece,
+    pes: u32,
+    passed: bool,
+    reader: &ComparingReader,
+    checker: &mut Checker<'_>,
+    stage: &mut Stage<'_, A>,
+) -> bool
+    requires day { (sending : Sending) → piece ≡ NextPiece.Sent sending → sending.frame < day }
+    requires fewer { pes ≤ most_packets }
+    requires room { AreFew pes checker.old.counts }
+    ensures passed { result ≡ is_passed piece }
+    ensures frame { (sending : Sending) → piece ≡ NextPiece.Sent sending
+        → IsPesValue reader.now.frame }
+    ensures room { AreFew (pes + 1) checker.new.counts }
+    ensures told { (g : Task) (sent : Transmission) (last : List (List ℕ))
+        → Keeps g sent last checker.old
+        → (passed ≡ false → IsAgain piece → last ≡ packets_of_units reader.now.frame.units)
+        → StageRelays A.is_told stage.old
+        (marks_of_read g sent pes piece (packets_of_units reader.now.frame.units)) stage.new
+        × Keeps g (sent_with g sent piece (packets_of_units reader.now.frame.units))
+        (last_with last piece (packets_of_units reader.now.frame.units)) checker.new }
+{
+    match piece {
+        NextPiece::Passed(fault) => {
+            tell_passed(pes, fault, stage);
+            true
+        }
+        NextPiece::Sent(sending) => {
+            let units = units_of(reader);
+            checker.go_on(pes, after_piece(passed, sending), &units, stage);
+            false
+        }
     }
 }
 
@@ -121,19 +163,10 @@ fn after_piece(passed: bool, sending: Sending) -> Sending
 }
 
 // Tells the fault of a piece that is passed over.
-fn tell_passed<A: Audience<Event>>(
-    pes: u32,
-    fault: CheckFault,
-    stage: &mut Stage<'_, A>,
-) -> Result<(), Stopped>
-    requires goes_on { A.has_stopped stage.old.device.now ≡ false }
-    ensures same { stage.new.device.ghost_name ≡ stage.old.device.ghost_name }
-    ensures stopped { A.has_stopped stage.new.device.now ≡ is_err result }
-    ensures some { TellsSome A.is_told stage.old.device.now stage.new.device.now }
-    ensures told { StageRelays A.is_told stage.old (AtPes pes ∷ Says (Event.Told fault) ∷ [])
-        stage.new result }
-    ensures day { OnOk result (stage.new.relay.trust.last ≡ stage.old.relay.trust.last) }
+fn tell_passed<A: Audience<Event>>(pes: u32, fault: CheckFault, stage: &mut Stage<'_, A>)
+    ensures { StageRelays A.is_told stage.old (AtPes pes ∷ Says (Event.Told fault) ∷ [])
+        stage.new }
 {
     stage.go_to(pes);
-    stage.relay(Event::Told(fault))
+    stage.relay(Event::Told(fault));
 }

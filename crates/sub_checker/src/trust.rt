@@ -1,6 +1,5 @@
 //! What is kept of the frames that may stay on air as they are, from one mark to the next.
-ghost use Rattle.std.specs.Prelude.{◌≡◌, ◌<◌, ◌&&◌, is_some};
-ghost use Rattle.stl_file.specs.TimeCode.{day};
+ghost use Rattle.std.specs.Prelude.{◌≡◌, ◌≤◌, ◌&&◌, is_some};
 ghost use Rattle.sub_io.specs.Telling.{first_alone};
 ghost use Rattle.sub_rules.specs.Trusted.{at_pes, trusted};
 ghost use Rattle.sub_rules.specs.Trusted.Mark.{AtEnd, AtPes, Begins, Closes, Ends, GoesBack};
@@ -156,7 +155,7 @@ impl Trust {
         }
         self.told = true;
         match frame {
-            Some(frame) => trusted(run, self.whole, self.back.unwrap_or(frame)),
+            Some(frame) => trusted(run, self.whole, u64::from(self.back.unwrap_or(frame))),
             None => None,
         }
     }
@@ -166,18 +165,20 @@ impl Trust {
     /// page is not whole up to the last one.
     #[tactic(auto, unfolding(crate::specs::Trust::after_mark, crate::specs::Trust::told_with))]
     pub fn close(&mut self, are_left: bool, tells_more: bool) -> Option<Event>
-        requires day { self.old.last < day }
         ensures told { first_alone result ≡ told_with (Closes are_left tells_more) self.old }
         ensures kept { self.new ≡ after_mark (Closes are_left tells_more) self.old }
     {
         let run = self.run;
         self.run = None;
         let end = if are_left {
-            self.back.unwrap_or(self.last)
+            u64::from(self.back.unwrap_or(self.last))
         } else {
-            self.last + 1
+            u64::from(self.last) + 1
         };
-        let end = self.since.unwrap_or(end);
+        let end = match self.since {
+            Some(since) => u64::from(since),
+            None => end,
+        };
         if self.told || tells_more {
             trusted(run, self.whole, end)
         } else {
@@ -208,13 +209,14 @@ fn first_whole(whole: Option<u32>, since: Option<u32>, frame: u32) -> Option<u32
 }
 
 // Which frames of a run before this frame are trusted, if there are any.
-fn trusted(run: Option<u32>, whole: Option<u32>, frame: u32) -> Option<Event>
+fn trusted(run: Option<u32>, whole: Option<u32>, frame: u64) -> Option<Event>
+    requires { frame ≤ 0x1_0000_0000 }
     ensures { first_alone result ≡ trusted run whole frame }
 {
     let from = run?;
     let whole = whole?;
-    if whole < frame {
-        let to = frame - 1;
+    if u64::from(whole) < frame {
+        let to = (frame - 1) as u32;
         Some(Event::Trusted { from, to })
     } else {
         None

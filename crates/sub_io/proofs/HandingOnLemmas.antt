@@ -46,15 +46,6 @@ module _
         record { in_turn = stays_after start old new items ok still on.0 on.1 told.in_turn };
   }
 
-  -- It has said stop exactly where it could not hand on.
-  pub stops-handing : (old new : D) (ok : Bool)
-      → has_stopped old ≡ false
-      → HandsOnIfWaiting is_waiting IsHandedOn old ok new
-      → has_stopped new ≡ not ok
-  stops-handing old new ok goes (inl same) =
-      ap has_stopped same.1 ∙ goes ∙ sym (ap not same.0)
-  stops-handing old new ok goes (inr on) = stays.stopped old new ok on.1
-
   -- What holds of one that was told nothing, or of one after each thing, holds after some.
   told-holds : (a b : D) (items : List A)
       → HoldsWhileWaiting is_waiting held a

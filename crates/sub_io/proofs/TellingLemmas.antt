@@ -1,6 +1,5 @@
 -- Things that a device was told one after another; main lemma: TellsUntilStopped-after. What one
--- was told that keeps the first: first_is. Where it is only said that some was told:
--- TellsSome-until.
+-- was told that keeps the first: first_is.
 use Rattle.std.proofs.Common.{◌≡◌, ◌+◌, ◌≤◌, List, [], ◌∷◌, ◌++◌, length, take, Option, None}
 use Rattle.std.proofs.Common.{Result, Ok, Err, refl, sym, subst, le_refl, arith}
 use Rattle.std.proofs.Common.{length-append}
@@ -88,14 +87,6 @@ module _ {A D : Type 0} {IsTold : D → A → D → Type 0} where
   TellsSome-trans a b c p q =
       record { items = p.items ++ q.items; told = Tells-trans a b c p.items q.items p.told q.told }
 
--- These, or a prefix of them.
-pub TellsSome-until : {A D X E : Type 0} (IsTold : D → A → D → Type 0) (a b : D) (xs : List A)
-    (result : Result X E)
-    → TellsUntilStopped IsTold a b xs result
-    → TellsSome IsTold a b
-TellsSome-until IsTold a b xs (Ok value) p = record { items = xs; told = p }
-TellsSome-until IsTold a b xs (Err fault) p = record { items = take p.0 xs; told = p.2 }
-
 -- A device that keeps the first was told at most that.
 pub first_is : {A : Type 0} (first : Option A) (xs : List A)
     → Tells KeepsFirst None first xs
@@ -113,11 +104,4 @@ pub ruleset tellings = (
   TellsPrefix-second,
   TellsPrefix-whole,
   TellsUntilStopped-after,
-)
-
--- For one of which it is only said that it told some: `using(sub_io::proofs::TellingLemmas::some)`.
-pub ruleset some = (
-  TellsSome-none,
-  TellsSome-trans,
-  TellsSome-until,
 )

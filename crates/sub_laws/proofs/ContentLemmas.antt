@@ -1,6 +1,6 @@
 -- For `check`.
 -- Where content is refused, a cell is not right that every receiver holds, `different_everywhere`;
--- and where no repeat may keep, every receiver shows what it may not show: `undue_everywhere`.
+-- and where no repeat may keep, every receiver shows what is not due: `wrong_everywhere`.
 use Rattle.std.proofs.lemmas.Bool.Decides.{nat_tests}
 use Rattle.std.proofs.Common.{List, [], subst, ◌≡◌, ℕ, ◌-◌, ◌<◌, ◌≤◌, inl, inr, Bool, true}
 use Rattle.std.proofs.Common.{false, Option, Some, None, length, take, drop, refl, sym, ap}
@@ -25,14 +25,14 @@ use Rattle.sub_plan.specs.Schedule.{due_in}
 use Rattle.sub_rules.specs.Events.{broken_cell, is_late, undecided_within}
 use Rattle.sub_rules.specs.FrameRules.{ShowsDue, Task, Unread, frame_at, packets_before}
 use Rattle.sub_rules.specs.FrameRules.{packets_of_frame, task_of}
-use Rattle.sub_rules.specs.GoodWithin.{IsDueWithin}
 use Rattle.sub_rules.specs.Kept.{IsRight}
 use Rattle.sub_rules.specs.PacketRules.{KeepsAllRules}
+use Rattle.sub_rules.specs.Repeats.{IsDueWithin}
 use Rattle.sub_rules.specs.Transmission.{Transmission, on_air_until}
-use Rattle.sub_rules.specs.WrongContent.{AreReadUpTo}
+use Rattle.sub_rules.specs.WrongContent.{AreReadUpTo, IsWrongEverywhere}
 use Rattle.sub_rules.specs.declared.packet_rule.Watched.{Watched}
 use Rattle.sub_rules.proofs.PrefixEventLemmas.{is_late-prefix}
-use Rattle.sub_laws.specs.UndueContent.{IsDifferentEverywhere, IsUndueEverywhere}
+use Rattle.sub_laws.specs.UndueContent.{IsDifferentEverywhere}
 use Rattle.sub_laws.proofs.DelayLemmas.{law_of_right_cells}
 use Rattle.sub_laws.proofs.DueCodeLemmas.{MayShow, undue_found}
 use Rattle.sub_laws.proofs.FrameByFrame.{IsReadTo}
@@ -200,6 +200,9 @@ module _ (programme : ProgrammeValue) (options : OptionsValue) (unread : Option 
     different_everywhere = record {
       read = read;
       are_read = are_read;
+      header =
+          ap (holds_header (kind options.page)) read_air
+          ∙ first_header-packets_before g.watched frames n r.some r.fits r.header;
       differs = λ right.
           cell_is.wrong
           (subst
@@ -218,42 +221,39 @@ module _ (programme : ProgrammeValue) (options : OptionsValue) (unread : Option 
           read_air due));
     }
 
-    -- ---- where no repeat may keep
+-- ---- where no repeat may keep
 
-    module _ (none : options.keeps ≡ false) where
-      -- What a receiver held before is forgotten at the first header.
-      fresh : (old : State) → IsFresh options.keeps false options.page (packets_before frames n) old
-      fresh old =
-          inr
-          (inl
-          (ap (λ k. holds_beginning k (kind options.page) (packets_before frames n)) none
-          ∙ beginning-none_keeps (kind options.page) (packets_before frames n)
-          ∙ first_header-packets_before g.watched frames n r.some r.fits r.header))
+module _ (programme : ProgrammeValue) (options : OptionsValue) (frames : Transmission)
+    (f row column : ℕ) (none : options.keeps ≡ false)
+    (different : IsDifferentEverywhere programme options frames f row column) where
+  -- What is on air up to there.
+  abbrev sent : List (List ℕ)
+  sent = on_air_until different.read f
 
-      -- A cell that shows what is due is right.
-      right : code_at n x ≡ cell (due_in programme f) x.0 x.1 → ShowsDue g frames n f x.0 x.1
-      right same =
-          subst
-          (λ k. IsRight k options.page (packets_before frames n) (due_in programme f) x.0 x.1)
-          (sym none)
-          ((law_of_right_cells options.page (packets_before frames n) (due_in programme f) x.0
-          x.1).1
-          (sym (kept_shown options.page (packets_before frames n) x.0 x.1)
-          ∙ ap (λ k. kept k options.page (packets_before frames n) x.0 x.1) (sym none)
-          ∙ same))
+  -- What a receiver held before is forgotten at the first header.
+  fresh : (old : State) → IsFresh options.keeps false options.page sent old
+  fresh old =
+      inr
+      (inl
+      (ap (λ k. holds_beginning k (kind options.page) sent) none
+      ∙ beginning-none_keeps (kind options.page) sent
+      ∙ different.header))
 
-      -- So every receiver shows what it may not show.
-      pub undue_everywhere : IsUndueEverywhere programme options frames f x.0 x.1
-      undue_everywhere = record {
-        wrong = record {
-          read = read;
-          are_read = are_read;
-          wrong = λ old new unheard shut hears same.
-              cell_is.wrong (right (sym (holds_there old new hears (fresh old)) ∙ same));
-        };
-        undue = λ not_late old new unheard shut hears due.
-            cell_is.undue (sym late_same ∙ not_late)
-            (may_of
-            (subst (IsDueWithin programme read options f x.0 x.1)
-            (holds_there old new hears (fresh old)) due));
-      }
+  -- A cell that shows what is due is right.
+  right : kept options.keeps options.page sent row column ≡ cell (due_in programme f) row column
+      → IsRight options.keeps options.page sent (due_in programme f) row column
+  right same =
+      subst (λ k. IsRight k options.page sent (due_in programme f) row column) (sym none)
+      ((law_of_right_cells options.page sent (due_in programme f) row column).1
+      (sym (kept_shown options.page sent row column)
+      ∙ ap (λ k. kept k options.page sent row column) (sym none)
+      ∙ same))
+
+  -- So every receiver shows another code there.
+  pub wrong_everywhere : IsWrongEverywhere programme options frames f row column
+  wrong_everywhere = record {
+    read = different.read;
+    are_read = different.are_read;
+    wrong = λ old new unheard shut hears same.
+        different.differs (right (sym (different.holds old new hears (fresh old)) ∙ same));
+  }

@@ -1,8 +1,7 @@
 -- For the headline, what may be late, schedules and what may stay.
--- What receivers that may forget make of a stretch of repeats: `law_of_repeated_stretch`; as its
--- case what may be trusted of a stretch of frames that may be late: `law_of_stretch_with_delay`;
--- and where the page that is due is shown it is what may be trusted of one that is not:
--- `served_at_once`, `law_of_finished_stretch`, `law_of_trust_without_delay`.
+-- What receivers that may forget make of a stretch of repeats: `law_of_repeated_stretch`; and where
+-- no repeat may keep, and no frame may be late, it is what receivers make that keep:
+-- `recovers_at_once`, `shown_at_once`, `law_of_trust_without_delay`.
 use Rattle.std.proofs.lemmas.Bool.Decides.{nat_tests}
 use Rattle.std.proofs.Common.{◌≡◌, ℕ, ◌≤◌, inl, inr, Bool, true, false, List}
 use Rattle.std.proofs.Common.{Option, option_map, unwrap_or, ap, sym, ◌∙◌, subst, arith}
@@ -23,22 +22,17 @@ use Rattle.ttx_page.proofs.SpanLists.{find_none}
 use Rattle.ttx_page.proofs.TextSpan.{beginning-none_keeps}
 use Rattle.stl_rows.specs.Programme.{ProgrammeValue}
 use Rattle.sub_plan.specs.Options.{OptionsValue}
-use Rattle.sub_rules.specs.GoodWithin.{FinishesAgain, HasEndedPage, IsDueWithin, IsFinished}
-use Rattle.sub_rules.specs.GoodWithin.{ShowsDueCodes, ShowsDuePage}
 use Rattle.sub_plan.specs.Schedule.{due_in}
 use Rattle.sub_rules.specs.Kept.{IsRight, LawOfRightCells}
+use Rattle.sub_rules.specs.Repeats.{FinishesAgainBy, HasEndedPage, IsDueWithin, IsFinishedBy}
 use Rattle.sub_rules.specs.Repeats.{IsWholePage, KeepsDueCodes}
-use Rattle.sub_rules.specs.Transmission.{Transmission, first_frame, on_air, on_air_until}
-use Rattle.sub_laws.specs.Delay.{IsServedWithDelay, RecoversWithDelay}
-use Rattle.sub_laws.specs.Delay.{ShownWithDelay}
-use Rattle.sub_laws.specs.DelayLaws.{LawOfFinishedStretch, LawOfStretchWithDelay}
-use Rattle.sub_laws.specs.DelayLaws.{LawOfTrustWithoutDelay}
+use Rattle.sub_rules.specs.Transmission.{Transmission, on_air, on_air_until}
+use Rattle.sub_laws.specs.AtOnce.{LawOfTrustWithoutDelay}
 use Rattle.sub_laws.specs.OnScreen.{CompleteWithin, ShownWithin}
-use Rattle.sub_laws.specs.Repeats.{IsRepeatedStretch, LawOfRepeatedStretch, RecoversForgetting}
-use Rattle.sub_laws.specs.Repeats.{ShownForgetting}
-use Rattle.sub_laws.specs.Robust.{IsServed}
-use Rattle.sub_laws.specs.Sufficient.{IsSoundStretch}
-use Rattle.sub_laws.proofs.SoundStretchLemmas.{ended, forgetting, got_as, repeated, span_so_far}
+use Rattle.sub_laws.specs.Recovery.{RecoversWithin}
+use Rattle.sub_laws.specs.Repeats.{HoldsForgetting, IsRepeatedStretch}
+use Rattle.sub_laws.specs.Repeats.{LawOfRepeatedStretch, RecoversForgetting, ShownForgetting}
+use Rattle.sub_laws.proofs.SoundStretchLemmas.{ended, forgetting, got_as, span_so_far}
 use Rattle.sub_laws.proofs.SoundStretchLemmas.{window}
 
 -- ---- a cell that is right
@@ -133,102 +127,61 @@ module _ (keeps anew : Bool) (class : ReceiverClass) (programme : ProgrammeValue
         held.cells holds fresh whole,
       )
 
+-- ---- each cell is right at the end of each frame
+
+module _ (keeps anew : Bool) (class : ReceiverClass) (programme : ProgrammeValue)
+    (transmission : Transmission) (options : OptionsValue) (a b : ℕ)
+    (whole : (f : ℕ) → a ≤ f → f ≤ b → IsWholePage keeps programme options.page transmission f)
+    (recovers : RecoversForgetting keeps anew class programme transmission options a b) where
+  -- Receivers that recover hold the due page.
+  holds_at_once : HoldsForgetting keeps anew class programme transmission options a b
+  holds_at_once g j f arrived got old new is hears holds fresh =
+      (recovers g j f arrived got old new is hears).cells holds fresh
+      (whole f (le_trans is.listening.from is.listening.in_order) is.listening.to)
+
+-- Within no frame each frame of a stretch is finished.
+pub finished_at_once :
+    (keeps : Bool) (programme : ProgrammeValue) (transmission : Transmission)
+    (options : OptionsValue) (a b : ℕ)
+    → options.within ≡ 0
+    → FinishesAgainBy keeps programme transmission options a b
+    → (f : ℕ)
+    → a ≤ f
+    → f ≤ b
+    → IsFinishedBy keeps programme transmission options f
+finished_at_once keeps programme transmission options a b none again f low high =
+    let found = again f low (omega (arith, none, high)) in
+    subst (IsFinishedBy keeps programme transmission options)
+    (omega (arith, none, found.1, found.2)) found.3
+
 -- The law of a stretch of repeats.
 pub law_of_repeated_stretch : LawOfRepeatedStretch
-law_of_repeated_stretch keeps anew class programme transmission options a b stretch codes = (
-  recovers_forgetting keeps anew class programme transmission options a b stretch codes,
-  shown_forgetting keeps anew class programme transmission options a b stretch codes,
+law_of_repeated_stretch keeps programme transmission options a b stretch codes = (
+  λ anew class. (recovers anew class, shown anew class),
+  λ finishes. record {
+    recovers = recovers;
+    shown = shown;
+    finishes = finishes;
+    at_once = λ none anew class.
+        holds_at_once keeps anew class programme transmission options a b
+        (λ f low high.
+        (finished_at_once keeps programme transmission options a b none finishes.again f low
+        high).whole)
+        (recovers anew class);
+  },
 )
+  where
+    recovers : (anew : Bool) (class : ReceiverClass)
+        → RecoversForgetting keeps anew class programme transmission options a b
+    recovers anew class =
+        recovers_forgetting keeps anew class programme transmission options a b stretch codes
 
--- ---- a stretch in which codes are due, where no repeat may keep
+    shown : (anew : Bool) (class : ReceiverClass)
+        → ShownForgetting keeps anew class programme transmission options a b
+    shown anew class =
+        shown_forgetting keeps anew class programme transmission options a b stretch codes
 
-module _ (programme : ProgrammeValue) (transmission : Transmission) (options : OptionsValue)
-    (a b : ℕ) (stretch : IsSoundStretch transmission options a b)
-    (codes : ShowsDueCodes programme transmission options a b) (class : ReceiverClass) where
-  -- Codes are kept in it that are due.
-  kept_codes : KeepsDueCodes false programme transmission options a b
-  kept_codes = grind (arith, nat_tests, kept_shown)
-
-  -- Each cell is right where what is due is shown.
-  whole_shown :
-      (f : ℕ)
-      → ShowsDuePage programme options.page transmission f
-      → IsWholePage false programme options.page transmission f
-  whole_shown f shows row column named =
-      (law_of_right_cells options.page (on_air_until transmission f) (due_in programme f) row
-      column).1
-      (shows row column named)
-
-  -- What a receiver held before is forgotten at each header.
-  fresh_at :
-      (sent : List (List ℕ)) (old : State)
-      → holds_header (kind options.page) sent ≡ true
-      → IsFresh false false options.page sent old
-  fresh_at sent old holds = inr (inl (beginning-none_keeps (kind options.page) sent ∙ holds))
-
-  -- Receivers recover in it.
-  pub recovers_with_delay : RecoversWithDelay class programme transmission options a b
-  recovers_with_delay g j f arrived got old new is hears =
-      let sent : List (List ℕ) = on_air transmission g j f in
-      let served =
-      recovers_forgetting false false class programme transmission options a b
-      (repeated transmission options a b stretch) kept_codes g j f arrived got old new is
-      (law_of_forgetting class options.page got old new hears) in
-      let open_is = served.is_open in
-      record {
-        in_time = served.in_time;
-        heard = served.heard;
-        codes = λ holds. served.codes holds (fresh_at sent old holds);
-        cells = λ holds shows. served.cells holds (fresh_at sent old holds) (whole_shown f shows);
-        is_open = λ holds. grind (arith, nat_tests);
-      }
-
-  -- What is due is on their screens where it is shown and has ended.
-  pub shown_with_delay : ShownWithDelay class programme transmission options a b
-  shown_with_delay g j f arrived got old new is run holds shows shut =
-      shown_forgetting false false class programme transmission options a b
-      (repeated transmission options a b stretch) kept_codes g j f arrived got old new is
-      (screens.shows_forgetting class options.page got old new run) holds
-      (fresh_at (on_air transmission g j f) old.held holds) (whole_shown f shows) shut
-
--- A stretch that has what suffices where it may be late may be trusted so.
-pub law_of_stretch_with_delay : LawOfStretchWithDelay
-law_of_stretch_with_delay programme transmission options a b enough = record {
-  recovers = recovers_with_delay programme transmission options a b enough.stretch enough.codes;
-  shown = shown_with_delay programme transmission options a b enough.stretch enough.codes;
-  finishes = enough.finishes;
-}
-
--- ---- where the page that is due is shown
-
--- Who is served with a delay is served, where it is shown.
-pub served_at_once :
-    {programme : ProgrammeValue} {transmission : Transmission} {options : OptionsValue} {g f : ℕ}
-    {sent : List (List ℕ)} {IsExcused : ℕ → ℕ → Type 0} {old new : State}
-    → IsServedWithDelay programme transmission options g f sent IsExcused old new
-    → ShowsDuePage programme options.page transmission f
-    → IsServed programme options g f sent IsExcused old new
-served_at_once served shows = grind (arith, nat_tests)
-
--- Who is served is served with any delay.
-served_later :
-    {programme : ProgrammeValue} {transmission : Transmission} {options : OptionsValue} {g f : ℕ}
-    {sent : List (List ℕ)} {IsExcused : ℕ → ℕ → Type 0} {old new : State}
-    → first_frame transmission ≤ f
-    → IsServed programme options g f sent IsExcused old new
-    → IsServedWithDelay programme transmission options g f sent IsExcused old new
-served_later h1 h2 = grind (arith, nat_tests)
-
--- Where each frame of a stretch shows the page that is due, the delay makes no difference.
-pub law_of_finished_stretch : LawOfFinishedStretch
-law_of_finished_stretch class programme transmission options a b first shows = (
-  λ recovers g j f arrived got old new is hears.
-      served_at_once (recovers g j f arrived got old new is hears)
-      (shows f (le_trans is.listening.from is.listening.in_order) is.listening.to),
-  λ recovers g j f arrived got old new is hears.
-      served_later (le_trans first (le_trans is.listening.from is.listening.in_order))
-      (recovers g j f arrived got old new is hears),
-)
+-- ---- where no repeat may keep
 
 -- Complete pages are ended at the end of each frame.
 pub ended_of_complete :
@@ -239,42 +192,60 @@ pub ended_of_complete :
     → HasEndedPage options.page transmission f
 ended_of_complete transmission options a b f complete low high = grind (arith, nat_tests)
 
--- So where pages are complete in it, it is shown as without a delay.
-pub shown_at_once :
-    (class : ReceiverClass) (programme : ProgrammeValue) (transmission : Transmission)
-    → (options : OptionsValue) (a b : ℕ)
-    → ((f : ℕ) → a ≤ f → f ≤ b → ShowsDuePage programme options.page transmission f)
-    → ShownWithDelay class programme transmission options a b
-    → CompleteWithin transmission options a b
-    → ShownWithin class programme transmission options a b
-shown_at_once class programme transmission options a b h1 h2 h3 =
-    grind (arith, nat_tests, le_trans, ended_of_complete)
+module _ (programme : ProgrammeValue) (transmission : Transmission) (options : OptionsValue)
+    (a b : ℕ)
+    (whole : (f : ℕ) → a ≤ f → f ≤ b → IsWholePage false programme options.page transmission f)
+    (class : ReceiverClass) where
+  -- What a receiver held before is forgotten at each header.
+  fresh_at :
+      (sent : List (List ℕ)) (old : State)
+      → holds_header (kind options.page) sent ≡ true
+      → IsFresh false false options.page sent old
+  fresh_at sent old holds = inr (inl (beginning-none_keeps (kind options.page) sent ∙ holds))
 
--- Within no frame each frame of a stretch is finished.
-pub finished_at_once :
-    (programme : ProgrammeValue) (transmission : Transmission) (options : OptionsValue) (a b : ℕ)
-    → options.within ≡ 0
-    → FinishesAgain programme transmission options a b
-    → (f : ℕ)
-    → a ≤ f
-    → f ≤ b
-    → IsFinished programme transmission options f
-finished_at_once programme transmission options a b none again f low high =
-    let found = again f low (omega (arith, none, high)) in
-    subst (IsFinished programme transmission options) (omega (arith, none, found.1, found.2))
-    found.3
+  -- So receivers that keep recover where those do that may forget.
+  pub recovers_at_once :
+      RecoversForgetting false false class programme transmission options a b
+      → RecoversWithin class programme transmission options a b
+  recovers_at_once recovers g j f arrived got old new is hears =
+      let served =
+      recovers g j f arrived got old new is
+      (law_of_forgetting class options.page got old new hears) in
+      let open_is = served.is_open in
+      record {
+        in_time = served.in_time;
+        heard = served.heard;
+        cells = λ holds.
+            served.cells holds (fresh_at (on_air transmission g j f) old holds)
+            (whole f (le_trans is.listening.from is.listening.in_order) is.listening.to);
+        is_open = λ holds. grind (arith, nat_tests);
+      }
+
+  -- And where pages are complete, what is due is on their screens.
+  pub shown_at_once :
+      ShownForgetting false false class programme transmission options a b
+      → CompleteWithin transmission options a b
+      → ShownWithin class programme transmission options a b
+  shown_at_once shown complete g j f arrived got old new is run holds =
+      let low = le_trans is.listening.from is.listening.in_order in
+      shown g j f arrived got old new is
+      (screens.shows_forgetting class options.page got old new run) holds
+      (fresh_at (on_air transmission g j f) old.held holds) (whole f low is.listening.to)
+      (ended_of_complete transmission options a b f complete low is.listening.to)
 
 -- So what may be trusted within no frame may be trusted.
 pub law_of_trust_without_delay : LawOfTrustWithoutDelay
 law_of_trust_without_delay programme transmission options a b none trusted = record {
-  recovers = λ class g j f arrived got old new is hears.
-      served_at_once (trusted.recovers class g j f arrived got old new is hears)
-      (shows f (le_trans is.listening.from is.listening.in_order) is.listening.to);
+  recovers = λ class.
+      recovers_at_once programme transmission options a b whole class
+      (trusted.recovers false class);
   shown = λ complete class.
-      shown_at_once class programme transmission options a b shows (trusted.shown class) complete;
+      shown_at_once programme transmission options a b whole class (trusted.shown false class)
+      complete;
 }
   where
-    shows : (f : ℕ) → a ≤ f → f ≤ b → ShowsDuePage programme options.page transmission f
-    shows f low high =
-        (finished_at_once programme transmission options a b none trusted.finishes.again f low
-        high).shows
+    whole :
+        (f : ℕ) → a ≤ f → f ≤ b → IsWholePage false programme options.page transmission f
+    whole f low high =
+        (finished_at_once false programme transmission options a b none trusted.finishes.again f low
+        high).whole

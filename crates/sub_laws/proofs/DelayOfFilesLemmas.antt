@@ -12,8 +12,8 @@ use Rattle.sub_rules.specs.Pieces.{joined, joined_after, sent_after}
 use Rattle.sub_rules.specs.Transmission.{IsRising, SentFrame, Transmission}
 use Rattle.sub_rules.proofs.JoinedLemmas.{joined-none}
 use Rattle.sub_laws.specs.DelayOfFiles.{LawOfLongerDelayOfFiles}
-use Rattle.sub_laws.proofs.GoodWithinLemmas.{law_of_longer_delay}
 use Rattle.sub_laws.proofs.JoinedRisingLemmas.{joined-rising}
+use Rattle.sub_laws.proofs.RepeatLemmas.{law_of_longer_repeats}
 
 -- A PTS that is read as a frame is read as that one where more frames are allowed.
 clock_longer :
@@ -101,7 +101,8 @@ carries_longer within more origin bytes frames low longer is = record {
 }
 
 pub law_of_longer_delay_of_files : LawOfLongerDelayOfFiles
-law_of_longer_delay_of_files programme options more bytes transmission low longer carries good = (
-  carries_longer options.within more options.origin bytes transmission low longer carries,
-  law_of_longer_delay programme transmission options more longer good,
-)
+law_of_longer_delay_of_files
+    keeps programme options more bytes transmission low longer carries good = (
+      carries_longer options.within more options.origin bytes transmission low longer carries,
+      law_of_longer_repeats keeps programme transmission options more longer good,
+    )

@@ -1,4 +1,4 @@
--- For `law_of_nothing_told_within` and `law_of_trusted_with_delay`.
+-- For `law_of_nothing_told_repeats` and `law_of_trusted_repeats`.
 -- A code that was due at a cell within some frames: `was_due_at`, `due_was`; the first cell in
 -- which none of these is kept, `none_undue`, `undue_none`, `undue_found`; and the subtitle whose
 -- TCO a frame is, `ending_is`, `ending_at`.

@@ -1,4 +1,4 @@
--- For `law_of_nothing_told_within` and `law_of_trusted_with_delay`.
+-- For `law_of_nothing_told_repeats` and `law_of_trusted_repeats`.
 -- A frame is finished exactly where its end is not unfinished, `finished_of`, `of_finished`; and
 -- since which frame the ends are unfinished there, `since_is`, `no_since`, `since_no`, `late_is`.
 use Rattle.std.proofs.lemmas.Bool.Decides.{nat_tests}

@@ -11,8 +11,8 @@ pub mod FirstContentLemmas
 pub mod FirstFoundLemmas
 pub mod FollowedStretchLemmas
 pub mod FrameByFrame
+pub mod GoodByLemmas
 pub mod GoodLemmas
-pub mod GoodWithinLemmas
 pub mod GrowingFrameLemmas
 pub mod JoinedRisingLemmas
 pub mod MarkTestLemmas

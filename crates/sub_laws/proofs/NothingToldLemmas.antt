@@ -4,15 +4,13 @@ use Rattle.std.proofs.Common.{◌≡◌, List, [], ◌∷◌, map, refl, sym, ap
 use Rattle.ttx_packet.specs.PacketAddress.{IsPacket}
 use Rattle.sub_rules.specs.FrameRules.{Task, task_of}
 use Rattle.sub_rules.specs.PieceEvents.{sent_by_pieces}
-use Rattle.sub_rules.specs.Pieces.{Piece, frames_of, joined}
+use Rattle.sub_rules.specs.Pieces.{Piece, frames_of}
 use Rattle.sub_rules.specs.Pieces.Piece.{Sent}
-use Rattle.sub_rules.specs.Repeats.{GoodBy}
 use Rattle.sub_rules.specs.Transmission.{EachPacket, Transmission}
 use Rattle.sub_rules.proofs.FrameEvents.{events}
 use Rattle.sub_rules.proofs.JoinedLemmas.{joined-within}
 use Rattle.sub_laws.specs.BrokenPlaces.{LawOfBrokenPlaces, LawOfNothingTold}
-use Rattle.sub_laws.specs.BrokenPlaces.{LawOfNothingToldRepeats, LawOfNothingToldWithin}
-use Rattle.sub_laws.proofs.RepeatLemmas.{law_of_no_repeats}
+use Rattle.sub_laws.specs.BrokenPlaces.{LawOfNothingToldRepeats}
 use Rattle.sub_laws.proofs.ToldLemmas.{broken_places, none_refused, none_told}
 use Rattle.sub_laws.proofs.ToldWithinLemmas.{none_told_repeats}
 use Rattle.sub_laws.proofs.UntoldLemmas.{pieces_unrefused, pieces_untold}
@@ -67,18 +65,4 @@ law_of_nothing_told_repeats programme options unread pieces is every whole =
           let good = law.0 parts.1 in
           (parts.0, good.0, good.1),
       λ all. told.1 (all.0, law.1 (all.1, all.2)),
-    )
-
--- Where none may keep, it is what is good within these frames.
-pub law_of_nothing_told_within : LawOfNothingToldWithin
-law_of_nothing_told_within programme options unread pieces erasing is every whole =
-    let told = law_of_nothing_told_repeats programme options unread pieces is every whole in
-    let sent = joined options.within (frames_of pieces) in
-    let same = law_of_no_repeats programme sent options in (
-      λ none.
-          let all = told.0 none in
-          (all.0, same.0 (subst (λ k. GoodBy k programme sent options) erasing all.1), all.2),
-      λ all.
-          told.1
-          (all.0, subst (λ k. GoodBy k programme sent options) (sym erasing) (same.1 all.1), all.2),
     )

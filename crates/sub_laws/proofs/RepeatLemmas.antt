@@ -1,8 +1,8 @@
 -- For transmissions whose repeats may keep the page.
--- A good one has what suffices, `law_of_good_repeats`. Where each header erases the page it is good
--- whether repeats may keep or not, `law_of_may_keep` and `law_of_none_keeps`; and where they may
--- not it is what is good within the frames that the options allow, `law_of_no_repeats`. Within more
--- frames it stays good: `law_of_longer_repeats`.
+-- One that keeps the rules has what suffices, `repeated_stretch`. Where each header erases the page
+-- it is good whether repeats may keep or not, `law_of_may_keep` and `law_of_none_keeps`; and where
+-- they may not the rules are those of `Good`, `law_of_no_repeats`. Within more frames it stays
+-- good: `law_of_longer_repeats`.
 use Rattle.std.proofs.lemmas.Bool.Decides.{nat_tests}
 use Rattle.std.proofs.Common.{◌≡◌, ℕ, zero, suc, ◌+◌, ◌≤◌, inl, inr, Bool, true, false}
 use Rattle.std.proofs.Common.{List, [], ◌∷◌, length, take, find, option_map, unwrap_or, All}
@@ -23,20 +23,15 @@ use Rattle.ttx_page.specs.Span.{text_span}
 use Rattle.ttx_page.proofs.LateStart.{codes_of_same}
 use Rattle.ttx_page.proofs.NoiseLaws.{first_code}
 use Rattle.ttx_page.proofs.QuietLaws.{law_of_kept}
-use Rattle.ttx_page.proofs.RepeatLaws.{kept_shown}
 use Rattle.ttx_page.proofs.TextSpan.{EachBegins, text_span-none_keeps, text_span-same}
 use Rattle.stl_rows.specs.Programme.{ProgrammeValue}
 use Rattle.sub_plan.specs.Options.{OptionsValue}
-use Rattle.sub_plan.specs.Schedule.{due_in}
 use Rattle.sub_rules.specs.Good.{IsCleanSpan, KeepsRules}
-use Rattle.sub_rules.specs.GoodWithin.{IsDueWithin, IsFinished}
-use Rattle.sub_rules.specs.Repeats.{GoodBy, IsFinishedBy, KeepsRulesBy, LawOfMayKeep}
+use Rattle.sub_rules.specs.Repeats.{GoodBy, IsDueWithin, IsFinishedBy, KeepsRulesBy, LawOfMayKeep}
 use Rattle.sub_rules.specs.Repeats.{LawOfNoRepeats, LawOfNoneKeeps, SomeFinishedBy}
 use Rattle.sub_rules.specs.Transmission.{EachPacket, Transmission, first_frame, last_frame}
 use Rattle.sub_rules.specs.Transmission.{on_air_until}
-use Rattle.sub_laws.specs.Repeats.{IsRepeatedStretch, LawOfGoodRepeats, LawOfKeptOnAir}
-use Rattle.sub_laws.specs.Repeats.{LawOfLongerRepeats}
-use Rattle.sub_laws.proofs.DelayLemmas.{law_of_repeated_stretch, law_of_right_cells}
+use Rattle.sub_laws.specs.Repeats.{IsRepeatedStretch, LawOfKeptOnAir, LawOfLongerRepeats}
 use Rattle.sub_laws.proofs.TransmissionLemmas.{packets_between-each}
 
 -- ---- what suffices
@@ -51,7 +46,7 @@ codes_of_clean keeps page packets clean k d l row column is below =
     (k, l, get_or_default spanned k _ d l) is below
 
 -- A transmission that keeps rules 1 to 6 is a stretch of repeats in all its frames.
-repeated_stretch :
+pub repeated_stretch :
     (keeps : Bool) (programme : ProgrammeValue) (transmission : Transmission)
     (options : OptionsValue)
     → KeepsRulesBy keeps programme transmission options
@@ -79,12 +74,6 @@ repeated_stretch keeps programme transmission options rules = record {
       };
   repeats = rules.repeats;
 }
-
--- What is promised of a good one.
-pub law_of_good_repeats : LawOfGoodRepeats
-law_of_good_repeats keeps anew class programme transmission options good =
-    law_of_repeated_stretch keeps anew class programme transmission options _ _
-    (repeated_stretch keeps programme transmission options good.rules) good.codes
 
 -- What a receiver that keeps holds, with no wrong bit.
 pub law_of_kept_on_air : LawOfKeptOnAir
@@ -198,23 +187,6 @@ law_of_none_keeps programme transmission options each good =
 -- ---- where repeats may not keep
 
 module _ (programme : ProgrammeValue) (transmission : Transmission) (options : OptionsValue) where
-  -- A finished end is one.
-  pub finished_of : (f : ℕ)
-      → IsFinishedBy false programme transmission options f
-      → IsFinished programme transmission options f
-  finished_of f finished = grind (arith, nat_tests, law_of_right_cells)
-
-  pub finished_by : (f : ℕ)
-      → IsFinished programme transmission options f
-      → IsFinishedBy false programme transmission options f
-  finished_by f finished = record {
-    whole = λ row column named.
-        (law_of_right_cells options.page (on_air_until transmission f) (due_in programme f) row
-        column).1
-        (finished.shows row column named);
-    ended = finished.ended;
-  }
-
   -- The rules are those of `Good`.
   pub rules_of :
       KeepsRulesBy false programme transmission options
@@ -280,40 +252,9 @@ module _ (programme : ProgrammeValue) (transmission : Transmission) (options : O
     paced = rules.paced;
   }
 
--- Where repeats may not keep, it is what is good within these frames.
 pub law_of_no_repeats : LawOfNoRepeats
-law_of_no_repeats programme transmission options = (
-  λ good. record {
-    rules = rules_of programme transmission options good.rules;
-    shows = record {
-      codes = λ f row column low high named.
-          subst (IsDueWithin programme transmission options f row column)
-          (kept_shown options.page (on_air_until transmission f) row column)
-          (good.codes f row column low high named);
-      again = λ start low high.
-          let some = good.again start low high in
-          (some.0, some.1, some.2, finished_of programme transmission options some.0 some.3);
-      subtitles = λ k d l.
-          let some = good.subtitles k d l in
-          (some.0, some.1, some.2, finished_of programme transmission options some.0 some.3);
-      ends = finished_of programme transmission options _ good.ends;
-    };
-  },
-  λ good. record {
-    rules = rules_by programme transmission options good.rules;
-    codes = λ f row column low high named.
-        subst (IsDueWithin programme transmission options f row column)
-        (sym (kept_shown options.page (on_air_until transmission f) row column))
-        (good.shows.codes f row column low high named);
-    again = λ start low high.
-        let some = good.shows.again start low high in
-        (some.0, some.1, some.2, finished_by programme transmission options some.0 some.3);
-    subtitles = λ k d l.
-        let some = good.shows.subtitles k d l in
-        (some.0, some.1, some.2, finished_by programme transmission options some.0 some.3);
-    ends = finished_by programme transmission options _ good.shows.ends;
-  },
-)
+law_of_no_repeats programme transmission options =
+    (rules_of programme transmission options, rules_by programme transmission options)
 
 -- ---- within more frames
 

@@ -27,7 +27,7 @@ use Rattle.ttx_page.proofs.NoiseSteps.{kind-near, lost_is_no_header}
 use Rattle.ttx_page.proofs.SpanLists.{holds-append_left, holds-append_right}
 use Rattle.ttx_page.proofs.TextStart.{sends_of_sound, sound_of_sends}
 use Rattle.sub_plan.specs.Options.{OptionsValue}
-use Rattle.sub_rules.specs.GoodWithin.{HasEndedPage}
+use Rattle.sub_rules.specs.Repeats.{HasEndedPage}
 use Rattle.sub_rules.specs.Transmission.{Transmission, first_frame, packets_between}
 use Rattle.sub_rules.specs.Transmission.{on_air, on_air_until, packets_of}
 use Rattle.sub_laws.specs.LostRows.{IsGot}

@@ -1,9 +1,8 @@
 -- For the headline, what may be late and what may stay.
 -- What may be trusted of a stretch of frames that has what suffices, `law_of_stretch`; and of all
 -- frames that is what is promised of a transmission, `law_of_whole_stretch`. With all packets kept,
--- robust to lost rows is robust: `law_of_all_kept`. And of all frames with a delay:
--- `law_of_whole_stretch_with_delay`.
-use Rattle.std.proofs.Common.{ℕ, ◌≤◌, inr, Bool, List, sym, subst, arith, le_refl}
+-- robust to lost rows is robust: `law_of_all_kept`.
+use Rattle.std.proofs.Common.{ℕ, ◌≤◌, inr, Bool, false, List, sym, subst, arith, le_refl}
 use Rattle.std.proofs.Common.{le_trans}
 use Rattle.std.specs.Prelude.{All, IsTrue}
 use Rattle.std.specs.List.{AllZip}
@@ -11,23 +10,25 @@ use Rattle.ttx_packet.specs.OneBit.{AreNear}
 use Rattle.ttx_packet.specs.PageId.{PageIdValue}
 use Rattle.ttx_page.proofs.NoiseLaws.{all_kept, all_true, law_of_nothing_lost, may_all}
 use Rattle.ttx_page.specs.LostRows.{IsHitOrLost, arrivals_of}
-use Rattle.ttx_page.specs.Receiver.{State}
+use Rattle.ttx_page.specs.Receiver.{ReceiverClass, State}
 use Rattle.ttx_page.specs.Receiver.ReceiverClass.{Storing}
 use Rattle.ttx_page.specs.Shown.{IsHit}
 use Rattle.stl_rows.specs.Programme.{ProgrammeValue}
 use Rattle.sub_plan.specs.Options.{OptionsValue}
-use Rattle.sub_rules.specs.GoodWithin.{ShowsDueCodes, ShowsDuePage}
+use Rattle.sub_plan.specs.Schedule.{due_in}
+use Rattle.sub_rules.specs.Repeats.{IsWholePage, KeepsDueCodes}
 use Rattle.sub_rules.specs.Transmission.{Transmission, first_frame, last_frame, on_air}
-use Rattle.sub_laws.specs.Delay.{IsServedWithDelay, RecoversWithDelay, RobustWithDelay}
-use Rattle.sub_laws.specs.DelayLaws.{LawOfWholeStretchWithDelay}
+use Rattle.sub_rules.specs.Transmission.{on_air_until}
 use Rattle.sub_laws.specs.Laws.{LawOfAllKept}
 use Rattle.sub_laws.specs.LostRows.{IsGot, IsRobustWithLosses, RobustToAnyLoss}
 use Rattle.sub_laws.specs.Recovery.{RecoversWithin}
+use Rattle.sub_laws.specs.Repeats.{RecoversForgetting, ShownForgetting}
 use Rattle.sub_laws.specs.Robust.{IsListening, IsServed, Robust}
 use Rattle.sub_laws.specs.Stretch.{LawOfWholeRecovery, LawOfWholeStretch}
 use Rattle.sub_laws.specs.Sufficient.{LawOfStretch}
-use Rattle.sub_laws.proofs.DelayLemmas.{law_of_finished_stretch, recovers_with_delay, shown_at_once}
-use Rattle.sub_laws.proofs.DelayLemmas.{shown_with_delay}
+use Rattle.sub_laws.proofs.DelayLemmas.{law_of_repeated_stretch, law_of_right_cells}
+use Rattle.sub_laws.proofs.DelayLemmas.{recovers_at_once, shown_at_once}
+use Rattle.sub_laws.proofs.SoundStretchLemmas.{repeated}
 
 -- ---- a stretch that has what suffices
 
@@ -35,27 +36,34 @@ use Rattle.sub_laws.proofs.DelayLemmas.{shown_with_delay}
 pub law_of_stretch : LawOfStretch
 law_of_stretch programme transmission options a b enough = record {
   recovers = λ class.
-      (law_of_finished_stretch class programme transmission options a b enough.stretch.first
-      enough_shown).0
-      (recovers_with_delay programme transmission options a b enough.stretch codes class);
+      recovers_at_once programme transmission options a b whole class (both class).0;
   shown = λ complete class.
-      shown_at_once class programme transmission options a b enough_shown
-      (shown_with_delay programme transmission options a b enough.stretch codes class) complete;
+      shown_at_once programme transmission options a b whole class (both class).1 complete;
 }
   where
-    enough_shown :
-        (f : ℕ) → a ≤ f → f ≤ b → ShowsDuePage programme options.page transmission f
-    enough_shown f low high row column named = enough.content f row column low high named
+    whole :
+        (f : ℕ) → a ≤ f → f ≤ b → IsWholePage false programme options.page transmission f
+    whole f low high row column named =
+        (law_of_right_cells options.page (on_air_until transmission f) (due_in programme f) row
+        column).1
+        (enough.content f row column low high named)
 
-    codes : ShowsDueCodes programme transmission options a b
+    codes : KeepsDueCodes false programme transmission options a b
     codes f row column low high named =
         inr (
           f,
           le_trans enough.stretch.first low,
           le_refl f,
           omega arith,
-          enough.content f row column low high named,
+          (whole f low high row column named).kept_is,
         )
+
+    both : (class : ReceiverClass)
+        → RecoversForgetting false false class programme transmission options a b
+        × ShownForgetting false false class programme transmission options a b
+    both =
+        (law_of_repeated_stretch false programme transmission options a b
+        (repeated transmission options a b enough.stretch) codes).0 false
 
 -- ---- lost rows
 
@@ -146,35 +154,5 @@ pub law_of_whole_stretch : LawOfWholeStretch
 law_of_whole_stretch programme transmission options trusted = record {
   robust = robust_of_recovers programme transmission options (trusted.recovers Storing);
   to_loss = to_loss programme transmission options (trusted.recovers Storing);
-  trusted = trusted;
-}
-
--- ---- all frames, with a delay
-
--- Where receivers recover with a delay in all frames, the transmission is so robust.
-robust_with_delay :
-    (programme : ProgrammeValue) (transmission : Transmission) (options : OptionsValue)
-    → RecoversWithDelay Storing programme transmission options (first_frame transmission)
-    (last_frame transmission)
-    → RobustWithDelay programme transmission options
-robust_with_delay programme transmission options recovers g j f got old new listening near unheard
-    shut hears =
-    let sent : List (List ℕ) = on_air transmission g j f in
-    let whole = got_whole options.page transmission _ _ g j f got listening near in
-    later_as whole.1 (recovers g j f (all_kept sent) got old new whole.0 hears)
-  where
-    later_as :
-        {P Q : ℕ → ℕ → Type 0}
-        → ((row column : ℕ) → P row column → Q row column)
-        → IsServedWithDelay programme transmission options g f (on_air transmission g j f) P old new
-        → IsServedWithDelay programme transmission options g f (on_air transmission g j f) Q old new
-    later_as excuse served = grind arith
-
--- What may be trusted so of all frames is what is promised so of the transmission.
-pub law_of_whole_stretch_with_delay : LawOfWholeStretchWithDelay
-law_of_whole_stretch_with_delay programme transmission options trusted = record {
-  robust = robust_with_delay programme transmission options (trusted.recovers Storing);
-  to_loss = λ g j f arrived got old new is unheard shut hears.
-      trusted.recovers Storing g j f arrived got old new is hears;
   trusted = trusted;
 }

@@ -18,13 +18,13 @@ use Rattle.sub_rules.specs.Events.{broken_cell, is_incomplete, is_late, is_misse
 use Rattle.sub_rules.specs.Events.{is_unfinished, standing_at, unfinished_since}
 use Rattle.sub_rules.specs.Events.{undecided_within}
 use Rattle.sub_rules.specs.FrameRules.{Task, Unread, end_frame, frame_at, packets_before}
-use Rattle.sub_rules.specs.GoodWithin.{IsDueWithin}
 use Rattle.sub_rules.specs.Kept.{IsRight}
-use Rattle.sub_rules.specs.Repeats.{IsFinishedBy, IsWholePage, KeepsDueCodes, SomeFinishedBy}
+use Rattle.sub_rules.specs.Repeats.{FinishesAgainBy, IsDueWithin, IsFinishedBy, IsWholePage}
+use Rattle.sub_rules.specs.Repeats.{KeepsDueCodes, SomeFinishedBy}
 use Rattle.sub_rules.specs.Transmission.{Transmission, on_air_until}
 use Rattle.sub_laws.specs.CleanStretch.{IsEnd, IsUntold, NoneOpen, task_unsure}
-use Rattle.sub_laws.specs.ToldRepeats.{FinishesAgainBy, FinishesInTimeBy, IsSufficientRepeats}
-use Rattle.sub_laws.specs.ToldRepeats.{LawOfUntoldRepeats}
+use Rattle.sub_laws.specs.Repeats.{FinishesInTimeBy}
+use Rattle.sub_laws.specs.ToldRepeats.{IsSufficientRepeats, LawOfUntoldRepeats}
 use Rattle.sub_laws.proofs.DueCodeLemmas.{ending_is, undue_none}
 use Rattle.sub_laws.proofs.FinishedLemmas.{finished_at, frame_end, no_since, since_is}
 use Rattle.sub_laws.proofs.GoodLemmas.{rises_each}

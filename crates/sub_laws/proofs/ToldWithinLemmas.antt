@@ -16,15 +16,15 @@ use Rattle.sub_rules.specs.Events.{is_overdue, is_pending, is_silent, is_unfinis
 use Rattle.sub_rules.specs.Events.{unfinished_since}
 use Rattle.sub_rules.specs.Events.{undecided_within, wrong_cell}
 use Rattle.sub_rules.specs.FrameRules.{Task, Unread, end_frame, frame_at, packets_before, task_of}
-use Rattle.sub_rules.specs.GoodWithin.{IsDueWithin}
-use Rattle.sub_rules.specs.Repeats.{GoodBy, IsFinishedBy, KeepsRulesBy, SomeFinishedBy}
+use Rattle.sub_rules.specs.Repeats.{GoodBy, IsDueWithin, IsFinishedBy, KeepsRulesBy}
+use Rattle.sub_rules.specs.Repeats.{SomeFinishedBy}
 use Rattle.sub_rules.specs.Transmission.{EachPacket, Transmission, first_frame, last_frame}
 use Rattle.sub_laws.specs.CleanStretch.{IsEnd}
 use Rattle.sub_laws.proofs.DueCodeLemmas.{MayShow, ending_at, none_undue}
 use Rattle.sub_laws.proofs.ToldLemmas.{nothing_told, sizes_of}
 use Rattle.sub_laws.proofs.FrameByFrame.{AllOk}
 use Rattle.sub_laws.proofs.GoodLemmas.{rises_each}
-use Rattle.sub_laws.proofs.GoodWithinLemmas.{begins_in, ends_in}
+use Rattle.sub_laws.proofs.GoodByLemmas.{begins_in, ends_in}
 use Rattle.sub_laws.proofs.PlaceLemmas.{Rules-from_holds, holds-from_rules, quiet_at, rising}
 use Rattle.sub_laws.proofs.PrefixLemmas.{RiseTo, end_high, end_is_on_air, end_low, first-same}
 use Rattle.sub_laws.proofs.PrefixLemmas.{last-same}

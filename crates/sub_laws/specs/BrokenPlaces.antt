@@ -11,7 +11,6 @@ use Rattle.sub_rules.specs.Events.{order_events, standing_at}
 use Rattle.sub_rules.specs.FrameRules.{HasHeader, IsCovered, IsEnded, IsPaced, ShowsDue, Task}
 use Rattle.sub_rules.specs.FrameRules.{Unread, end_frame, frame_at, task_of}
 use Rattle.sub_rules.specs.Good.{Good}
-use Rattle.sub_rules.specs.GoodWithin.{GoodWithin}
 use Rattle.sub_rules.specs.Repeats.{GoodBy}
 use Rattle.sub_rules.specs.PieceEvents.{all_of_pieces}
 use Rattle.sub_rules.specs.Pieces.{Piece, frames_of, joined}
@@ -130,18 +129,4 @@ LawOfNothingTold =
     ↔ ((length (frames_of pieces) ≡ length pieces)
     × Good programme (frames_of pieces) options
     × (IsTrue options.asks_complete → Complete (frames_of pieces) options)
-    × (unread ≡ None))
-
--- Within however many frames, it is so exactly where what they send is good within these.
-abbrev pub LawOfNothingToldWithin : Type 0
-LawOfNothingToldWithin =
-    (programme : ProgrammeValue) (options : OptionsValue) (unread : Option Unread)
-    (pieces : List Piece)
-    → IsFalse options.keeps
-    → IsProgramme programme.drawing programme.records
-    → 0 < options.every
-    → EachPacket IsPacket (joined options.within (frames_of pieces))
-    → (all_of_pieces (task_of programme options unread) pieces ≡ [])
-    ↔ ((length (frames_of pieces) ≡ length pieces)
-    × GoodWithin programme (joined options.within (frames_of pieces)) options
     × (unread ≡ None))

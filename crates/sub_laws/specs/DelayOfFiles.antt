@@ -1,10 +1,10 @@
 -- What a PES file carries within more frames than before, and that it stays good.
-use Rattle.std.specs.Prelude.{ℕ, ◌^◌, ◌<◌, ◌≤◌, List}
+use Rattle.std.specs.Prelude.{ℕ, ◌^◌, ◌<◌, ◌≤◌, Bool, List}
 use Rattle.stl_rows.specs.Programme.{ProgrammeValue}
 use Rattle.sub_plan.specs.FrameTime.{clock_of}
 use Rattle.sub_plan.specs.Options.{OptionsValue}
-use Rattle.sub_rules.specs.GoodWithin.{GoodWithin}
 use Rattle.sub_rules.specs.PesFrames.{CarriesBy}
+use Rattle.sub_rules.specs.Repeats.{GoodBy}
 use Rattle.sub_rules.specs.Transmission.{Transmission}
 
 -- The same options, but for so many frames.
@@ -17,11 +17,11 @@ within_frames more options = record options { within = more }
 -- So bytes that are accepted are accepted with more frames too.
 abbrev pub LawOfLongerDelayOfFiles : Type 0
 LawOfLongerDelayOfFiles =
-    (programme : ProgrammeValue) (options : OptionsValue) (more : ℕ) (bytes : List ℕ)
-    (transmission : Transmission)
+    (keeps : Bool) (programme : ProgrammeValue) (options : OptionsValue) (more : ℕ)
+    (bytes : List ℕ) (transmission : Transmission)
     → options.origin < 2 ^ 33
     → options.within ≤ more
     → CarriesBy (clock_of options) options.within bytes transmission
-    → GoodWithin programme transmission options
+    → GoodBy keeps programme transmission options
     → CarriesBy (clock_of (within_frames more options)) more bytes transmission
-    × GoodWithin programme transmission (within_frames more options)
+    × GoodBy keeps programme transmission (within_frames more options)

@@ -1,7 +1,6 @@
+pub mod AtOnce
 pub mod BrokenPlaces
 pub mod CleanStretch
-pub mod Delay
-pub mod DelayLaws
 pub mod DelayOfFiles
 pub mod Laws
 pub mod LostRows

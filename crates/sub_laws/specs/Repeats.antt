@@ -1,7 +1,10 @@
--- What is promised where repeats may keep the page: of receivers that may forget it at a header
--- that does not erase it, wherever they start, whatever bits are wrong and whatever rows are lost.
-use Rattle.std.specs.Prelude.{◌≡◌, ℕ, ◌+◌, ◌<◌, ◌≤◌, ◌||◌, Bool, false, List, [], Some, not}
-use Rattle.std.specs.Prelude.{IfSome, IsTrue}
+-- What is promised where frames may be late, and repeats may keep the page: of receivers that may
+-- forget it at a header that does not erase it, wherever they start, whatever bits are wrong and
+-- whatever rows are lost. Where repeats may not keep, each header erases the page: then what a
+-- receiver held before is forgotten at the first one (`IsFresh`), and those that keep are among
+-- these receivers (`LawOfForgetting`).
+use Rattle.std.specs.Prelude.{◌≡◌, ℕ, ◌+◌, ◌-◌, ◌<◌, ◌≤◌, ◌||◌, All, Bool, false, List, [], Some}
+use Rattle.std.specs.Prelude.{not, IfSome, IsTrue}
 use Rattle.ttx_page.specs.DroppedRows.{ExcusedBy}
 use Rattle.ttx_page.specs.LostRows.{IsHitOrLost, arrivals_of}
 use Rattle.ttx_page.specs.Page.{IsCell, Rows, cell}
@@ -15,8 +18,8 @@ use Rattle.ttx_page.specs.Span.{holds_header, is_open_after}
 use Rattle.stl_rows.specs.Programme.{IsProgramme, ProgrammeValue}
 use Rattle.sub_plan.specs.Options.{IsOptions, OptionsValue}
 use Rattle.sub_rules.specs.Good.{HoldsHeader}
-use Rattle.sub_rules.specs.GoodWithin.{HasEndedPage, IsDueWithin}
-use Rattle.sub_rules.specs.Repeats.{GoodBy, IsWholePage, KeepsDueCodes, KeepsRulesBy}
+use Rattle.sub_rules.specs.Repeats.{FinishesAgainBy, GoodBy, HasEndedPage, IsDueWithin}
+use Rattle.sub_rules.specs.Repeats.{IsWholePage, KeepsDueCodes, KeepsRulesBy, SomeFinishedBy}
 use Rattle.sub_rules.specs.Transmission.{IsRising, Transmission, first_frame, last_frame, on_air}
 use Rattle.sub_rules.specs.Transmission.{on_air_until}
 use Rattle.sub_laws.specs.CleanStretch.{AtPackets, IsStretch}
@@ -76,6 +79,22 @@ RecoversForgetting keeps anew class programme transmission options a b =
     (IsHitOrLost options.page (on_air transmission g j f) (arrivals_of arrived got)))
     old new
 
+-- Such receivers hold the due page there at each frame's end: once a header of it was sent, and
+-- what they held before is forgotten, each cell holds its code, or it is a space that is excused as
+-- in `RecoversForgetting`.
+abbrev pub HoldsForgetting :
+    Bool → Bool → ReceiverClass → ProgrammeValue → Transmission → OptionsValue → ℕ → ℕ → Type 0
+HoldsForgetting keeps anew class programme transmission options a b =
+    (g j f : ℕ) (arrived : List Bool) (got : List (List ℕ)) (old new : State)
+    → IsGot transmission a b g j f arrived got
+    → HearsForgetting class anew options.page old got new
+    → IsTrue (holds_header (kind options.page) (on_air transmission g j f))
+    → IsFresh keeps anew options.page (on_air transmission g j f) old
+    → HoldsDuePage programme f
+    (ExcusedBy class
+    (IsHitOrLost options.page (on_air transmission g j f) (arrivals_of arrived got)))
+    new.page
+
 -- The frames from a to b are shown by such receivers at the end of each frame at which each cell is
 -- right and the page has ended: what is due is on their screens.
 abbrev pub ShownForgetting :
@@ -94,6 +113,62 @@ ShownForgetting keeps anew class programme transmission options a b =
     (ExcusedBy class
     (IsHitOrLost options.page (on_air transmission g j f) (arrivals_of arrived got)))
     page
+
+-- ---- what is promised
+
+-- The frames from a to b are finished in time, by what is sent in them.
+pub record FinishesInTimeBy
+    (keeps : Bool) (programme : ProgrammeValue) (transmission : Transmission)
+    (options : OptionsValue) (a b : ℕ)
+    : Type 0 where
+  -- One at least of each `within` and one more that follow one another.
+  pub again : FinishesAgainBy keeps programme transmission options a b
+  -- One at least of the frames of each subtitle that begins in them, and ends in them or with them.
+  pub subtitles :
+      All
+      (λ t. a ≤ t.tci
+      → t.tco ≤ b + 1
+      → SomeFinishedBy keeps programme transmission options t.tci (t.tco - 1))
+      programme.records
+  -- And where the transmission begins with them, one of those that a subtitle has in them which had
+  -- begun before.
+  pub begun :
+      a ≡ first_frame transmission
+      → All
+      (λ t. t.tci < a
+      → a < t.tco
+      → t.tco ≤ b + 1
+      → SomeFinishedBy keeps programme transmission options a (t.tco - 1))
+      programme.records
+
+-- What may be trusted of the frames from a to b, where repeats may keep the page or may not, by
+-- receivers of both classes: by those that may forget the page at a header that does not erase it,
+-- and by those that begin anew at each header.
+pub record MayBeTrustedBy
+    (keeps : Bool) (programme : ProgrammeValue) (transmission : Transmission)
+    (options : OptionsValue) (a b : ℕ)
+    : Type 0 where
+  -- They recover there: those with old text in their memory from the next header on that erases it.
+  pub recovers :
+      (anew : Bool) (class : ReceiverClass)
+      → RecoversForgetting keeps anew class programme transmission options a b
+  -- And where a page has ended, what is due is on their screens.
+  pub shown :
+      (anew : Bool) (class : ReceiverClass)
+      → ShownForgetting keeps anew class programme transmission options a b
+  -- Each page is whole in time.
+  pub finishes : FinishesInTimeBy keeps programme transmission options a b
+  -- So where no frame may be late, they hold the due page at the end of each.
+  pub at_once :
+      options.within ≡ 0
+      → (anew : Bool) (class : ReceiverClass)
+      → HoldsForgetting keeps anew class programme transmission options a b
+
+-- What is promised of a whole transmission: it is what may be trusted of all its frames.
+abbrev pub HasPromisesBy : Bool → ProgrammeValue → Transmission → OptionsValue → Type 0
+HasPromisesBy keeps programme transmission options =
+    MayBeTrustedBy keeps programme transmission options (first_frame transmission)
+    (last_frame transmission)
 
 -- ---- what suffices
 
@@ -150,29 +225,37 @@ LawOfFollowedStretch =
     → IsRepeatedStretch keeps transmission options a b
 
 -- In a stretch that has this, and in which codes are kept that are due, receivers recover, and what
--- is due is on their screens: those of both classes, and those that begin anew at each header.
+-- is due is on their screens: those of both classes, and those that begin anew at each header. And
+-- where its frames are finished in time, it may be trusted.
 abbrev pub LawOfRepeatedStretch : Type 0
 LawOfRepeatedStretch =
-    (keeps anew : Bool) (class : ReceiverClass) (programme : ProgrammeValue)
-    → (transmission : Transmission) (options : OptionsValue) (a b : ℕ)
+    (keeps : Bool) (programme : ProgrammeValue) (transmission : Transmission)
+    → (options : OptionsValue) (a b : ℕ)
     → IsRepeatedStretch keeps transmission options a b
     → KeepsDueCodes keeps programme transmission options a b
+    → ((anew : Bool) (class : ReceiverClass)
     → RecoversForgetting keeps anew class programme transmission options a b
-    × ShownForgetting keeps anew class programme transmission options a b
+    × ShownForgetting keeps anew class programme transmission options a b)
+    × (FinishesInTimeBy keeps programme transmission options a b
+    → MayBeTrustedBy keeps programme transmission options a b)
 
--- A good transmission whose repeats may keep the page has what suffices in all its frames:
--- receivers recover by it, and what is due is on their screens.
+-- A good transmission has what suffices in all its frames, whether repeats may keep the page or
+-- not: receivers recover by it, and what is due is on their screens. Where it is one of a
+-- programme, it keeps all that is promised.
 abbrev pub LawOfGoodRepeats : Type 0
 LawOfGoodRepeats =
-    (keeps anew : Bool) (class : ReceiverClass) (programme : ProgrammeValue)
-    → (transmission : Transmission) (options : OptionsValue)
+    (keeps : Bool) (programme : ProgrammeValue) (transmission : Transmission)
+    → (options : OptionsValue)
     → GoodBy keeps programme transmission options
+    → ((anew : Bool) (class : ReceiverClass)
     → RecoversForgetting keeps anew class programme transmission options
     (first_frame transmission) (last_frame transmission)
     × ShownForgetting keeps anew class programme transmission options (first_frame transmission)
-    (last_frame transmission)
+    (last_frame transmission))
+    × (IsProgramme programme.drawing programme.records
+    → HasPromisesBy keeps programme transmission options)
 
--- What is good within some frames is good within more, where repeats may keep too.
+-- What is good within some frames is good within more, whether repeats may keep or not.
 abbrev pub LawOfLongerRepeats : Type 0
 LawOfLongerRepeats =
     (keeps : Bool) (programme : ProgrammeValue) (transmission : Transmission)
@@ -181,8 +264,9 @@ LawOfLongerRepeats =
     → GoodBy keeps programme transmission options
     → GoodBy keeps programme transmission (record options { within = more })
 
--- The schedule of a programme that has a subtitle is good, where repeats may keep too, and no pace
--- is asked for that is less than the repeat bound.
+-- The schedule of a programme that has a subtitle is good within any number of frames, in both
+-- modes, whether repeats may keep or not, where no pace is asked for that is less than the repeat
+-- bound. So a checker with the same options accepts it.
 abbrev pub LawOfPlanRepeats : Type 0
 LawOfPlanRepeats =
     (keeps : Bool) (programme : ProgrammeValue) (options : OptionsValue) (serial : Bool)

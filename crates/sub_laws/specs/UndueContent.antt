@@ -1,49 +1,34 @@
--- What every receiver shows where the content of a transmission is refused that may be late.
-use Rattle.std.specs.Prelude.{◌≡◌, ℕ, length, None, IsFalse, false}
+-- What every receiver shows where the content of a transmission is refused.
+use Rattle.std.specs.Prelude.{◌≡◌, ℕ, length, None, IsFalse, IsTrue, false}
 use Rattle.ttx_page.specs.Page.{cell}
+use Rattle.ttx_page.specs.PacketKind.{kind}
 use Rattle.ttx_page.specs.Receiver.{Hears, State}
 use Rattle.ttx_page.specs.Repeats.{IsFresh}
 use Rattle.ttx_page.specs.Shown.{kept}
+use Rattle.ttx_page.specs.Span.{holds_header}
 use Rattle.stl_rows.specs.Programme.{ProgrammeValue}
 use Rattle.sub_plan.specs.Options.{OptionsValue}
 use Rattle.sub_plan.specs.Schedule.{due_in}
 use Rattle.sub_rules.specs.Events.{is_late}
 use Rattle.sub_rules.specs.FrameRules.{task_of}
-use Rattle.sub_rules.specs.GoodWithin.{IsDueWithin}
 use Rattle.sub_rules.specs.Kept.{IsRight}
+use Rattle.sub_rules.specs.Repeats.{IsDueWithin}
 use Rattle.sub_rules.specs.Transmission.{Transmission, on_air_until}
-use Rattle.sub_rules.specs.WrongContent.{AreReadUpTo, IsWrongEverywhere}
+use Rattle.sub_rules.specs.WrongContent.{AreReadUpTo}
 
--- At the end of frame f every receiver that starts at the first packet, with no bit wrong and
--- whatever old page, shows at the cell what it may not show there.
-pub record IsUndueEverywhere
-    (programme : ProgrammeValue) (options : OptionsValue) (frames : Transmission)
-    (f row column : ℕ)
-    : Type 0 where
-  -- Always it is another code than is due at frame f.
-  pub wrong : IsWrongEverywhere programme options frames f row column
-  -- Where that end is not late, by the frames that are read up to it, it is no space and no code
-  -- that is due there in frame f or in one of the `within` frames before it.
-  pub undue :
-      IsFalse (is_late (task_of programme options None) wrong.read (length wrong.read) f)
-      → (old new : State)
-      → IsFalse old.heard
-      → IsFalse old.is_open
-      → Hears options.page old (on_air_until wrong.read f) new
-      → IsDueWithin programme wrong.read options f row column (cell new.page row column)
-      → ⊥
-
--- Where repeats may keep the page: at the end of frame f the cell is not right, by the frames that
--- are read up to it; and every receiver that keeps its page, and starts at the first packet with no
--- bit wrong, holds there what is kept, where its page was blank and not open or a header has erased
--- it. So where what is kept is not what is due, it is wrong on the screen; and where it is what is
--- due, the row did not come again.
+-- At the end of frame f the cell is not right, by the frames that are read up to it; and every
+-- receiver that keeps its page, and starts at the first packet with no bit wrong, holds there what
+-- is kept, where its page was blank and not open or a header has erased it: where no repeat may
+-- keep, every one. So where what is kept is not what is due, it is wrong on the screen; and where
+-- it is what is due, the row did not come again.
 pub record IsDifferentEverywhere
     (programme : ProgrammeValue) (options : OptionsValue) (frames : Transmission)
     (f row column : ℕ)
     : Type 0 where
   pub read : Transmission
   pub are_read : AreReadUpTo frames f read
+  -- A header of the page was sent.
+  pub header : IsTrue (holds_header (kind options.page) (on_air_until read f))
   pub differs :
       IsRight options.keeps options.page (on_air_until read f) (due_in programme f) row column → ⊥
   pub holds :

@@ -1,13 +1,10 @@
 //! A good transmission is robust, and its rules packet by packet.
 //!
 //! The functions do nothing: the contract of each is a law over the definitions of `specs/`.
+ghost use Rattle.sub_laws.specs.AtOnce.{LawOfNoDelay, LawOfTrustWithoutDelay};
 ghost use Rattle.sub_laws.specs.BrokenPlaces.{LawOfBrokenPlaces, LawOfNothingTold};
-ghost use Rattle.sub_laws.specs.BrokenPlaces.{LawOfNothingToldRepeats, LawOfNothingToldWithin};
+ghost use Rattle.sub_laws.specs.BrokenPlaces.{LawOfNothingToldRepeats};
 ghost use Rattle.sub_laws.specs.CleanStretch.{LawOfUntoldStretch};
-ghost use Rattle.sub_laws.specs.DelayLaws.{LawOfFinishedStretch, LawOfGoodWithin, LawOfLongerDelay};
-ghost use Rattle.sub_laws.specs.DelayLaws.{LawOfNoDelay, LawOfPlanWithin, LawOfStretchWithDelay};
-ghost use Rattle.sub_laws.specs.DelayLaws.{LawOfSufficientPartsWithDelay, LawOfTrustWithoutDelay};
-ghost use Rattle.sub_laws.specs.DelayLaws.{LawOfWholeStretchWithDelay};
 ghost use Rattle.sub_laws.specs.DelayOfFiles.{LawOfLongerDelayOfFiles};
 ghost use Rattle.sub_laws.specs.Laws.{LawOfAllKept, LawOfGood, LawOfWindow};
 ghost use Rattle.sub_laws.specs.OnScreen.{LawOfCompletePlan};
@@ -55,64 +52,22 @@ pub fn law_of_stretch()
     ensures { LawOfStretch }
 {}
 
-/// What suffices of a stretch of frames that may be late, by as many frames as the options allow:
-/// every receiver that starts in it recovers, and holds spaces, and codes that are due or were so
-/// few frames ago; and at the end of each frame that is finished, what is due.
-pub fn law_of_stretch_with_delay()
-    ensures { LawOfStretchWithDelay }
-{}
-
-/// A transmission that is good within these frames has what suffices of it.
-#[tactic(auto, using(crate::proofs::GoodWithinLemmas::suffices_with_delay))]
-pub fn law_of_sufficient_parts_with_delay()
-    ensures { LawOfSufficientPartsWithDelay }
-{}
-
-/// So it is robust as a good one is, but for what cells hold: once a header of the page was sent, a
-/// space or a code that was due there in that frame or in so few before it; and at the end of one
-/// frame at least of each `within` and one more, and of one of each subtitle, what is due.
-#[tactic(auto, using(crate::proofs::GoodWithinLemmas::law_of_good_within))]
-pub fn law_of_good_within()
-    ensures { LawOfGoodWithin }
-{}
-
-/// What may be trusted of all frames of a transmission that may be late is what is promised of it.
-pub fn law_of_whole_stretch_with_delay()
-    ensures { LawOfWholeStretchWithDelay }
-{}
-
-/// Within no frame a transmission is good exactly where it is good, and of complete pages where
-/// these are asked for.
+/// Within no frame, where no repeat may keep the page, what is good by options is good, and of
+/// complete pages where these are asked for, and the other way.
 pub fn law_of_no_delay()
     ensures { LawOfNoDelay }
 {}
 
-/// Where each frame of a stretch shows what is due, the delay that is allowed makes no difference.
-pub fn law_of_finished_stretch()
-    ensures { LawOfFinishedStretch }
-{}
-
-/// What may be trusted of a stretch within no frame may be trusted.
+/// And what may be trusted there of a stretch by options may be trusted.
 #[tactic(auto, using(crate::proofs::DelayLemmas::law_of_trust_without_delay))]
 pub fn law_of_trust_without_delay()
     ensures { LawOfTrustWithoutDelay }
 {}
 
-/// What is good within some frames is good within more.
-pub fn law_of_longer_delay()
-    ensures { LawOfLongerDelay }
-{}
-
 /// Bytes that carry within some frames a transmission that is good within these carry it within
-/// more, where it is good too.
+/// more, where it is good too, whether repeats may keep the page or not.
 pub fn law_of_longer_delay_of_files()
     ensures { LawOfLongerDelayOfFiles }
-{}
-
-/// The schedule of a programme that has a subtitle is good within any number of frames, in both
-/// modes.
-pub fn law_of_plan_within()
-    ensures { LawOfPlanWithin }
 {}
 
 /// A stretch of which nothing is told that a receiver depends on has what suffices, whatever else
@@ -196,21 +151,20 @@ pub fn law_of_nothing_told()
     ensures { LawOfNothingTold }
 {}
 
-/// Within however many frames, it is one that is good within these.
-#[tactic(auto, using(crate::proofs::NothingToldLemmas::law_of_nothing_told_within))]
-pub fn law_of_nothing_told_within()
-    ensures { LawOfNothingToldWithin }
-{}
-
 /// Where repeats may keep the page, whatever receivers do at a header that does not erase it: in a
 /// stretch whose repeats send what was sent before, those recover that begin anew at each header,
 /// those whose page was blank when they were tuned in, and every other one from the next header on
-/// that erases the page; and what is due is on their screens.
+/// that erases the page; and what is due is on their screens. Where its frames are finished in time
+/// it may be trusted: where no frame may be late, they hold what is due at the end of each.
 pub fn law_of_repeated_stretch()
     ensures { LawOfRepeatedStretch }
 {}
 
-/// A good transmission whose repeats may keep the page is one in all its frames.
+/// A transmission that is good within as many frames as the options allow, whether repeats may keep
+/// the page or not, is one in all its frames. So it keeps what is promised: once what a receiver
+/// held before is forgotten, it holds spaces, and codes that are due or were so few frames ago; and
+/// at the end of one frame at least of each `within` and one more, and of one of each subtitle,
+/// what is due.
 pub fn law_of_good_repeats()
     ensures { LawOfGoodRepeats }
 {}
@@ -220,7 +174,7 @@ pub fn law_of_right_cells()
     ensures { LawOfRightCells }
 {}
 
-/// And there what is good is what is good within the frames that the options allow.
+/// And there rules 1 to 6 are those of a good transmission.
 pub fn law_of_no_repeats()
     ensures { LawOfNoRepeats }
 {}
@@ -236,12 +190,13 @@ pub fn law_of_none_keeps()
     ensures { LawOfNoneKeeps }
 {}
 
-/// What is good within some frames is good within more, where repeats may keep the page too.
+/// What is good within some frames is good within more, whether repeats may keep the page or not.
 pub fn law_of_longer_repeats()
     ensures { LawOfLongerRepeats }
 {}
 
-/// And so is the schedule of a programme that has a subtitle.
+/// The schedule of a programme that has a subtitle is good within any number of frames, in both
+/// modes, whether repeats may keep the page or not.
 pub fn law_of_plan_repeats()
     ensures { LawOfPlanRepeats }
 {}

@@ -1,5 +1,4 @@
 pub mod PrintingLemmas
-pub mod SurveyListingLemmas
 pub mod NormalLemmas
 pub mod ListingLemmas
 pub mod FirstPacketLemmas

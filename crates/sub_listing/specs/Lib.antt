@@ -1,6 +1,5 @@
 pub mod Lines
 pub mod StaysPrinted
-pub mod SurveyListing
 pub mod FaultLine
 pub mod Faults
 pub mod Listing

@@ -1,5 +1,5 @@
 //! What is printed and written without a checker: lines, what is told of each fault, and the
-//! commands that show a packet, list a file or a recording, write one or write what it carries.
+//! commands that show a packet, list a file, write one or write what a recording carries.
 //!
 //! Stands on `sub_request` and `sub_rules`; `sub_answer` gives each request to its command, and
 //! prints what the checker and a receiver tell by what stands here.
@@ -27,7 +27,6 @@ mod schedule;
 mod show;
 mod state;
 mod status;
-mod survey;
 mod writing;
 
 pub use extract::extract_packets;
@@ -45,4 +44,3 @@ pub use schedule::write_schedule;
 pub use show::list_subtitles;
 pub use state::print_state;
 pub use status::Status;
-pub use survey::print_survey;

@@ -1,13 +1,12 @@
--- What is told of the packets of a frame, one packet on: `told_one`, `told_part`; and where they
--- break no rule, `packets_told-none`.
+-- What is told of the packets of a frame: of one that is passed, packets_told-passed; where they
+-- break no rule, packets_told-none.
 use Rattle.std.proofs.lemmas.Bool.Decides.{nat_tests}
-use Rattle.std.proofs.Common.{◌≡◌, ℕ, zero, suc, ◌+◌, ◌<◌, ◌≤◌, List, [], ◌++◌, map, take}
+use Rattle.std.proofs.Common.{◌≡◌, ℕ, zero, suc, ◌+◌, List, [], ◌++◌, map, take}
 use Rattle.std.proofs.Common.{◌∙◌, append-nil, arith, get_or, refl}
 use Rattle.std.specs.List.{filter}
 use Rattle.std.proofs.lemmas.Bool.{cases_eq}
-use Rattle.sub_io.specs.Telling.{Tells, TellsPrefix}
-use Rattle.sub_io.proofs.TellingLemmas.{Tells-trans, TellsPrefix-first, TellsPrefix-second}
-use Rattle.sub_rules.proofs.GrowingLists.{grows_to}
+use Rattle.sub_io.specs.Telling.{Tells}
+use Rattle.sub_io.proofs.TellingLemmas.{Tells-trans}
 use Rattle.sub_packets.proofs.RuleSetLemmas.{no_rules}
 use Rattle.sub_rules.specs.Events.{packet_fault, packets_told, rules_told}
 use Rattle.sub_packets.specs.Listener.{BreakNone, rule_set}
@@ -46,15 +45,6 @@ module _ (w : Watched) (frame from : ℕ) (before ps : List (List ℕ)) where
       ∙ rw (no_rules (λ r. breaks r w (before ++ take k ps) (get_or ps k [])) packet_rules empty)
       (append-nil (packets_told w frame from before ps k))
 
-  -- What is told of some packets is a prefix of what is told of more.
-  packets_told-prefix : (n m : ℕ) → n ≤ m
-      → (rest : List Event) × (packets_told w frame from before ps m
-      ≡ packets_told w frame from before ps n ++ rest)
-  unfolding packets_told
-  packets_told-prefix n m l =
-      grows_to (packets_told w frame from before ps)
-      (λ k. rules_told w frame (from + k) (before ++ take k ps) (get_or ps k [])) (λ k. refl) n m l
-
   -- Where they break no rule nothing is told.
   pub packets_told-none : (n : ℕ) → BreakNone w before ps n
       → packets_told w frame from before ps n ≡ []
@@ -71,15 +61,6 @@ module _ (w : Watched) (frame from : ℕ) (before ps : List (List ℕ)) where
         → Tells IsTold a c (packets_told w frame from before ps (k + 1))
     told_one more =
         rw (packets_told-more k p at) (Tells-trans a b c _ _ told more)
-
-    -- A part of what is told of one more is a part of what is told of all. For `hear_all`.
-    pub told_part : (n : ℕ) → k < n
-        → TellsPrefix IsTold b c (told_by w frame (from + k) (before ++ take k ps) p)
-        → TellsPrefix IsTold a c (packets_told w frame from before ps n)
-    told_part n l more =
-        let whole = packets_told-prefix (k + 1) n (omega arith) in
-        rw (whole.1, packets_told-more k p at)
-        (TellsPrefix-first a c _ whole.0 (TellsPrefix-second a b c _ _ told more))
 
   -- One packet more breaks no rule. For `hear_all`.
   pub clean_one : (k : ℕ) (p : List ℕ) → get_or ps k [] ≡ p → BreakNone w before ps k

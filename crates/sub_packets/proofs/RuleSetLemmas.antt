@@ -2,8 +2,7 @@
 -- those that are left of one, `told_next`.
 use Rattle.std.proofs.Common.{◌≡◌, ℕ, suc, ◌+◌, ◌*◌, ◌/◌, ◌%◌, ◌<◌, Bool, true, false, ◌==◌}
 use Rattle.std.proofs.Common.{List, [], ◌∷◌, ◌++◌, length, get_or, drop, map, refl, ◌∙◌, ap}
-use Rattle.std.proofs.Common.{Result, Ok, Err, arith, cond, drop-cons}
-use Rattle.std.specs.Prelude.{IsErr, MatchResult}
+use Rattle.std.proofs.Common.{arith, cond, drop-cons}
 use Rattle.std.specs.List.{filter}
 use Rattle.std.proofs.lemmas.Bool.Decides.{nat_tests}
 use Rattle.sub_packets.specs.Listener.{rule_set}
@@ -17,12 +16,6 @@ no_rules test [] e = refl
 no_rules test (r ∷ rules) e = grind (arith, nat_tests, no_rules test rules)
 
 -- ---- what is told of a set
-
--- An answer that is no value promises what it does where the audience said stop.
-pub stopped : {X E : Type 0} (r : Result X E) (F : X → Type 0) (P : Type 0) → IsErr r → P
-    → MatchResult r F (λ _. P)
-stopped (Ok v) F P e p = cc
-stopped (Err f) F P e p = p
 
 -- The lowest bit, and the others without it.
 lowest_bit : (b : Bool) (n : ℕ)

@@ -4,11 +4,15 @@ ghost use Rattle.std.specs.Prelude.{Some, slice_set};
 ghost use Rattle.ttx_page.specs.Differing.{row_differing};
 ghost use Rattle.ttx_page.specs.Page.{AreCodes, DiffersFirst, IsCell, IsPage, IsRow, blank, cell};
 ghost use Rattle.ttx_page.specs.Page.{row_at};
+ghost use Rattle.stl_rows.specs.DuePage.{TellsNextEdge};
+ghost use Rattle.stl_rows.specs.Programme.{IsProgramme};
+ghost use Rattle.sub_plan.specs.Schedule.{due_in};
 ghost use Rattle.sub_packets.specs.Comparison.{recounted};
 ghost use Rattle.sub_rules.specs.PacketRules.{codes_of};
 
 use crate::packet_rules::text_codes;
 use std::marker::Model;
+use stl_rows::Programme;
 use ttx_packet::Packet;
 use ttx_page::{Page, differing_columns};
 
@@ -51,13 +55,21 @@ impl Comparison {
         }
     }
 
-    /// Another page is due.
-    pub(crate) fn draw(&mut self, due: Page)
-        ensures { self.new ≡ record self.old { due = due } }
+    /// Another page is due, that of a programme at a frame; gives what `Programme::draw_due` does.
+    pub(crate) fn draw_due(
+        &mut self,
+        programme: &Programme,
+        frame: u32,
+        guess: usize,
+    ) -> (Option<u32>, usize)
+        ensures due { self.new ≡ record self.old { due = due_in programme.now frame } }
+        ensures edge { TellsNextEdge programme.now.records frame result.0 }
+        ensures programme { IsProgramme programme.now.drawing programme.now.records }
     {
         self.wrong = None;
-        self.blank_wrong = due.cells_not_blank();
-        self.due = due;
+        let drawn = programme.draw_due(frame, guess, &mut self.due);
+        self.blank_wrong = self.due.cells_not_blank();
+        drawn
     }
 
     /// A blank page is shown.

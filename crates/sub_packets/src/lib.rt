@@ -6,7 +6,7 @@
 //!
 //! ```text
 //! let mut listener = Listener::new(watched, due);
-//! listener.hear_sending(&units, false, 250, 0, &mut audience)?; // 2 headers of the page
+//! listener.hear_sending(&units, false, 250, 0, &mut taker); // 2 headers of the page
 //! listener.first_wrong(); // Some((22, 7))
 //! ```
 #![tactic(auto)]
@@ -18,11 +18,11 @@ mod laws;
 mod listener;
 mod packet_rules;
 mod rule_set;
-mod telling;
+mod taker;
 mod undue;
 mod wrong_cell;
 
 pub use comparison::Comparison;
 pub use laws::law_of_sent_again;
 pub use listener::Listener;
-pub use telling::tell_if;
+pub use taker::{Taker, tell_if};

@@ -1,17 +1,19 @@
 //! What is kept of the packets that were heard, and the rules that the next packet breaks.
 ghost use Rattle.std.specs.Prelude.{◌≡◌, ◌≢◌, ℕ, ◌+◌, ◌-◌, ◌<◌, ◌≤◌, ◌++◌, List, [], ◌∷◌};
-ghost use Rattle.std.specs.Prelude.{MatchResult};
-ghost use Rattle.std.specs.Prelude.{length, IfOk, IsTrue, OnOk, true, false, is_err, map};
+ghost use Rattle.std.specs.Prelude.{length, IsTrue, true, false, map};
 ghost use Rattle.std.specs.Prelude.{replicate};
 ghost use Rattle.std.specs.Prelude.{◌&&◌, ◌==◌, not, Some};
 ghost use Rattle.std.specs.Prelude.{slice_index_or, slice_set};
 ghost use Rattle.std.specs.List.{filter};
-ghost use Rattle.sub_io.specs.Telling.{Tells, TellsPrefix, TellsSome, TellsUntilStopped};
+ghost use Rattle.sub_io.specs.Telling.{Tells};
 ghost use Rattle.ttx_packet.specs.PageHeader.{HasExactHeader, coded_header, header};
 ghost use Rattle.ttx_page.specs.Page.{AreCodes, IsPage, IsRow, blank};
 ghost use Rattle.ttx_page.specs.PacketKind.{begins_text, is_this_page, kind};
 ghost use Rattle.ttx_page.specs.Span.{is_open_after};
 ghost use Rattle.ttx_pes.specs.PesPacket.{most_units};
+ghost use Rattle.stl_rows.specs.DuePage.{TellsNextEdge};
+ghost use Rattle.stl_rows.specs.Programme.{IsProgramme};
+ghost use Rattle.sub_plan.specs.Schedule.{due_in};
 ghost use Rattle.sub_rules.specs.Events.{packets_told};
 ghost use Rattle.sub_rules.specs.PacketRules.{header_count, packets_of_units};
 ghost use Rattle.sub_rules.specs.Events.{packet_fault};
@@ -23,7 +25,8 @@ use crate::last_heard::{
 };
 use crate::packet_rules::{begins_text, first_serial, is_of_mode, is_serial, text_codes};
 use crate::rule_set::tell_rules;
-use sub_io::{Audience, Stopped};
+use crate::taker::Taker;
+use stl_rows::Programme;
 use sub_rules::{Event, Watched};
 use ttx_packet::{Header, Packet, SentPacket};
 use ttx_page::{PacketKind, Page};
@@ -94,13 +97,20 @@ impl Listener {
         }
     }
 
-    /// Another page is due.
-    pub fn draw(&mut self, due: Page)
-        ensures { self.new ≡ record self.old {
-          comparison = record self.old.comparison { due = due };
+    /// Another page is due, that of a programme at a frame; gives what `Programme::draw_due` does.
+    pub fn draw_due(
+        &mut self,
+        programme: &Programme,
+        frame: u32,
+        guess: usize,
+    ) -> (Option<u32>, usize)
+        ensures due { self.new ≡ record self.old {
+          comparison = record self.old.comparison { due = due_in programme.now frame };
         } }
+        ensures edge { TellsNextEdge programme.now.records frame result.0 }
+        ensures programme { IsProgramme programme.now.drawing programme.now.records }
     {
-        self.comparison.draw(due);
+        self.comparison.draw_due(programme, frame, guess)
     }
 
     /// Whether complete pages are asked for, and the page is open.
@@ -117,78 +127,58 @@ impl Listener {
     ///
     /// Packets that begin with a header with which the text begins and broke no rule break none
     /// again, and leave what is kept as it is: no packet is looked at.
-    ///
-    /// # Errors
-    ///
-    /// `Stopped` where the audience said stop. What is kept is then of no use.
     #[inline(always)]
-    #[tactic(auto, using(sub_io::proofs::TellingLemmas::some))]
-    pub fn hear_sending<A: Audience<Event>>(
+    pub fn hear_sending<A: Taker>(
         &mut self,
         units: &SentUnits<'_>,
         again: bool,
         frame: u32,
         from: u32,
-        audience: &mut A,
-    ) -> Result<u8, Stopped>
+        taker: &mut A,
+    ) -> u8
         requires few { length units.now ≤ most_units }
         requires from { from + most_units ≤ u32.MAX }
-        requires goes_on { A.has_stopped audience.old ≡ false }
         ensures watched { self.new.watched ≡ self.old.watched }
         ensures due { self.new.comparison.due ≡ self.old.comparison.due }
-        ensures stopped { A.has_stopped audience.new ≡ is_err result }
-        ensures some { TellsSome A.is_told audience.old audience.new }
         ensures knows { (heard last : List (List ℕ)) → KnowsLast heard last self.old
-            → (again ≡ true → last ≡ packets_of_units units.now) → MatchResult result
-            (λ headers. KnowsLast (heard ++ packets_of_units units.now)
-            (packets_of_units units.now) self.new
-            × (headers ≡ header_count self.old.watched.page (packets_of_units units.now))
+            → (again ≡ true → last ≡ packets_of_units units.now) → KnowsLast
+            (heard ++ packets_of_units units.now) (packets_of_units units.now) self.new
+            × (result ≡ header_count self.old.watched.page (packets_of_units units.now))
             × (self.new.begun ≡ begins_frame self.old.watched from self.old.begun
             (packets_of_units units.now))
-            × Tells A.is_told audience.old audience.new
+            × Tells A.is_told taker.old taker.new
             (packets_told self.old.watched frame from heard (packets_of_units units.now)
-            (length (packets_of_units units.now))))
-            (λ _. TellsPrefix A.is_told audience.old audience.new
-            (packets_told self.old.watched frame from heard (packets_of_units units.now)
-            (length (packets_of_units units.now)))) }
+            (length (packets_of_units units.now))) }
     {
         if again {
             if let Some(headers) = self.last {
-                return Ok(headers);
+                return headers;
             }
         }
-        self.hear_all(units, frame, from, audience)
+        self.hear_all(units, frame, from, taker)
     }
 
     // Hears packets of a frame, and tells which rules they break.
     #[inline(never)]
-    #[tactic(auto, using(sub_io::proofs::TellingLemmas::some))]
-    fn hear_all<A: Audience<Event>>(
+    fn hear_all<A: Taker>(
         &mut self,
         units: &SentUnits<'_>,
         frame: u32,
         from: u32,
-        audience: &mut A,
-    ) -> Result<u8, Stopped>
+        taker: &mut A,
+    ) -> u8
         requires few { length units.now ≤ most_units }
         requires from { from + most_units ≤ u32.MAX }
-        requires goes_on { A.has_stopped audience.old ≡ false }
         ensures watched { self.new.watched ≡ self.old.watched }
         ensures due { self.new.comparison.due ≡ self.old.comparison.due }
-        ensures stopped { A.has_stopped audience.new ≡ is_err result }
-        ensures some { TellsSome A.is_told audience.old audience.new }
-        ensures knows { (heard : List (List ℕ)) → Knows heard self.old → MatchResult result
-            (λ headers. KnowsLast (heard ++ packets_of_units units.now)
-            (packets_of_units units.now) self.new
-            × (headers ≡ header_count self.old.watched.page (packets_of_units units.now))
+        ensures knows { (heard : List (List ℕ)) → Knows heard self.old → KnowsLast
+            (heard ++ packets_of_units units.now) (packets_of_units units.now) self.new
+            × (result ≡ header_count self.old.watched.page (packets_of_units units.now))
             × (self.new.begun ≡ begins_frame self.old.watched from self.old.begun
             (packets_of_units units.now))
-            × Tells A.is_told audience.old audience.new
+            × Tells A.is_told taker.old taker.new
             (packets_told self.old.watched frame from heard (packets_of_units units.now)
-            (length (packets_of_units units.now))))
-            (λ _. TellsPrefix A.is_told audience.old audience.new
-            (packets_told self.old.watched frame from heard (packets_of_units units.now)
-            (length (packets_of_units units.now)))) }
+            (length (packets_of_units units.now))) }
     {
         let mut headers = 0;
         let mut first = false;
@@ -200,7 +190,7 @@ impl Listener {
             if self.is_passed(self.is_open, &sent) {
                 k = self.next_heard(units, k + 1);
             } else {
-                let heard = self.judge(&sent.packet(), frame, from + k as u32, audience)?;
+                let heard = self.judge(&sent.packet(), frame, from + k as u32, taker);
                 first = begins_with(first, k, heard.begins);
                 begun = has_begun(begun, heard.begins);
                 headers = counted(headers, heard.is_header);
@@ -210,7 +200,7 @@ impl Listener {
         }
         self.begun = begun;
         self.last = last_headers(first, is_clean, headers);
-        Ok(headers)
+        headers
     }
 
     // The number of the first packet that is not passed, from a number on; how many packets there
@@ -309,44 +299,34 @@ impl Listener {
 
     // Hears a packet that is not passed.
     #[inline(never)]
-    #[tactic(auto, using(sub_io::proofs::TellingLemmas::some))]
-    fn judge<A: Audience<Event>>(
-        &mut self,
-        packet: &Packet,
-        frame: u32,
-        number: u32,
-        audience: &mut A,
-    ) -> Result<Heard, Stopped>
-        requires goes_on { A.has_stopped audience.old ≡ false }
+    fn judge<A: Taker>(&mut self, packet: &Packet, frame: u32, number: u32, taker: &mut A) -> Heard
         ensures watched { self.new.watched ≡ self.old.watched }
         ensures due { self.new.comparison.due ≡ self.old.comparison.due }
-        ensures stopped { A.has_stopped audience.new ≡ is_err result }
-        ensures some { TellsSome A.is_told audience.old audience.new }
-        ensures header { IfOk result (λ was. was.is_header
-            ≡ is_this_page (kind self.old.watched.page packet.now)) }
-        ensures begins { IfOk result (λ was. was.begins
-            ≡ begins_text self.old.watched.keeps (kind self.old.watched.page packet.now)) }
-        ensures clean { (heard : List (List ℕ)) → Knows heard self.old → IfOk result (λ was.
-            was.is_clean ≡ true
-            → rule_set (λ r. breaks r self.old.watched heard packet.now) packet_rules ≡ 0) }
+        ensures header { result.is_header
+            ≡ is_this_page (kind self.old.watched.page packet.now) }
+        ensures begins { result.begins
+            ≡ begins_text self.old.watched.keeps (kind self.old.watched.page packet.now) }
+        ensures clean { (heard : List (List ℕ)) → Knows heard self.old
+            → result.is_clean ≡ true
+            → rule_set (λ r. breaks r self.old.watched heard packet.now) packet_rules ≡ 0 }
         ensures told { (heard : List (List ℕ)) → Knows heard self.old
-            → TellsUntilStopped A.is_told audience.old audience.new
+            → Tells A.is_told taker.old taker.new
             (map (λ r. Event.Told (packet_fault r frame number))
-            (filter (λ r. breaks r self.old.watched heard packet.now) packet_rules)) result }
+            (filter (λ r. breaks r self.old.watched heard packet.now) packet_rules)) }
         ensures knows { (heard : List (List ℕ)) → Knows heard self.old
-            → OnOk result (Knows (heard ++ packet.now ∷ []) self.new) }
+            → Knows (heard ++ packet.now ∷ []) self.new }
     {
         let (found, page_header) = PacketKind::with_header(self.watched.page, packet);
         let rules = self.broken_rules(packet, found, page_header);
-        tell_rules(rules, frame, number, audience)?;
+        tell_rules(rules, frame, number, taker);
         let is_header = self.hear(packet, found, page_header);
         let begins = begins_text(self.watched.keeps, &found);
         let is_clean = rules.has_none();
-        Ok(Heard {
+        Heard {
             is_header,
             begins,
             is_clean,
-        })
+        }
     }
 
     // Hears a packet of this kind, and says whether it is a header of the page. Of a row that was

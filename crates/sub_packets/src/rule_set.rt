@@ -1,14 +1,13 @@
 //! The rules that a packet breaks, as a set, and how they are told.
-ghost use Rattle.std.specs.Prelude.{◌≡◌, ◌+◌, ◌*◌, ◌==◌, ◌<◌, ◌≤◌, Bool, false, is_err, map};
+ghost use Rattle.std.specs.Prelude.{◌≡◌, ◌+◌, ◌*◌, ◌==◌, ◌<◌, ◌≤◌, Bool, map};
 ghost use Rattle.std.specs.Prelude.{if◌then◌else◌};
 ghost use Rattle.std.specs.List.{filter};
-ghost use Rattle.sub_io.specs.Telling.{TellsSome, TellsUntilStopped};
+ghost use Rattle.sub_io.specs.Telling.{Tells};
 ghost use Rattle.sub_rules.specs.Events.{packet_fault};
 ghost use Rattle.sub_packets.specs.Listener.{rule_set};
 ghost use Rattle.sub_rules.specs.PacketTests.{packet_rules};
 
-use crate::telling::tell_if;
-use sub_io::{Audience, Stopped};
+use crate::taker::{Taker, tell_if};
 use sub_rules::{CheckFault, Event, PacketRule};
 
 // The rules, in the order in which they are told of a packet.
@@ -71,34 +70,20 @@ impl RuleSet {
 }
 
 /// Tells the rules of a set, broken at a packet of a frame, in their order.
-///
-/// # Errors
-///
-/// `Stopped` where the audience said stop at one of them.
-#[tactic(auto, using(sub_io::proofs::TellingLemmas::some))]
-pub(crate) fn tell_rules<A: Audience<Event>>(
-    rules: RuleSet,
-    frame: u32,
-    packet: u32,
-    audience: &mut A,
-) -> Result<(), Stopped>
-    requires goes_on { A.has_stopped audience.old ≡ false }
-    ensures told { (test : PacketRule → Bool) → rules.0 ≡ rule_set test packet_rules
-        → TellsUntilStopped A.is_told audience.old audience.new
-        (map (λ r. Event.Told (packet_fault r frame packet)) (filter test packet_rules)) result }
-    ensures some { TellsSome A.is_told audience.old audience.new }
-    ensures stopped { A.has_stopped audience.new ≡ is_err result }
+pub(crate) fn tell_rules<A: Taker>(rules: RuleSet, frame: u32, packet: u32, taker: &mut A)
+    ensures { (test : PacketRule → Bool) → rules.0 ≡ rule_set test packet_rules
+        → Tells A.is_told taker.old taker.new
+        (map (λ r. Event.Told (packet_fault r frame packet)) (filter test packet_rules)) }
 {
     if rules.has_none() {
-        return Ok(());
+        return;
     }
     let mut left = rules.0;
     for rule in &RULES {
         let told = Event::Told(fault_of(*rule, frame, packet));
-        tell_if(left % 2 == 1, told, audience)?;
+        tell_if(left % 2 == 1, told, taker);
         left /= 2;
     }
-    Ok(())
 }
 
 // The refusal of a packet that breaks a rule.

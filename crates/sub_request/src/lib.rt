@@ -2,8 +2,8 @@
 //!
 //! A `Request` is a variant for each command, with the values of its words; it names the files that
 //! are read and written, each by a type that nothing else makes. Stands on `sub_plan` for the
-//! options of a schedule, on `stl_rows` for national options and layouts, on `mpeg_ts` and
-//! `ttx_pes` for which PES packets are read, and on `ts_survey` for what is asked of a survey.
+//! options of a schedule, on `stl_rows` for national options and layouts, and on `mpeg_ts` and
+//! `ttx_pes` for which PES packets are read.
 //! `sub_words` reads requests from words, `sub_listen` runs the receiver of a `Listening`, and
 //! `sub_answer` answers.
 //!

@@ -3,12 +3,12 @@ ghost use Rattle.std.specs.Prelude.{◌≡◌};
 
 use crate::listening::Listening;
 use crate::pes_packets::{PesPackets, TransportStream};
+use mpeg_ts::SurveyOptions;
 use stl_file::Scope;
 use stl_rows::{Layout, National};
 use sub_io::FaultCode;
 use sub_plan::Options;
 use thiserror::Error;
-use ts_survey::SurveyOptions;
 
 /// Why the program can't do what its words ask for, in the order in which faults are told.
 ///

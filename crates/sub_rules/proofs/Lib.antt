@@ -6,7 +6,6 @@ pub mod EndRuleLemmas
 pub mod FirstFrameLemmas
 pub mod FrameEvents
 pub mod FrameLists
-pub mod GrowingLists
 pub mod JoinedLemmas
 pub mod MarkEventLemmas
 pub mod PacketLists

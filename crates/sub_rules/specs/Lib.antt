@@ -2,7 +2,6 @@ pub mod Events
 pub mod Fault
 pub mod FrameRules
 pub mod Good
-pub mod GoodWithin
 pub mod Kept
 pub mod PacketRules
 pub mod PacketTests

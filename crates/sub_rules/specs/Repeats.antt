@@ -1,34 +1,53 @@
--- A good transmission whose repeats may keep the page: inserters set C4, erase page, where the text
--- changes, and many clear it where they send the same page again. What is sent again is then the
--- whole page, and is what was sent before.
+-- A good transmission within some frames, as many as the options give, whose repeats may keep the
+-- page or may not. What is sent may be that late, and a page may be sent in parts, over some
+-- frames. Inserters set C4, erase page, where the text changes, and many clear it where they send
+-- the same page again: what is sent again is then the whole page, and is what was sent before.
 --
--- `keeps` says that repeats may keep. Where they may not, what is asked is what `Good` asks.
-use Rattle.std.specs.Prelude.{◌≡◌, ◌↔◌, ℕ, ◌+◌, ◌-◌, ◌<◌, ◌≤◌, Bool, true, false, []}
+-- `keeps` says that repeats may keep. Where they may not, rules 1 to 6 are those of `Good`; and
+-- within no frame rule 7 is too, of complete pages where these are asked for.
+use Rattle.std.specs.Prelude.{◌≡◌, ◌↔◌, ℕ, ◌+◌, ◌-◌, ◌<◌, ◌≤◌, ◌⊎◌, Bool, true, false, []}
 use Rattle.std.specs.Prelude.{length, take, slice_index_or, All, IfSome, IsTrue, IsFalse}
 use Rattle.ttx_packet.specs.PageHeader.{HasExactWords}
 use Rattle.ttx_packet.specs.PageId.{PageIdValue}
 use Rattle.ttx_page.specs.Noise.{ErasesPage}
-use Rattle.ttx_page.specs.Page.{IsCell}
+use Rattle.ttx_page.specs.Page.{IsCell, cell, space}
 use Rattle.ttx_page.specs.PacketKind.{kind}
 use Rattle.ttx_page.specs.Shown.{kept}
-use Rattle.ttx_page.specs.Span.{text_span}
+use Rattle.ttx_page.specs.Span.{is_open_after, text_span}
 use Rattle.stl_rows.specs.Programme.{ProgrammeValue, first_in, last_out}
 use Rattle.sub_plan.specs.Options.{OptionsValue}
 use Rattle.sub_plan.specs.Schedule.{due_in}
-use Rattle.sub_rules.specs.Good.{HoldsHeader, IsCleanSpan, IsInOneMode, KeepsPace, Repeats}
-use Rattle.sub_rules.specs.GoodWithin.{GoodWithin, HasEndedPage, IsDueWithin}
+use Rattle.sub_rules.specs.Good.{HoldsHeader, IsCleanSpan, IsInOneMode, KeepsPace, KeepsRules}
+use Rattle.sub_rules.specs.Good.{Repeats}
 use Rattle.sub_rules.specs.Kept.{ErasesOrRepeats, IsOfSubtitle, IsRight}
 use Rattle.sub_rules.specs.Transmission.{EachPacket, IsRising, Transmission, first_frame}
 use Rattle.sub_rules.specs.Transmission.{last_frame, on_air_until}
 
 -- ---- what is kept at ends
 
--- At the end of frame f each cell is right.
+-- At the end of frame f each cell is right: where repeats may not keep, it shows what is due
+-- (`LawOfRightCells`).
 abbrev pub IsWholePage : Bool → ProgrammeValue → PageIdValue → Transmission → ℕ → Type 0
 IsWholePage keeps programme page transmission f =
     (row column : ℕ)
     → IsCell row column
     → IsRight keeps page (on_air_until transmission f) (due_in programme f) row column
+
+-- At the end of frame f the page is not open.
+abbrev pub HasEndedPage : PageIdValue → Transmission → ℕ → Type 0
+HasEndedPage page transmission f =
+    IsFalse (is_open_after (kind page) (on_air_until transmission f))
+
+-- What a cell may hold at the end of frame f: a space, or the code that is due there in that frame
+-- or in one of the `within` frames before it, none of them before the first of the transmission.
+abbrev pub IsDueWithin : ProgrammeValue → Transmission → OptionsValue → ℕ → ℕ → ℕ → ℕ → Type 0
+IsDueWithin programme transmission options f row column code =
+    (code ≡ space)
+    ⊎ ((e : ℕ)
+    × (first_frame transmission ≤ e)
+    × (e ≤ f)
+    × (f ≤ e + options.within)
+    × (code ≡ cell (due_in programme e) row column))
 
 -- At the end of each frame from a to b what is kept in each cell is a space, or was due there
 -- within the frames that the options allow.
@@ -79,8 +98,8 @@ pub record KeepsRulesBy
   pub repeats : Repeats options.page options.every transmission
   pub paced : KeepsPace options.pace transmission
 
--- Frame f is finished, as in `IsFinished`: at its end each cell is right and, where complete pages
--- are asked for, the page is not open.
+-- Frame f is finished: at its end each cell is right and, where complete pages are asked for, the
+-- page is not open.
 pub record IsFinishedBy
     (keeps : Bool) (programme : ProgrammeValue) (transmission : Transmission)
     (options : OptionsValue) (f : ℕ)
@@ -92,6 +111,16 @@ pub record IsFinishedBy
 abbrev pub SomeFinishedBy : Bool → ProgrammeValue → Transmission → OptionsValue → ℕ → ℕ → Type 0
 SomeFinishedBy keeps programme transmission options a b =
     (f : ℕ) × (a ≤ f) × (f ≤ b) × IsFinishedBy keeps programme transmission options f
+
+-- Of each `within` and one more frames from a to b that follow one another, one at least is
+-- finished.
+abbrev pub FinishesAgainBy :
+    Bool → ProgrammeValue → Transmission → OptionsValue → ℕ → ℕ → Type 0
+FinishesAgainBy keeps programme transmission options a b =
+    (start : ℕ)
+    → a ≤ start
+    → start + options.within ≤ b
+    → SomeFinishedBy keeps programme transmission options start (start + options.within)
 
 -- A good transmission of a programme, within as many frames as the options give, where repeats may
 -- keep or may not.
@@ -108,21 +137,19 @@ pub record GoodBy
       KeepsDueCodes keeps programme transmission options (first_frame transmission)
       (last_frame transmission)
   pub again :
-      (start : ℕ)
-      → first_frame transmission ≤ start
-      → start + options.within ≤ last_frame transmission
-      → SomeFinishedBy keeps programme transmission options start (start + options.within)
+      FinishesAgainBy keeps programme transmission options (first_frame transmission)
+      (last_frame transmission)
   pub subtitles :
       All (λ t. SomeFinishedBy keeps programme transmission options t.tci (t.tco - 1))
       programme.records
   pub ends : IsFinishedBy keeps programme transmission options (last_frame transmission)
 
--- Where repeats may not keep it is what is good within these frames.
+-- Where repeats may not keep, rules 1 to 6 are those of `Good`.
 abbrev pub LawOfNoRepeats : Type 0
 LawOfNoRepeats =
     (programme : ProgrammeValue) (transmission : Transmission) (options : OptionsValue)
-    → GoodBy false programme transmission options
-    ↔ GoodWithin programme transmission options
+    → KeepsRulesBy false programme transmission options
+    ↔ KeepsRules programme transmission options
 
 -- What is good where repeats may not keep is good where they may.
 abbrev pub LawOfMayKeep : Type 0

@@ -24,14 +24,13 @@ use Rattle.ttx_page.specs.declared.packet_kind.PacketKind.{PacketKind}
 use Rattle.stl_rows.specs.Programme.{ProgrammeValue}
 use Rattle.sub_plan.specs.Options.{OptionsValue}
 use Rattle.sub_rules.specs.Good.{HoldsHeader}
-use Rattle.sub_rules.specs.GoodWithin.{IsDueWithin}
 use Rattle.sub_rules.specs.Kept.{has_row}
-use Rattle.sub_rules.specs.Repeats.{IsWholePage, SomeFinishedBy}
+use Rattle.sub_rules.specs.Repeats.{IsDueWithin, IsWholePage, SomeFinishedBy}
 use Rattle.sub_rules.specs.Transmission.{IsRising, Transmission, first_frame, on_air, on_air_until}
 use Rattle.sub_rules.specs.Transmission.{packets_between, packets_of}
 use Rattle.sub_laws.specs.OnScreen.{CompleteWithin}
-use Rattle.sub_laws.specs.Repeats.{IsRepeatedStretch}
-use Rattle.sub_laws.specs.ToldRepeats.{FinishesInTimeBy, IsSufficientRepeats}
+use Rattle.sub_laws.specs.Repeats.{FinishesInTimeBy, IsRepeatedStretch}
+use Rattle.sub_laws.specs.ToldRepeats.{IsSufficientRepeats}
 use Rattle.sub_trusted.specs.TrustedFrames.{IsAsRead}
 use Rattle.sub_laws.proofs.TransmissionLemmas.{packets_between-split, packets_between-void}
 

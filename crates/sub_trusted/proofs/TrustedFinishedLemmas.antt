@@ -1,4 +1,4 @@
--- For `law_of_trusted_repeats` and `law_of_trusted_with_delay`.
+-- For `law_of_trusted_repeats`.
 -- One of the frames at least that are told as trusted within some frames is finished:
 -- `finished_there`.
 use Rattle.std.proofs.Common.{◌≡◌, ℕ, ◌-◌, ◌<◌, ◌≤◌, ◌==◌, inl, inr, false, None, length, drop}

@@ -1,7 +1,7 @@
 -- For what may stay.
 -- Frames that are told as trusted may stay, whatever is on air elsewhere: `law_of_trusted_repeats`;
--- as its cases where no repeat may keep `law_of_trusted`, and within some frames
--- `law_of_trusted_with_delay`. And it is known what was due there: `law_of_trusted_known`.
+-- as its case where no repeat may keep and no frame may be late `law_of_trusted`. And it is known
+-- what was due there: `law_of_trusted_known`.
 use Rattle.std.proofs.lemmas.Bool.Decides.{nat_tests}
 use Rattle.std.proofs.Common.{◌≡◌, ◌==◌, ℕ, ◌+◌, ◌<◌, ◌≤◌, inl, inr, Bool, true, false, List}
 use Rattle.std.proofs.Common.{Contains, Option, refl, arith, le_refl}
@@ -20,15 +20,14 @@ use Rattle.sub_rules.specs.Repeats.{SomeFinishedBy}
 use Rattle.sub_rules.specs.Transmission.{Transmission, first_frame, packets_of}
 use Rattle.sub_rules.specs.declared.event.Event.TheVariants.{Trusted}
 use Rattle.sub_laws.specs.CleanStretch.{IsUntold, NoneOpen, task_unsure}
-use Rattle.sub_laws.specs.ToldRepeats.{FinishesInTimeBy, IsSufficientRepeats}
+use Rattle.sub_laws.specs.Repeats.{FinishesInTimeBy}
+use Rattle.sub_laws.specs.ToldRepeats.{IsSufficientRepeats}
 use Rattle.sub_trusted.specs.TrustedFrames.{IsAsRead, LawOfTrusted, LawOfTrustedKnown, MayStay}
 use Rattle.sub_trusted.specs.TrustedFrames.{rising_part}
-use Rattle.sub_trusted.specs.TrustedRepeats.{LawOfTrustedRepeats, MayStayRepeats}
-use Rattle.sub_trusted.specs.TrustedWithDelay.{LawOfTrustedWithDelay, MayStayWithDelay}
-use Rattle.sub_laws.proofs.DelayLemmas.{law_of_repeated_stretch, law_of_stretch_with_delay}
+use Rattle.sub_trusted.specs.TrustedRepeats.{LawOfTrustedRepeats, MayStayBy}
+use Rattle.sub_laws.proofs.DelayLemmas.{law_of_repeated_stretch}
 use Rattle.sub_laws.proofs.GoodLemmas.{rises_each}
-use Rattle.sub_laws.proofs.NoneKeepsLemmas.{codes_of, complete_untold, finishes_of, shows_of}
-use Rattle.sub_laws.proofs.NoneKeepsLemmas.{some_of, sound_of}
+use Rattle.sub_laws.proofs.NoneKeepsLemmas.{complete_untold, sufficient_of}
 use Rattle.sub_laws.proofs.PrefixLemmas.{end_at, first-same, last-same}
 use Rattle.sub_laws.proofs.StandingLemmas.{known_back}
 use Rattle.sub_laws.proofs.StretchLemmas.{law_of_stretch}
@@ -110,61 +109,30 @@ module _ (programme : ProgrammeValue) (options : OptionsValue) (unread : Option 
           (finished_there programme options unread beside undecided frames from to may some)
 
       may_stay : IsProgramme programme.drawing programme.records
-          → MayStayRepeats programme on_air options from to
+          → MayStayBy programme on_air options from to
       may_stay holds = record {
         header = begins_there;
-        recovers = λ anew class.
-            (law_of_repeated_stretch options.keeps anew class programme on_air options from to
-            enough_there.stretch enough_there.codes).0;
-        shown = λ anew class.
-            (law_of_repeated_stretch options.keeps anew class programme on_air options from to
-            enough_there.stretch enough_there.codes).1;
-        finishes = finishes_there holds;
+        trusted =
+            (law_of_repeated_stretch options.keeps programme on_air options from to
+            enough_there.stretch enough_there.codes).1
+            (finishes_there holds);
         finished = some_there;
       }
 
-      -- ---- where no repeat may keep
-
-      module _ (none : options.keeps ≡ false) where
-        may_stay_at_once : options.within ≡ 0 → MayStay programme on_air options from to
-        may_stay_at_once at_once = record {
-          header = opens_there;
-          trusted =
-              law_of_stretch programme on_air options from to (record {
-                stretch =
-                    sound_of options.keeps none programme on_air options from to
-                    enough_there.stretch;
-                content = λ f row column low high.
-                    shows_of options.keeps none programme on_air options f
-                    (enough_there.whole at_once f low high) row column;
-              });
-          complete = λ asks.
-              complete_too options.keeps programme options part on_air from to quiet.rising
-              quiet.stretch.from is begins
-              (complete_untold programme part options unread beside undecided from to at_once quiet
-              asks closed_there);
-        }
-
-        may_stay_late : IsProgramme programme.drawing programme.records
-            → 0 < options.within
-            → MayStayWithDelay programme on_air options from to
-        may_stay_late holds within = record {
-          header = opens_there;
-          trusted =
-              law_of_stretch_with_delay programme on_air options from to (record {
-                stretch =
-                    sound_of options.keeps none programme on_air options from to
-                    enough_there.stretch;
-                codes =
-                    codes_of options.keeps none programme on_air options from to
-                    enough_there.codes;
-                finishes =
-                    finishes_of options.keeps none programme on_air options from to
-                    (finishes_there holds);
-              });
-          finished =
-              some_of options.keeps none programme on_air options from to (some_there within);
-        }
+      -- Where no repeat may keep, and no frame may be late.
+      may_stay_at_once : options.keeps ≡ false → options.within ≡ 0
+          → MayStay programme on_air options from to
+      may_stay_at_once none at_once = record {
+        header = opens_there;
+        trusted =
+            law_of_stretch programme on_air options from to
+            (sufficient_of programme on_air options from to none at_once enough_there);
+        complete = λ asks.
+            complete_too options.keeps programme options part on_air from to quiet.rising
+            quiet.stretch.from is begins
+            (complete_untold programme part options unread beside undecided from to at_once quiet
+            asks closed_there);
+      }
 
 pub law_of_trusted_repeats : LawOfTrustedRepeats
 law_of_trusted_repeats programme options unread beside undecided pieces from to holds told =
@@ -184,17 +152,6 @@ law_of_trusted programme options unread beside undecided pieces from to none at_
       may_stay_at_once programme options unread beside undecided pieces from to told on_air is none
       at_once;
 }
-
-pub law_of_trusted_with_delay : LawOfTrustedWithDelay
-law_of_trusted_with_delay programme options unread beside undecided pieces from to none holds within
-    told = record {
-      passed =
-          passed_outside (task_unsure programme options unread beside undecided) pieces from to
-          told;
-      stays = λ on_air is.
-          may_stay_late programme options unread beside undecided pieces from to told on_air is none
-          holds within;
-    }
 
 -- Of frames of which nothing is told it is known at the end of each what was due at the last ones.
 known : (g : Task) (part : Transmission) (from to : ℕ) → IsUntold g part from to

@@ -1,4 +1,4 @@
--- For `law_of_trusted` and `law_of_trusted_with_delay`.
+-- For `law_of_trusted` and `law_of_trusted_repeats`.
 -- No piece that is passed over may have been sent in frames that are told as trusted: the frame
 -- before it is none of them, where frames rise up to it. `passed_outside`.
 use Rattle.std.proofs.lemmas.Bool.Decides.{nat_tests}

@@ -1,4 +1,3 @@
 pub mod TrustedAlike
 pub mod TrustedFrames
 pub mod TrustedRepeats
-pub mod TrustedWithDelay

@@ -5,13 +5,13 @@ ghost use Rattle.sub_trusted.specs.TrustedAlike.{LawOfTrustedAlike};
 ghost use Rattle.sub_trusted.specs.TrustedFrames.{LawOfAllTrusted, LawOfTrusted};
 ghost use Rattle.sub_trusted.specs.TrustedFrames.{LawOfTrustedKnown};
 ghost use Rattle.sub_trusted.specs.TrustedRepeats.{LawOfTrustedRepeats};
-ghost use Rattle.sub_trusted.specs.TrustedWithDelay.{LawOfTrustedWithDelay};
 
 /// Frames that are told as trusted of a PES file may stay on air as they are, whatever is broken
 /// and whatever is on air elsewhere, where repeats may keep the page or may not: the first one
 /// holds a header with which the text begins, and from it on receivers recover there, whatever they
-/// do at a header that does not erase the page. No piece that is passed over may have been sent in
-/// them. So it is by the programme of what can be relied on in a subtitle file, beside what is
+/// do at a header that does not erase the page; and where the page may be late, by at least one
+/// frame, one of the frames at least is finished. No piece that is passed over may have been sent
+/// in them. So it is by the programme of what can be relied on in a subtitle file, beside what is
 /// refused of it.
 pub fn law_of_trusted_repeats()
     ensures { LawOfTrustedRepeats }
@@ -22,12 +22,6 @@ pub fn law_of_trusted_repeats()
 /// pages are asked for, what is due is on the screens.
 pub fn law_of_trusted()
     ensures { LawOfTrusted }
-{}
-
-/// And of one that may be late, by at least one frame, receivers recover there with a delay, and
-/// one of the frames at least is finished.
-pub fn law_of_trusted_with_delay()
-    ensures { LawOfTrustedWithDelay }
 {}
 
 /// At each of these frames it is known what is due, beside what is refused of the subtitle file;

@@ -4,7 +4,7 @@
 //! told. There is no program in it: each function is a law.
 //!
 //! ```text
-//! law_of_trusted_repeats: Contains (all_of_pieces g pieces) (Trusted from to) → MayStayRepeats ..
+//! law_of_trusted_repeats: Contains (all_of_pieces g pieces) (Trusted from to) → MayStayBy ..
 //! law_of_trusted_known: .. → from ≤ f + g.within → .. → IsFalse (g.undecided f)
 //! law_of_all_trusted: CanStay g pieces a b → .. → Contains (all_of_pieces g pieces) (Trusted ..)
 //! ```
@@ -14,5 +14,5 @@ mod laws;
 
 pub use laws::{
     law_of_all_trusted, law_of_trusted, law_of_trusted_alike, law_of_trusted_known,
-    law_of_trusted_repeats, law_of_trusted_with_delay,
+    law_of_trusted_repeats,
 };

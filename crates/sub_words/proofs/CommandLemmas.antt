@@ -1,6 +1,7 @@
 -- What clap's contract says of the program's own words. Main lemmas: command_in-parsed,
 -- refusals-parsed and IsFaultOfCommand-refused; asked_for-met. The last is of the answer.
 use Rattle.std.proofs.Common.{◌≡◌, ◌≢◌, ◌∙◌, true, false, List, [], Option, Some, None, Ok, Err}
+use Rattle.std.proofs.Common.{Bool, ◌||◌}
 use Rattle.std.proofs.Common.{refl, ap, subst, sym, inl, inr, arith, drop, get_or, ◌+◌, ◌≤◌}
 use Rattle.std.specs.Borrow.{Bor}
 use Rattle.std.specs.Prelude.{Box, IfErr, Result, option_map, ◌==◌, ◌<◌, ◌∷◌, ℕ, length, map}
@@ -8,7 +9,7 @@ use Rattle.std.specs.Box.{box_value}
 use Rattle.std.proofs.lemmas.Bool.{and_parts, not-true}
 use Rattle.std.proofs.lemmas.Bool.Decides.{nat_tests}
 use Rattle.std.proofs.lemmas.List.{at_drop_all, at_drop_more}
-use Rattle.std.specs.List.{fold}
+use Rattle.std.specs.List.{fold, list_any}
 use Rattle.clap.specs.Words.{App, FailsBy, HasKind, HasMatchesOf, IsAmong, IsParsedFrom, Kinds, Row}
 use Rattle.clap.specs.Words.{Rule}
 use Rattle.clap.specs.Words.{Text, app_of, fault_of, has_subcommand, is_simple, is_simple_and_free}
@@ -57,6 +58,16 @@ pub fold_more : {A B X : Type 0} (f : B → A → B) (of : X → A) (xs : List X
 fold_more f of xs i d b new all within whole e =
     ap (λ b'. fold f b' (map of (drop (i + 1) xs))) e
     ∙ sym (at_drop_more (λ rest. fold f b (map of rest)) xs i d within) ∙ whole
+
+-- Where an item is not so, those behind it decide whether any is.
+pub any_more : {X : Type 0} (test : X → Bool) (xs : List X) (i : ℕ) (d : X) (all : Bool)
+    → i < length xs
+    → test (get_or xs i d) ≡ false
+    → list_any test (drop i xs) ≡ all
+    → list_any test (drop (i + 1) xs) ≡ all
+any_more test xs i d all within none whole =
+    ap (λ b. b || list_any test (drop (i + 1) xs)) (sym none)
+    ∙ sym (at_drop_more (list_any test) xs i d within) ∙ whole
 
 -- Where nothing is left it is what it came to.
 pub fold_all : {A B X : Type 0} (f : B → A → B) (of : X → A) (xs : List X) (i : ℕ) (b all : B)

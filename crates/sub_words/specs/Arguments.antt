@@ -19,7 +19,7 @@ use Rattle.stl_rows.specs.SubSets.{option_named}
 use Rattle.sub_plan.specs.Options.{OptionsValue}
 use Rattle.sub_words.specs.PesTexts.{packet_size_of_text, pid_of_text, range_of_text}
 use Rattle.sub_words.specs.Texts.{frame_of_text, list_of_text, number_of_text}
-use Rattle.ts_survey.specs.declared.recording.SurveyOptions.{SurveyOptions}
+use Rattle.mpeg_ts.specs.declared.survey_options.SurveyOptions.{SurveyOptions}
 use Rattle.sub_request.specs.declared.pes_packets.TransportStream.{TransportStream}
 use Rattle.sub_request.specs.declared.request.UsageFault.{UsageFault}
 use Rattle.sub_request.specs.declared.request.UsageFault.TheVariants as fault

@@ -1,7 +1,8 @@
 -- The commands of the program, as `clap` sees them.
 use Rattle.std.specs.Prelude.{ℕ, Bool, true, List, [], ◌∷◌, Option, Some, codes, map}
 use Rattle.std.specs.Borrow.{Bor}
-use Rattle.std.specs.List.{fold}
+use Rattle.std.specs.List.{fold, list_any}
+use Rattle.std.specs.Str.{bytes_eq}
 use Rattle.clap.specs.Kinds.{Kinds}
 use Rattle.clap.specs.Words.{App, Row, Rule, Text, fault_of, new_app, new_rule, subcommand_of}
 use Rattle.clap.specs.Words.{takes, with_rule, with_subcommand}
@@ -112,6 +113,10 @@ commands =
           ∷ bare_option_rule (codes "pid") ∷ bare_option_rule (codes "packet-size") ∷ [],
     )
     ∷ []
+
+-- A word is the name of a command.
+unfoldable pub is_command : Text → Bool
+is_command word = list_any (λ command. bytes_eq word command.0) commands
 
 -- A program with one more command.
 abbrev pub with_command : App → Text × List Rule → App

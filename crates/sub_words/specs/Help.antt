@@ -1,25 +1,26 @@
 -- Which words ask for help (own).
-use Rattle.std.specs.Prelude.{Bool, false, ◌&&◌, ◌||◌, List, [], ◌∷◌, codes, length, nat_le}
-use Rattle.std.specs.Prelude.{if◌then◌else◌}
+use Rattle.std.specs.Prelude.{Bool, false, ◌&&◌, ◌||◌, List, [], ◌∷◌, codes, if◌then◌else◌}
 use Rattle.std.specs.Str.{bytes_eq}
 use Rattle.clap.specs.Words.{Text}
-
--- `help` stands behind the program's name, alone or before one word more.
-abbrev pub is_help_command : List Text → Bool
-is_help_command [] = false
-is_help_command (program ∷ []) = false
-is_help_command (program ∷ word ∷ words) = bytes_eq word (codes "help") && nat_le (length words) 1
+use Rattle.sub_words.specs.Commands.{is_command}
 
 -- `--help`, or in short `-h`.
 abbrev pub is_help_flag : Text → Bool
 is_help_flag word = bytes_eq word (codes "--help") || bytes_eq word (codes "-h")
 
--- One of the words is such a flag. Behind a word `--` none is a flag.
-abbrev pub has_help_flag : List Text → Bool
-has_help_flag [] = false
-has_help_flag (word ∷ words) =
-    if bytes_eq word (codes "--") then false else (is_help_flag word || has_help_flag words)
+-- A word for help.
+abbrev pub is_help_word : Text → Bool
+is_help_word word = bytes_eq word (codes "help") || is_help_flag word
 
--- The words ask for help.
+-- One of two words is for help, the other the name of a command. `help` stands before that:
+-- behind it a file has this name.
+abbrev pub is_help_of : Text → Text → Bool
+is_help_of first second =
+    if is_command first then is_help_flag second else is_help_word first && is_command second
+
+-- The words ask for help: behind the program's name a word for it stands, alone or with the name
+-- of a command beside it.
 unfoldable pub asks_help : List Text → Bool
-asks_help words = is_help_command words || has_help_flag words
+asks_help (program ∷ word ∷ []) = is_help_word word
+asks_help (program ∷ first ∷ second ∷ []) = is_help_of first second
+asks_help _ = false

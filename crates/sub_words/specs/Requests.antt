@@ -11,7 +11,7 @@ use Rattle.stl_file.specs.declared.scope.Scope.{Scope}
 use Rattle.stl_rows.specs.declared.layout.Layout.{Layout}
 use Rattle.stl_rows.specs.declared.national.National.{National}
 use Rattle.sub_plan.specs.Options.{OptionsValue}
-use Rattle.ts_survey.specs.declared.recording.SurveyOptions.{SurveyOptions}
+use Rattle.mpeg_ts.specs.declared.survey_options.SurveyOptions.{SurveyOptions}
 use Rattle.sub_words.specs.Arguments.{PesAsked, allowing_of, argument, is_given, keeping_of}
 use Rattle.sub_words.specs.Arguments.{listed_of}
 use Rattle.sub_words.specs.Arguments.{layout_of, national_of, options_of, pacing_of}

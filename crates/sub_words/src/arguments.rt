@@ -15,13 +15,12 @@ use crate::numbers::parse_number;
 use crate::pes_packets::{parse_packet_size, parse_pid, parse_range};
 use crate::times::parse_time;
 use clap::ArgMatches;
-use mpeg_ts::{PacketSize, Pid};
+use mpeg_ts::{PacketSize, Pid, SurveyOptions};
 use std::alloc::Global;
 use stl_file::Scope;
 use stl_rows::Layout;
 use sub_plan::{OptionFault, Options};
 use sub_request::{PesPackets, TransportStream, UsageFault};
-use ts_survey::SurveyOptions;
 use ttx_packet::PageId;
 use ttx_pes::PieceRange;
 

@@ -120,6 +120,19 @@ const COMMANDS: [(&str, &[Argument]); 9] = [
     ),
 ];
 
+/// Whether a word is the name of a command.
+#[tactic(auto, unfolding(crate::specs::Commands::is_command))]
+pub fn is_command(word: &str) -> bool
+    ensures { result ≡ Rattle.sub_words.specs.Commands.is_command word.now }
+{
+    for command in &COMMANDS {
+        if word == command.0 {
+            return true;
+        }
+    }
+    false
+}
+
 /// The program and its commands.
 ///
 /// # Errors

@@ -3,38 +3,41 @@ ghost use Rattle.std.specs.Prelude.{◌≡◌};
 ghost use Rattle.sub_words.specs.Commands.{texts_of};
 ghost use Rattle.sub_words.specs.Help as specs;
 
-/// Whether words ask for help: `--help` or `-h` is one of them, and not behind a word `--`; or
-/// `help` stands behind the program's name, alone or before one word more.
+use crate::command::is_command;
+
+/// Whether words ask for help: a word for help stands behind the program's name, alone or with the
+/// name of a command beside it.
+///
+/// No other call is help, so that status 0 of a command is its answer.
 #[tactic(auto, unfolding(crate::specs::Help::asks_help))]
 pub fn asks_help(words: &[&str]) -> bool
     ensures { result ≡ specs.asks_help (texts_of words.now) }
 {
-    is_help_command(words) || has_help_flag(words)
-}
-
-// Whether `help` stands behind the program's name, alone or before one word more.
-fn is_help_command(words: &[&str]) -> bool
-    ensures { result ≡ specs.is_help_command (texts_of words.now) }
-{
-    match words.get(1) {
-        Some(word) => *word == "help" && words.len() <= 3,
-        None => false,
+    let Some(first) = words.get(1) else {
+        return false;
+    };
+    match words.get(2) {
+        Some(second) => words.len() == 3 && is_help_of(first, second),
+        None => is_help_word(first),
     }
 }
 
-// Whether `--help` or `-h` is one of the words, and not behind a word `--`.
-fn has_help_flag(words: &[&str]) -> bool
-    ensures { result ≡ specs.has_help_flag (texts_of words.now) }
+// Whether one of two words is for help, and the other the name of a command.
+fn is_help_of(first: &str, second: &str) -> bool
+    ensures { result ≡ specs.is_help_of first.now second.now }
 {
-    for word in words {
-        if *word == "--" {
-            return false;
-        }
-        if is_help_flag(word) {
-            return true;
-        }
+    if is_command(first) {
+        is_help_flag(second)
+    } else {
+        is_help_word(first) && is_command(second)
     }
-    false
+}
+
+// Whether a word is `help`, `--help` or `-h`.
+fn is_help_word(word: &str) -> bool
+    ensures { result ≡ specs.is_help_word word.now }
+{
+    word == "help" || is_help_flag(word)
 }
 
 // Whether a word is `--help` or `-h`.

@@ -4,13 +4,14 @@
 //! the files that it names, and ends in a `Status` (`sub_answer`).
 #![tactic(auto)]
 
+mod in_memory;
 mod words;
 
 ghost use Rattle.std.specs.Prelude.{◌≡◌, IfErr, IfOk};
 ghost use Rattle.sub_io.specs.Buffered.{failures_and_refused};
 ghost use Rattle.sub_answer.specs.Ending.{lines_of, told_of_files};
 ghost use Rattle.sub_files.specs.FileCalls.{CallsInTurn};
-ghost use Rattle.subttx.specs.Run.{Answered, EndsRun, IsCause, RunsProgram};
+ghost use Rattle.sub_headline.specs.Run.{Answered, EndsRun, IsCause, RunsProgram};
 ghost use Rattle.subttx.specs.Words.{words_given};
 
 use crate::words::{texts_of, words_of};
@@ -29,38 +30,57 @@ const LITTLE: usize = 64;
 
 fn main(rt: HostRuntime) -> ExitCode {
     let standard_output = IntoWrite::new(io::writer(&rt));
-    ExitCode::from(run(
+    let run = run(
         rt.alloc(),
         env::args(&rt),
         &mut SystemFiles::new(&rt),
         standard_output,
-    ))
+    );
+    ExitCode::from(run.code)
+}
+
+/// How the program ended.
+#[derive(Drop)]
+pub(crate) struct Ended<K> {
+    /// The exit status.
+    code: u8,
+    /// Standard output as it was left: behind the answer nothing was printed.
+    standard_output: K,
 }
 
 // Runs the program: answers the words that the system gave, over the files that it has and standard
-// output, which gets what is printed through one buffer, and gives the exit status.
-fn run<D: FileSystem, K: Sink + Drop>(
+// output, which gets what is printed through one buffer and is given back, and gives the exit
+// status.
+fn run<D: FileSystem, K: Sink>(
     alloc: Global,
     given: io::Result<Args>,
     files: &mut D,
     standard_output: K,
-) -> u8
+) -> Ended<K>
     requires { K.failure_count standard_output ≡ 0 }
     ensures { RunsProgram (CallsInTurn D.is_call files.old files.new)
         (told_of_files D.Input.remaining D.Input.failure_count
         D.Output.contents D.Output.failure_count)
         D.Output.is_close (words_given given)
-        K.contents K.failure_count standard_output result }
+        K.contents K.failure_count standard_output result.standard_output result.code }
 {
     match room(alloc, BUFFER) {
         Some(mut room) => {
             let mut out = BufferedSink::new(standard_output, room.as_mut_slice());
-            answer_or_say(alloc, given, files, &mut out).code()
+            let status = answer_or_say(alloc, given, files, &mut out);
+            Ended {
+                code: status.code(),
+                standard_output: out.into_inner(),
+            }
         }
         None => {
             let mut little = [0; LITTLE];
             let mut out = BufferedSink::new(standard_output, &mut little);
-            say_and_hand_on(&UsageFault::Memory, &mut out).code()
+            let status = say_and_hand_on(&UsageFault::Memory, &mut out);
+            Ended {
+                code: status.code(),
+                standard_output: out.into_inner(),
+            }
         }
     }
 }

@@ -116,13 +116,13 @@ fn tells_each_growth_that_is_refused(rt: HostRuntime) {
     let file = file_of_nine();
     // The blocks that are told in memory of rising size.
     let mut told = [false; 10];
-    for size in 0..39 {
-        if let Some(block) = refused_block(&rt, &file, 1040 * size) {
+    for size in 0..80 {
+        if let Some(block) = refused_block(&rt, &file, 16 * size) {
             assert!(rt; block < 10);
             told[block as usize] = true;
         }
     }
-    assert_same(&rt, &refused_block(&rt, &file, 1040 * 39), &None);
+    assert_same(&rt, &refused_block(&rt, &file, 16 * 80), &None);
     let growths = [
         false, true, true, true, false, true, false, false, false, true,
     ];

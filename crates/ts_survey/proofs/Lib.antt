@@ -1,3 +1,4 @@
 pub mod FollowingLemmas
 pub mod HeardLemmas
 pub mod SurveyLemmas
+pub mod TextLemmas

@@ -1,6 +1,11 @@
 pub mod Adaptation
 pub mod Following
 pub mod Heard
+pub mod Lines
+pub mod Missing
+pub mod Payload
 pub mod Section
+pub mod Stream
 pub mod Survey
 pub mod Text
+pub mod Usual

@@ -1,4 +1,12 @@
 //! A PID with Teletext that is followed: what its packets carry, and what is missing.
+ghost use Rattle.std.specs.Prelude.{◌≡◌, ◌||◌, IfNone, IfSome, Some, codes, false};
+ghost use Rattle.std.specs.Prelude.{if◌then◌else◌, true};
+ghost use Rattle.mpeg_ts.specs.GoodPackets.{Hole};
+ghost use Rattle.mpeg_ts.specs.Joining.{after_note};
+ghost use Rattle.mpeg_ts.specs.TransportPacket.{announces_jump, counter, has_payload, is_wrong};
+ghost use Rattle.ts_survey.specs.Lines.{AddsWords, TellsClock, clock_line, end_line};
+ghost use Rattle.ts_survey.specs.Missing.{is_cut, lost_before, lost_with, more_lost};
+
 use crate::adaptation::{is_scrambled, pts_said};
 use crate::clock::{SECOND, Strange};
 use crate::given::Given;
@@ -70,16 +78,23 @@ impl Carrier {
         self.packets = self.packets.saturating_add(1);
         if is_scrambled(packet) {
             self.scrambled = self.scrambled.saturating_add(1);
-            self.packets_of.to_mut().add_scrambled();
+            self.packets_of.to.add_scrambled();
         }
         let begun = self.note(packet);
-        self.packets_of.to_mut().go_on();
+        self.packets_of.to.go_on();
         self.packets_of.take(packet, text);
         begun
     }
 
     // Counts what is lost before a packet, and notes the PTS that begins in it.
-    fn note(&mut self, packet: &[u8; PACKET]) -> Option<u64> {
+    fn note(&mut self, packet: &[u8; PACKET]) -> Option<u64>
+        ensures wrong { is_wrong packet.now ≡ true → self.new ≡ self.old }
+        ensures empty { is_wrong packet.now ≡ false → has_payload packet.now ≡ false
+            → self.new.has_jump ≡ (self.old.has_jump || announces_jump packet.now) }
+        ensures lost { is_wrong packet.now ≡ false → has_payload packet.now ≡ true
+            → self.new.packets_of.to.lost ≡ lost_with self.old.packets_of.to.lost
+            self.old.packets_of.joining self.old.counter self.old.has_jump packet.now }
+    {
         if is_wrong(packet) {
             return None;
         }
@@ -99,21 +114,22 @@ impl Carrier {
     }
 
     // Counts what is lost before a good packet, by its counter.
-    fn count_lost(&mut self, packet: &[u8; PACKET]) {
-        let counter = counter_of(packet);
-        if !self.has_jump && !announces_jump(packet) {
-            let missing = match self.counter {
-                Some(last) => counter.wrapping_sub(last).wrapping_sub(1) % 0x10,
-                None => 0,
-            };
-            self.packets_of.to_mut().add_lost(u64::from(missing));
-        }
-        self.counter = Some(counter);
+    fn count_lost(&mut self, packet: &[u8; PACKET])
+        ensures lost { self.new.packets_of.to.lost ≡ more_lost self.old.packets_of.to.lost
+            (lost_before self.old.counter self.old.has_jump packet.now) }
+        ensures counter { self.new.counter ≡ Some (counter packet.now) }
+        ensures jump { self.new.has_jump ≡ false }
+    {
+        let lost = lost_before(self.counter, self.has_jump, packet);
+        self.packets_of.to.add_lost(lost as u64);
+        self.counter = Some(counter_of(packet));
         self.has_jump = false;
     }
 
     /// So many bytes were skipped that packets may be missing.
-    pub fn note_hole(&mut self) {
+    pub fn note_hole(&mut self)
+        ensures { self.new.packets_of.joining ≡ after_note self.old.packets_of.joining Hole }
+    {
         self.packets_of.note_hole();
     }
 
@@ -173,7 +189,7 @@ impl Carrier {
     /// Whether a PTS is a second from the last one that was held against the clock, and nothing is
     /// missing before it.
     pub fn is_due(&self, pts: u64) -> bool {
-        if self.packets_of.to().is_broken() {
+        if self.packets_of.to.is_broken() {
             return false;
         }
         match self.sampled {
@@ -209,23 +225,46 @@ impl Carrier {
 
     /// Tells what is not told yet of the PES packets, since nothing more is there for now.
     pub fn flush(&mut self, text: &mut Text) {
-        self.packets_of.to_mut().flush(text);
+        self.packets_of.to.flush(text);
     }
 
     /// The recording is over.
     pub fn end(&mut self, text: &mut Text) {
-        self.packets_of.to_mut().end(text);
-        let given = self.packets_of.to();
+        self.packets_of.to.end(text);
+        self.tell_end(text);
+    }
+
+    // Tells how many packets came, and what of them is given.
+    fn tell_end(&self, text: &mut Text)
+        ensures { AddsWords text.old (end_line self.now.pid self.now.packets_of.to.lines.count
+            self.now.packets_of.to.lines.marks self.now.packets self.now.scrambled
+            self.now.packets_of.to.refusal
+            (is_cut self.now.begun self.now.packets_of.to.last) self.now.begun) text.new }
+    {
+        let given = &self.packets_of.to;
         text.put(b"end");
-        text.number(u64::from(self.pid));
-        given.tell_counts(text);
+        text.number(self.pid as u64);
+        text.number(given.lines().count());
+        text.number(given.lines().marks());
         text.number(self.packets);
         text.number(self.scrambled);
-        text.number(u64::from(given.refusal()));
-        let is_cut = self.begun.is_some() && given.last() != self.begun;
-        text.put(if is_cut { b" 1" } else { b" 0" });
+        text.number(given.refusal() as u64);
+        text.put(cut_word(self.begun, given.last()));
         text.time(self.begun);
         text.put(b"\n");
+    }
+}
+
+// How many packets are lost before a good one: at least, since counters come again.
+fn lost_before(counter: Option<u8>, has_jump: bool, packet: &[u8; PACKET]) -> u8
+    ensures { result ≡ Rattle.ts_survey.specs.Missing.lost_before counter has_jump packet.now }
+{
+    if has_jump || announces_jump(packet) {
+        return 0;
+    }
+    match counter {
+        Some(last) => (counter_of(packet) + 0x1F - last % 0x10) % 0x10,
+        None => 0,
     }
 }
 
@@ -238,20 +277,41 @@ fn known_after(pending: Option<Pending>, pts: u64) -> Option<Pending> {
     Some(one)
 }
 
-// Tells a strange PCR.
-fn tell_pending(pid: u16, pending: Option<Pending>, pids: &Pids, text: &mut Text) {
+// Tells a strange PCR, where there is one.
+fn tell_pending(pid: u16, pending: Option<Pending>, pids: &Pids, text: &mut Text)
+    ensures some { IfSome pending (λ one. TellsClock pid one text.old text.new) }
+    ensures none { IfNone pending (text.new ≡ text.old) }
+{
     let Some(one) = pending else {
         return;
     };
-    let strange = one.strange;
+    let told = pids.told_between(pid, one.strange.first, one.strange.second);
+    tell_clock(pid, &one, told, text);
+}
+
+// Tells a strange PCR, with what the counters of other PIDs tell of it.
+fn tell_clock(pid: u16, one: &Pending, told: &[u8], text: &mut Text)
+    ensures { AddsWords text.old (clock_line pid one.now told.now) text.new }
+{
     text.put(b"clock");
-    text.number(u64::from(pid));
+    text.number(pid as u64);
     text.time(one.before);
     text.time(one.after);
-    text.ticks(strange.ticks);
-    text.number(strange.second.saturating_sub(strange.first));
-    text.number(strange.usual);
-    text.number(strange.usual_packets);
-    text.put(pids.told_between(pid, strange.first, strange.second));
+    text.ticks(one.strange.ticks);
+    text.number(one.strange.second.saturating_sub(one.strange.first));
+    text.number(one.strange.usual);
+    text.number(one.strange.usual_packets);
+    text.put(told);
     text.put(b"\n");
+}
+
+// Whether the last PES packet that began did not come whole, as a word.
+fn cut_word(begun: Option<u64>, last: Option<u64>) -> &'static [u8]
+    ensures { result.now ≡ (if is_cut begun last then codes " 1" else codes " 0") }
+{
+    if begun.is_some() && last != begun {
+        b" 1"
+    } else {
+        b" 0"
+    }
 }

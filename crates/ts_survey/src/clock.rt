@@ -1,5 +1,6 @@
 //! The clock of a programme: its PCR, and which of them are strange.
 ghost use Rattle.std.specs.Prelude.{◌≡◌};
+ghost use Rattle.ts_survey.specs.Usual as specs;
 
 use crate::text::{CLOCK, Text, forward};
 use mpeg_ts::{PACKET, announces_jump};
@@ -56,6 +57,17 @@ impl Numbers {
             None => 0,
         }
     }
+}
+
+// Whether a PCR comes as others do, so many ticks after the one before, where so many intervals are
+// known, of which this is the middle one.
+fn is_usual(ticks: u64, count: usize, middle: u64) -> bool
+    ensures { result ≡ specs.is_usual ticks count middle }
+{
+    if ticks >= CLOCK / 2 {
+        return false;
+    }
+    ticks <= LEAST || count < FEWEST || ticks <= middle.saturating_mul(3)
 }
 
 /// A PCR that comes late, or goes back: the packets of the two, and what is usual.
@@ -142,12 +154,7 @@ impl Clock {
 
     // Whether a PCR comes as others do: the first ones tell how that is.
     fn is_usual(&self, ticks: u64) -> bool {
-        if ticks >= CLOCK / 2 {
-            return false;
-        }
-        ticks <= LEAST
-            || self.ticks.count < FEWEST
-            || ticks <= self.ticks.middle().saturating_mul(3)
+        is_usual(ticks, self.ticks.count, self.ticks.middle())
     }
 
     /// The last PCR, where one came lately: at most four times as many packets ago as there usually

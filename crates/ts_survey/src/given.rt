@@ -1,5 +1,6 @@
 //! What the packets of a PID carry, piece after piece: PES packets, marks, and what is none.
 ghost use Rattle.std.specs.Prelude.{◌≡◌, []};
+ghost use Rattle.ts_survey.specs.Missing.{more_lost};
 
 use crate::adaptation::pts_said;
 use crate::pes_lines::PesLines;
@@ -39,7 +40,9 @@ impl Given {
     }
 
     /// So many packets were lost.
-    pub fn add_lost(&mut self, count: u64) {
+    pub fn add_lost(&mut self, count: u64)
+        ensures { self.new ≡ record self.old { lost = more_lost self.old.lost count } }
+    {
         self.lost = self.lost.saturating_add(count);
     }
 
@@ -49,7 +52,9 @@ impl Given {
     }
 
     /// Why; 0 where something may come.
-    pub fn refusal(&self) -> u16 {
+    pub fn refusal(&self) -> u16
+        ensures { result ≡ self.now.refusal }
+    {
         self.refusal
     }
 
@@ -64,7 +69,9 @@ impl Given {
     }
 
     /// The PTS of the last PES packet.
-    pub fn last(&self) -> Option<u64> {
+    pub fn last(&self) -> Option<u64>
+        ensures { result ≡ self.now.last }
+    {
         self.last
     }
 
@@ -87,10 +94,11 @@ impl Given {
         self.lines.end(text);
     }
 
-    /// Tells how many PES packets and marks there are, and how many are marks.
-    pub fn tell_counts(&self, text: &mut Text) {
-        text.number(self.lines.count());
-        text.number(self.lines.marks());
+    /// The lines of its PES packets.
+    pub fn lines(&self) -> &PesLines
+        ensures { result.now ≡ self.now.lines }
+    {
+        &self.lines
     }
 }
 

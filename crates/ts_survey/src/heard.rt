@@ -1,4 +1,7 @@
 //! What was heard in a PES packet: letters, and the numbers of its headers.
+ghost use Rattle.std.specs.Prelude.{◌≡◌};
+ghost use Rattle.ts_survey.specs.Lines.{AddsWords, heard_words, told_letters};
+
 use crate::text::Text;
 use arrayvec::ArrayVec;
 
@@ -35,17 +38,27 @@ impl Heard {
     }
 
     /// Tells it.
-    pub fn tell(&self, text: &mut Text) {
+    pub fn tell(&self, text: &mut Text)
+        ensures { AddsWords text.old (heard_words self.now) text.new }
+    {
         text.put(b" ");
-        if self.letters.is_empty() {
-            text.put(b"-");
-        }
-        text.put(self.letters.as_slice());
+        text.put(self.told_letters());
         text.put(b"/");
         text.put(self.control.as_slice());
         text.number(self.units);
-        text.number(u64::from(self.fault));
+        text.number(self.fault as u64);
         text.put(b"\n");
+    }
+
+    // The letters, as they are told.
+    fn told_letters(&self) -> &[u8]
+        ensures { result.now ≡ told_letters self.now.letters.items }
+    {
+        if self.letters.is_empty() {
+            b"-"
+        } else {
+            self.letters.as_slice()
+        }
     }
 
     /// A letter.

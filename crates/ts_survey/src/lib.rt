@@ -38,5 +38,4 @@ mod units;
 
 pub use laws::law_of_following;
 pub use pid_packets::{PidPackets, TakesPieces};
-pub use recording::SurveyOptions;
 pub use telling::{SurveyFault, survey};

@@ -1,5 +1,6 @@
 //! All that is followed in a transport stream, one packet after another.
-ghost use Rattle.std.specs.Prelude.{◌≡◌, ◌<◌};
+ghost use Rattle.std.specs.Prelude.{◌≡◌, ◌≢◌, ◌<◌, IfSome};
+ghost use Rattle.ts_survey.specs.Payload as specs;
 
 use crate::adaptation::{payload_in, pcr_base};
 use crate::carrier::{Carrier, LOOKED_AT};
@@ -44,7 +45,9 @@ impl Multiplex {
         page: PageId,
         asked: Option<u16>,
         text: &mut Text,
-    ) -> Option<Multiplex> {
+    ) -> Option<Multiplex>
+        ensures { IfSome result (λ multiplex. multiplex.asked ≡ asked) }
+    {
         let pids = Pids::new(alloc)?;
         let mut all = Multiplex {
             alloc,
@@ -77,7 +80,9 @@ impl Multiplex {
     }
 
     // Has the sections of a PID read.
-    fn add_table(&mut self, pid: u16) {
+    fn add_table(&mut self, pid: u16)
+        ensures { self.new.asked ≡ self.old.asked }
+    {
         let mut state = self.pids.get(pid);
         if state.table != NONE {
             return;
@@ -89,7 +94,12 @@ impl Multiplex {
     }
 
     // Follows a PID with Teletext, where it is not followed yet and another one is not asked for.
-    fn follow(&mut self, pid: u16, text: &mut Text) {
+    fn follow(&mut self, pid: u16, text: &mut Text)
+        ensures asked { self.new.asked ≡ self.old.asked }
+        // Another PID than the one that is asked for is passed over.
+        ensures other { IfSome self.old.asked (λ asked. pid ≢ asked
+            → (self.new.carriers ≡ self.old.carriers) × (text.new ≡ text.old)) }
+    {
         let mut state = self.pids.get(pid);
         let is_asked = match self.asked {
             Some(asked) => asked == pid,
@@ -376,15 +386,14 @@ fn is_unknown(state: &PidState) -> bool {
 
 // Whether a payload begins with a PES packet of Teletext: private_stream_1, whose first data byte
 // is a data_identifier of EBU data, 10 to 1F (EN 300 472).
-fn is_teletext(payload: &[u8]) -> bool {
+fn is_teletext(payload: &[u8]) -> bool
+    ensures { result ≡ specs.is_teletext payload.now }
+{
     if payload.len() < 10 || payload[0] != 0 || payload[1] != 0 || payload[2] != 1 {
         return false;
     }
     let place = 9 + payload[8] as usize;
-    match payload.get(place) {
-        Some(identifier) => payload[3] == 0xBD && *identifier / 0x10 == 1,
-        None => false,
-    }
+    payload[3] == 0xBD && place < payload.len() && payload[place] / 0x10 == 1
 }
 
 // Tells the pages that a stream announces; whether there are any.

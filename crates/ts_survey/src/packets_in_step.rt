@@ -1,6 +1,7 @@
 //! The packets of a transport stream, found in bytes that come bit by bit; bytes that belong to
 //! none are skipped and counted.
 ghost use Rattle.std.specs.Prelude.{◌≡◌, ◌≤◌, length};
+ghost use Rattle.mpeg_ts.specs.PacketSize.{bytes_of};
 
 use crate::multiplex::Multiplex;
 use crate::text::Text;
@@ -43,7 +44,9 @@ fn packet_at(bytes: &[u8], place: usize) -> Option<&[u8; PACKET]> {
 impl PacketsInStep {
     /// At the start of a recording whose packets have that distance. So many bytes before it were
     /// skipped.
-    pub fn new(size: PacketSize, skipped: u64) -> PacketsInStep {
+    pub fn new(size: PacketSize, skipped: u64) -> PacketsInStep
+        ensures { result.distance ≡ bytes_of size }
+    {
         PacketsInStep {
             distance: size.bytes(),
             lead: match size {

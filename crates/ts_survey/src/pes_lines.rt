@@ -1,5 +1,6 @@
 //! The lines of the PES packets of a PID: runs of them, marks, and what the page holds.
-ghost use Rattle.std.specs.Prelude.{◌≡◌, ◌≤◌, ◌<◌};
+ghost use Rattle.std.specs.Prelude.{◌≡◌, ◌++◌};
+ghost use Rattle.ts_survey.specs.Lines.{AddsWords, gap_line, run_line, run_words};
 
 use crate::adaptation::pts_said;
 use crate::heard::Heard;
@@ -66,12 +67,16 @@ impl PesLines {
     }
 
     /// PES packets and marks so far.
-    pub fn count(&self) -> u64 {
+    pub fn count(&self) -> u64
+        ensures { result ≡ self.now.count }
+    {
         self.count
     }
 
     /// How many of them are marks.
-    pub fn marks(&self) -> u64 {
+    pub fn marks(&self) -> u64
+        ensures { result ≡ self.now.marks }
+    {
         self.marks
     }
 
@@ -126,17 +131,16 @@ impl PesLines {
     }
 
     /// Tells the run, where there is one.
-    pub fn flush(&mut self, text: &mut Text) {
+    pub fn flush(&mut self, text: &mut Text)
+        ensures line { AddsWords text.old (run_words self.old.pid self.old.run) text.new }
+        ensures told { self.new.run.count ≡ 0 }
+        ensures pid { self.new.pid ≡ self.old.pid }
+        ensures count { self.new.count ≡ self.old.count }
+    {
         if self.run.count == 0 {
             return;
         }
-        text.put(b"pes");
-        text.number(u64::from(self.pid));
-        text.number(self.run.first);
-        text.number(self.run.count);
-        text.time(self.run.pts);
-        text.ticks(self.run.step);
-        self.run.heard.tell(text);
+        tell_run(self.pid, &self.run, text);
         self.run.count = 0;
     }
 
@@ -157,14 +161,12 @@ impl PesLines {
     }
 
     /// A mark came: so many packets were lost and scrambled.
-    pub fn mark(&mut self, lost: u64, scrambled: u64, text: &mut Text) {
+    pub fn mark(&mut self, lost: u64, scrambled: u64, text: &mut Text)
+        ensures { AddsWords text.old (run_words self.old.pid self.old.run
+            ++ gap_line self.old.pid self.old.count lost scrambled) text.new }
+    {
         self.flush(text);
-        text.put(b"gap");
-        text.number(u64::from(self.pid));
-        text.number(self.count);
-        text.number(lost);
-        text.number(scrambled);
-        text.put(b"\n");
+        tell_gap(self.pid, self.count, lost, scrambled, text);
         self.count = self.count.saturating_add(1);
         self.marks = self.marks.saturating_add(1);
     }
@@ -174,4 +176,29 @@ impl PesLines {
         self.flush(text);
         self.page.notes().tell_pages(self.pid, text);
     }
+}
+
+// Tells a run of PES packets.
+fn tell_run(pid: u16, run: &Run, text: &mut Text)
+    ensures { AddsWords text.old (run_line pid run.now) text.new }
+{
+    text.put(b"pes");
+    text.number(pid as u64);
+    text.number(run.first);
+    text.number(run.count);
+    text.time(run.pts);
+    text.ticks(run.step);
+    run.heard.tell(text);
+}
+
+// Tells a mark.
+fn tell_gap(pid: u16, number: u64, lost: u64, scrambled: u64, text: &mut Text)
+    ensures { AddsWords text.old (gap_line pid number lost scrambled) text.new }
+{
+    text.put(b"gap");
+    text.number(pid as u64);
+    text.number(number);
+    text.number(lost);
+    text.number(scrambled);
+    text.put(b"\n");
 }

@@ -24,7 +24,7 @@ pub trait TakesPieces {
 #[derive(Drop)]
 pub struct PidPackets<T> {
     joining: Joining,
-    to: T,
+    pub to: T,
 
     ghost idle: { joining.pending ≡ [] },
 }
@@ -39,18 +39,6 @@ impl<T: TakesPieces> PidPackets<T> {
             joining: Joining::new(),
             to,
         }
-    }
-
-    /// Who takes the pieces.
-    pub fn to(&self) -> &T
-        ensures { result.now ≡ self.now.to }
-    {
-        &self.to
-    }
-
-    /// The same, to be changed.
-    pub fn to_mut(&mut self) -> &mut T {
-        &mut self.to
     }
 
     /// Whether a packet repeats the last good one.

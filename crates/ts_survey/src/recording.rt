@@ -1,25 +1,15 @@
 //! A recording, whatever it is: bytes come, and lines are made.
-ghost use Rattle.std.specs.Prelude.{◌≡◌, ◌≤◌, length};
+ghost use Rattle.std.specs.Prelude.{◌≡◌, ◌≤◌, IfSome, Some, false, length};
+ghost use Rattle.mpeg_ts.specs.PacketSize.{bytes_of};
+ghost use Rattle.ts_survey.specs.Stream.{IsAsked};
 
 use crate::multiplex::Multiplex;
 use crate::packet_sizes::find_size;
 use crate::packets_in_step::PacketsInStep;
 use crate::pes_file::PesFile;
 use crate::text::Text;
-use mpeg_ts::{PacketSize, Pid};
+use mpeg_ts::{PacketSize, Pid, SurveyOptions};
 use std::alloc::Global;
-use ttx_packet::PageId;
-
-/// What is asked of a recording.
-#[derive(Clone, Copy, Debug, PartialEq, Eq)]
-pub struct SurveyOptions {
-    /// The page that is followed.
-    pub page: PageId,
-    /// The PID that alone is followed; `None` for each with Teletext.
-    pub pid: Option<Pid>,
-    /// The bytes from one packet to the next; `None` where they are to be found.
-    pub packet_size: Option<PacketSize>,
-}
 
 /// The bytes that are told of the recording.
 const HEAD: usize = 11;
@@ -127,13 +117,11 @@ impl Recording {
 
     // Looks for the distance of packets. Answers how many bytes need not be looked at again.
     fn look(&mut self, bytes: &[u8], is_end: bool, text: &mut Text) -> usize
-        ensures { result ≤ length bytes.now }
+        ensures within { result ≤ length bytes.now }
+        ensures asked { IfSome self.old.asked.packet_size (λ size. self.new.is_short ≡ false
+            → IsAsked self.old.asked (bytes_of size) self.new.kind) }
     {
-        let found = match self.asked.packet_size {
-            Some(size) => Some(size),
-            None => find_size(bytes, is_end),
-        };
-        if let Some(size) = found {
+        if let Some(size) = size_in(self.asked.packet_size, bytes, is_end) {
             self.begin(size, text);
             return 0;
         }
@@ -153,14 +141,14 @@ impl Recording {
     }
 
     // It is a transport stream.
-    fn begin(&mut self, size: PacketSize, text: &mut Text) {
+    fn begin(&mut self, size: PacketSize, text: &mut Text)
+        ensures { self.new.is_short ≡ false
+            → IsAsked self.old.asked (bytes_of size) self.new.kind }
+    {
         text.put(b"size");
         text.number(size.bytes() as u64);
         text.put(b"\n");
-        let pid = match self.asked.pid {
-            Some(pid) => Some(pid.number()),
-            None => None,
-        };
+        let pid = number_of(self.asked.pid);
         match Multiplex::new(self.alloc, self.asked.page, pid, text) {
             Some(multiplex) => {
                 let packets = PacketsInStep::new(size, self.skipped);
@@ -196,6 +184,26 @@ impl Recording {
         text.number(skipped);
         text.number(number);
         text.put(b"\n");
+    }
+}
+
+// The distance of packets: the one that is asked for, or else the one that is found.
+fn size_in(asked: Option<PacketSize>, bytes: &[u8], is_end: bool) -> Option<PacketSize>
+    ensures { IfSome asked (λ size. result ≡ Some size) }
+{
+    match asked {
+        Some(size) => Some(size),
+        None => find_size(bytes, is_end),
+    }
+}
+
+// The number of a PID.
+fn number_of(pid: Option<Pid>) -> Option<u16>
+    ensures { result ≡ pid }
+{
+    match pid {
+        Some(pid) => Some(pid.number()),
+        None => None,
     }
 }
 

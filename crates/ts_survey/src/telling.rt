@@ -3,9 +3,10 @@ ghost use Rattle.std.specs.Prelude.{◌≡◌, IfErr, OnOk, false, length};
 ghost use Rattle.sub_io.specs.Device.{CanFail, CountsIf, failed};
 ghost use Rattle.ts_survey.specs.Survey.{Grows, is_survey_read, is_survey_write};
 
-use crate::recording::{Recording, SurveyOptions};
+use crate::recording::Recording;
 use crate::room::Room;
 use crate::text::Text;
+use mpeg_ts::SurveyOptions;
 use std::alloc::Global;
 use sub_io::{Flush, Source, put_all};
 

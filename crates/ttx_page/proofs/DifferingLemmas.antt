@@ -24,6 +24,13 @@ pub columns_more : (n : ℕ) (xs ys : List ℕ)
 unfolding columns_differing
 columns_more n xs ys = rw add-one refl
 
+-- No column of equal rows differs. For `cells_not_blank`, which counts no row that is blank.
+pub columns_same : (n : ℕ) (xs ys : List ℕ) → xs ≡ ys → columns_differing n xs ys ≡ 0
+unfolding columns_differing
+columns_same zero xs ys e = refl
+columns_same (suc n) xs ys e =
+    let before = columns_same n xs ys e in grind (arith, nat_tests)
+
 -- One row more, beside the blank page. For `cells_not_blank`.
 pub blank-more : (n : ℕ) (ys : List (List ℕ)) → n < 24
     → rows_differing (n + 1) blank ys

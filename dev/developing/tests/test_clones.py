@@ -150,10 +150,12 @@ class Clones(Case):
                   and none.told[0] == "usage: subttx COMMAND FILES [options]", none)
         text = "".join(f"{line}\n" for line in none.told).encode()
         helping = [["--help"], ["-h"], ["help"], ["help", "check"], ["check", "--help"],
-                   ["check", "a.stl", "b.pes", "-h"]]
+                   ["-h", "survey"]]
         for words in helping:
             self.must(f"{words}", clone.run(*words) == Done(0, text, []))
-        for words in [["check"], ["chec"], ["help", "me", "please"]]:
+        for words in [["check"], ["chec"], ["help", "me", "please"], ["help", "me"],
+                      ["check", "a.stl", "b.pes", "-h"],
+                      ["check", "a.stl", "b.pes", "--page", "-h"]]:
             self.must(f"{words}", clone.run(*words) == Done(2, b"usage 0 Words\n", []))
         os.remove(clone.path("dist", "PROVED"))
         for words in helping:

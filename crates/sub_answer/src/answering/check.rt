@@ -8,7 +8,6 @@ ghost use Rattle.stl_rows.specs.Fault.{is_load_read};
 ghost use Rattle.stl_rows.specs.Loading.{FailsLoading};
 ghost use Rattle.stl_rows.specs.declared.fault.LoadFault.{LoadFault};
 ghost use Rattle.sub_check.specs.CheckedFiles.{AreChecked, IsChecked, IsCheckedBy};
-ghost use Rattle.sub_check.specs.CheckedFiles.{IsCheckedWithin};
 ghost use Rattle.sub_rules.specs.Fault.{is_pes_read, is_stl_read, is_subtitle_fault};
 ghost use Rattle.sub_answer.specs.Answering.{AnswersCheck, verdict};
 ghost use Rattle.sub_listing.specs.DeviceCall.{CanFail, CountsFault, sink_call, source_call};
@@ -119,8 +118,6 @@ fn check_from<N: FirstPacket<T>, T: Source>(
     ensures checked { IsFalse options.now.keeps → options.now.within ≡ 0
         → IfTold (T.remaining pes.old) (λ bytes.
         IsChecked programme.now options.now bytes result.result) }
-    ensures within { IsFalse options.now.keeps → IfTold (T.remaining pes.old) (λ bytes.
-        IsCheckedWithin programme.now options.now bytes result.result) }
     ensures checked_by { IfTold (T.remaining pes.old) (λ bytes.
         IsCheckedBy programme.now options.now bytes result.result) }
     ensures starts { StartsAt (first_number N.number N.passed pes.old pes.new)

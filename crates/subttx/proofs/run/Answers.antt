@@ -5,17 +5,19 @@ use Rattle.subttx.proofs.run.Goals as goal
 pub returns-in-Some : goal.returns-in-Some
 returns-in-Some g c = record {
   room = c.new-out.result.room;
-  new = c.answer_or_say.new.out;
-  status = c.answer_or_say.result;
+  new = c.answer_or_say-status.new.out;
+  left_is = c.into_inner.ensures;
+  status = c.answer_or_say-status.result;
   code_is = c.code.ensures;
-  ends = inl (rw c.new-out.ensures at c.answer_or_say.ensures);
+  ends = inl (rw c.new-out.ensures at c.answer_or_say-status.ensures);
 }
 
 pub returns-in-None : goal.returns-in-None
 returns-in-None g c = record {
   room = c.new-out-in-None.result.room;
-  new = c.say_and_hand_on.new.out;
-  status = c.say_and_hand_on.result;
+  new = c.say_and_hand_on-status.new.out;
+  left_is = c.into_inner-in-None.ensures;
+  status = c.say_and_hand_on-status.result;
   code_is = c.code-in-None.ensures;
-  ends = inr (refl, rw c.new-out-in-None.ensures at c.say_and_hand_on.ensures.says);
+  ends = inr (refl, rw c.new-out-in-None.ensures at c.say_and_hand_on-status.ensures.says);
 }

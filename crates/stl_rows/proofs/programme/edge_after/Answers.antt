@@ -8,12 +8,12 @@ pub returns-then-frame-tci : goal.returns-then-frame-tci
 returns-then-frame-tci c =
     rw (c.frame-tci.ensures.value, c.tci.ensures.value)
     (next_edge-tci c.args.drawing.now c.args.subtitles.now c.args.frame c.first_after-at.result
-    c.index-subtitles-at.result c.requires
-    (search rules) (omega arith) c.index-subtitles-at.is (omega arith))
+    c.at-subtitle.result c.requires
+    (search rules) (omega arith) c.at-subtitle.ensures.is (omega arith))
 
 pub returns : goal.returns
 returns c =
     rw (c.frame-tco.ensures.value, c.tco.ensures.value)
     (next_edge-tco c.args.drawing.now c.args.subtitles.now c.args.frame c.first_after-at.result
-    c.index-subtitles-at.result c.requires
-    (search rules) (omega arith) c.index-subtitles-at.is (omega arith))
+    c.at-subtitle.result c.requires
+    (search rules) (omega arith) c.at-subtitle.ensures.is (omega arith))

@@ -4,8 +4,8 @@ use Rattle.std.proofs.Common.{arith, rules}
 use Rattle.stl_rows.proofs.DuePageLemmas.{last_edge-gap, last_edge-tci, starts_after}
 use Rattle.stl_rows.proofs.programme.edge_until.Goals as goal
 
-pub returns-then-at-subtitles : goal.returns-then-at-subtitles
-returns-then-at-subtitles c =
+pub returns-then-at-len : goal.returns-then-at-len
+returns-then-at-len c =
     last_edge-gap c.args.drawing.now c.args.subtitles.now c.args.frame c.first_after-at.result
     c.requires _ (omega arith) (search rules) (λ k d low high. absurd (omega arith))
     c.tco_before.ensures
@@ -14,7 +14,7 @@ pub returns-then-tci-frame : goal.returns-then-tci-frame
 returns-then-tci-frame c =
     rw (c.frame-tci.ensures.value, c.tci.ensures.value)
     (last_edge-tci c.args.drawing.now c.args.subtitles.now c.args.frame c.first_after-at.result
-    c.requires c.index-subtitles-at.result (search rules) (omega arith) c.index-subtitles-at.is
+    c.requires c.at-subtitle.result (search rules) (omega arith) c.at-subtitle.ensures.is
     (omega arith))
 
 pub returns : goal.returns
@@ -22,6 +22,6 @@ returns c =
     last_edge-gap c.args.drawing.now c.args.subtitles.now c.args.frame c.first_after-at.result
     c.requires _ (omega arith) (search rules)
     (starts_after c.args.drawing.now c.args.subtitles.now c.args.frame c.first_after-at.result
-    c.requires c.index-subtitles-at.result (search rules) (omega arith) c.index-subtitles-at.is
+    c.requires c.at-subtitle.result (search rules) (omega arith) c.at-subtitle.ensures.is
     (omega arith))
     c.tco_before-2.ensures

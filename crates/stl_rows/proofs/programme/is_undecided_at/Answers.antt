@@ -11,8 +11,8 @@ returns-then-not-is_before_other c =
     let none = undecided-none c.args.subtitles.now c.args.behind_other.now 0 c.args.frame empty in
     grind (arith, nat_tests)
 
-pub returns-then-at-subtitles : goal.returns-then-at-subtitles
-returns-then-at-subtitles c =
+pub returns-then-at-len : goal.returns-then-at-len
+returns-then-at-len c =
     sym (undecided-last c.args.subtitles.now c.args.behind_other.now c.args.is_before_other 0
     c.args.frame (omega arith) c.requires.each
     (λ k d h. c.first_after-at.ensures.before k d (omega (arith, h))))
@@ -20,13 +20,13 @@ returns-then-at-subtitles c =
 pub returns-then-tci-frame : goal.returns-then-tci-frame
 returns-then-tci-frame c =
     let next = undecided-next c.args.subtitles.now c.args.behind_other.now c.args.is_before_other 0
-    c.args.frame c.first_after-at.result c.index-subtitles-at.result (omega arith) c.requires.each
+    c.args.frame c.first_after-at.result c.at-subtitle.result (omega arith) c.requires.each
     (omega arith) c.first_after-at.ensures.before c.first_after-at.ensures.after in
     grind (arith, nat_tests)
 
 pub returns : goal.returns
 returns c =
     let next = undecided-next c.args.subtitles.now c.args.behind_other.now c.args.is_before_other 0
-    c.args.frame c.first_after-at.result c.index-subtitles-at.result (omega arith) c.requires.each
+    c.args.frame c.first_after-at.result c.at-subtitle.result (omega arith) c.requires.each
     (omega arith) c.first_after-at.ensures.before c.first_after-at.ensures.after in
     grind (arith, nat_tests)

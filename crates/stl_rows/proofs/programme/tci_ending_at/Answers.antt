@@ -8,20 +8,20 @@ returns-then-frame-eq0 c = none_ends c.args.subtitles.now c.args.frame (λ k d b
     let times = (c.requires.each k d b).times in
     omega (arith, times))
 
-pub returns-then-at-subtitles : goal.returns-then-at-subtitles
-returns-then-at-subtitles c = none_ends c.args.subtitles.now c.args.frame (λ k d b.
+pub returns-then-at-len : goal.returns-then-at-len
+returns-then-at-len c = none_ends c.args.subtitles.now c.args.frame (λ k d b.
     let before = c.first_after-at.ensures.before k d (omega (arith, b)) in
     omega (arith, before))
 
 pub returns-then-tco-frame : goal.returns-then-tco-frame
 returns-then-tco-frame c =
     none_ends-next c.args.drawing.now c.args.subtitles.now (c.args.frame - 1)
-    c.first_after-at.result c.index-subtitles-at.result c.requires (search rules) (omega arith)
-    c.index-subtitles-at.is c.args.frame (omega arith) (search rules)
+    c.first_after-at.result c.at-subtitle.result c.requires (search rules) (omega arith)
+    c.at-subtitle.ensures.is c.args.frame (omega arith) (search rules)
 
 pub returns : goal.returns
 returns c =
     ap Some (c.frame.ensures.value ∙ c.tci.ensures.value)
     ∙ ends-next c.args.drawing.now c.args.subtitles.now (c.args.frame - 1)
-    c.first_after-at.result c.index-subtitles-at.result c.requires (search rules) (omega arith)
-    c.index-subtitles-at.is c.args.frame (omega arith) (search rules)
+    c.first_after-at.result c.at-subtitle.result c.requires (search rules) (omega arith)
+    c.at-subtitle.ensures.is c.args.frame (omega arith) (search rules)

@@ -13,6 +13,7 @@ returns-clause-ends g c = record {
     left = c.answer-status.new.file;
     call_is = refl;
     closed = c.close.ensures.call.device;
+    held_is = c.close.ensures.call.held;
   };
   status = c.answer-status.result;
   printed = lines_in g.O.Sink.contents g.O.HandOn.held_back g.O.Sink.failure_count

@@ -35,5 +35,7 @@ returns g c = record {
         new = _;
         left_is = c.into_inner-2.ensures;
         closed = rw (c.new-file.ensures, c.into_file-2.ensures) at is;
+        whole = λ done.
+            rw (c.new-file.ensures, c.into_file-2.ensures) at (c.answer_with_file-status.ensures.done done).0;
       });
 }

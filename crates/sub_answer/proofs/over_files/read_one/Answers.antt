@@ -8,7 +8,7 @@ returns g c = record {
   left = record { first = Some c.into_inner.result; second = None; file = None };
   are_let_go = (c.let_go_input.new.self, c.let_go_input.ensures, refl);
   ends =
-      ends_weaker _ _ _ _ _ _ _ _ _ _ _ _ c.answer_part-status.ensures
+      ends_weaker _ _ _ _ _ _ _ _ _ _ _ _ c.answer_part-status.ensures.ends
       (λ input is. record {
         room = _;
         new = _;

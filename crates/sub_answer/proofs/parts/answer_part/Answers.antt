@@ -22,8 +22,8 @@ old_is e = ap (λ (i : InputCall). i.call.old_count) e
 new_is : {a b : InputCall} → a ≡ b → a.call.new_count ≡ b.call.new_count
 new_is e = ap (λ (i : InputCall). i.call.new_count) e
 
-pub returns-in-None-None : goal.returns-in-None-None
-returns-in-None-None g c =
+pub returns-in-None-None-clause-ends : goal.returns-in-None-None-clause-ends
+returns-in-None-None-clause-ends g c =
     ends_weaker _ _ _ _ _ _ _ _ _ _ _ _ c.answer_with_file-status.ensures.ends
     (λ input is.
     all_of_source g.S.Source.remaining g.S.Source.failure_count c.args.whole
@@ -31,8 +31,8 @@ returns-in-None-None g c =
     c.in-None-None.is-0 c.in-None-None.is-1 is)
     (λ input is. is) (λ is. is) (λ call is. is)
 
-pub returns-in-None-Some : goal.returns-in-None-Some
-returns-in-None-Some g c =
+pub returns-in-None-Some-clause-ends : goal.returns-in-None-Some-clause-ends
+returns-in-None-Some-clause-ends g c =
     ends_weaker _ _ _ _ _ _ _ _ _ _ _ _ c.answer_with_file-status-in-None-Some.ensures.ends
     (λ input is.
     rw c.into_inner.ensures (
@@ -43,8 +43,8 @@ returns-in-None-Some g c =
     (old_is is ∙ c.new-first.ensures.count) (new_is is)))
     (λ input is. is) (λ is. is) (λ call is. is)
 
-pub returns-in-Some-None : goal.returns-in-Some-None
-returns-in-Some-None g c =
+pub returns-in-Some-None-clause-ends : goal.returns-in-Some-None-clause-ends
+returns-in-Some-None-clause-ends g c =
     ends_weaker _ _ _ _ _ _ _ _ _ _ _ _ c.answer_with_file-status-in-Some-None.ensures.ends
     (λ input is.
     rw c.into_inner-in-Some-None.ensures (
@@ -59,8 +59,8 @@ returns-in-Some-None g c =
     (new_is is)))
     (λ input is. is) (λ is. is) (λ call is. is)
 
-pub returns-in-Some-Some : goal.returns-in-Some-Some
-returns-in-Some-Some g c =
+pub returns-in-Some-Some-clause-ends : goal.returns-in-Some-Some-clause-ends
+returns-in-Some-Some-clause-ends g c =
     ends_weaker _ _ _ _ _ _ _ _ _ _ _ _ c.answer_with_file-status-in-Some-Some.ensures.ends
     (λ input is.
     rw (c.into_inner-in-Some-Some.ensures, c.into_inner-inside.ensures) (

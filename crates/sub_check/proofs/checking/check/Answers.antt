@@ -21,17 +21,6 @@ returns-in-Ok-Some-clause-checked g c = λ none at_once bytes told.
     rw c.in-Ok-Some.field-0-is at (c.in-Ok-Some.ensures.exact pieces unread bytes told reads)) in
     answer.at_once none at_once
 
-pub returns-in-Ok-Some-clause-within : goal.returns-in-Ok-Some-clause-within
-returns-in-Ok-Some-clause-within g c = λ none bytes told.
-    let answer =
-    nothing_kept c.args.programme.now c.args.options.now bytes c.in-Ok-Some.ensures.options
-    c.in-Ok-Some.ensures.programme
-    c.new-first.result c.tell_known.new.audience c.in-Ok-Some.counts c.new-first.ensures
-    (rw c.in-Ok-Some.field-0-is at c.in-Ok-Some.ensures.stopped)
-    (λ pieces unread reads.
-    rw c.in-Ok-Some.field-0-is at (c.in-Ok-Some.ensures.exact pieces unread bytes told reads)) in
-    answer.within none
-
 pub returns-in-Ok-Some-clause-checked_by : goal.returns-in-Ok-Some-clause-checked_by
 returns-in-Ok-Some-clause-checked_by g c = λ bytes told.
     let answer =
@@ -54,17 +43,6 @@ returns-in-Ok-None-clause-checked g c = λ none at_once bytes told.
     rw c.in-Ok-None.field-0-is at (c.in-Ok-None.ensures.exact pieces unread bytes told reads)) in
     answer.at_once none at_once
 
-pub returns-in-Ok-None-clause-within : goal.returns-in-Ok-None-clause-within
-returns-in-Ok-None-clause-within g c = λ none bytes told.
-    let answer =
-    fault_kept c.args.programme.now c.args.options.now bytes c.in-Ok-None.ensures.options
-    c.in-Ok-None.ensures.programme
-    c.new-first.result c.tell_known.new.audience c.into_fault.result c.new-first.ensures
-    c.into_fault.ensures.kept
-    (λ pieces unread reads.
-    rw c.in-Ok-None.field-0-is at (c.in-Ok-None.ensures.exact pieces unread bytes told reads)) in
-    answer.within none
-
 pub returns-in-Ok-None-clause-checked_by : goal.returns-in-Ok-None-clause-checked_by
 returns-in-Ok-None-clause-checked_by g c = λ bytes told.
     let answer =
@@ -86,17 +64,6 @@ returns-in-Err-clause-checked g c = λ none at_once bytes told.
     (λ pieces unread reads. c.in-Err.ensures.exact pieces unread bytes told reads)
     c.in-Err.ensures.only in
     answer.at_once none at_once
-
-pub returns-in-Err-clause-within : goal.returns-in-Err-clause-within
-returns-in-Err-clause-within g c = λ none bytes told.
-    let answer =
-    read_failed c.args.programme.now c.args.options.now bytes c.in-Err.ensures.options
-    c.in-Err.ensures.programme
-    c.new-first.result c.tell_known.new.audience c.in-Err.fault c.new-first.ensures
-    c.in-Err.ensures.goes_on
-    (λ pieces unread reads. c.in-Err.ensures.exact pieces unread bytes told reads)
-    c.in-Err.ensures.only in
-    answer.within none
 
 pub returns-in-Err-clause-checked_by : goal.returns-in-Err-clause-checked_by
 returns-in-Err-clause-checked_by g c = λ bytes told.

@@ -6,12 +6,10 @@ use Rattle.sub_plan.specs.FrameTime.{clock_of}
 use Rattle.sub_rules.specs.FrameRules.{is_undecided_beside, task_beside}
 use Rattle.sub_rules.specs.Pieces.{piece_file_of}
 use Rattle.sub_checker.proofs.PieceWaysLemmas.{front_of}
-use Rattle.sub_check.proofs.AnsweredLemmas.{answers_at_once, answers_by, answers_within}
-use Rattle.sub_check.proofs.AnsweredLemmas.{checked_first}
+use Rattle.sub_check.proofs.AnsweredLemmas.{answers_at_once, answers_by, checked_first}
 use Rattle.sub_check.proofs.AnsweredLemmas.{programme_known, tells_events, tells_known}
 use Rattle.sub_trusted.proofs.TrustedOnAirLemmas.{law_of_trusted, law_of_trusted_known}
 use Rattle.sub_trusted.proofs.TrustedOnAirLemmas.{law_of_trusted_repeats}
-use Rattle.sub_trusted.proofs.TrustedOnAirLemmas.{law_of_trusted_with_delay}
 use Rattle.sub_check.proofs.checking.check_all.Goals as goal
 
 pub returns-clause-told : goal.returns-clause-told
@@ -22,15 +20,6 @@ returns-clause-told g c = λ bytes told.
 pub returns-clause-first : goal.returns-clause-first
 returns-clause-first g c = λ programme is none at_once bytes told.
     answers_at_once programme c.args.options.now bytes c.tell_pieces.result none at_once
-    (checked_first programme c.args.options.now bytes _ _ _ c.tell_pieces.result
-    c.tell_pieces.ensures.options
-    (programme_known _ programme is c.tell_pieces.ensures.programme)
-    (tells_known c.args.judging.now programme c.args.options.now bytes _ _ _ c.tell_pieces.result is
-    (λ pieces unread reads. c.tell_pieces.ensures.exact pieces unread bytes told reads)))
-
-pub returns-clause-first_within : goal.returns-clause-first_within
-returns-clause-first_within g c = λ programme is none bytes told.
-    answers_within programme c.args.options.now bytes c.tell_pieces.result none
     (checked_first programme c.args.options.now bytes _ _ _ c.tell_pieces.result
     c.tell_pieces.ensures.options
     (programme_known _ programme is c.tell_pieces.ensures.programme)
@@ -50,12 +39,6 @@ pub returns-clause-trusted : goal.returns-clause-trusted
 returns-clause-trusted g c = λ none at_once bytes told from to there.
     law_of_trusted c.args.judging.now.programme c.args.options.now _ (is_beside c.args.judging.now)
     (is_undecided_beside c.args.judging.now) _ from to none at_once there
-
-pub returns-clause-trusted_within : goal.returns-clause-trusted_within
-returns-clause-trusted_within g c = λ none some bytes told from to there.
-    law_of_trusted_with_delay c.args.judging.now.programme c.args.options.now _
-    (is_beside c.args.judging.now) (is_undecided_beside c.args.judging.now) _ from to none
-    c.tell_pieces.ensures.programme some there
 
 pub returns-clause-trusted_by : goal.returns-clause-trusted_by
 returns-clause-trusted_by g c = λ bytes told from to there.

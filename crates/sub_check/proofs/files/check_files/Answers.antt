@@ -1,18 +1,14 @@
 -- The programme that is loaded is the file's one: `same_programme`; what is told of both files:
--- `files_accepted`, `files_refused`, within frames, and by any options.
+-- `files_accepted`, `files_refused`, and by any options.
 use Rattle.std.proofs.lemmas.Bool.Decides.{nat_tests}
 use Rattle.std.proofs.Common.{arith}
 use Rattle.stl_rows.specs.Layout.{drawing_within}
-use Rattle.sub_check.proofs.FilesLemmas.{files_accepted, files_accepted_by}
-use Rattle.sub_check.proofs.FilesLemmas.{files_accepted_within, files_refused, files_refused_by}
-use Rattle.sub_check.proofs.FilesLemmas.{files_refused_within}
+use Rattle.sub_check.proofs.FilesLemmas.{files_accepted, files_accepted_by, files_refused}
+use Rattle.sub_check.proofs.FilesLemmas.{files_refused_by}
 use Rattle.sub_check.proofs.files.check_files.Goals as goal
 
 pub returns-in-Err-clause-accepted : goal.returns-in-Err-clause-accepted
 returns-in-Err-clause-accepted g c = grind (arith, nat_tests, files_refused)
-
-pub returns-in-Err-clause-accepted_within : goal.returns-in-Err-clause-accepted_within
-returns-in-Err-clause-accepted_within g c = grind (arith, nat_tests, files_refused_within)
 
 pub returns-in-Err-clause-accepted_by : goal.returns-in-Err-clause-accepted_by
 returns-in-Err-clause-accepted_by g c = grind (arith, nat_tests, files_refused_by)
@@ -23,13 +19,6 @@ returns-in-Ok-clause-accepted g c = λ none at_once file told bytes heard.
     c.args.options.now file bytes
     c.law_of_loading.ensures c.in-Ok.programme (c.in-Ok.ensures.exact file told)
     c.check.result c.check.ensures.own (c.check.ensures.checked none at_once bytes heard)
-
-pub returns-in-Ok-clause-accepted_within : goal.returns-in-Ok-clause-accepted_within
-returns-in-Ok-clause-accepted_within g c = λ none file told bytes heard.
-    files_accepted_within (drawing_within c.args.national c.args.layout c.args.scope)
-    c.args.options.now file bytes
-    c.law_of_loading.ensures c.in-Ok.programme (c.in-Ok.ensures.exact file told)
-    c.check.result c.check.ensures.own (c.check.ensures.within none bytes heard)
 
 pub returns-in-Ok-clause-accepted_by : goal.returns-in-Ok-clause-accepted_by
 returns-in-Ok-clause-accepted_by g c = λ file told bytes heard.

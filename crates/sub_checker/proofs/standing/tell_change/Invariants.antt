@@ -1,7 +1,6 @@
 -- What is left to be told of the rules that are left is told of all.
-use Rattle.std.proofs.Common.{◌≡◌, List, Result, false, drop, flat_map}
-use Rattle.sub_io.specs.Telling.{TellsUntilStopped}
-use Rattle.sub_io.specs.declared.audience.Stopped.{Stopped}
+use Rattle.std.proofs.Common.{List, drop, flat_map}
+use Rattle.sub_io.specs.Telling.{Tells}
 use Rattle.sub_rules.specs.Events.{broken_at, end_rules, rule_events}
 use Rattle.sub_rules.specs.declared.end_rule.EndRule.{EndRule}
 use Rattle.sub_rules.specs.declared.event.Event.{Event}
@@ -13,11 +12,8 @@ invariant-loop-rule g l =
     λ rule. rule_events rule (broken_at rule l.fn.old) l.fn.before (broken_at rule l.fn.new)
     l.fn.frame in
     record {
-      goes_on : g.A.Audience.has_stopped l.audience ≡ false;
       told :
-          (new : g.row.A.Denot) (result : Result (Unit {0}) Stopped)
-          → TellsUntilStopped g.A.Audience.is_told l.audience new
-          (flat_map tell (drop l.rule-index end_rules)) result
-          → TellsUntilStopped g.A.Audience.is_told l.fn.audience new
-          (flat_map tell end_rules) result;
+          (new : g.row.A.Denot)
+          → Tells g.A.Taker.is_told l.taker new (flat_map tell (drop l.rule-index end_rules))
+          → Tells g.A.Taker.is_told l.fn.taker new (flat_map tell end_rules);
     }

@@ -8,39 +8,20 @@ use Rattle.sub_io.proofs.TellingLemmas.{TellsSome-none, Tells-none}
 use Rattle.sub_io.specs.Telling.{Tells}
 use Rattle.ttx_pes.specs.Comparing.{ComparingValue}
 use Rattle.sub_rules.proofs.PieceFileLemmas.{takes_no_pieces}
-use Rattle.sub_plan.specs.FrameTime.{clock_of}
 use Rattle.sub_rules.specs.FrameRules.{task_beside}
 use Rattle.sub_rules.specs.Pieces.{Piece, frames_of}
-use Rattle.sub_rules.specs.PieceEvents.{events_of_pieces, marks_of_sent}
+use Rattle.sub_rules.specs.PieceEvents.{events_of_pieces}
 use Rattle.sub_checker.proofs.PieceWaysLemmas.{frames_sent, front, none_of_pieces}
-use Rattle.sub_checker.proofs.PieceWaysLemmas.{passed_marks, sent_marks}
-use Rattle.sub_checker.proofs.PieceWaysLemmas.{step_passed, step_sent, told_before}
+use Rattle.sub_checker.proofs.PieceWaysLemmas.{step, told_before}
 use Rattle.sub_checker.proofs.PieceWaysLemmas.{told_stop, told_whole, tracks_none}
-use Rattle.std.proofs.Common.{◌<◌, ◌++◌}
-use Rattle.std.proofs.lemmas.Bool.{true≢false}
-use Rattle.stl_file.specs.TimeCode.{day}
-use Rattle.sub_io.specs.Telling.{TellsPrefix}
+use Rattle.std.proofs.Common.{◌++◌, None}
+use Rattle.sub_checker.proofs.LatchLemmas.{unlatched, unlatched_some}
 use Rattle.sub_io.proofs.TellingLemmas.{TellsSome-trans}
 use Rattle.sub_rules.proofs.PieceFileLemmas.{takes_more_pieces}
-use Rattle.sub_rules.specs.Events.{unread_fault}
 use Rattle.sub_rules.specs.PacketRules.{packets_of_units}
-use Rattle.sub_rules.specs.Pieces.{ReadsPiece, sent_after}
-use Rattle.sub_rules.specs.Pieces.Piece.{Passed, Sent}
-use Rattle.sub_rules.specs.Transmission.{SentFrame}
-use Rattle.sub_rules.specs.Trusted.{Mark}
-use Rattle.sub_rules.specs.Trusted.Mark.{AtPes, Says}
-use Rattle.sub_rules.specs.declared.event.Event.TheVariants.{Told}
 use Rattle.sub_rules.specs.declared.piece.NextPiece.{NextPiece}
-use Rattle.sub_checker.specs.Checker.{sent_as}
-use Rattle.sub_checker.specs.Following.{Keeps}
-use Rattle.sub_checker.specs.Relay.{relayed, relay_after}
-use Rattle.sub_checker.specs.declared.relaying.Relay.{Relay}
+use Rattle.sub_checker.proofs.NextPieceLemmas.{again_is, last_is}
 use Rattle.sub_checker.proofs.ReadsOnLemmas.{named_pes, packets_taken, reads_on_none}
-use Rattle.sub_checker.proofs.telling_pieces.tell_pieces.Goals.{
-  in-Passed+in-Ok-tell_passed,
-  in-Sent+in-Ok-go_on,
-}
-use Rattle.sub_checker.proofs.TakingLemmas.{few_later}
 use Rattle.sub_checker.proofs.TellingLemmas.{all_same}
 use Rattle.sub_checker.proofs.telling_pieces.tell_pieces.Goals as goal
 
@@ -50,11 +31,14 @@ pieces-init g c = record {
   reading = ap (λ (r : ComparingValue). r.progress) c.new-reader.ensures;
   taken = takes_no_pieces _;
   failures = refl;
-  goes_on = c.requires.goes_on;
+  goes_on = refl;
   same = refl;
-  day =
-      let none = ap (λ (p : Relay). p.trust.last) c.new.ensures in
-      omega (arith, none);
+  keeps = (
+    [],
+    packets_of_units c.new-reader.result.frame.units,
+    c.new-checker.ensures.keeps _ None,
+    λ no. refl,
+  );
   some = TellsSome-none c.args.audience.now;
   holds = λ none still. none;
   room = c.new-checker.ensures.none;
@@ -76,10 +60,10 @@ returns-then-is_source_failure-clause-exact g c = λ pieces unread bytes told re
     let so_far =
     c.next_followed.ensures.told.kept c.args.audience.now _ c.requires.still i.5 in
     let at = front c.args.judging.now i.1 i.3 in
-    let device = c.pieces.invariant.same in
+    let device = c.next_followed.ensures.same ∙ c.pieces.invariant.same in
     let told =
     subst (λ (l : List Piece). Tells g.A.Audience.is_told c.args.audience.now
-    c.next_followed.new.audience (events_of_pieces (task_beside c.args.judging.now
+    c.next_followed.new.latch.device.now (events_of_pieces (task_beside c.args.judging.now
     c.args.options.now unread) l)) (sym at.1) so_far in (
       c.pieces.pes,
       at.0,
@@ -115,7 +99,10 @@ returns-in-Err-clause-exact g c = λ pieces unread bytes told reads.
     c.next_followed.ensures.told.kept c.args.audience.now _ c.requires.still i.5 in
     let end = here.exact i.1.ahead unread i.1.rest i.1.rest_is
     (sym c.is_source_failure.ensures ∙ c.if-is_source_failure.false) i.1.left in
-    let device = c.finish.ensures.same ∙ c.pieces.invariant.same in
+    let device =
+    c.finish.ensures.same task (frames_sent task i.0) i.2 i.3.keeps
+    ∙ c.next_followed.ensures.same
+    ∙ c.pieces.invariant.same in
     let told =
     told_whole c.args.judging.now i.1 i.3 c.pieces.invariant.few end.0 _ _ _
     c.finish.result so_far
@@ -134,7 +121,10 @@ returns-in_default-next-clause-exact g c = λ pieces unread bytes told reads.
     c.next_followed.ensures.told.kept c.args.audience.now _ c.requires.still i.5 in
     let end = rw c.in_default-next.is at
     (here.exact i.1.ahead unread i.1.rest i.1.rest_is refl i.1.left) in
-    let device = c.finish-in_default-next.ensures.same ∙ c.pieces.invariant.same in
+    let device =
+    c.finish-in_default-next.ensures.same task (frames_sent task i.0) i.2 i.3.keeps
+    ∙ c.next_followed.ensures.same
+    ∙ c.pieces.invariant.same in
     let told =
     told_whole c.args.judging.now i.1 i.3 c.pieces.invariant.few end.0 _ _ _
     c.finish-in_default-next.result so_far
@@ -143,178 +133,117 @@ returns-in_default-next-clause-exact g c = λ pieces unread bytes told reads.
     (c.finish-in_default-next.ensures.counts task (frames_sent task i.0) i.2 i.3.keeps) in
     search rules
 
-pub returns-in-Err-tell_passed-clause-exact : goal.returns-in-Err-tell_passed-clause-exact
-returns-in-Err-tell_passed-clause-exact g c = λ pieces unread bytes told reads.
-    let i = c.pieces.invariant.told pieces unread bytes told reads in
+-- It said stop at this piece.
+pub returns-then-stage-clause-exact : goal.returns-then-stage-clause-exact
+returns-then-stage-clause-exact g c = λ pieces unread bytes told reads.
+    let inv = c.pieces.invariant in
+    let i = inv.told pieces unread bytes told reads in
     let task = task_beside c.args.judging.now c.args.options.now unread in
-    let here = rw c.in-Ok.is at c.in-Some.ensures.reads in
+    let here = rw (c.in-Ok.is, c.in-Some-next.is) at c.in-Some.ensures.reads in
     let so_far =
     c.next_followed.ensures.told.kept c.args.audience.now _ c.requires.still i.5 in
-    let at = rw (c.in-Some-next.is, c.in-Passed.is) at
-    (here.exact i.1.ahead unread i.1.rest i.1.rest_is refl i.1.left) in
-    let is : c.in-Passed.fault ≡ unread_fault c.pieces.pes (Some at.0) = at.1 in
-    let next : ReadsPiece (clock_of c.args.options.now) c.pieces.pes i.1.rest i.1.ahead unread
-    (Passed at.0) = at.2 in
-    let same = ap (λ (f : CheckFault). AtPes c.pieces.pes ∷ Says (Told f) ∷ []) is in
-    let device = c.in-Err-tell_passed.ensures.same ∙ c.pieces.invariant.same in
+    let go = c.tell_piece-passed.ensures.told task (frames_sent task i.0) i.2 i.3.keeps
+    (again_is c.in-Some-next.piece c.pieces.passed i.2 here i.4) in
+    let came = unlatched g.A.Audience.is_told _ _ _ go.0.told in
+    let device = came.same ∙ c.next_followed.ensures.same ∙ inv.same in
     let told =
-    told_stop c.args.judging.now i.1 i.3 (Passed at.0) next.more _ _ _ _ next.first
-    (passed_marks task i.0 c.pieces.pes i.1.count at.0)
-    so_far
-    (subst (λ (l : List Mark). TellsPrefix g.A.Audience.is_told c.next_followed.new.audience
-    c.tell_passed.new.stage.device.now (relayed c.pieces.stage.relay l)) same
-    c.in-Err-tell_passed.ensures.told.told) in
+    told_stop c.args.judging.now i.1 i.3 c.next_followed.new.reader.frame c.in-Some-next.piece _ _ _
+    (here.exact i.1.ahead unread i.1.rest i.1.rest_is refl i.1.left) so_far came.cut in
     search rules
 
-pub returns-in-Err-go_on-clause-exact : goal.returns-in-Err-go_on-clause-exact
-returns-in-Err-go_on-clause-exact g c = λ pieces unread bytes told reads.
-    let i = c.pieces.invariant.told pieces unread bytes told reads in
-    let task = task_beside c.args.judging.now c.args.options.now unread in
-    let here = rw c.in-Ok.is at c.in-Some.ensures.reads in
-    let so_far =
-    c.next_followed.ensures.told.kept c.args.audience.now _ c.requires.still i.5 in
-    let at = rw (c.in-Some-next.is, c.in-Sent.is) at
-    (here.exact i.1.ahead unread i.1.rest i.1.rest_is refl i.1.left) in
-    let given = ap (λ x. let r : Result (Option NextPiece) CheckFault = Ok x in r)
-    (c.in-Some-next.is ∙ ap (λ (p : NextPiece). Some p) c.in-Sent.is) in
-    let s : SentFrame = record {
-      frame = c.in-Sent.sending.frame;
-      packets = packets_of_units c.next_followed.new.reader.frame.units;
-    } in
-    let next : ReadsPiece (clock_of c.args.options.now) c.pieces.pes i.1.rest i.1.ahead unread
-    (Sent s) = at.0 in
-    let units = c.units_of-units.ensures.value in
-    let same : sent_as c.after_piece.result c.units_of-units.result ≡ s =
-    rw (c.after_piece.ensures.frame, units) refl in
-    let go = c.in-Err-go_on.ensures.told task (frames_sent task i.0) i.2 i.3.keeps
-    (λ e. let both = c.after_piece.ensures.again e in
-    i.4 both.1
-    ∙ ap packets_of_units (sym (here.again c.in-Sent.sending given both.0) ∙ sym units)) in
-    let device = c.in-Err-go_on.ensures.moves.same ∙ c.pieces.invariant.same in
+-- What came to the device with a piece, whatever the pieces are.
+pub returns-then-stage-clause-some : goal.returns-then-stage-clause-some
+returns-then-stage-clause-some g c =
+    let inv = c.pieces.invariant in
+    let k = inv.keeps in
+    let here = rw (c.in-Ok.is, c.in-Some-next.is) at c.in-Some.ensures.reads in
+    let go = c.tell_piece-passed.ensures.told _ k.0 k.1 k.2
+    (again_is c.in-Some-next.piece c.pieces.passed k.1 here k.3) in
+    let came =
+    unlatched_some g.A.Audience.is_told _ _ (record { items = _; told = go.0.told }) in
+    let device = came.0 ∙ c.next_followed.ensures.same ∙ inv.same in
     let told =
-    told_stop c.args.judging.now i.1 i.3 (Sent s) next.more _ _ _ _ next.first
-    (sent_marks task i.0 c.pieces.pes i.1.count s)
-    so_far
-    (subst (λ (x : SentFrame). TellsPrefix g.A.Audience.is_told c.next_followed.new.audience
-    c.go_on.new.stage.device.now (relayed c.pieces.stage.relay
-    (marks_of_sent task (frames_sent task i.0) c.pieces.pes x)))
-    same go.0.told) in
+    TellsSome-trans _ _ _
+    (TellsSome-kept _ _ _ _ _ inv.some c.requires.still c.next_followed.ensures.told) came.1 in
+    search rules
+
+pub returns-then-stage-clause-stopped : goal.returns-then-stage-clause-stopped
+returns-then-stage-clause-stopped g c =
+    let inv = c.pieces.invariant in
+    let k = inv.keeps in
+    let here = rw (c.in-Ok.is, c.in-Some-next.is) at c.in-Some.ensures.reads in
+    let go = c.tell_piece-passed.ensures.told _ k.0 k.1 k.2
+    (again_is c.in-Some-next.piece c.pieces.passed k.1 here k.3) in
+    let came =
+    unlatched_some g.A.Audience.is_told _ _ (record { items = _; told = go.0.told }) in
+    let device = came.0 ∙ c.next_followed.ensures.same ∙ inv.same in
+    let told = c.tell_piece-passed.new.stage.latch.agrees ∙ c.if-stage.true in
     search rules
 
 pub pieces-preserved : goal.pieces-preserved
 pieces-preserved g c =
     let inv = c.pieces.invariant in
-    let here = rw c.in-Ok.is at c.in-Some.ensures.reads in
-    let below = (rw c.in-Some-next.is at here.below) refl in
+    let k = inv.keeps in
+    let piece = c.in-Some-next.piece in
+    let here = rw (c.in-Ok.is, c.in-Some-next.is) at c.in-Some.ensures.reads in
+    let below = here.below refl in
     let counted = rw c.in-Ok.is at c.in-Some.ensures.count in
-    let before = inv.failures in
-    let one = (rw c.in-Some-next.is at here.taken) refl in
-    let some =
-    TellsSome-kept _ _ _ _ _ inv.some c.requires.still c.next_followed.ensures.told in
-    elim c.match-piece.branch [
-      | in-Passed+in-Ok-tell_passed w ↦
-          rw (w.stage-is, w.checker-is, w.passed-is) (record {
-            few = omega (arith, below);
-            reading = (rw c.in-Some-next.is at here.progress) refl;
-            taken = takes_more_pieces c.pieces.pes _ _ _ inv.taken one;
-            failures = omega (arith, counted, before);
-            goes_on = w.in-Ok-tell_passed.ensures.stopped;
-            same = w.in-Ok-tell_passed.ensures.same ∙ inv.same;
-            day =
-                subst (λ (n : ℕ). n < day) (sym w.in-Ok-tell_passed.ensures.day) inv.day;
-            some = TellsSome-trans _ _ _ some w.in-Ok-tell_passed.ensures.some;
-            holds = λ none.
-                holds-told _ _ _ _ _ g.met.A.LiveAudience.stays_told _ _
-                (c.in-Some.ensures.holds (inv.holds none)) w.in-Ok-tell_passed.ensures.some;
-            room = few_later c.pieces.pes _ inv.room;
-            told = λ pieces unread bytes told reads.
-                let i = inv.told pieces unread bytes told reads in
-                let so_far = c.next_followed.ensures.told.kept c.args.audience.now _
-                c.requires.still i.5 in
-                let at = rw (c.in-Some-next.is, w.in-Passed.is) at
-                (here.exact i.1.ahead unread i.1.rest i.1.rest_is refl i.1.left) in
-                let left = (rw c.in-Some-next.is at (here.left i.1.rest i.1.rest_is)) refl in
-                let s = step_passed c.args.judging.now i.1 i.3 g.A.Audience.is_told _ at.0
-                w.in-Passed.fault w.tell_passed.new.stage.relay _ _ _ left at.2 at.1
-                w.in-Ok-tell_passed.ensures.told.kept so_far
-                w.in-Ok-tell_passed.ensures.told.told in (
-                  i.0 ++ Passed at.0 ∷ [],
-                  s.reads,
-                  i.2,
-                  s.kept,
-                  λ no. absurd (true≢false no),
-                  s.told,
-                );
-          })
-      | in-Sent+in-Ok-go_on w ↦
-          rw (w.stage-is, w.checker-is, w.passed-is) (record {
-            few = omega (arith, below);
-            reading = (rw c.in-Some-next.is at here.progress) refl;
-            taken = takes_more_pieces c.pieces.pes _ _ _ inv.taken one;
-            failures = omega (arith, counted, before);
-            goes_on = w.in-Ok-go_on.ensures.stopped;
-            same = w.in-Ok-go_on.ensures.moves.same ∙ inv.same;
-            day = w.in-Ok-go_on.ensures.moves.in_day w.in-Ok-go_on.ensures.stopped inv.day;
-            some = TellsSome-trans _ _ _ some w.in-Ok-go_on.ensures.moves.some;
-            holds = λ none.
-                holds-told _ _ _ _ _ g.met.A.LiveAudience.stays_told _ _
-                (c.in-Some.ensures.holds (inv.holds none)) w.in-Ok-go_on.ensures.moves.some;
-            room = w.in-Ok-go_on.ensures.room;
-            told = λ pieces unread bytes told reads.
-                let i = inv.told pieces unread bytes told reads in
-                let task = task_beside c.args.judging.now c.args.options.now unread in
-                let so_far = c.next_followed.ensures.told.kept c.args.audience.now _
-                c.requires.still i.5 in
-                let at = rw (c.in-Some-next.is, w.in-Sent.is) at
-                (here.exact i.1.ahead unread i.1.rest i.1.rest_is refl i.1.left) in
-                let left = (rw c.in-Some-next.is at (here.left i.1.rest i.1.rest_is)) refl in
-                let given = ap (λ x. let r : Result (Option NextPiece) CheckFault = Ok x in r)
-                (c.in-Some-next.is ∙ ap (λ (p : NextPiece). Some p) w.in-Sent.is) in
-                let s : SentFrame = record {
-                  frame = w.in-Sent.sending.frame;
-                  packets = packets_of_units c.next_followed.new.reader.frame.units;
-                } in
-                let next : ReadsPiece (clock_of c.args.options.now) c.pieces.pes i.1.rest i.1.ahead
-                unread (Sent s) = at.0 in
-                let units = w.units_of-units.ensures.value in
-                let same : sent_as w.after_piece.result w.units_of-units.result ≡ s =
-                rw (w.after_piece.ensures.frame, units) refl in
-                let go =
-                w.in-Ok-go_on.ensures.told task (frames_sent task i.0) i.2 i.3.keeps
-                (λ e. let both = w.after_piece.ensures.again e in
-                i.4 both.1
-                ∙ ap packets_of_units (sym (here.again w.in-Sent.sending given both.0)
-                ∙ sym units)) in
-                let step = step_sent c.args.judging.now i.1 i.3 g.A.Audience.is_told _
-                c.next_followed.new.reader.frame w.in-Sent.sending.frame
-                (packets_of_units c.next_followed.new.reader.frame.units)
-                w.go_on.new.self w.go_on.new.stage.relay _ _ _ left next at.1
-                (here.sent w.in-Sent.sending given) w.units_of-units.ensures.frame
-                (subst (λ (x : SentFrame). Keeps task (sent_after task.within
-                (frames_sent task i.0) x) x.packets w.go_on.new.self) same go.1)
-                (subst (λ (x : SentFrame). w.go_on.new.stage.relay
-                ≡ relay_after c.pieces.stage.relay (marks_of_sent task (frames_sent task i.0)
-                c.pieces.pes x)) same go.0.kept)
-                so_far
-                (subst (λ (x : SentFrame). Tells g.A.Audience.is_told
-                c.next_followed.new.audience w.go_on.new.stage.device.now
-                (relayed c.pieces.stage.relay (marks_of_sent task (frames_sent task i.0)
-                c.pieces.pes x))) same go.0.told) in (
-                  i.0 ++ Sent s ∷ [],
-                  step.reads,
-                  packets_of_units c.next_followed.new.reader.frame.units,
-                  step.kept,
-                  λ no. refl,
-                  step.told,
-                );
-          })
-    ]
+    let go = c.tell_piece-passed.ensures.told _ k.0 k.1 k.2
+    (again_is piece c.pieces.passed k.1 here k.3) in
+    let more =
+    unlatched_some g.A.Audience.is_told _ _ (record { items = _; told = go.0.told }) in
+    record {
+      few = omega (arith, below);
+      reading = here.progress refl;
+      taken = takes_more_pieces c.pieces.pes _ _ _ inv.taken (here.taken refl);
+      failures = omega (arith, counted, inv.failures);
+      goes_on = c.if-stage.false;
+      same = more.0 ∙ c.next_followed.ensures.same ∙ inv.same;
+      some =
+          TellsSome-trans _ _ _
+          (TellsSome-kept _ _ _ _ _ inv.some c.requires.still c.next_followed.ensures.told) more.1;
+      keeps = (
+        _,
+        _,
+        go.1,
+        λ no. last_is piece k.1 _ (sym c.tell_piece-passed.ensures.passed ∙ no),
+      );
+      holds = λ none.
+          holds-told _ _ _ _ _ g.met.A.LiveAudience.stays_told _ _
+          (c.in-Some.ensures.holds (inv.holds none)) more.1;
+      room = c.tell_piece-passed.ensures.room;
+      told = λ pieces unread bytes told reads.
+          let i = inv.told pieces unread bytes told reads in
+          let task = task_beside c.args.judging.now c.args.options.now unread in
+          let so_far =
+          c.next_followed.ensures.told.kept c.args.audience.now _ c.requires.still i.5 in
+          let all = c.tell_piece-passed.ensures.told task (frames_sent task i.0) i.2 i.3.keeps
+          (again_is piece c.pieces.passed i.2 here i.4) in
+          let s =
+          step c.args.judging.now i.1 i.3 g.A.Audience.is_told _ c.next_followed.new.reader.frame
+          piece _ _ _ _ _ (here.left i.1.rest i.1.rest_is refl)
+          (here.exact i.1.ahead unread i.1.rest i.1.rest_is refl i.1.left)
+          (λ sending is. (
+            here.sent sending
+                (ap (λ p. let r : Result (Option NextPiece) CheckFault = Ok (Some p) in r) is),
+            c.tell_piece-passed.ensures.frame sending is,
+          ))
+          all.1 all.0.kept so_far
+          ((unlatched g.A.Audience.is_told _ _ _ all.0.told).whole c.if-stage.false) in (
+            i.0 ++ s.0 ∷ [],
+            s.1.reads,
+            _,
+            s.1.kept,
+            λ no. last_is piece i.2 _ (sym c.tell_piece-passed.ensures.passed ∙ no),
+            s.1.told,
+          );
+    }
 
 -- It said stop before the next piece.
 pub returns-in_default-clause-exact : goal.returns-in_default-clause-exact
 returns-in_default-clause-exact g c = λ pieces unread bytes told reads.
     let i = c.pieces.invariant.told pieces unread bytes told reads in
-    let device = c.pieces.invariant.same in
+    let device = c.next_followed.ensures.same ∙ c.pieces.invariant.same in
     let told =
     told_before c.args.judging.now i.1 i.3 _ _
     (c.next_followed.ensures.told.kept c.args.audience.now _ c.requires.still i.5) in
@@ -324,49 +253,37 @@ returns-in_default-clause-exact g c = λ pieces unread bytes told reads.
 
 pub returns-in-Err-clause-some : goal.returns-in-Err-clause-some
 returns-in-Err-clause-some g c =
-    let device = c.finish.ensures.same ∙ c.pieces.invariant.same in
+    let k = c.pieces.invariant.keeps in
+    let device =
+    c.finish.ensures.same _ k.0 k.1 k.2
+    ∙ c.next_followed.ensures.same
+    ∙ c.pieces.invariant.same in
     let told =
     TellsSome-trans _ _ _
     (TellsSome-kept _ _ _ _ _ c.pieces.invariant.some c.requires.still
     c.next_followed.ensures.told)
-    c.finish.ensures.some in
+    (c.finish.ensures.some _ k.0 k.1 k.2) in
     search rules
 
 pub returns-in_default-next-clause-some : goal.returns-in_default-next-clause-some
 returns-in_default-next-clause-some g c =
-    let device = c.finish-in_default-next.ensures.same ∙ c.pieces.invariant.same in
+    let k = c.pieces.invariant.keeps in
+    let device =
+    c.finish-in_default-next.ensures.same _ k.0 k.1 k.2
+    ∙ c.next_followed.ensures.same
+    ∙ c.pieces.invariant.same in
     let told =
     TellsSome-trans _ _ _
     (TellsSome-kept _ _ _ _ _ c.pieces.invariant.some c.requires.still
     c.next_followed.ensures.told)
-    c.finish-in_default-next.ensures.some in
-    search rules
-
-pub returns-in-Err-tell_passed-clause-some : goal.returns-in-Err-tell_passed-clause-some
-returns-in-Err-tell_passed-clause-some g c =
-    let device = c.in-Err-tell_passed.ensures.same ∙ c.pieces.invariant.same in
-    let told =
-    TellsSome-trans _ _ _
-    (TellsSome-kept _ _ _ _ _ c.pieces.invariant.some c.requires.still
-    c.next_followed.ensures.told)
-    c.in-Err-tell_passed.ensures.some in
-    search rules
-
-pub returns-in-Err-go_on-clause-some : goal.returns-in-Err-go_on-clause-some
-returns-in-Err-go_on-clause-some g c =
-    let device = c.in-Err-go_on.ensures.moves.same ∙ c.pieces.invariant.same in
-    let told =
-    TellsSome-trans _ _ _
-    (TellsSome-kept _ _ _ _ _ c.pieces.invariant.some c.requires.still
-    c.next_followed.ensures.told)
-    c.in-Err-go_on.ensures.moves.some in
+    (c.finish-in_default-next.ensures.some _ k.0 k.1 k.2) in
     search rules
 
 -- ---- what is held back where the source failed
 
 pub returns-then-is_source_failure-clause-asked : goal.returns-then-is_source_failure-clause-asked
 returns-then-is_source_failure-clause-asked g c = λ none.
-    let device = c.pieces.invariant.same in
+    let device = c.next_followed.ensures.same ∙ c.pieces.invariant.same in
     let told =
     (rw c.in-Err.is at (c.in-Some.ensures.asked (c.pieces.invariant.holds none)))
     (sym c.is_source_failure.ensures ∙ c.if-is_source_failure.true) in

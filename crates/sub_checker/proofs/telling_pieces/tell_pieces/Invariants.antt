@@ -1,8 +1,7 @@
 -- After `pes` pieces, what is kept is what they say, and all that is told of them was told.
-use Rattle.std.proofs.Common.{◌≡◌, ◌<◌, ◌≤◌, ◌-◌, ℕ, List, Option, Some, false}
+use Rattle.std.proofs.Common.{◌≡◌, ◌≤◌, ◌-◌, ℕ, List, None, Option, Some, false}
 use Rattle.ttx_pes.specs.Reading.{most_packets}
 use Rattle.ttx_pes.specs.declared.progress.Progress.TheVariants.{Reading}
-use Rattle.stl_file.specs.TimeCode.{day}
 use Rattle.sub_io.specs.HandingOn.{HoldsWhileWaiting}
 use Rattle.sub_io.specs.Telling.{Tells, TellsSome}
 use Rattle.sub_plan.specs.FrameTime.{clock_of}
@@ -10,7 +9,9 @@ use Rattle.sub_rules.specs.FrameRules.{Unread, task_beside}
 use Rattle.sub_rules.specs.PacketRules.{packets_of_units}
 use Rattle.sub_rules.specs.PieceEvents.{events_of_pieces}
 use Rattle.sub_rules.specs.Pieces.{Piece, ReadsPieces, TakesPieces}
+use Rattle.sub_rules.specs.Transmission.{Transmission}
 use Rattle.sub_checker.specs.Checker.{AreFew}
+use Rattle.sub_checker.specs.Following.{Keeps}
 use Rattle.sub_checker.proofs.PieceWaysLemmas.{Tracks}
 use Rattle.sub_checker.proofs.ReadsOnLemmas.{ReadsOn}
 use Rattle.sub_checker.proofs.telling_pieces.tell_pieces.Given as goal
@@ -21,13 +22,17 @@ invariant-pieces g l = record {
   reading : l.reader.progress ≡ Reading l.pes;
   taken : TakesPieces l.pes (g.S.Source.remaining l.fn.source) (g.S.Source.remaining l.source);
   failures : g.S.Source.failure_count l.source ≡ g.S.Source.failure_count l.fn.source;
-  goes_on : g.A.Audience.has_stopped l.stage.device.now ≡ false;
-  same : l.stage.device.ghost_name ≡ l.initial.stage.device.ghost_name;
-  day : l.stage.relay.trust.last < day;
-  some : TellsSome g.A.Audience.is_told l.fn.audience l.stage.device.now;
+  goes_on : l.stage.latch.stopped ≡ false;
+  same : l.stage.latch.device.ghost_name ≡ l.initial.stage.latch.device.ghost_name;
+  some : TellsSome g.A.Audience.is_told l.fn.audience l.stage.latch.device.now;
+  keeps :
+      (sent : Transmission)
+      × (last : List (List ℕ))
+      × Keeps (task_beside l.fn.judging l.options None) sent last l.checker
+      × (l.passed ≡ false → last ≡ packets_of_units l.reader.frame.units);
   holds :
       g.A.Live.held l.fn.audience ≡ 0
-      → HoldsWhileWaiting g.A.Live.is_waiting g.A.Live.held l.stage.device.now;
+      → HoldsWhileWaiting g.A.Live.is_waiting g.A.Live.held l.stage.latch.device.now;
   room : AreFew l.pes l.checker.counts;
   told :
       (pieces : List Piece) (unread : Option Unread) (bytes : List ℕ)
@@ -38,7 +43,7 @@ invariant-pieces g l = record {
       × (last : List (List ℕ))
       × Tracks (task_beside l.fn.judging l.options unread) done last l.checker l.stage.relay
       × (l.passed ≡ false → last ≡ packets_of_units l.reader.frame.units)
-      × Tells g.A.Audience.is_told l.fn.audience l.stage.device.now
+      × Tells g.A.Audience.is_told l.fn.audience l.stage.latch.device.now
       (events_of_pieces (task_beside l.fn.judging l.options unread) done);
 }
 

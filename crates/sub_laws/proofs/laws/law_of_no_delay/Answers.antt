@@ -1,5 +1,5 @@
--- The law: GoodWithinLemmas.
-use Rattle.sub_laws.proofs.GoodWithinLemmas.{law_of_no_delay}
+-- The law: GoodByLemmas.
+use Rattle.sub_laws.proofs.GoodByLemmas.{law_of_no_delay}
 use Rattle.sub_laws.proofs.laws.law_of_no_delay.Goals as goal
 
 pub returns : goal.returns

@@ -1,8 +1,7 @@
 -- What is left to be told of the rules that are left is told of all.
-use Rattle.std.proofs.Common.{◌≡◌, Bool, Result, false, drop, map}
+use Rattle.std.proofs.Common.{◌≡◌, Bool, drop, map}
 use Rattle.std.specs.List.{filter}
-use Rattle.sub_io.specs.Telling.{TellsSome, TellsUntilStopped}
-use Rattle.sub_io.specs.declared.audience.Stopped.{Stopped}
+use Rattle.sub_io.specs.Telling.{Tells}
 use Rattle.sub_rules.specs.Events.{packet_fault}
 use Rattle.sub_packets.specs.Listener.{rule_set}
 use Rattle.sub_rules.specs.PacketTests.{packet_rules}
@@ -15,15 +14,12 @@ abbrev pub invariant-loop-rule : goal.invariant-loop-rule
 invariant-loop-rule g l =
     let tell : PacketRule → Event = λ r. Told (packet_fault r l.frame l.packet) in
     record {
-      goes_on : g.A.Audience.has_stopped l.audience ≡ false;
-      some : TellsSome g.A.Audience.is_told l.fn.audience l.audience;
       told :
           (test : PacketRule → Bool)
           → l.fn.rules.0 ≡ rule_set test packet_rules
           → (l.left ≡ rule_set test (drop l.rule-index packet_rules))
-          × ((new : g.row.A.Denot) (result : Result (Unit {0}) Stopped)
-          → TellsUntilStopped g.A.Audience.is_told l.audience new
-          (map tell (filter test (drop l.rule-index packet_rules))) result
-          → TellsUntilStopped g.A.Audience.is_told l.fn.audience new
-          (map tell (filter test packet_rules)) result);
+          × ((new : g.row.A.Denot)
+          → Tells g.A.Taker.is_told l.taker new
+          (map tell (filter test (drop l.rule-index packet_rules)))
+          → Tells g.A.Taker.is_told l.fn.taker new (map tell (filter test packet_rules)));
     }

@@ -1,5 +1,5 @@
 -- Where something was told there is to be a subtitle, and all in order: enough-some.
-use Rattle.std.proofs.Common.{arith, refl, sym, ◌∙◌, ◌≡◌, ◌<◌, length, false}
+use Rattle.std.proofs.Common.{ap, arith, refl, sym, ◌∙◌, ◌≡◌, ◌<◌, length, false}
 use Rattle.std.proofs.lemmas.Bool.Decides.{nat_tests}
 use Rattle.stl_rows.specs.Keeping.{is_whole}
 use Rattle.stl_rows.proofs.KeepingLemmas.{enough-some}
@@ -8,7 +8,8 @@ use Rattle.stl_rows.proofs.keeping.Kept.is_enough.Goals as goal
 pub returns : goal.returns
 returns g c =
     let part : is_whole c.args.self.now ≡ false = sym c.is_whole.ensures ∙ c.if-is_whole.false in
-    let records : c.as_slice.result.now ≡ c.args.self.now.records = grind (arith, nat_tests) in
+    let records : c.self.inside.subtitles ≡ c.args.self.now.records =
+    ap (λ k. k.records) c.self.view_is in
     let some : 0 < length c.args.self.now.records = grind (arith, nat_tests) in
     c.are_in_order.ensures
     ∙ rw (records, enough-some c.args.self.now part some) refl

@@ -1,16 +1,12 @@
 -- What is read once the first PES packet was found, and where the source failed before.
 use Rattle.std.proofs.Common.{◌≡◌}
 use Rattle.sub_listing.proofs.FirstPacketLemmas.{fails_first_packet, fails_packet_kept}
-use Rattle.sub_answer.proofs.AnsweringLemmas.{no_piece_read, no_piece_read_within}
+use Rattle.sub_answer.proofs.AnsweringLemmas.{no_piece_read}
 use Rattle.sub_answer.proofs.answering.check.check_from.Goals as goal
 
 pub returns-in-Ok-clause-read : goal.returns-in-Ok-clause-read
 returns-in-Ok-clause-read g c = λ index is.
     fails_packet_kept index _ _ _ c.in-Ok.ensures.kept (c.check.ensures.read index is)
-
-pub returns-in-Err-clause-within : goal.returns-in-Err-clause-within
-returns-in-Err-clause-within g c = λ none bytes told.
-    no_piece_read_within c.args.programme.now c.args.options.now bytes
 
 pub returns-in-Err-clause-checked_by : goal.returns-in-Err-clause-checked_by
 returns-in-Err-clause-checked_by g c = λ bytes told.

@@ -58,8 +58,6 @@ returns-in-Ok-clause-told g c =
     (all_answers c.args.judging.now _ _ c.check_all.result
     (λ programme is bytes told.
     e.first_by programme is bytes (told_kept _ _ bytes found.kept told))
-    (λ programme is none bytes told.
-    e.first_within programme is none bytes (told_kept _ _ bytes found.kept told))
     (λ programme is none zero bytes told.
     e.first programme is none zero bytes (told_kept _ _ bytes found.kept told)))
     e.stopped e.goes_on e.only (rw same at e.count)

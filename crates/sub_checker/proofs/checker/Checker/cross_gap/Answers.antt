@@ -1,29 +1,24 @@
 -- One end after another.
-use Rattle.std.proofs.Common.{◌+◌, ◌-◌, ◌<◌, ◌++◌, ◌∙◌, ap, sym, subst, arith, refl, List}
-use Rattle.std.proofs.lemmas.Result.{err_from_is_err_and}
+use Rattle.std.proofs.Common.{◌+◌, ◌-◌, ◌<◌, ◌∙◌, ap, sym, subst, arith, refl}
 use Rattle.sub_rules.specs.Events.{latest}
 use Rattle.sub_rules.specs.PieceEvents.{marks_of_gap}
-use Rattle.sub_rules.specs.Trusted.{Mark}
 use Rattle.sub_checker.specs.Following.{Follows, Waits}
 use Rattle.sub_rules.specs.FrameRules.{packets_before}
 use Rattle.sub_checker.proofs.FollowingLemmas.{follows_waits, gap_ended, gap_knows, gap_marks}
-use Rattle.sub_checker.proofs.FollowingLemmas.{gap_more, gap_split, gap_start, gap_waits}
-use Rattle.sub_checker.proofs.StageLemmas.{Moves-none, Moves-trans, ok_whole, stops_two, whole_none}
-use Rattle.sub_checker.proofs.StageLemmas.{whole_ok, whole_two}
+use Rattle.sub_checker.proofs.FollowingLemmas.{gap_more, gap_start, gap_waits}
+use Rattle.sub_checker.proofs.StageLemmas.{relays_nothing, relays_same, relays_two}
 use Rattle.sub_rules.proofs.EndLemmas.{gap_length-is}
 use Rattle.sub_checker.proofs.checker.Checker.cross_gap.Goals as goal
 
 pub loop-f-init : goal.loop-f-init
 loop-f-init g c = record {
-  goes_on = c.requires.goes_on;
-  moves = Moves-none;
   counts = grind arith;
   latest_is = grind arith;
   later = grind arith;
   upto = grind arith;
   told = λ task frames n last follows some is.
       let here = subst (Follows task frames n last) (sym c.self.view_is) follows in (
-        whole_none (gap_start task frames n _ (here.latest_is some)),
+        relays_nothing (gap_start task frames n _ (here.latest_is some)),
         subst (Waits task frames n _ last) c.self.view_is
             (follows_waits task frames n _ last _ here some (omega arith)),
       );
@@ -33,8 +28,6 @@ pub loop-f-preserved : goal.loop-f-preserved
 loop-f-preserved g c =
     let i = c.loop-f.invariant in
     record {
-      goes_on = c.in_ok-end_of_frame.ensures.stopped;
-      moves = Moves-trans i.moves i.goes_on c.in_ok-end_of_frame.ensures.moves;
       counts = grind arith;
       latest_is = grind arith;
       later = let l = i.later in omega arith;
@@ -44,56 +37,22 @@ loop-f-preserved g c =
           let later = i.later in
           let past : latest frames n < c.loop-f.f =
           let latest_is = follows.latest_is some in omega arith in
-          let due = c.in_ok-end_of_frame.ensures.due in
+          let due = c.end_of_frame.ensures.due in
           let knows =
           gap_knows task frames n c.loop-f.f last _ _ before.1 some past c.move_to.ensures
           (i.latest_is ∙ follows.latest_is some) due in
-          let told = c.in_ok-end_of_frame.ensures.told (packets_before frames n) knows in
+          let told = c.end_of_frame.ensures.told (packets_before frames n) knows in
           let marks =
           gap_marks task frames n c.loop-f.f last _ _ before.1 some past c.move_to.ensures
           (i.latest_is ∙ follows.latest_is some) due in (
-            whole_two (gap_more task frames n c.loop-f.f _ past refl) before.0
-                (whole_ok (sym marks) told),
+            relays_two (gap_more task frames n c.loop-f.f _ past refl) before.0
+                (relays_same (sym marks) told),
             subst (Waits task frames n _ last)
-                (sym (c.in_ok-end_of_frame.ensures.ended (packets_before frames n) knows))
+                (sym (c.end_of_frame.ensures.ended (packets_before frames n) knows))
                 (gap_waits task frames n c.loop-f.f last _ _ before.1 some past c.move_to.ensures
                 (i.latest_is ∙ follows.latest_is some) due _ refl),
           );
     }
-
-pub returns-in_err-end_of_frame-clause-moves : goal.returns-in_err-end_of_frame-clause-moves
-returns-in_err-end_of_frame-clause-moves g c =
-    let i = c.loop-f.invariant in
-    Moves-trans i.moves i.goes_on c.in_err-end_of_frame.ensures.moves
-
-pub returns-in_err-end_of_frame-clause-told : goal.returns-in_err-end_of_frame-clause-told
-returns-in_err-end_of_frame-clause-told g c = λ task frames n last follows some is.
-    let i = c.loop-f.invariant in
-    let p = err_from_is_err_and c.from_residual.result c.from_residual.ensures.1 in
-    let before = i.told task frames n last follows some is in
-    let later = i.later in
-    let past : latest frames n < c.loop-f.f =
-    let latest_is = follows.latest_is some in omega arith in
-    let due = c.in_err-end_of_frame.ensures.due in
-    let knows =
-    gap_knows task frames n c.loop-f.f last _ _ before.1 some past c.move_to.ensures
-    (i.latest_is ∙ follows.latest_is some) due in
-    let told = c.in_err-end_of_frame.ensures.told (packets_before frames n) knows in
-    let marks =
-    gap_marks task frames n c.loop-f.f last _ _ before.1 some past c.move_to.ensures
-    (i.latest_is ∙ follows.latest_is some) due in
-    let here = c.loop-f-test.true in
-    let size = gap_length-is frames n some ∙ ap (λ f. f - (latest frames n + 1)) is in
-    let split =
-    gap_split task frames n (c.loop-f.f + 1 - (latest frames n + 1))
-    (c.args.to - (latest frames n + 1)) (omega arith) in
-    let parts =
-    ap (marks_of_gap task frames n) size
-    ∙ split.1
-    ∙ ap (λ (l : List Mark). l ++ split.0) (gap_more task frames n c.loop-f.f _ past refl
-    ∙ ap (λ (l : List Mark). marks_of_gap task frames n (c.loop-f.f - (latest frames n + 1)) ++ l)
-    (sym marks)) in
-    rw p.1 (stops_two split.0 parts before.0 told, tt)
 
 pub returns-clause-told : goal.returns-clause-told
 returns-clause-told g c = λ task frames n last follows some is.
@@ -103,6 +62,6 @@ returns-clause-told g c = λ task frames n last follows some is.
     let ended =
     gap_ended task frames n c.loop-f.f c.args.to c.args.self.now.latest last _ before.1 some
     (follows.latest_is some) i.later c.loop-f-test.false i.upto in (
-      ok_whole (ap (marks_of_gap task frames n) (size ∙ ended.0)) before.0,
+      relays_same (ap (marks_of_gap task frames n) (size ∙ ended.0)) before.0,
       ended.1,
     )

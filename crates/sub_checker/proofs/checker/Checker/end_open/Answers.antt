@@ -21,5 +21,5 @@ returns-clause-told g c = λ task sent last keeps.
     (header_more task sent (length sent - 1) last _ shut _ there
     (ap (λ (v : CheckerValue). v.counts.headers_before) c.self.view_is ∙ opens.before)) in (
       relays_same (waiting_some task sent last c.args.self.now keeps opened) end.0,
-      follows_all c.end_sent.result task sent last _ some end.1,
+      follows_all task sent last _ some end.1,
     )

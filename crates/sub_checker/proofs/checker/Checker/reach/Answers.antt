@@ -1,6 +1,5 @@
 -- The first PES packet, or another one.
 use Rattle.std.proofs.Common.{◌≡◌, ◌∙◌, ◌<◌, ℕ, ap, arith, sym, subst}
-use Rattle.std.specs.Prelude.{OnOk}
 use Rattle.sub_checker.specs.Following.{Arrives, Follows, reaching_marks}
 use Rattle.sub_checker.specs.Relay.{StageRelays}
 use Rattle.sub_rules.specs.FrameRules.{frame_at}
@@ -16,8 +15,8 @@ returns-then-self-eq0-clause-told g c = λ task frames n last follows is.
     let none : n ≡ 0 = sym here.number ∙ c.if-self-eq0.true in
     subst (λ (k : ℕ).
     StageRelays g.A.Audience.is_told c.args.stage.now (reaching_marks task frames k)
-    c.begin.new.stage c.begin.result
-    × OnOk c.begin.result (Arrives task frames k last c.begin.new.self)) (sym none)
+    c.begin.new.stage
+    × Arrives task frames k last c.begin.new.self) (sym none)
     (c.begin.ensures.told task frames last
     (subst (λ (k : ℕ). Follows task frames k last c.args.self.now) none follows)
     (ap (frame_at frames) (sym none) ∙ is))

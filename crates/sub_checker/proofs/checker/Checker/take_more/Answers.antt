@@ -1,37 +1,15 @@
 -- More packets of the last frame: by TakingLemmas.
 use Rattle.std.proofs.Common.{◌≡◌, ◌∙◌, ◌+◌, ◌-◌, ℕ, length, suc, map, ap, arith, subst, sym}
 use Rattle.std.proofs.lemmas.List.{length-map}
-use Rattle.std.proofs.lemmas.Result.{err_from_is_err_and}
 use Rattle.sub_rules.specs.Events.{packets_told}
 use Rattle.sub_rules.specs.FrameRules.{packets_before}
 use Rattle.sub_rules.specs.PacketRules.{packets_of_units}
 use Rattle.sub_rules.specs.Trusted.Mark.{Says}
 use Rattle.sub_checker.specs.Checker.{CheckerValue, HasHeard}
 use Rattle.sub_checker.proofs.MoreLemmas.{more_are}
-use Rattle.sub_checker.proofs.StageLemmas.{relays_err, relays_ok}
+use Rattle.sub_checker.proofs.StageLemmas.{relays_same}
 use Rattle.sub_checker.proofs.TakingLemmas.{more_keeps}
 use Rattle.sub_checker.proofs.checker.Checker.take_more.Goals as goal
-
-pub returns-in_err-hear-clause-told : goal.returns-in_err-hear-clause-told
-returns-in_err-hear-clause-told g c = λ task sent last keeps again.
-    let p = err_from_is_err_and c.from_residual.result c.from_residual.ensures.1 in
-    let opened = c.requires.opened in
-    let some = keeps.some opened in
-    let opens = keeps.opens opened in
-    let all : length sent ≡ suc (length sent - 1) = omega (arith, some) in
-    let ps = packets_of_units c.args.units.now in
-    let heard =
-    c.in_err-hear.ensures.told (packets_before sent (suc (length sent - 1))) last
-    opens.heard.known.knows again in
-    let marks = more_are task sent (length sent - 1) last ps c.args.self.now opens all in
-    let from = ap (λ (v : CheckerValue). v.counts.packets) c.self.view_is in
-    rw p.1 (
-      relays_err
-          (marks ∙ ap (λ (k : ℕ). map Says (packets_told c.args.self.now.listener.watched
-          c.args.self.now.frame k (packets_before sent (suc (length sent - 1))) ps (length ps)))
-          (sym from)) heard.0,
-      tt,
-    )
 
 pub returns-clause-told : goal.returns-clause-told
 returns-clause-told g c = λ task sent last keeps again.
@@ -41,17 +19,17 @@ returns-clause-told g c = λ task sent last keeps again.
     let all : length sent ≡ suc (length sent - 1) = omega (arith, some) in
     let ps = packets_of_units c.args.units.now in
     let heard =
-    c.in_ok-hear.ensures.told (packets_before sent (suc (length sent - 1))) last
+    c.hear.ensures.told (packets_before sent (suc (length sent - 1))) last
     opens.heard.known.knows again in
     let marks = more_are task sent (length sent - 1) last ps c.args.self.now opens all in
     let from = ap (λ (v : CheckerValue). v.counts.packets) c.self.view_is in (
-      relays_ok
+      relays_same
           (marks ∙ ap (λ (k : ℕ). map Says (packets_told c.args.self.now.listener.watched
           c.args.self.now.frame k (packets_before sent (suc (length sent - 1))) ps (length ps)))
           (sym from)) heard.0,
       more_keeps task sent last ps c.args.self.now c.hear.new.self _ _ keeps opened
           (subst (λ (k : ℕ). HasHeard k (packets_before sent (suc (length sent - 1))) ps
-          c.args.self.now c.hear.new.self) from heard.1.0)
+          c.args.self.now c.hear.new.self) from heard.1)
           (ap (λ (v : CheckerValue). record v {
             counts = record v.counts { packets = v.counts.packets + c.len.result };
           }) c.self-2.view_is)

@@ -1,7 +1,6 @@
 -- The way to its frame, its packets, and the end where that comes at once: by TakingLemmas.
 use Rattle.std.proofs.Common.{◌∙◌, ◌+◌, ◌-◌, ℕ, nat_lt, true, ap, refl, sym, subst, arith}
 use Rattle.std.proofs.lemmas.List.{length-map}
-use Rattle.std.proofs.lemmas.Result.{err_from_is_err_and}
 use Rattle.sub_rules.specs.FrameRules.{Task, packets_before}
 use Rattle.sub_rules.specs.PacketRules.{header_count, packets_of_units}
 use Rattle.sub_rules.proofs.PacketLists.{holds-count}
@@ -11,73 +10,34 @@ use Rattle.sub_checker.specs.Checker.{CheckerValue}
 use Rattle.sub_checker.specs.Following.{Follows}
 use Rattle.sub_checker.specs.declared.counts.Counts.{Counts}
 use Rattle.sub_checker.proofs.HearingLemmas.{packets_are}
-use Rattle.sub_checker.proofs.StageLemmas.{Moves-begun, Moves-trans, ok_whole}
-use Rattle.sub_checker.proofs.StageLemmas.{relays_same, relays_two, stops_one, stops_two, whole_ok}
-use Rattle.sub_checker.proofs.StageLemmas.{whole_two}
+use Rattle.sub_checker.proofs.StageLemmas.{relays_same, relays_two}
 use Rattle.sub_checker.proofs.TakingLemmas.{Keeps-closed, arrived, each_is, next_each}
-use Rattle.sub_checker.proofs.TakingLemmas.{next_heard, next_keeps, next_within, reached_part}
+use Rattle.sub_checker.proofs.TakingLemmas.{next_heard, next_keeps, next_within}
 use Rattle.sub_checker.proofs.TakingLemmas.{some_is}
-use Rattle.sub_checker.proofs.TellingLemmas.{ok_map}
 use Rattle.sub_checker.proofs.checker.Checker.take_next.Goals as goal
-
-pub returns-in_err-reach-clause-told : goal.returns-in_err-reach-clause-told
-returns-in_err-reach-clause-told g c = λ task frames n last follows long sent again.
-    let p = err_from_is_err_and c.from_residual.result c.from_residual.ensures.1 in
-    let reached = c.in_err-reach.ensures.told task frames n last follows sent.frame_is in
-    rw p.1 (stops_one _ (reached_part task frames n) reached.0, tt)
-
-pub returns-in_err-headers-clause-moves : goal.returns-in_err-headers-clause-moves
-returns-in_err-headers-clause-moves g c =
-    Moves-trans c.in_ok-reach.ensures.moves c.in_ok-reach.ensures.stopped (Moves-begun _
-    c.begin_frame.ensures.begun (rw c.in_ok-reach.ensures.frame c.requires.day)
-    c.in_ok-reach.ensures.stopped c.in_err-headers.ensures.moves)
-
-pub returns-in_err-headers-clause-told : goal.returns-in_err-headers-clause-told
-returns-in_err-headers-clause-told g c = λ task frames n last follows long sent again.
-    let r = c.from_residual-in_err-headers in
-    let p = err_from_is_err_and r.result r.ensures.1 in
-    let reached = c.in_ok-reach.ensures.told task frames n last follows sent.frame_is in
-    let arrives = reached.1 in
-    let heard =
-    c.in_err-headers.ensures.told (packets_before frames n) last arrives.waits.known.knows again in
-    let marks = packets_are task frames n last _ _ arrives sent.packets_are in
-    rw p.1 (
-      stops_two _ refl
-          (arrived _ _ task frames n last _ arrives (whole_ok refl reached.0)
-          c.begin_frame.ensures.begun)
-          (relays_same marks heard.0),
-      tt,
-    )
-
-pub returns-then-self-eq0-clause-moves : goal.returns-then-self-eq0-clause-moves
-returns-then-self-eq0-clause-moves g c =
-    Moves-trans c.in_ok-reach.ensures.moves c.in_ok-reach.ensures.stopped (Moves-begun _
-    c.begin_frame.ensures.begun (rw c.in_ok-reach.ensures.frame c.requires.day)
-    c.in_ok-reach.ensures.stopped (Moves-trans c.in_ok-headers.ensures.moves
-    c.in_ok-headers.ensures.stopped c.end_sent.ensures.moves))
 
 pub returns-then-self-eq0-clause-told : goal.returns-then-self-eq0-clause-told
 returns-then-self-eq0-clause-told g c = λ task frames n last follows long sent again.
     let ps = packets_of_units c.args.units.now in
-    let reached = c.in_ok-reach.ensures.told task frames n last follows sent.frame_is in
+    let reached = c.reach.ensures.told task frames n last follows sent.frame_is in
     let arrives = reached.1 in
     let heard =
-    c.in_ok-headers.ensures.told (packets_before frames n) last arrives.waits.known.knows again in
+    c.hear-headers.ensures.told (packets_before frames n) last arrives.waits.known.knows again in
     let marks = packets_are task frames n last ps _ arrives sent.packets_are in
     let view = c.self.view_is in
     let each =
-    each_is task frames n last ps c.reach.new.self c.hear.new.self arrives sent.there
-    sent.packets_are heard.1.0 (sym (ap (λ (v : CheckerValue). v.within) view)
+    each_is task frames n last ps c.reach.new.self c.hear-headers.new.self arrives sent.there
+    sent.packets_are heard.1 (sym (ap (λ (v : CheckerValue). v.within) view)
     ∙ c.if-self-eq0.true) in
     let there =
-    next_heard task frames n last ps c.reach.new.self c.hear.new.self arrives sent.there
-    sent.packets_are heard.1.0 _
+    next_heard task frames n last ps c.reach.new.self c.hear-headers.new.self arrives sent.there
+    sent.packets_are heard.1 _
     (ap (λ (v : CheckerValue). record v {
       counts = record v.counts { frames = v.counts.frames + 1 };
     }) view) in
     let end =
     c.end_sent.ensures.told task frames n ps there sent.there
-    (ap (nat_lt 0) heard.1.1
+    (ap (nat_lt 0) heard.2
     ∙ ap (λ (t : Task). nat_lt 0 (header_count t.watched.page ps))
     (sym arrives.waits.known.task_is)
     ∙ sym (holds-count task.watched.page ps)
@@ -85,54 +45,44 @@ returns-then-self-eq0-clause-told g c = λ task frames n last follows long sent 
     let shut =
     ap (λ (m : Counts). m.is_open) c.end_sent.ensures.counts
     ∙ ap (λ (v : CheckerValue). v.counts.is_open) view
-    ∙ ap (λ (v : CheckerValue). v.counts.is_open) heard.1.0.new_is
-    ∙ ap (λ (m : Counts). m.is_open) c.in_ok-reach.ensures.counts
+    ∙ ap (λ (v : CheckerValue). v.counts.is_open) heard.1.new_is
+    ∙ ap (λ (m : Counts). m.is_open) c.reach.ensures.counts
     ∙ c.requires.closed in (
       relays_two (next_each task frames n each)
-          (whole_two refl
-          (arrived _ _ task frames n last _ arrives (whole_ok refl reached.0)
-          c.begin_frame.ensures.begun)
-          (whole_ok marks heard.0))
+          (relays_two refl
+          (arrived task frames n last _ arrives reached.0 c.begin_frame.ensures.begun)
+          (relays_same marks heard.0))
           end.0,
-      ok_map _ _ c.end_sent.result end.1
-          (λ after. Keeps-closed task frames ps c.end_sent.new.self shut each
-          (subst (λ (k : ℕ). Follows task frames k ps c.end_sent.new.self) (sym long) after)),
+      Keeps-closed task frames ps c.end_sent.new.self shut each
+          (subst (λ (k : ℕ). Follows task frames k ps c.end_sent.new.self) (sym long) end.1),
     )
-
-pub returns-clause-moves : goal.returns-clause-moves
-returns-clause-moves g c =
-    Moves-trans c.in_ok-reach.ensures.moves c.in_ok-reach.ensures.stopped (Moves-begun _
-    c.begin_frame.ensures.begun (rw c.in_ok-reach.ensures.frame c.requires.day)
-    c.in_ok-reach.ensures.stopped c.in_ok-headers.ensures.moves)
 
 pub returns-clause-told : goal.returns-clause-told
 returns-clause-told g c = λ task frames n last follows long sent again.
     let ps = packets_of_units c.args.units.now in
-    let reached = c.in_ok-reach.ensures.told task frames n last follows sent.frame_is in
+    let reached = c.reach.ensures.told task frames n last follows sent.frame_is in
     let arrives = reached.1 in
     let heard =
-    c.in_ok-headers.ensures.told (packets_before frames n) last arrives.waits.known.knows again in
+    c.hear-headers.ensures.told (packets_before frames n) last arrives.waits.known.knows again in
     let marks = packets_are task frames n last ps _ arrives sent.packets_are in
     let view = c.self.view_is in
     let not_each = c.if-self-eq0.false in
     let within =
-    some_is task frames n last ps c.reach.new.self c.hear.new.self arrives sent.there
-    sent.packets_are heard.1.0
+    some_is task frames n last ps c.reach.new.self c.hear-headers.new.self arrives sent.there
+    sent.packets_are heard.1
     (λ e. not_each (ap (λ (v : CheckerValue). v.within) view ∙ e)) in
-    let before = c.self.inside.counts.headers - c.in_ok-headers.headers in
+    let before = c.self.inside.counts.headers - c.hear-headers.result in
     let grown =
     ap (λ (v : CheckerValue). v.counts.headers) view
-    ∙ ap (λ (m : Counts). m.headers) c.in_ok-headers.ensures.counts.1 in
+    ∙ ap (λ (m : Counts). m.headers) c.hear-headers.ensures.counts.1 in
     let task_within = ap (λ (t : Task). t.within) arrives.waits.known.task_is in (
-      ok_whole (next_within task frames n (omega (arith, task_within, within)))
-          (whole_two refl
-          (arrived _ _ task frames n last _ arrives (whole_ok refl reached.0)
-          c.begin_frame.ensures.begun)
-          (whole_ok marks heard.0)),
-      next_keeps task frames n last ps c.reach.new.self c.hear.new.self arrives sent.there
-          sent.packets_are heard.1.0 _ before c.len.result within long
+      relays_two (next_within task frames n (omega (arith, task_within, within)))
+          (arrived task frames n last _ arrives reached.0 c.begin_frame.ensures.begun)
+          (relays_same marks heard.0),
+      next_keeps task frames n last ps c.reach.new.self c.hear-headers.new.self arrives sent.there
+          sent.packets_are heard.1 _ before c.len.result within long
           (ap (λ (v : CheckerValue). record v { counts = c.leave_open.new.self }) view
-          ∙ ap (λ (m : Counts). record c.hear.new.self { counts = m })
+          ∙ ap (λ (m : Counts). record c.hear-headers.new.self { counts = m })
           (c.leave_open.ensures ∙ ap (λ (v : CheckerValue). record v.counts {
             frames = v.counts.frames + 1;
             headers_before = before;

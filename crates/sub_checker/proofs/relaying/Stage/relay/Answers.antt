@@ -1,18 +1,26 @@
 -- An event: by RelayLemmas.
+use Rattle.std.proofs.Common.{[], ◌∷◌, ◌++◌, ◌∙◌, subst, sym}
+use Rattle.sub_io.proofs.TellingLemmas.{Tells-trans}
+use Rattle.sub_io.specs.Telling.{Tells, first_alone}
 use Rattle.sub_rules.specs.Trusted.Mark.{Says}
-use Rattle.sub_checker.specs.declared.relaying.Relay.{Relay}
-use Rattle.sub_checker.proofs.RelayLemmas.{relay_one, says_with}
+use Rattle.sub_checker.specs.Latch.{IsLatched}
+use Rattle.sub_checker.specs.PassedPieces.{as_run}
+use Rattle.sub_checker.proofs.RelayLemmas.{both_are, both_kept, relay_one, says_with}
 use Rattle.sub_checker.proofs.relaying.Stage.relay.Goals as goal
 
-pub returns-clause-relays : goal.returns-clause-relays
-returns-clause-relays g c =
-    let kept : Relay = record {
-      trust = c.say-first.new.self;
-      run = c.announce_both.new.run;
-    } in
-    relay_one g.A.Audience.is_told _ _ c.args.self.now.relay kept (Says c.args.event) _
-    c.announce_both.result
+pub returns : goal.returns
+returns g c =
+    let run = as_run c.args.self.now.relay.run in
+    relay_one g.A.Audience.is_told c.args.self.now _ (Says c.args.event)
+    (first_alone c.say-first.result ++ c.at_pes-event.result ∷ [])
     (says_with c.args.self.now.relay.trust c.say-first.new.self c.args.event
     c.at_pes-event.result c.say-first.result c.say-first.ensures.before c.say-first.ensures.kept
     c.at_pes-event.ensures)
-    c.say-first.ensures.kept c.announce_both.ensures.told c.announce_both.ensures.kept
+    c.say-first.ensures.kept
+    (subst (Tells (IsLatched g.A.Audience.is_told) c.args.self.now.latch _)
+    (sym (both_are run c.announce_some.new.run (first_alone c.say-first.result)
+    c.at_pes-event.result c.announce_some.ensures.kept))
+    (Tells-trans _ _ _ _ _ c.announce_some.ensures.told c.announce.ensures.told))
+    (c.announce.ensures.kept
+    ∙ both_kept run c.announce_some.new.run (first_alone c.say-first.result)
+    c.at_pes-event.result c.announce_some.ensures.kept)

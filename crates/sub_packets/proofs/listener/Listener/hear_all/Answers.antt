@@ -9,8 +9,8 @@ use Rattle.std.proofs.lemmas.List.{length-map, take_all, take_more}
 use Rattle.ttx_pes.specs.DataUnit.{UnitValue}
 use Rattle.ttx_page.specs.PacketKind.{begins_text, is_this_page, kind}
 use Rattle.ttx_page.specs.Span.{holds_beginning}
-use Rattle.sub_io.specs.Telling.{Tells, TellsPrefix}
-use Rattle.sub_io.proofs.TellingLemmas.{TellsSome-none, TellsSome-trans, Tells-none}
+use Rattle.sub_io.specs.Telling.{Tells}
+use Rattle.sub_io.proofs.TellingLemmas.{Tells-none}
 use Rattle.sub_rules.specs.Events.{packets_told}
 use Rattle.sub_packets.specs.Listener.{BreakNone, Knows, KnowsLast, begins_frame, rule_set}
 use Rattle.sub_packets.proofs.KeptLemmas.{or_assoc}
@@ -18,12 +18,11 @@ use Rattle.sub_rules.specs.PacketRules.{header_count, packets_of_units}
 use Rattle.sub_rules.specs.Events.{packet_fault}
 use Rattle.sub_rules.specs.PacketTests.{breaks, packet_rules}
 use Rattle.sub_rules.specs.declared.event.Event.TheVariants.{Told}
-use Rattle.sub_packets.proofs.PacketEventLemmas.{clean_one, told_one, told_part}
+use Rattle.sub_packets.proofs.PacketEventLemmas.{clean_one, told_one}
 use Rattle.sub_packets.proofs.KeptLemmas.{beginning-more}
 use Rattle.sub_packets.proofs.PassedRunLemmas.{no_beginning_passed, no_headers_passed, passed_run}
 use Rattle.sub_packets.proofs.PassedRunLemmas.{passes_from}
 use Rattle.sub_rules.proofs.PacketLists.{header_count-push}
-use Rattle.sub_packets.proofs.RuleSetLemmas.{stopped}
 use Rattle.sub_packets.proofs.SentAgainLemmas.{kept_last}
 use Rattle.sub_packets.proofs.listener.Listener.hear_all.Goals as goal
 
@@ -32,8 +31,6 @@ unfolding packets_told
 loop-k-init g c = record {
   same = refl;
   due = refl;
-  goes_on = c.requires.goes_on;
-  some = TellsSome-none c.args.audience.now;
   within = omega arith;
   few = omega arith;
   header = refl;
@@ -41,7 +38,7 @@ loop-k-init g c = record {
   begun = grind (arith, nat_tests);
   known = λ heard known. (
     subst (λ xs. Knows xs c.args.self.now) (sym (append-nil heard)) known,
-    Tells-none c.args.audience.now,
+    Tells-none c.args.taker.now,
     λ e k l. absurd (omega arith),
   );
 }
@@ -69,8 +66,6 @@ loop-k-preserved-then-is_passed g c =
     record {
       same = i.same;
       due = i.due;
-      goes_on = i.goes_on;
-      some = i.some;
       within = next.within;
       few = omega (arith, i.few, low);
       header = i.header ∙ sym none;
@@ -103,8 +98,8 @@ loop-k-preserved g c =
     let more : take (k + 1) ps ≡ take k ps ++ p ∷ [] =
     take_more ps k [] (omega (arith, l, long)) ∙ ap (λ x. take k ps ++ x ∷ []) at in
     let one = c.counted-headers.ensures in
-    let heard_one = c.in_ok-heard.ensures in
-    let begins_here : c.in_ok-heard.heard.begins ≡ begins_text w.keeps (kind w.page p) =
+    let heard_one = c.judge-heard.ensures in
+    let begins_here : c.judge-heard.result.begins ≡ begins_text w.keeps (kind w.page p) =
     heard_one.begins ∙ ap (λ v. begins_text v.keeps (kind v.page p)) i.same in
     let begun_more : c.has_begun-begun.result
     ≡ begins_frame w c.args.from c.args.self.now.begun (take (k + 1) ps) =
@@ -120,8 +115,6 @@ loop-k-preserved g c =
       begun = begun_more;
       same = heard_one.watched ∙ i.same;
       due = heard_one.due ∙ i.due;
-      goes_on = grind arith;
-      some = TellsSome-trans _ _ _ i.some heard_one.some;
       within = omega (arith, l);
       few = search rules;
       header =
@@ -132,16 +125,16 @@ loop-k-preserved g c =
       known = λ heard known.
           let before = i.known heard known in
           let told =
-          subst (λ v. Tells g.A.Audience.is_told c.loop-k.audience c.judge.new.audience
+          subst (λ v. Tells g.A.Taker.is_told c.loop-k.taker c.judge-heard.new.taker
           (map (λ r. Told (packet_fault r c.args.frame (c.args.from + k)))
           (filter (λ r. breaks r v (heard ++ take k ps) p) packet_rules)))
           i.same (heard_one.told (heard ++ take k ps) before.0) in
           let new = heard_one.knows (heard ++ take k ps) before.0 in (
-            subst (λ xs. Knows xs c.judge.new.self)
+            subst (λ xs. Knows xs c.judge-heard.new.self)
                 (append_assoc heard (take k ps) (p ∷ []) ∙ ap (λ xs. heard ++ xs) (sym more)) new,
             told_one w c.args.frame c.args.from heard ps k p _ _ _ at before.1 told,
             λ e.
-                let parts : (c.loop-k.is_clean && c.in_ok-heard.heard.is_clean) ≡ true =
+                let parts : (c.loop-k.is_clean && c.judge-heard.result.is_clean) ≡ true =
                 sym c.stays_clean-is_clean.ensures ∙ e in
                 let clean =
                 subst
@@ -151,27 +144,6 @@ loop-k-preserved g c =
                 (before.2 (grind (arith, nat_tests))) clean,
           );
     }
-
-pub returns-in_err-heard-clause-knows : goal.returns-in_err-heard-clause-knows
-returns-in_err-heard-clause-knows g c heard known =
-    let w = c.args.self.now.watched in
-    let k : ℕ = c.loop-k.k in
-    let p : List ℕ = c.packet.result in
-    let i = c.loop-k.invariant in
-    let units = c.args.units.now in
-    let ps = packets_of_units units in
-    let l : k < length units = search rules in
-    let long : length ps ≡ length units = length-map units (λ (u : UnitValue). u.packet) in
-    let at : get_or ps k [] ≡ p = sym (c.packet.ensures ∙ c.packet-sent.ensures) in
-    let before = i.known heard known in
-    let told =
-    subst (λ v. TellsPrefix g.A.Audience.is_told c.loop-k.audience c.judge.new.audience
-    (map (λ r. Told (packet_fault r c.args.frame (c.args.from + k)))
-    (filter (λ r. breaks r v (heard ++ take k ps) p) packet_rules)))
-    i.same (c.in_err-heard.ensures.told (heard ++ take k ps) before.0) in
-    stopped c.from_residual.result _ _ c.from_residual.ensures.0
-    (told_part w c.args.frame c.args.from heard ps k p _ _ _ at before.1 (length ps)
-    (omega (arith, l, long)) told)
 
 pub returns-clause-knows : goal.returns-clause-knows
 returns-clause-knows g c heard known =
@@ -201,6 +173,6 @@ returns-clause-knows g c heard known =
       count,
       begun,
       subst
-          (λ n. Tells g.A.Audience.is_told c.args.audience.now c.loop-k.audience
+          (λ n. Tells g.A.Taker.is_told c.args.taker.now c.loop-k.taker
           (packets_told w c.args.frame c.args.from heard ps n)) k r.1,
     )

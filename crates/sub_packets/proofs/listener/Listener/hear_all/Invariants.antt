@@ -1,8 +1,8 @@
 -- The rules that the packets so far break are told, and what is kept is what they say.
 use Rattle.std.proofs.Common.{◌≡◌, ◌≤◌, ◌<◌, ℕ, List, [], ◌++◌, take, get_or, length}
-use Rattle.std.proofs.Common.{◌-◌, true, false}
+use Rattle.std.proofs.Common.{◌-◌, true}
 use Rattle.ttx_page.specs.PacketKind.{begins_text, kind}
-use Rattle.sub_io.specs.Telling.{Tells, TellsSome}
+use Rattle.sub_io.specs.Telling.{Tells}
 use Rattle.sub_rules.specs.Events.{packets_told}
 use Rattle.sub_packets.specs.Listener.{BreakNone, Knows, begins_frame}
 use Rattle.sub_rules.specs.PacketRules.{header_count, packets_of_units}
@@ -15,8 +15,6 @@ abbrev pub invariant-loop-k : goal.invariant-loop-k
 invariant-loop-k g l = record {
   same : l.self.watched ≡ l.initial.self.watched;
   due : l.self.comparison.due ≡ l.initial.self.comparison.due;
-  goes_on : g.A.Audience.has_stopped l.audience ≡ false;
-  some : TellsSome g.A.Audience.is_told l.initial.audience l.audience;
   within : l.k ≤ length l.units;
   few : l.headers ≤ l.k;
   header :
@@ -35,7 +33,7 @@ invariant-loop-k g l = record {
       (heard : List (List ℕ))
       → Knows heard l.initial.self
       → Knows (heard ++ take l.k (packets_of_units l.units)) l.self
-      × Tells g.A.Audience.is_told l.initial.audience l.audience
+      × Tells g.A.Taker.is_told l.initial.taker l.taker
       (packets_told l.initial.self.watched l.frame l.from heard (packets_of_units l.units) l.k)
       × (l.is_clean ≡ true
       → BreakNone l.initial.self.watched heard (packets_of_units l.units) l.k);

@@ -17,7 +17,7 @@ returns-in-Some-clause-knows g c heard last known same =
       again.2,
       again.3 c.args.from,
       rw (packets_told-none w c.args.frame c.args.from heard ps (length ps) again.0)
-          (Tells-none c.args.audience.now),
+          (Tells-none c.args.taker.now),
     )
 
 pub returns-clause-knows : goal.returns-clause-knows

@@ -1,10 +1,10 @@
--- A row more: rows_differing-blank.
+-- A row more, which counts for nothing where it is blank: blank-more, columns_same.
 use Rattle.std.proofs.Common.{arith}
 use Rattle.std.proofs.lemmas.Bool.Decides.{nat_tests}
-use Rattle.ttx_page.proofs.DifferingLemmas.{blank-more}
+use Rattle.ttx_page.proofs.DifferingLemmas.{blank-more, columns_same}
 use Rattle.ttx_page.proofs.page.Page.cells_not_blank.Goals as goal
 
 pub loop-row-preserved : goal.loop-row-preserved
 loop-row-preserved c =
     let more = blank-more c.loop-row.row c.self.inside.rows (omega arith) in
-    grind (arith, nat_tests)
+    grind (arith, nat_tests, columns_same)

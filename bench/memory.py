@@ -1,0 +1,31 @@
+"""The peak of what a command takes of memory, as the system tells it to GNU time."""
+from __future__ import annotations
+
+import os
+import subprocess
+import sys
+import tempfile
+
+GNU_TIME = "/usr/bin/time"
+
+
+def lines_of_log(command: list[str], words: list[str]) -> list[str]:
+    """The lines that a command which looks at another one leaves in its log."""
+    with tempfile.TemporaryDirectory() as folder:
+        log = os.path.join(folder, "log")
+        done = subprocess.run([*command, "-o", log, *words], stdout=subprocess.DEVNULL, check=False)
+        if done.returncode not in (0, 1):  # 1: refused
+            sys.exit(f"{' '.join(words)} ended with status {done.returncode}")
+        with open(log, encoding="utf-8") as file:
+            return file.read().splitlines()
+
+
+def peak(words: list[str]) -> str:
+    """The peak of a command in MB, 10^6 bytes; - where there is no GNU time.
+
+    A process that Python starts counts as its own what Python had before, so GNU time starts it.
+    """
+    if not os.path.exists(GNU_TIME):
+        return "-"
+    kibibytes = int(lines_of_log([GNU_TIME, "-f", "%M"], words)[-1])
+    return f"{kibibytes * 1024 / 1e6:.3g} MB"

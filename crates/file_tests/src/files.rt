@@ -1,0 +1,290 @@
+//! The files of a request: which calls are made for them, and what is answered over them.
+use crate::asserting::{assert_same, assert_same_in};
+use crate::files_in_memory::{Entry, FilesInMemory};
+use answer_fixtures::ACCEPTED;
+use fixtures::{commented, file_of_hi, normal_form, schedule_of_hi};
+use std::alloc::Global;
+use std::process::Abort;
+use sub_answer::{Status, open_and_answer};
+use sub_files::{FileSystem, Found, MemFile, MemFiles, open};
+use sub_io::{BufferedSink, MemSink};
+use sub_request::Request;
+use sub_words::ParseWords;
+
+// A file that can be opened, with nothing in it.
+const INPUT: Entry = Entry {
+    name: "a",
+    found: Found::At(1, 1),
+    bytes: Some(&[]),
+    fails: false,
+};
+
+// Nothing at a name.
+const NOTHING: Entry = Entry {
+    name: "b",
+    found: Found::Nothing,
+    bytes: None,
+    fails: false,
+};
+
+// What is at the second name, found so.
+fn second(found: Found) -> Entry<'static> {
+    Entry { found, ..NOTHING }
+}
+
+// Asserts the calls for the files of words, and whether they are opened. A file can be created
+// where the room is not empty.
+fn assert_asks<'a, 'f>(
+    rt: &(impl Abort + Alloc<A = Global>),
+    words: &'a [&'a str],
+    entries: &'f [Entry<'f>],
+    room: &'f mut [u8],
+    calls: &str,
+    is_opened: bool,
+) {
+    let mut files = FilesInMemory::new(entries, room);
+    if let Ok(request) = Request::parse(rt.alloc(), words) {
+        let opened = open(&mut files, &request.files());
+        assert_same_in(rt, &opened.is_some(), &is_opened, &calls);
+    }
+    assert_same(rt, &files.calls(), &calls.as_bytes());
+}
+
+const SHOW: [&str; 3] = ["subttx", "show", "a"];
+
+const PACKETS: [&str; 3] = ["subttx", "packets", "a"];
+
+const CHECK: [&str; 4] = ["subttx", "check", "a", "b"];
+
+const NORMAL: [&str; 4] = ["subttx", "normal", "a", "b"];
+
+const EXTRACT: [&str; 6] = ["subttx", "extract", "a", "b", "--pid", "257"];
+
+#[test]
+fn opens_the_file_that_is_read(rt: HostRuntime) {
+    assert_asks(&rt, &SHOW, &[INPUT], &mut [], "o0", true);
+    assert_asks(&rt, &PACKETS, &[INPUT], &mut [], "o0", true);
+    assert_asks(&rt, &SHOW, &[NOTHING], &mut [], "o?", false);
+}
+
+#[test]
+fn opens_two_files_in_the_order_of_the_words(rt: HostRuntime) {
+    let other = Entry { name: "b", ..INPUT };
+    assert_asks(&rt, &CHECK, &[other, INPUT], &mut [], "o1o0", true);
+    assert_asks(&rt, &CHECK, &[INPUT, NOTHING], &mut [], "o0o1", false);
+    assert_asks(&rt, &CHECK, &[other], &mut [], "o?", false);
+}
+
+#[test]
+fn creates_a_file_once_the_input_is_opened_and_both_are_looked_up(rt: HostRuntime) {
+    let there = [INPUT, second(Found::Nothing)];
+    assert_asks(&rt, &NORMAL, &there, &mut [0], "o0l0l1c1", true);
+    let other = [INPUT, second(Found::At(1, 2))];
+    assert_asks(&rt, &NORMAL, &other, &mut [0], "o0l0l1c1", true);
+    // It can't be created; the input can't be opened.
+    assert_asks(&rt, &NORMAL, &there, &mut [], "o0l0l1c1", false);
+    assert_asks(&rt, &NORMAL, &[NOTHING], &mut [0], "o?", false);
+}
+
+#[test]
+fn creates_no_file_over_the_input(rt: HostRuntime) {
+    // The output is the input by another name, or can't be looked up; or the input can't be.
+    let link = [INPUT, second(Found::At(1, 1))];
+    assert_asks(&rt, &NORMAL, &link, &mut [0], "o0l0l1", false);
+    let unknown = [INPUT, second(Found::Unknown)];
+    assert_asks(&rt, &NORMAL, &unknown, &mut [0], "o0l0l1", false);
+    let lost = Entry {
+        found: Found::Unknown,
+        ..INPUT
+    };
+    let there = [lost, second(Found::At(1, 2))];
+    assert_asks(&rt, &NORMAL, &there, &mut [0], "o0l0l1", false);
+}
+
+#[test]
+fn creates_the_file_of_a_recording_as_that_of_a_subtitle_file(rt: HostRuntime) {
+    let there = [INPUT, second(Found::Nothing)];
+    assert_asks(&rt, &EXTRACT, &there, &mut [0], "o0l0l1c1", true);
+    let other = [INPUT, second(Found::At(1, 2))];
+    assert_asks(&rt, &EXTRACT, &other, &mut [0], "o0l0l1c1", true);
+    // It can't be created; the recording can't be opened.
+    assert_asks(&rt, &EXTRACT, &there, &mut [], "o0l0l1c1", false);
+    assert_asks(&rt, &EXTRACT, &[NOTHING], &mut [0], "o?", false);
+}
+
+#[test]
+fn creates_no_file_over_the_recording(rt: HostRuntime) {
+    let link = [INPUT, second(Found::At(1, 1))];
+    assert_asks(&rt, &EXTRACT, &link, &mut [0], "o0l0l1", false);
+    let unknown = [INPUT, second(Found::Unknown)];
+    assert_asks(&rt, &EXTRACT, &unknown, &mut [0], "o0l0l1", false);
+}
+
+// Whether words are answered over files, and what is printed.
+fn answers<'a, D: FileSystem>(
+    alloc: Global,
+    words: &'a [&'a str],
+    files: &mut D,
+    text: &mut [u8],
+) -> bool {
+    let mut held = [0; 20];
+    let mut out = BufferedSink::new(MemSink::new(text), &mut held);
+    let Ok(request) = Request::parse(alloc, words) else {
+        return false;
+    };
+    match open_and_answer(alloc, files, &request, &mut out) {
+        Ok(status) => status == Status::Done,
+        Err(_) => false,
+    }
+}
+
+// Asserts that this is printed of words over files, where there is memory and nothing fails.
+fn assert_answers<'a, 'f>(
+    rt: &(impl Abort + Alloc<A = Global>),
+    words: &'a [&'a str],
+    entries: &'f [Entry<'f>],
+    room: &'f mut [u8],
+    want: &str,
+) {
+    assert_answers_over(rt, words, &mut FilesInMemory::new(entries, room), want);
+}
+
+// The same over any files.
+fn assert_answers_over<'a, D: FileSystem>(
+    rt: &(impl Abort + Alloc<A = Global>),
+    words: &'a [&'a str],
+    files: &mut D,
+    want: &str,
+) {
+    let mut text = [0; 128];
+    let is_done = answers(rt.alloc(), words, files, &mut text);
+    let len = want.len().min(128);
+    assert!(rt; is_done && &text[..len] == want.as_bytes(), "{words:?}");
+}
+
+const HEADER: &str =
+    "1515d0d015d015d002152020202020202020202020202020202020202020202020202020202020202020";
+
+const HEADER_LINES: &str = "magazine 8 packet 0\npage 88 subcode 0000 control C4 C6 C7\n\
+    text |                                |\n";
+
+const HEARD: &str = "heard yes\nopen no\nrow 22 |                ...Hi..                 |\n";
+
+const SHOWN: &str = "00001 10:00:00:00 10:00:02:00 vp 22 jc 2 text 0d0b0b48690a0a\n1 subtitles\n";
+
+#[test]
+fn answers_each_command_that_reads_files(rt: HostRuntime) {
+    let (stl, pes) = (file_of_hi(), schedule_of_hi());
+    let both = [
+        Entry {
+            bytes: Some(&stl),
+            ..INPUT
+        },
+        Entry {
+            name: "b",
+            bytes: Some(&pes),
+            ..INPUT
+        },
+    ];
+    assert_answers(&rt, &SHOW, &both, &mut [], SHOWN);
+    assert_answers(&rt, &PACKETS, &[INPUT], &mut [], "0 pes\n");
+    assert_answers(&rt, &CHECK, &both, &mut [], ACCEPTED);
+    let all = ["subttx", "check", "--all", "a", "b"];
+    assert_answers(&rt, &all, &both, &mut [], ACCEPTED);
+    let listen = ["subttx", "listen", "b", "--at", "10:00:00:10"];
+    assert_answers(&rt, &listen, &both, &mut [], HEARD);
+    let packet = ["subttx", "packet", HEADER];
+    assert_answers(&rt, &packet, &[], &mut [], HEADER_LINES);
+}
+
+// Asserts that words over a subtitle file and a PES file, of which any read fails, are refused with
+// this line.
+fn assert_refuses_unread<'a>(
+    rt: &(impl Abort + Alloc<A = Global>),
+    words: &'a [&'a str],
+    stl: &[u8],
+    want: &str,
+) {
+    let failing = Entry {
+        name: "b",
+        fails: true,
+        ..INPUT
+    };
+    let subtitles = Entry {
+        bytes: Some(stl),
+        ..INPUT
+    };
+    let mut text = [0; 64];
+    let there = [subtitles, failing];
+    let mut files = FilesInMemory::new(&there, &mut []);
+    let is_done = answers(rt.alloc(), words, &mut files, &mut text);
+    let len = want.len().min(64);
+    assert!(rt; !is_done && &text[..len] == want.as_bytes(), "{words:?}");
+}
+
+// A byte of the PES file is asked for only where the subtitle file is not refused.
+#[test]
+fn reads_no_pes_file_beside_a_refused_subtitle_file(rt: HostRuntime) {
+    let stl = file_of_hi();
+    let mut refused = stl;
+    refused[13] = b'1'; // CCT
+    assert_refuses_unread(&rt, &CHECK, &refused, "refused 14 Alphabet block 0\n");
+    assert_refuses_unread(&rt, &CHECK, &stl, "fault 41 Read pes 0\n");
+    let carried = ["subttx", "check", "a", "b", "--pid", "257", "--pes", "3-"];
+    assert_refuses_unread(&rt, &carried, &refused, "refused 14 Alphabet block 0\n");
+    assert_refuses_unread(&rt, &carried, &stl, "fault 41 Read pes 0\n");
+}
+
+// Asserts that this was written into a room that held bytes of ones, and no more.
+fn assert_starts(rt: &impl Abort, room: &[u8], written: &[u8]) {
+    let len = written.len().min(room.len());
+    let (begin, rest) = room.split_at(len);
+    let one_more: &[u8] = &[0xFF];
+    assert_same(rt, &begin, &written);
+    assert_same(rt, &rest, &one_more);
+}
+
+#[test]
+fn writes_into_the_file_that_is_created(rt: HostRuntime) {
+    let (stl, commented) = (file_of_hi(), commented());
+    let stl = Entry {
+        bytes: Some(&stl),
+        ..INPUT
+    };
+    // There is room for one byte more than is written.
+    let mut sent = [0xFF; 369];
+    let schedule = ["subttx", "schedule", "a", "b"];
+    let written = "written 2 transmissions\n";
+    assert_answers(&rt, &schedule, &[stl, NOTHING], &mut sent, written);
+    assert_starts(&rt, &sent, &schedule_of_hi());
+    let input = Entry {
+        bytes: Some(&commented),
+        ..INPUT
+    };
+    let mut normal = [0xFF; 1281];
+    let written = "written 1 subtitles\n";
+    assert_answers(&rt, &NORMAL, &[input, NOTHING], &mut normal, written);
+    assert_starts(&rt, &normal, &normal_form());
+}
+
+#[test]
+fn answers_over_files_that_tell_their_bytes(rt: HostRuntime) {
+    let (stl, pes) = (file_of_hi(), schedule_of_hi());
+    let (subtitles, sent) = (
+        MemFile {
+            name: "a",
+            bytes: &stl,
+        },
+        MemFile {
+            name: "b",
+            bytes: &pes,
+        },
+    );
+    let mut none = MemFiles::new(subtitles, sent, &mut []);
+    assert_answers_over(&rt, &CHECK, &mut none, ACCEPTED);
+    let mut room = [0xFF; 369];
+    let schedule = ["subttx", "schedule", "a", "c"];
+    let mut files = MemFiles::new(subtitles, sent, &mut room);
+    assert_answers_over(&rt, &schedule, &mut files, "written 2 transmissions\n");
+    assert_starts(&rt, &room, &pes);
+}

@@ -1,0 +1,24 @@
+//! Tests of the program's answers over recordings and ranges of PES packets, and of the files that a
+//! request opens. Nothing here is part of the product.
+//!
+//! They stand apart from those of other answers, since the tests of a crate are proved by one job.
+#![tactic(auto)]
+
+#[cfg(test)]
+mod asserting;
+#[cfg(test)]
+mod failing_recordings;
+#[cfg(test)]
+mod files;
+#[cfg(test)]
+mod files_in_memory;
+#[cfg(test)]
+mod lost_packets;
+#[cfg(test)]
+mod pes_ranges;
+#[cfg(test)]
+mod recorded;
+#[cfg(test)]
+mod recordings;
+#[cfg(test)]
+mod survey;

@@ -1,6 +1,0 @@
--- The law: NeighbourLemmas.
-use Rattle.mpeg_ts_laws.proofs.NeighbourLemmas as lemma
-use Rattle.mpeg_ts_laws.proofs.laws.law_of_neighbours.Goals as goal
-
-pub returns : goal.returns
-returns c = lemma.law_of_neighbours

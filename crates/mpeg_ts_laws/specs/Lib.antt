@@ -1,5 +1,0 @@
-pub mod Examples
-pub mod Laws
-pub mod Losses
-pub mod Multiplex
-pub mod Pace

@@ -1,0 +1,104 @@
+-- Where at most 14 packets in a row are gone, `law_of_reading` says which PES packets arrive:
+-- `law_of_losses`, `law_of_neighbours`.
+use Rattle.std.proofs.Common.{◌≡◌, ℕ, inl, inr, Bool, true, false, ◌||◌, List, [], ◌∷◌, ◌++◌}
+use Rattle.std.proofs.Common.{length, refl, sym, ap, ◌∙◌}
+use Rattle.std.specs.List.{concat}
+use Rattle.std.proofs.lemmas.List.{append-nil}
+use Rattle.mpeg_ts.specs.Carried.{carried, mark_where}
+use Rattle.recording_laws.specs.Laws.{LawOfLosses, LawOfNeighbours}
+use Rattle.recording_laws.specs.Losses.{Fated, arriving, IsLossy}
+use Rattle.recording_laws.specs.Multiplex.{SentPes, Multiplex}
+use Rattle.recording_laws.proofs.LeadsLemmas.{Leads, leads-gone, leads-there, leads-ungiven}
+use Rattle.recording_laws.proofs.PieceLemmas.{concat-marks, marks_where, one-way, sent_bytes}
+use Rattle.recording_laws.proofs.ReadingLaw.{law_of_reading}
+use Rattle.recording_laws.proofs.OpenPartLemmas.{Gives}
+use Rattle.recording_laws.proofs.ReadingLemmas.{After, Held, Marked, Nothing, Reads, is_gap, is_held}
+use Rattle.recording_laws.proofs.ReadingLemmas.{Located, located, sent-next, skip}
+use Rattle.std.specs.Bool.{⊤}
+
+-- A PES packet that is skipped is a gap.
+skip-gap : (held : Held) (s : SentPes Fated)
+    → (is_held (skip held s) ≡ is_held held) × (is_gap (skip held s) ≡ true)
+skip-gap Nothing s = (refl, refl)
+skip-gap Marked s = (refl, refl)
+skip-gap (After x t between skipped) s = (refl, refl)
+
+-- Marks alone.
+concat-alone : (marked : Bool) → concat (marks_where marked) ≡ mark_where marked
+concat-alone true = append-nil (mark_where true)
+concat-alone false = refl
+
+-- Pieces that are read where few are gone are those that arrive.
+reads-lead : (held : Held) (sent : List (SentPes Fated)) (pieces : List (List ℕ))
+    → Reads true held sent pieces
+    → Leads (is_held held) (is_gap held) sent (concat pieces)
+unfolding arriving
+reads-lead held [] pieces reads = record {
+  is_marked = reads.0;
+  after_one = λ e. ap (λ (b : Bool). b || false) (reads.2 e);
+  bytes_are = ap concat reads.1 ∙ concat-alone reads.0;
+}
+reads-lead held (s ∷ more) pieces reads = elim reads [
+  | inl later ↦
+      let skipped = skip-gap held s in
+      leads-gone (is_held held) (is_gap held) s more (concat pieces) (later.0 refl)
+      (rw (skipped.0, skipped.1) at (reads-lead (skip held s) more pieces later.1))
+  | inr here ↦
+      let all = here.7 refl in
+      leads-there (is_held held) (is_gap held) s more (concat pieces) (concat here.2) all.0
+      (ap concat here.3
+      ∙ concat-marks here.0 here.1 here.2
+      ∙ cc (here.8 refl, all.1))
+      (reads-lead (After here.1 s (length s.others) false) more here.2 here.6)
+]
+
+-- What is carried where few are gone.
+given-few : (number distance : ℕ) (m : Multiplex Fated) (recording : List ℕ)
+    → IsLossy number distance m recording
+    → Gives true Nothing m.sent (carried number distance recording)
+given-few number distance m recording h =
+    law_of_reading number distance true m recording h.losses (λ e. h.few) (λ e. absurd (cc e))
+
+-- The law of losses.
+pub law_of_losses : LawOfLosses
+law_of_losses number distance m recording h = record {
+  is_marked = leads.is_marked;
+  after_one = leads.after_one;
+  bytes_are = gives.joined ∙ leads.bytes_are;
+}
+  where
+    gives : Gives true Nothing m.sent (carried number distance recording)
+    gives = given-few number distance m recording h
+
+    leads : Leads false false m.sent (concat gives.pieces)
+    leads =
+        leads-ungiven true false m.sent (concat gives.pieces)
+        (reads-lead Nothing m.sent gives.pieces gives.reads)
+
+-- The law of neighbours.
+pub law_of_neighbours : LawOfNeighbours
+law_of_neighbours number distance m recording before [] behind h each joined none =
+    ([], sent_bytes m.sent, refl)
+law_of_neighbours number distance m recording before (x ∷ run) behind h each joined none =
+    (found.earlier, next.0, found.sent_are ∙ ap (λ (l : List (List ℕ)). found.earlier ++ l) rest)
+  where
+    gives : Gives true Nothing m.sent (carried number distance recording)
+    gives = given-few number distance m recording h
+
+    same : gives.pieces ≡ before ++ (x ∷ (run ++ behind))
+    same =
+        one-way gives.pieces (before ++ (x ∷ (run ++ behind))) gives.each each
+        (sym gives.joined ∙ joined)
+
+    found : Located true (λ sent. ⊤) (λ s more far. tt) x (run ++ behind) m.sent
+    found =
+        located true (λ sent. ⊤) (λ s more far. tt) Nothing m.sent gives.pieces before
+        (run ++ behind) x gives.reads same none.0 tt
+
+    next : (later : List (List ℕ)) × (sent_bytes found.later ≡ run ++ later)
+    next =
+        sent-next x found.here (length found.here.others) found.later (run ++ behind) run behind
+        found.reads refl none.1
+
+    rest : found.here.bytes ∷ sent_bytes found.later ≡ x ∷ (run ++ next.0)
+    rest = let first = found.as_sent refl in let more = next.1 in cc

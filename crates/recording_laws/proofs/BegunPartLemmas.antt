@@ -1,0 +1,183 @@
+-- What a part gives that begins as a PES packet does, whatever was joined to its first packet. Main
+-- lemma: closes-front.
+use Rattle.std.proofs.Common.{◌≡◌, ℕ, ◌≤◌, ◌⊎◌, inl, inr, Bool, true, false, not, ◌&&◌, ◌||◌, List}
+use Rattle.std.proofs.Common.{[], ◌∷◌, ◌++◌, length, take, drop, Ok, sym, ap, ◌∙◌, arith, nat_le}
+use Rattle.std.proofs.Common.{nat_lt, length-take}
+use Rattle.std.specs.Int.{bytes_high_first}
+use Rattle.std.proofs.lemmas.Bool.{cases_Bool}
+use Rattle.std.proofs.lemmas.Bool.Decides.{nat_tests}
+use Rattle.std.proofs.lemmas.List.{take-append-drop, take-append-le}
+use Rattle.std.proofs.Math.Seq.{take-length}
+use Rattle.ttx_pes.specs.PesPacket.{packet_length, packet_start}
+use Rattle.ttx_pes.specs.Pieces.{IsPiece}
+use Rattle.ttx_pes.specs.Reading.{size_at}
+use Rattle.mpeg_ts.specs.Carried.{mark_where}
+use Rattle.mpeg_ts.specs.Parts.{Part, Pes, gap_where, outcome, part_bytes}
+use Rattle.recording_laws.specs.Losses.{Fated}
+use Rattle.recording_laws.specs.Multiplex.{SentPes}
+use Rattle.recording_laws.specs.Pace.{up_to_pts}
+use Rattle.recording_laws.proofs.ClosedPartLemmas.{Closes, closes-broken, closes-piece}
+use Rattle.recording_laws.proofs.PartLemmas.{piece-long, piece-size}
+
+-- ---- bytes that begin as others do
+
+-- The front of a front.
+take-less : (n m : ℕ) (l : List ℕ) → n ≤ length (take m l) → take n (take m l) ≡ take n l
+take-less n m l h =
+    sym (take-append-le n (take m l) (drop m l) h) ∙ ap (take n) (take-append-drop m l)
+
+-- It is short enough.
+front-long : (n m : ℕ) (l : List ℕ) → n ≤ m → m ≤ length l → n ≤ length (take m l)
+front-long n m l less long = omega (arith, length-take m l)
+
+-- Bytes that are the same up to a PTS are the same in their first six.
+pub same-six : (a b : List ℕ)
+    → 14 ≤ length a
+    → 14 ≤ length b
+    → up_to_pts a ≡ up_to_pts b
+    → take 6 a ≡ take 6 b
+same-six a b long_a long_b same =
+    sym (take-less 6 14 a (front-long 6 14 a (omega arith) long_a))
+    ∙ ap (take 6) same
+    ∙ take-less 6 14 b (front-long 6 14 b (omega arith) long_b)
+
+-- The first six bytes of a piece.
+piece-six : (b : List ℕ) (h : IsPiece b)
+    → take 6 b ≡ packet_start ++ bytes_high_first 2 (packet_length h.n)
+piece-six b h = ap (take 6) h.bytes
+
+-- Bytes with these, as long as the piece, are a piece.
+piece-as : (b x : List ℕ)
+    → IsPiece b
+    → take 6 x ≡ take 6 b
+    → length x ≡ length b
+    → IsPiece x
+piece-as b x h six long = record {
+  n = h.n;
+  body = drop 6 x;
+  bytes = sym (take-append-drop 6 x) ∙ ap (λ (l : List ℕ). l ++ drop 6 x) (six ∙ piece-six b h);
+  size = h.size;
+  long = long ∙ h.long;
+}
+
+-- ---- parts that begin as a PES packet does
+
+-- The part begins as the PES packet does, up to its PTS.
+pub record IsFront (part : Part) (s : SentPes Fated) : Type 0 where
+  pub begins : part.begins ≡ true
+  pub long : 14 ≤ length (part_bytes part)
+  pub same : up_to_pts (part_bytes part) ≡ up_to_pts s.bytes
+  pub is_piece : IsPiece s.bytes
+
+-- The bytes that it may give.
+abbrev pub given_bytes : Part → SentPes Fated → List ℕ
+given_bytes part s = take (length s.bytes) (part_bytes part)
+
+-- More bytes stand behind them.
+abbrev pub is_longer : Part → SentPes Fated → Bool
+is_longer part s = nat_lt (length s.bytes) (length (part_bytes part))
+
+-- Its size is told.
+front-size : (part : Part) (s : SentPes Fated)
+    → IsFront part s
+    → size_at (take 6 (part_bytes part)) ≡ Ok (length s.bytes)
+front-size part s h =
+    let long = piece-long s.bytes h.is_piece in
+    ap size_at (same-six (part_bytes part) s.bytes h.long (omega (arith, long)) h.same)
+    ∙ piece-size s.bytes h.is_piece
+
+-- Where all of it is there, it gives a piece.
+outcome-front : (cut_off : Bool) (part : Part) (s : SentPes Fated)
+    → IsFront part s
+    → nat_le (length s.bytes) (length (part_bytes part)) ≡ true
+    → outcome cut_off part ≡ Pes (given_bytes part s) ∷ gap_where (is_longer part s)
+unfolding outcome
+outcome-front cut_off part s h enough =
+    let size = front-size part s h in
+    let six : nat_le 6 (length (part_bytes part)) ≡ true =
+    let long = h.long in grind (arith, nat_tests) in
+    rw (h.begins, six, size, enough)
+
+-- Else it is not whole.
+outcome-short : (cut_off : Bool) (part : Part) (s : SentPes Fated)
+    → IsFront part s
+    → nat_le (length s.bytes) (length (part_bytes part)) ≡ false
+    → outcome cut_off part ≡ gap_where (not cut_off)
+unfolding outcome
+outcome-short cut_off part s h short =
+    let size = front-size part s h in
+    let six : nat_le 6 (length (part_bytes part)) ≡ true =
+    let long = h.long in grind (arith, nat_tests) in
+    rw (h.begins, six, size, short)
+
+-- The piece begins as the PES packet does.
+given-front : (part : Part) (s : SentPes Fated)
+    → IsFront part s
+    → nat_le (length s.bytes) (length (part_bytes part)) ≡ true
+    → length (given_bytes part s) ≡ length s.bytes
+    × up_to_pts (given_bytes part s) ≡ up_to_pts s.bytes
+given-front part s h enough = (long, front)
+  where
+    size : 184 ≤ length s.bytes
+    size = piece-long s.bytes h.is_piece
+
+    all : length s.bytes ≤ length (part_bytes part)
+    all = grind (arith, nat_tests)
+
+    long : length (given_bytes part s) ≡ length s.bytes
+    long = omega (arith, all, length-take (length s.bytes) (part_bytes part))
+
+    front : up_to_pts (given_bytes part s) ≡ up_to_pts s.bytes
+    front =
+        take-less 14 (length s.bytes) (part_bytes part) (omega (arith, size, long))
+        ∙ h.same
+
+-- It is a piece.
+given-piece : (part : Part) (s : SentPes Fated)
+    → IsFront part s
+    → nat_le (length s.bytes) (length (part_bytes part)) ≡ true
+    → IsPiece (given_bytes part s)
+given-piece part s h enough =
+    let is = given-front part s h enough in
+    let size = piece-long s.bytes h.is_piece in
+    let same = is.0 in
+    piece-as s.bytes (given_bytes part s) h.is_piece
+    (same-six (given_bytes part s) s.bytes (omega (arith, size, same)) (omega (arith, size)) is.1)
+    is.0
+
+-- ---- what it gives
+
+-- It gives a piece that begins as the PES packet does, and is it where the part has no other bytes;
+-- or nothing, and there is a gap.
+pub record ClosesGiven (part : Part) (given gap : Bool) (s : SentPes Fated) : Type 0 where
+  pub piece : List ℕ
+  pub longer : Bool
+  pub is_piece : IsPiece piece
+  pub front : up_to_pts piece ≡ up_to_pts s.bytes
+  pub as_sent : part_bytes part ≡ s.bytes → piece ≡ s.bytes
+  pub closes :
+      Closes part given gap (mark_where (given && (gap || part.after_break)) ++ piece) true longer
+
+-- One of the two.
+pub closes-front : (part : Part) (given gap : Bool) (s : SentPes Fated)
+    → IsFront part s
+    → ClosesGiven part given gap s ⊎ Closes part given gap [] given true
+closes-front part given gap s h =
+    elim (cases_Bool (nat_le (length s.bytes) (length (part_bytes part)))) [
+      | inl enough ↦
+          inl
+          (record {
+            piece = given_bytes part s;
+            longer = is_longer part s;
+            is_piece = given-piece part s h enough;
+            front = (given-front part s h enough).1;
+            as_sent = λ e. ap (take (length s.bytes)) e ∙ take-length s.bytes;
+            closes =
+                closes-piece part given gap (given_bytes part s) (is_longer part s)
+                (λ cut_off. outcome-front cut_off part s h enough);
+          })
+      | inr short ↦
+          inr
+          (closes-broken part given gap
+          (record { outcome_is = λ cut_off. outcome-short cut_off part s h short }))
+    ]

@@ -1,0 +1,332 @@
+-- What a recording carries of carriers of which some are lost: the good packets of what is left.
+-- Main lemma: carried-left.
+use Rattle.std.proofs.Common.{◌≡◌, ℕ, ◌+◌, ◌%◌, ◌≤◌, ◌⊎◌, inl, inr, Bool, true, false, ◌||◌, ◌==◌}
+use Rattle.std.proofs.Common.{List, [], ◌∷◌, ◌++◌, length, length-append, map, None, refl, ap, ◌∙◌}
+use Rattle.std.proofs.Common.{subst, arith, append_assoc, slice_index}
+use Rattle.std.specs.List.{AllByRecursion, concat, flat_map, list_any}
+use Rattle.std.proofs.lemmas.Bool.Decides.{nat_tests}
+use Rattle.std.proofs.lemmas.Grind.{flat_map-append}
+use Rattle.std.proofs.lemmas.List.Folds.{concat-append}
+use Rattle.mpeg_ts.specs.Carried.{carried, with_marks}
+use Rattle.mpeg_ts.specs.GoodPackets.{GoodPackets, Note, good_after, nothing_since}
+use Rattle.mpeg_ts.specs.Parts.{outcomes_of}
+use Rattle.mpeg_ts.specs.TransportPacket.{counter, payload}
+use Rattle.recording_laws.specs.Losses.{AreLosses, Fate, Fated, IsFate, IsSpoiled, any_wrong, left_of}
+use Rattle.recording_laws.specs.Losses.{sent_packet, units_left}
+use Rattle.recording_laws.specs.Multiplex.{AreInSequence, AreNextCarriers, AreRecordedUnits, Carrier}
+use Rattle.recording_laws.specs.Multiplex.{IsCarrier, IsNextCarrier, IsRecordedUnit, IsRecording}
+use Rattle.recording_laws.specs.Multiplex.{IsSentPes, Multiplex, SentPes, announces, carriers_of}
+use Rattle.recording_laws.specs.Multiplex.{items_of_carrier, items_of_multiplex, packet_in}
+use Rattle.recording_laws.specs.Multiplex.{carriers_of_pes}
+use Rattle.recording_laws.proofs.LeftLemmas.{AreRising, IsSomeLeft, carried-no_jump}
+use Rattle.ttx_pes.specs.Pieces.{IsPiece}
+use Rattle.recording_laws.proofs.LeftNoteLemmas.{IsLeft, IsLeftCarrier, good-quiets-left, heard_left}
+use Rattle.recording_laws.proofs.LeftNoteLemmas.{since_loss}
+use Rattle.recording_laws.proofs.RecordingLemmas.{noted, notes-units}
+
+-- ---- the recording
+
+-- Where no unit was sent none is left.
+none-left : (fs : List Fated)
+    → map (λ (f : Fated). f.unit) fs ≡ []
+    → units_left fs ≡ []
+none-left [] none = refl
+none-left (f ∷ fs) none = absurd (cc)
+
+-- What is left of a unit is one.
+spoiled-unit : (distance number : ℕ) (unit other : List ℕ)
+    → IsRecordedUnit distance unit
+    → IsSpoiled distance number unit other
+    → IsRecordedUnit distance other
+spoiled-unit distance number unit other h1 h2 = grind (arith, nat_tests)
+
+-- Units in front of those that are left.
+left-unit : (distance number : ℕ) (unit : List ℕ) (fate : Fate) (sent left : List (List ℕ))
+    → IsFate distance number unit fate
+    → IsRecordedUnit distance unit
+    → (sent ≡ []) ⊎ (length unit ≡ distance)
+    → (sent ≡ [] → left ≡ [])
+    → AreRecordedUnits distance left
+    → AreRecordedUnits distance (left_of unit fate ++ left)
+left-unit distance number unit fate sent left h1 h2 h3 h4 h5 =
+    grind (arith, nat_tests, spoiled-unit)
+
+-- The units that are left are those of a recording.
+left-units : (distance number : ℕ) (fs : List Fated)
+    → AreRecordedUnits distance (map (λ (f : Fated). f.unit) fs)
+    → AllByRecursion (λ (f : Fated). IsFate distance number f.unit f.fate) fs
+    → AreRecordedUnits distance (units_left fs)
+left-units distance number [] each fates = grind (arith, nat_tests)
+left-units distance number (f ∷ fs) each fates =
+    grind (arith, nat_tests, left-unit, none-left, (left-units distance number fs each.2 fates.1))
+
+-- What is left of a unit is not longer.
+length-left_of : (distance number : ℕ) (unit : List ℕ) (fate : Fate)
+    → IsFate distance number unit fate
+    → length (concat (left_of unit fate)) ≤ length unit
+length-left_of distance number unit fate h1 = grind (arith, nat_tests, length-append)
+
+-- Nor are all.
+length-left : (distance number : ℕ) (fs : List Fated)
+    → AllByRecursion (λ (f : Fated). IsFate distance number f.unit f.fate) fs
+    → length (concat (units_left fs)) ≤ length (concat (map (λ (f : Fated). f.unit) fs))
+length-left distance number [] fates = omega arith
+length-left distance number (f ∷ fs) fates =
+    let one = length-left_of distance number f.unit f.fate fates.0 in
+    let rest = length-left distance number fs fates.1 in
+    omega (
+      arith,
+      length-append f.unit (concat (map (λ (f : Fated). f.unit) fs)),
+      ap length (concat-append (left_of f.unit f.fate) (units_left fs)),
+      length-append (concat (left_of f.unit f.fate)) (concat (units_left fs)),
+    )
+
+-- What is noted of the units that are left.
+notes-left : (distance number : ℕ) (fs : List Fated)
+    → flat_map (λ u. noted number (packet_in distance u)) (units_left fs)
+    ≡ flat_map (heard_left distance number) fs
+notes-left distance number [] = grind (arith, nat_tests)
+notes-left distance number (f ∷ fs) =
+    grind (arith, nat_tests, flat_map-append, noted, heard_left, (notes-left distance number fs))
+
+-- ---- what is known of each unit
+
+-- What is left of a PES packet, whether it arrives or not.
+pub record IsLeftPes (distance number : ℕ) (s : SentPes Fated) : Type 0 where
+  pub is_piece : IsPiece s.bytes
+  pub first : IsLeftCarrier distance number true s.first
+  pub others : AllByRecursion (IsLeftCarrier distance number false) s.others
+  pub joined :
+      concat (map (λ c. payload (sent_packet distance c.packet)) (carriers_of_pes s)) ≡ s.bytes
+
+module _ (distance number : ℕ) where
+  -- What became of each.
+  all-left : (fs : List Fated)
+      → AreRecordedUnits distance (map (λ (f : Fated). f.unit) fs)
+      → AllByRecursion (λ (f : Fated). IsFate distance number f.unit f.fate) fs
+      → AllByRecursion (λ f. announces number (sent_packet distance f) ≡ false) fs
+      → AllByRecursion (IsLeft distance number) fs
+  all-left [] each fates none = tt
+  all-left (f ∷ fs) each fates none = (
+    record { recorded = each.0; fate = fates.0; no_jump = none.0 },
+    all-left fs each.2 fates.1 none.1,
+  )
+
+  -- Of two lists, of the first,
+  all-first : (xs ys : List Fated)
+      → AllByRecursion (IsLeft distance number) (xs ++ ys)
+      → AllByRecursion (IsLeft distance number) xs
+  all-first [] ys each = tt
+  all-first (x ∷ xs) ys each = (each.0, all-first xs ys each.1)
+
+  -- and of the second.
+  all-second : (xs ys : List Fated)
+      → AllByRecursion (IsLeft distance number) (xs ++ ys)
+      → AllByRecursion (IsLeft distance number) ys
+  all-second [] ys each = each
+  all-second (x ∷ xs) ys each = all-second xs ys each.1
+
+  -- A carrier of which this is known.
+  left-carrier : (first : Bool) (c : Carrier Fated)
+      → IsCarrier (sent_packet distance) number first c
+      → AllByRecursion (IsLeft distance number) (items_of_carrier c)
+      → IsLeftCarrier distance number first c
+  left-carrier first c h1 h2 = grind (arith, nat_tests, all-second, all-first)
+
+  -- Carriers within a PES packet.
+  left-carriers : (cs : List (Carrier Fated)) (rest : List Fated)
+      → AllByRecursion (IsCarrier (sent_packet distance) number false) cs
+      → AllByRecursion (IsLeft distance number) (flat_map items_of_carrier cs ++ rest)
+      → AllByRecursion (IsLeftCarrier distance number false) cs
+      × AllByRecursion (IsLeft distance number) rest
+  left-carriers [] rest is each = (tt, each)
+  left-carriers (c ∷ cs) rest is each =
+      let all = subst (AllByRecursion (IsLeft distance number))
+      (append_assoc (items_of_carrier c) (flat_map items_of_carrier cs) rest) each in
+      let more = left-carriers cs rest is.1
+      (all-second (items_of_carrier c) (flat_map items_of_carrier cs ++ rest) all) in (
+        (
+          left-carrier false c is.0
+              (all-first (items_of_carrier c) (flat_map items_of_carrier cs ++ rest) all),
+          more.0,
+        ),
+        more.1,
+      )
+
+  -- PES packets.
+  left-pes : (sent : List (SentPes Fated))
+      → AllByRecursion (IsSentPes (sent_packet distance) number) sent
+      → AllByRecursion (IsLeft distance number) (flat_map items_of_carrier (carriers_of sent))
+      → AllByRecursion (IsLeftPes distance number) sent
+  left-pes [] is each = tt
+  left-pes (s ∷ more) is each =
+      let rest = flat_map items_of_carrier (carriers_of more) in
+      let behind = all-second (items_of_carrier s.first)
+      (flat_map items_of_carrier (s.others ++ carriers_of more)) each in
+      let others = left-carriers s.others rest is.0.others
+      (subst (AllByRecursion (IsLeft distance number))
+      (flat_map-append items_of_carrier s.others (carriers_of more)) behind) in (
+        record {
+          is_piece = is.0.is_piece;
+          first =
+              left-carrier true s.first is.0.first
+              (all-first (items_of_carrier s.first)
+              (flat_map items_of_carrier (s.others ++ carriers_of more)) each);
+          others = others.0;
+          joined = is.0.joined;
+        },
+        left-pes more is.1 others.1,
+      )
+
+  -- Some carriers and others.
+  some-left : (cs more : List (Carrier Fated))
+      → AllByRecursion (IsLeftCarrier distance number false) cs
+      → AllByRecursion (IsSomeLeft distance number) more
+      → AllByRecursion (IsSomeLeft distance number) (cs ++ more)
+  some-left [] more each rest = rest
+  some-left (c ∷ cs) more each rest = ((false, each.0), some-left cs more each.1 rest)
+
+  -- All carriers.
+  pub all-carriers-left : (sent : List (SentPes Fated))
+      → AllByRecursion (IsLeftPes distance number) sent
+      → AllByRecursion (IsSomeLeft distance number) (carriers_of sent)
+  all-carriers-left [] each = grind (arith, nat_tests)
+  all-carriers-left (s ∷ more) each =
+      grind (arith, nat_tests, some-left, (all-carriers-left more each.1))
+
+  -- ---- counters
+
+  -- No jump is announced in these.
+  none-announced : (fs : List Fated)
+      → AllByRecursion (IsLeft distance number) fs
+      → list_any (λ f. announces number (sent_packet distance f)) fs ≡ false
+  none-announced [] each = refl
+  none-announced (f ∷ fs) each =
+      ap (λ (b : Bool). b || list_any (λ f. announces number (sent_packet distance f)) fs)
+      each.0.no_jump
+      ∙ none-announced fs each.1
+
+  -- The number after next.
+  next-number : (a b j : ℕ) → a ≡ j % 16 → (b == (a + 1) % 16) ≡ true → b ≡ (j + 1) % 16
+  next-number a b j first on = grind (arith, nat_tests)
+
+  -- Where no jump is announced the counter is the next.
+  next-rises : (c d : Carrier Fated) (j : ℕ)
+      → IsSomeLeft distance number c
+      → IsSomeLeft distance number d
+      → IsNextCarrier (sent_packet distance) number c d
+      → counter (sent_packet distance c.packet) ≡ j % 16
+      → counter (sent_packet distance d.packet) ≡ (j + 1) % 16
+  next-rises c d j left_c left_d h first = elim h.counter [
+    | inl on ↦
+        next-number (counter (sent_packet distance c.packet))
+        (counter (sent_packet distance d.packet)) j first on
+    | inr jump ↦ elim jump [
+      | inl between ↦ absurd (cc (between, none-announced c.after left_c.1.after))
+      | inr here ↦
+          absurd
+          (cc (
+            here.0,
+            carried-no_jump number (sent_packet distance d.packet)
+                left_d.1.is_carrier.carries left_d.1.packet.no_jump,
+          ))
+    ]
+  ]
+
+  -- The counters rise behind a carrier.
+  next-rising : (c : Carrier Fated) (cs : List (Carrier Fated)) (j : ℕ)
+      → IsSomeLeft distance number c
+      → AllByRecursion (IsSomeLeft distance number) cs
+      → AreNextCarriers (sent_packet distance) number c cs
+      → counter (sent_packet distance c.packet) ≡ j % 16
+      → AreRising distance number (j + 1) cs
+  next-rising c [] j left_c each next first = tt
+  next-rising c (d ∷ cs) j left_c each next first =
+      let second = next-rises c d j left_c each.0 next.0 first in
+      (second, next-rising d cs (j + 1) each.0 each.1 next.1 second)
+
+  -- The number of the first carrier.
+  pub first_counter : List (Carrier Fated) → ℕ
+  first_counter [] = 0
+  first_counter (c ∷ cs) = counter (sent_packet distance c.packet)
+
+  -- A counter is less than 16.
+  counter-number : (a : ℕ) → a % 16 ≡ (15 + a % 16 + 1 + 0) % 16
+  counter-number a = omega arith
+
+  -- The counters of all rise from there on.
+  all-rising : (cs : List (Carrier Fated))
+      → AllByRecursion (IsSomeLeft distance number) cs
+      → AreInSequence (sent_packet distance) number cs
+      → AreRising distance number (15 + first_counter cs + 1 + 0) cs
+  unfolding first_counter
+  all-rising [] each linked = tt
+  all-rising (c ∷ cs) each linked =
+      let first = counter-number (slice_index (sent_packet distance c.packet) 3) in (
+        first,
+        next-rising c cs (15 + counter (sent_packet distance c.packet) + 1 + 0) each.0 each.1 linked
+            first,
+      )
+
+-- ---- what is known where units are missing or wrong
+
+module _ (distance number : ℕ) (m : Multiplex Fated) (recording : List ℕ) where
+  -- The units,
+  all-units : AreLosses number distance m recording
+      → AllByRecursion (IsLeft distance number) (items_of_multiplex m)
+  all-units h =
+      all-left distance number (items_of_multiplex m) h.is_recording.each h.fates h.no_jump
+
+  -- the PES packets,
+  pub all-pes : AreLosses number distance m recording
+      → AllByRecursion (IsLeftPes distance number) m.sent
+  all-pes h =
+      left-pes distance number m.sent h.is_multiplex.sent
+      (all-second distance number m.lead (flat_map items_of_carrier (carriers_of m.sent))
+      (all-units h))
+
+  -- and that their counters rise.
+  pub pes-rising : AreLosses number distance m recording
+      → AreRising distance number (15 + first_counter distance number (carriers_of m.sent) + 1 + 0)
+      (carriers_of m.sent)
+  pes-rising h =
+      all-rising distance number (carriers_of m.sent)
+      (all-carriers-left distance number m.sent (all-pes h)) h.is_multiplex.linked
+
+  -- What is left is a recording.
+  left-recording : AreLosses number distance m recording
+      → IsRecording distance (units_left (items_of_multiplex m)) recording
+  left-recording h = record {
+    each = left-units distance number (items_of_multiplex m) h.is_recording.each h.fates;
+    joined = h.left;
+    few =
+        let size = ap length h.left in
+        let sent = ap length h.is_recording.joined in
+        let few = h.is_recording.few in
+        let less = length-left distance number (items_of_multiplex m) h.fates in
+        omega arith;
+  }
+
+  -- What is carried is what the carriers give.
+  pub carried-left : AreLosses number distance m recording
+      → carried number distance recording
+      ≡ with_marks false false
+      (outcomes_of
+      (good_after (since_loss None false (any_wrong m.lead))
+      (flat_map (heard_left distance number) (flat_map items_of_carrier (carriers_of m.sent)))))
+  unfolding carried
+  carried-left h =
+      ap
+      (λ (ns : List Note).
+      with_marks false false (outcomes_of (good_after (nothing_since None) ns)))
+      (notes-units distance number (units_left (items_of_multiplex m)) recording
+      (left-recording h)
+      ∙ notes-left distance number (items_of_multiplex m)
+      ∙ flat_map-append (heard_left distance number) m.lead behind)
+      ∙ ap (λ (good : GoodPackets). with_marks false false (outcomes_of good))
+      (good-quiets-left distance number None false false m.lead
+      (flat_map (heard_left distance number) behind)
+      (all-first distance number m.lead behind (all-units h)) h.is_multiplex.lead)
+    where
+      behind : List Fated
+      behind = flat_map items_of_carrier (carriers_of m.sent)

@@ -1,0 +1,209 @@
+-- What is noted of a carrier's items, and the good packet that it is. Main lemma: good-carrier.
+use Rattle.std.proofs.Common.{◌≡◌, ℕ, ◌+◌, ◌%◌, ◌<◌, inl, inr, Bool, true, false, ◌||◌, ◌==◌, List}
+use Rattle.std.proofs.Common.{[], ◌∷◌, ◌++◌, Option, Some, refl, sym, ap, ◌∙◌}
+use Rattle.std.proofs.Common.{arith, append_assoc}
+use Rattle.std.specs.List.{AllByRecursion, flat_map, list_any}
+use Rattle.std.specs.Option.{option_to_list, is_some}
+use Rattle.std.proofs.lemmas.Bool.Decides.{nat_tests}
+use Rattle.std.proofs.lemmas.Grind.{flat_map-append}
+use Rattle.std.proofs.lemmas.List.{append-nil, get_or-take}
+use Rattle.std.proofs.lemmas.Slice.Eq.{bytes_eq-Decides}
+use Rattle.mpeg_ts.specs.GoodPackets.{Note, Since, nothing_since, good_after, linked, is_repeat}
+use Rattle.mpeg_ts.specs.GoodPackets.{is_same, counts_on, with_good, GoodPacket, Follows, link_from}
+use Rattle.mpeg_ts.specs.Parts.{is_break}
+use Rattle.mpeg_ts.specs.TransportPacket.{counter, begins}
+use Rattle.recording_laws.specs.Multiplex.{Carrier, IsCarrier, IsRepetition, IsNextCarrier, is_quiet}
+use Rattle.recording_laws.specs.Multiplex.{carries, announces, items_of_carrier, AreNextCarriers}
+use Rattle.recording_laws.proofs.RecordingLemmas.{noted}
+
+-- What is known after a quiet packet.
+abbrev pub since_quiet : Since → Bool → Since
+since_quiet since jump = record since { has_jump = since.has_jump || jump }
+
+-- Nothing is announced.
+since_quiet-none : (since : Since) → since_quiet since false ≡ since
+since_quiet-none since = grind (arith, nat_tests)
+
+-- Of two announcements one is enough.
+since_quiet-twice : (since : Since) (a b : Bool)
+    → since_quiet (since_quiet since a) b ≡ since_quiet since (a || b)
+since_quiet-twice since a b = grind (arith, nat_tests)
+
+-- A quiet packet.
+pub good-quiet : (number : ℕ) (since : Since) (p : List ℕ) (ns : List Note)
+    → is_quiet number p ≡ true
+    → good_after since (noted number p ++ ns)
+    ≡ good_after (since_quiet since (announces number p)) ns
+unfolding good_after
+good-quiet number since p ns h1 = grind (arith, nat_tests, since_quiet-none)
+
+-- A packet with a payload that is no repeat.
+pub good-packet : (number : ℕ) (since : Since) (p : List ℕ) (ns : List Note)
+    → carries number p ≡ true
+    → is_repeat since p ≡ false
+    → good_after since (noted number p ++ ns)
+    ≡ with_good (linked since p) (good_after (nothing_since (Some p)) ns)
+unfolding good_after
+good-packet number since p ns carried fresh = grind (arith, nat_tests)
+
+-- A repeat.
+pub good-repeat : (number : ℕ) (since : Since) (p : List ℕ) (ns : List Note)
+    → carries number p ≡ true
+    → is_repeat since p ≡ true
+    → good_after since (noted number p ++ ns)
+    ≡ good_after (record since { has_repeat = true }) ns
+unfolding good_after
+good-repeat number since p ns carried again = grind (arith, nat_tests)
+
+-- What was sent again is the repeat of the packet before it.
+pub is_repeat-again : (number : ℕ) (p q : List ℕ)
+    → IsRepetition number p q
+    → is_repeat (nothing_since (Some p)) q ≡ true
+is_repeat-again number p q h = grind (arith, nat_tests, h.same, h.jump)
+
+-- Two packets that are the same have the same counter.
+pub counter-same : (p q : List ℕ) → is_same p q ≡ true → counter p ≡ counter q
+counter-same p q h1 = grind (arith, nat_tests, bytes_eq-Decides, get_or-take)
+
+-- A counter is not the next after itself.
+next-counter : (c : ℕ) → c < 16 → (c == (c + 1) % 16) ≡ true → ⊥
+next-counter c small e = grind (arith, nat_tests)
+
+-- A packet with the next counter is another.
+pub not-same : (p q : List ℕ) → counts_on p q ≡ true → is_same p q ≡ false
+not-same p q h1 = grind (arith, nat_tests, counter-same, next-counter)
+
+module _ {A : Type 0} (packet_of : A → List ℕ) (number : ℕ) where
+  -- What is noted of an item.
+  abbrev pub heard : A → List Note
+  heard x = noted number (packet_of x)
+
+  -- What is known after a carrier, where nothing of it is lost.
+  abbrev pub since_carrier : Carrier A → Since
+  since_carrier c = record {
+    good = Some (packet_of c.packet);
+    has_repeat = is_some c.again;
+    has_jump = list_any (λ x. announces number (packet_of x)) c.after;
+    has_wrong = false;
+    has_hole = false;
+  }
+
+  -- Quiet items.
+  pub good-quiets : (since : Since) (xs : List A) (ns : List Note)
+      → AllByRecursion (λ x. is_quiet number (packet_of x) ≡ true) xs
+      → good_after since (flat_map heard xs ++ ns)
+      ≡ good_after (since_quiet since (list_any (λ x. announces number (packet_of x)) xs)) ns
+  good-quiets since [] ns quiet =
+      ap (λ (s : Since). good_after s ns) (sym (since_quiet-none since))
+  good-quiets since (x ∷ xs) ns quiet =
+      let p = packet_of x in
+      let one = announces number p in
+      let others = list_any (λ y. announces number (packet_of y)) xs in
+      ap (good_after since) (append_assoc (heard x) (flat_map heard xs) ns)
+      ∙ good-quiet number since p (flat_map heard xs ++ ns) quiet.0
+      ∙ good-quiets (since_quiet since one) xs ns quiet.1
+      ∙ ap (λ (s : Since). good_after s ns) (since_quiet-twice since one others)
+
+  -- Quiet items that announce nothing.
+  pub good-silent : (since : Since) (xs : List A) (ns : List Note)
+      → AllByRecursion (λ x. is_quiet number (packet_of x) ≡ true) xs
+      → AllByRecursion (λ x. announces number (packet_of x) ≡ false) xs
+      → good_after since (flat_map heard xs ++ ns) ≡ good_after since ns
+  good-silent since [] ns quiet none = refl
+  good-silent since (x ∷ xs) ns quiet none =
+      let p = packet_of x in
+      let same : since_quiet since (announces number p) ≡ since =
+      rw none.0 (since_quiet-none since) in
+      ap (good_after since) (append_assoc (heard x) (flat_map heard xs) ns)
+      ∙ good-quiet number since p (flat_map heard xs ++ ns) quiet.0
+      ∙ ap (λ (s : Since). good_after s (flat_map heard xs ++ ns)) same
+      ∙ good-silent since xs ns quiet.1 none.1
+
+  -- The repeat of a packet, if it has one.
+  good-again : (p : List ℕ) (again : Option A) (ns : List Note)
+      → AllByRecursion (λ x. IsRepetition number p (packet_of x)) (option_to_list again)
+      → good_after (nothing_since (Some p)) (flat_map heard (option_to_list again) ++ ns)
+      ≡ good_after (record (nothing_since (Some p)) { has_repeat = is_some again }) ns
+  good-again p again ns h1 = grind (arith, nat_tests, append-nil, good-repeat, is_repeat-again)
+
+  -- A carrier, whatever follows it.
+  pub good-carrier : (since : Since) (c : Carrier A) (ns : List Note) (first : Bool)
+      → IsCarrier packet_of number first c
+      → is_repeat since (packet_of c.packet) ≡ false
+      → good_after since (flat_map heard (items_of_carrier c) ++ ns)
+      ≡ with_good (linked since (packet_of c.packet)) (good_after (since_carrier c) ns)
+  good-carrier since c ns first h fresh =
+      ap (good_after since) split
+      ∙ good-packet number since p (before ++ (again ++ (after ++ ns))) h.carries fresh
+      ∙ ap (with_good (linked since p)) (
+      good-silent (nothing_since (Some p)) c.before (again ++ (after ++ ns)) h.before h.no_jump
+      ∙ good-again p c.again (after ++ ns) h.again
+      ∙ good-quiets (record (nothing_since (Some p)) { has_repeat = is_some c.again }) c.after ns
+      h.after
+      )
+    where
+      p : List ℕ
+      p = packet_of c.packet
+
+      before : List Note
+      before = flat_map heard c.before
+
+      again : List Note
+      again = flat_map heard (option_to_list c.again)
+
+      after : List Note
+      after = flat_map heard c.after
+
+      split : flat_map heard (items_of_carrier c) ++ ns
+          ≡ heard c.packet ++ (before ++ (again ++ (after ++ ns)))
+      split = simp (flat_map-append, append_assoc)
+
+  -- A carrier that may follow another is no repeat of it,
+  pub next-fresh : (c d : Carrier A)
+      → IsNextCarrier packet_of number c d
+      → is_repeat (since_carrier c) (packet_of d.packet) ≡ false
+  next-fresh c d h =
+      let differs = not-same (packet_of c.packet) (packet_of d.packet) in
+      elim h.counter [
+        | inl on ↦ rw (differs on)
+        | inr jump ↦ grind (arith, nat_tests)
+      ]
+
+  -- nothing is lost between them,
+  pub next-unbroken : (c d : Carrier A)
+      → IsNextCarrier packet_of number c d
+      → is_break (link_from (Some (packet_of c.packet)) (since_carrier c) (packet_of d.packet))
+      ≡ false
+  next-unbroken c d h1 = grind (arith, nat_tests)
+
+  -- and within a PES packet it follows.
+  pub next-follows : (c d : Carrier A)
+      → IsNextCarrier packet_of number c d
+      → begins (packet_of d.packet) ≡ false
+      → link_from (Some (packet_of c.packet)) (since_carrier c) (packet_of d.packet) ≡ Follows
+  next-follows c d h1 h2 = grind (arith, nat_tests)
+
+  -- The good packets of carriers.
+  abbrev pub goods : Since → List (Carrier A) → List GoodPacket
+  goods since [] = []
+  goods since (c ∷ more) = linked since (packet_of c.packet) ∷ goods (since_carrier c) more
+
+  -- A carrier, whether a PES packet begins with it or not.
+  abbrev pub IsSomeCarrier : Carrier A → Type 0
+  IsSomeCarrier c = (first : Bool) × IsCarrier packet_of number first c
+
+  -- They are those that are found, behind a carrier.
+  pub good-carriers : (c : Carrier A) (more : List (Carrier A))
+      → AllByRecursion IsSomeCarrier more
+      → AreNextCarriers packet_of number c more
+      → good_after (since_carrier c) (flat_map heard (flat_map items_of_carrier more))
+      ≡ record { packets = goods (since_carrier c) more; wrong_behind = false }
+  unfolding good_after
+  good-carriers c [] each next = refl
+  good-carriers c (d ∷ more) each next =
+      ap (good_after (since_carrier c))
+      (flat_map-append heard (items_of_carrier d) (flat_map items_of_carrier more))
+      ∙ good-carrier (since_carrier c) d (flat_map heard (flat_map items_of_carrier more)) each.0.0
+      each.0.1 (next-fresh c d next.0)
+      ∙ ap (with_good (linked (since_carrier c) (packet_of d.packet)))
+      (good-carriers d more each.1 next.1)

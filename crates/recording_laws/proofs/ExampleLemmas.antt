@@ -1,0 +1,157 @@
+-- Recordings in full: example_of_multiplex, example_of_losses.
+use Rattle.std.proofs.Common.{◌≡◌, ◌≤◌, ℕ, true, List, [], ◌∷◌, ◌++◌, length, refl, inl, inr, arith}
+use Rattle.std.proofs.Common.{le_refl}
+use Rattle.std.proofs.lemmas.Bool.{true≢false}
+use Rattle.std.proofs.lemmas.Bool.Decides.{nat_tests}
+use Rattle.ttx_pes.specs.Pieces.{IsPiece}
+use Rattle.mpeg_ts.specs.PacketsInStep.{most_bytes}
+use Rattle.mpeg_ts.specs.TransportPacket.{begins, payload}
+use Rattle.recording_laws.specs.Examples.{ExampleOfLosses, ExampleOfMultiplex, fated, null_packet}
+use Rattle.recording_laws.specs.Examples.{packet_with, pes_of, recording_of_two, sent_in}
+use Rattle.recording_laws.specs.Examples.{wrong_packet_with}
+use Rattle.recording_laws.specs.Losses.{Kept, LeftOut, MadeWrong, arriving, sent_packet}
+use Rattle.recording_laws.specs.Multiplex.{IsRecordedUnit, IsSentPes, carries, packet_in}
+
+-- Such a PES packet is a piece.
+is_piece : (filler : ℕ) → IsPiece (pes_of filler)
+is_piece filler = grind (arith, nat_tests)
+
+-- It is sent in one packet, by what is to be seen of that.
+sent_whole :
+    {A : Type 0} (packet_of : A → List ℕ) (item : A) (filler : ℕ)
+    → carries 257 (packet_of item) ≡ true
+    → begins (packet_of item) ≡ true
+    → payload (packet_of item) ++ [] ≡ pes_of filler
+    → IsSentPes packet_of 257 (sent_in item (pes_of filler))
+sent_whole packet_of item filler carried begun joined = record {
+  is_piece = is_piece filler;
+  first = record {
+    carries = carried;
+    begins = begun;
+    before = tt;
+    no_jump = tt;
+    again = tt;
+    after = tt;
+  };
+  others = tt;
+  joined = joined;
+}
+
+-- A packet is a unit of a recording.
+unit_of : (byte_3 filler : ℕ) → IsRecordedUnit 188 (packet_with byte_3 (pes_of filler))
+unit_of byte_3 filler = record { long = le_refl 188; short = le_refl 188; sync = refl }
+
+null_unit : IsRecordedUnit 188 null_packet
+null_unit = record { long = le_refl 188; short = le_refl 188; sync = refl }
+
+-- So few bytes are read.
+few : (bytes : List ℕ) (n : ℕ) → length bytes ≡ n → n ≤ 1000 → length bytes ≤ most_bytes
+unfolding most_bytes
+few bytes n size short = omega (arith, size, short)
+
+pub example_of_multiplex : ExampleOfMultiplex
+example_of_multiplex = record {
+  multiplex = record {
+    lead = null_packet ∷ [];
+    sent =
+        sent_in (packet_with 0x10 (pes_of 0x20)) (pes_of 0x20)
+        ∷ sent_in (packet_with 0x11 (pes_of 0x21)) (pes_of 0x21)
+        ∷ [];
+  };
+  is_multiplex = record {
+    lead = (refl, tt);
+    sent = (
+      sent_whole (packet_in 188) (packet_with 0x10 (pes_of 0x20)) 0x20 refl refl refl,
+      (sent_whole (packet_in 188) (packet_with 0x11 (pes_of 0x21)) 0x21 refl refl refl, tt),
+    );
+    linked = (record { counter = inl refl; within = λ other. absurd (true≢false other) }, tt);
+  };
+  packets_are = refl;
+  is_recording = record {
+    each = (null_unit, inr refl, (unit_of 0x10 0x20, inr refl, (unit_of 0x11 0x21, inl refl, tt)));
+    joined = refl;
+    few = few recording_of_two 564 refl (omega arith);
+  };
+}
+
+-- What was sent, before losses.
+abbrev sent_before_losses : List ℕ
+sent_before_losses =
+    null_packet
+    ++ (packet_with 0x10 (pes_of 0x20)
+    ++ (packet_with 0x11 (pes_of 0x21)
+    ++ (packet_with 0x12 (pes_of 0x22) ++ packet_with 0x13 (pes_of 0x23))))
+
+-- The packet that is made wrong.
+abbrev wrong : List ℕ
+wrong = wrong_packet_with 0x12 (pes_of 0x22)
+
+pub example_of_losses : ExampleOfLosses
+unfolding arriving
+example_of_losses = record {
+  lossy = record {
+    losses = record {
+      is_multiplex = record {
+        lead = (refl, tt);
+        sent = (
+          sent_whole (sent_packet 188) (fated 0x10 0x20 Kept) 0x20 refl refl refl,
+          (
+            sent_whole (sent_packet 188) (fated 0x11 0x21 LeftOut) 0x21 refl refl refl,
+            (
+              sent_whole (sent_packet 188) (fated 0x12 0x22 (MadeWrong wrong)) 0x22 refl refl refl,
+              (sent_whole (sent_packet 188) (fated 0x13 0x23 Kept) 0x23 refl refl refl, tt),
+            ),
+          ),
+        );
+        linked = (
+          record { counter = inl refl; within = λ other. absurd (true≢false other) },
+          (
+            record { counter = inl refl; within = λ other. absurd (true≢false other) },
+            (record { counter = inl refl; within = λ other. absurd (true≢false other) }, tt),
+          ),
+        );
+      };
+      sent = sent_before_losses;
+      is_recording = record {
+        each = (
+          null_unit,
+          inr refl,
+          (
+            unit_of 0x10 0x20,
+            inr refl,
+            (
+              unit_of 0x11 0x21,
+              inr refl,
+              (unit_of 0x12 0x22, inr refl, (unit_of 0x13 0x23, inl refl, tt)),
+            ),
+          ),
+        );
+        joined = refl;
+        few = few sent_before_losses 940 refl (omega arith);
+      };
+      no_jump = (refl, (refl, (refl, (refl, (refl, tt)))));
+      fates = (
+        tt,
+        (
+          tt,
+          (
+            tt,
+            (
+              record {
+                size = refl;
+                sync = refl;
+                pid_before = refl;
+                pid_after = refl;
+                wrong = refl;
+              },
+              (tt, tt),
+            ),
+          ),
+        ),
+      );
+      left = refl;
+    };
+    few = refl;
+  };
+  arrives = refl;
+}

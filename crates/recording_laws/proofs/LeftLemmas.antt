@@ -1,0 +1,175 @@
+-- The good packets of what is left of carriers, and what links them. Main lemmas: copy-again,
+-- break-left.
+use Rattle.std.proofs.Common.{◌≡◌, ℕ, ◌+◌, ◌%◌, ◌<◌, Bool, true, false, not, ◌||◌, ◌==◌, List, []}
+use Rattle.std.proofs.Common.{◌∷◌, Option, Some, None, arith, if◌then◌else◌, length, length-drop}
+use Rattle.std.proofs.Common.{length-take, drop, nat_lt}
+use Rattle.std.specs.Bool.{⊤}
+use Rattle.std.specs.List.{AllByRecursion}
+use Rattle.std.specs.Option.{option_to_list}
+use Rattle.std.proofs.lemmas.Bool.Decides.{nat_tests}
+use Rattle.std.proofs.lemmas.List.{get_or-take}
+use Rattle.std.proofs.lemmas.Slice.Eq.{bytes_eq-Decides}
+use Rattle.mpeg_ts.specs.GoodPackets.{Follows, Break, First, GoodPacket, Link, counts_on, is_repeat}
+use Rattle.mpeg_ts.specs.GoodPackets.{is_same, linked}
+use Rattle.mpeg_ts.specs.Parts.{is_break, is_unlinked}
+use Rattle.mpeg_ts.specs.PacketsInStep.{lead_size}
+use Rattle.mpeg_ts.specs.TransportPacket.{announces_jump, begins, counter, payload}
+use Rattle.recording_laws.specs.Losses.{Fated, are_few_gone, is_there, sent_packet}
+use Rattle.recording_laws.specs.Multiplex.{Carrier, IsRecordedUnit, IsRepetition, announces, carries}
+use Rattle.recording_laws.specs.Multiplex.{packet_in}
+use Rattle.recording_laws.proofs.CarrierLemmas.{counter-same}
+use Rattle.recording_laws.proofs.LeftNoteLemmas.{IsLeft, IsLeftCarrier, copy_of, since_loss}
+
+-- ---- copies
+
+-- A packet says what another says, and announces no jump.
+pub record IsCopy (p h : List ℕ) : Type 0 where
+  pub counter : counter h ≡ counter p
+  pub begins : begins h ≡ begins p
+  pub payload : payload h ≡ payload p
+  pub no_jump : announces_jump h ≡ false
+
+-- Two packets that are the same begin both, or neither.
+begins-same : (p q : List ℕ) → is_same p q ≡ true → begins p ≡ begins q
+begins-same p q h1 = grind (arith, nat_tests, bytes_eq-Decides, get_or-take)
+
+-- They have the same payload.
+payload-same : (p q : List ℕ) → is_same p q ≡ true → payload p ≡ payload q
+payload-same p q h1 = grind (arith, nat_tests, bytes_eq-Decides)
+
+-- A packet of the PID announces no jump.
+pub carried-no_jump : (number : ℕ) (p : List ℕ)
+    → carries number p ≡ true
+    → announces number p ≡ false
+    → announces_jump p ≡ false
+carried-no_jump number p carried none = grind (arith, nat_tests)
+
+-- A payload has a byte.
+payload-long : (number : ℕ) (p : List ℕ)
+    → length p ≡ 188
+    → carries number p ≡ true
+    → 0 < length (payload p)
+payload-long number p long carried = grind (arith, nat_tests, length-drop)
+
+-- A packet in a unit is whole.
+length-packet : (distance : ℕ) (u : List ℕ)
+    → IsRecordedUnit distance u
+    → length (packet_in distance u) ≡ 188
+length-packet distance u h =
+    let long = h.long in
+    omega (arith, length-take 188 (drop (lead_size distance) u), length-drop (lead_size distance) u)
+
+-- ---- counters
+
+-- Less than 16 carriers on the counter is another.
+counter-far : (i n a b : ℕ)
+    → a ≡ i % 16
+    → b ≡ (i + 1 + n) % 16
+    → n < 15
+    → a ≡ b
+    → ⊥
+counter-far i n a b first second small same = omega arith
+
+-- At the next carrier it is the next,
+counter-next : (i a b : ℕ) → a ≡ i % 16 → b ≡ (i + 1 + 0) % 16 → (b == (a + 1) % 16) ≡ true
+counter-next i a b first second = grind (arith, nat_tests)
+
+-- and at a later one it is not.
+counter-later : (i n a b : ℕ)
+    → a ≡ i % 16
+    → b ≡ (i + 1 + n) % 16
+    → 0 < n
+    → n < 15
+    → (b == (a + 1) % 16) ≡ false
+counter-later i n a b first second some small = grind (arith, nat_tests)
+
+-- Whether a packet is the next after another, by how many carriers are gone between them.
+counts_on-by_gone : (i n : ℕ) (g h : List ℕ)
+    → counter g ≡ i % 16
+    → counter h ≡ (i + 1 + n) % 16
+    → n < 15
+    → counts_on g h ≡ not (nat_lt 0 n)
+counts_on-by_gone i n g h h1 h2 h3 = grind (arith, nat_tests, counter-later, counter-next)
+
+-- The number of a good packet's carrier, where there is one.
+abbrev pub IsCounter : Option (List ℕ) → ℕ → Type 0
+IsCounter None i = ⊤
+IsCounter (Some g) i = counter g ≡ i % 16
+
+-- A packet of a later carrier is no repeat.
+pub fresh-later : (good : Option (List ℕ)) (again wrong : Bool) (h : List ℕ) (i n : ℕ)
+    → IsCounter good i
+    → counter h ≡ (i + 1 + n) % 16
+    → n < 15
+    → is_repeat (since_loss good again wrong) h ≡ false
+fresh-later good again wrong h i n h1 h2 h3 = grind (arith, nat_tests, counter-far, counter-same)
+
+-- ---- links
+
+-- What links a packet to a good one, by whether a unit was made wrong between them.
+abbrev pub link_left : Option (List ℕ) → Bool → List ℕ → Link
+link_left None wrong h = First
+link_left (Some g) wrong h = if wrong then Break else if counts_on g h then Follows else Break
+
+-- The good packet that it is.
+abbrev pub good_left : Option (List ℕ) → Bool → List ℕ → GoodPacket
+good_left good wrong h = record { link = link_left good wrong h; packet = h }
+
+-- That is what links it.
+pub linked-left : (good : Option (List ℕ)) (again wrong : Bool) (h : List ℕ)
+    → announces_jump h ≡ false
+    → linked (since_loss good again wrong) h ≡ good_left good wrong h
+linked-left good again wrong h h1 = grind (arith, nat_tests)
+
+-- Something is lost where a unit was made wrong, or a carrier is gone.
+pub break-left : (i n : ℕ) (g h : List ℕ) (wrong : Bool)
+    → counter g ≡ i % 16
+    → counter h ≡ (i + 1 + n) % 16
+    → n < 15
+    → is_break (link_left (Some g) wrong h) ≡ (wrong || nat_lt 0 n)
+break-left i n g h wrong h1 h2 h3 = grind (arith, nat_tests, counts_on-by_gone)
+
+-- Behind a good packet a link cuts where something is lost.
+pub cut-left : (g h : List ℕ) (wrong : Bool)
+    → is_unlinked (link_left (Some g) wrong h) ≡ is_break (link_left (Some g) wrong h)
+cut-left g h wrong = grind (arith, nat_tests)
+
+-- Where a carrier is there, none is gone.
+pub few-there : (n : ℕ) (c : Carrier Fated) (cs : List (Carrier Fated))
+    → is_there c ≡ true
+    → are_few_gone n (c ∷ cs) ≡ true
+    → are_few_gone 0 cs ≡ true
+few-there n c cs there few = rw there at few
+
+-- Where it is gone, one more is.
+pub few-gone : (n : ℕ) (c : Carrier Fated) (cs : List (Carrier Fated))
+    → is_there c ≡ false
+    → are_few_gone n (c ∷ cs) ≡ true
+    → (n + 1 < 15) × (are_few_gone (n + 1) cs ≡ true)
+few-gone n c cs gone few = (grind (arith, nat_tests), grind (arith, nat_tests))
+
+module _ (distance number : ℕ) where
+  -- A repeat is a copy.
+  pub copy-again : (p : List ℕ) (again : Option Fated)
+      → announces_jump p ≡ false
+      → AllByRecursion (IsLeft distance number) (option_to_list again)
+      → AllByRecursion (λ f. IsRepetition number p (sent_packet distance f)) (option_to_list again)
+      → IsCopy p (copy_of distance number again p)
+  copy-again p again h1 h2 h3 =
+      grind (arith, nat_tests, counter-same, begins-same, payload-same, carried-no_jump)
+
+  -- The payload of a carrier has a byte.
+  pub carrier-payload : (first : Bool) (c : Carrier Fated)
+      → IsLeftCarrier distance number first c
+      → 0 < length (payload (sent_packet distance c.packet))
+  carrier-payload first c h1 = grind (arith, nat_tests, payload-long, length-packet)
+
+  -- The counters of carriers rise, from a number on.
+  abbrev pub AreRising : ℕ → List (Carrier Fated) → Type 0
+  AreRising j [] = ⊤
+  AreRising j (c ∷ more) =
+      (counter (sent_packet distance c.packet) ≡ j % 16) × AreRising (j + 1) more
+
+  -- A carrier, and whether a PES packet begins with it.
+  abbrev pub IsSomeLeft : Carrier Fated → Type 0
+  IsSomeLeft c = (first : Bool) × IsLeftCarrier distance number first c

@@ -1,0 +1,215 @@
+-- What is noted of what is left of a carrier, and the good packet that it is, if it is there. Main
+-- lemmas: good-first, good-second.
+use Rattle.std.proofs.Common.{◌≡◌, ℕ, Bool, true, false, ◌||◌, List, [], ◌∷◌, ◌++◌, Option, Some}
+use Rattle.std.proofs.Common.{None, sym, ap, ◌∙◌, arith, append_assoc}
+use Rattle.std.specs.List.{AllByRecursion, flat_map}
+use Rattle.std.specs.Option.{option_to_list}
+use Rattle.std.proofs.lemmas.Bool.Decides.{nat_tests}
+use Rattle.std.proofs.lemmas.Grind.{flat_map-append}
+use Rattle.std.proofs.lemmas.List.{append-nil}
+use Rattle.std.proofs.lemmas.List.Folds.{list_any-append}
+use Rattle.mpeg_ts.specs.GoodPackets.{Note, Since, good_after, is_repeat, linked, with_good}
+use Rattle.recording_laws.specs.Losses.{Fate, Fated, IsFate, any_kept, any_wrong, is_as_sent}
+use Rattle.recording_laws.specs.Losses.{is_made_wrong, left_of, sent_packet}
+use Rattle.recording_laws.specs.Multiplex.{Carrier, IsCarrier, IsRepetition, announces, is_quiet}
+use Rattle.recording_laws.specs.Multiplex.{IsRecordedUnit, items_of_carrier, packet_in}
+use Rattle.recording_laws.proofs.CarrierLemmas.{good-packet, good-quiet, good-repeat, is_repeat-again}
+use Rattle.recording_laws.proofs.CarrierLemmas.{since_quiet}
+use Rattle.recording_laws.proofs.RecordingLemmas.{noted}
+
+-- What came since a good packet, where no jump is announced and nothing skipped.
+abbrev pub since_loss : Option (List ℕ) → Bool → Bool → Since
+since_loss good again wrong = record {
+  good = good;
+  has_repeat = again;
+  has_jump = false;
+  has_wrong = wrong;
+  has_hole = false;
+}
+
+-- Two tests in one.
+pub or-assoc : (a b c : Bool) → ((a || b) || c) ≡ (a || (b || c))
+or-assoc a b c = grind (arith, nat_tests)
+
+-- No test more.
+pub or-false : (a : Bool) → (a || false) ≡ a
+or-false a = grind (arith, nat_tests)
+
+-- A test that is passed.
+pub or-true : (a : Bool) → (a || true) ≡ true
+or-true a = grind (arith, nat_tests)
+
+module _ (distance number : ℕ) where
+  -- What is noted of what is left of a unit.
+  abbrev pub heard_left : Fated → List Note
+  heard_left f = flat_map (λ u. noted number (packet_in distance u)) (left_of f.unit f.fate)
+
+  -- What is known of a unit: what may have become of it, and that no jump is announced in it.
+  pub record IsLeft (f : Fated) : Type 0 where
+    pub recorded : IsRecordedUnit distance f.unit
+    pub fate : IsFate distance number f.unit f.fate
+    pub no_jump : announces number (sent_packet distance f) ≡ false
+
+  -- A unit that is not there as it was sent: nothing, or a wrong packet.
+  good-lost : (good : Option (List ℕ)) (again wrong : Bool) (unit : List ℕ) (fate : Fate)
+      (ns : List Note)
+      → IsFate distance number unit fate
+      → is_as_sent fate ≡ false
+      → good_after (since_loss good again wrong)
+      (flat_map (λ u. noted number (packet_in distance u)) (left_of unit fate) ++ ns)
+      ≡ good_after (since_loss good again (wrong || is_made_wrong fate)) ns
+  unfolding good_after
+  good-lost good again wrong unit fate ns h1 h2 = grind (arith, nat_tests, or-false, or-true)
+
+  -- A quiet unit.
+  good-quiet-left : (good : Option (List ℕ)) (again wrong : Bool) (unit : List ℕ) (fate : Fate)
+      (ns : List Note)
+      → IsFate distance number unit fate
+      → announces number (packet_in distance unit) ≡ false
+      → is_quiet number (packet_in distance unit) ≡ true
+      → good_after (since_loss good again wrong)
+      (flat_map (λ u. noted number (packet_in distance u)) (left_of unit fate) ++ ns)
+      ≡ good_after (since_loss good again (wrong || is_made_wrong fate)) ns
+  good-quiet-left good again wrong unit fate ns h1 h2 h3 =
+      grind (arith, nat_tests, append-nil, noted, good-quiet, since_quiet, or-false, good-lost)
+
+  -- Quiet units.
+  pub good-quiets-left : (good : Option (List ℕ)) (again wrong : Bool) (fs : List Fated)
+      (ns : List Note)
+      → AllByRecursion IsLeft fs
+      → AllByRecursion (λ f. is_quiet number (sent_packet distance f) ≡ true) fs
+      → good_after (since_loss good again wrong) (flat_map heard_left fs ++ ns)
+      ≡ good_after (since_loss good again (wrong || any_wrong fs)) ns
+  good-quiets-left good again wrong [] ns left quiet =
+      ap (λ (w : Bool). good_after (since_loss good again w) ns) (sym (or-false wrong))
+  good-quiets-left good again wrong (f ∷ fs) ns left quiet =
+      ap (good_after (since_loss good again wrong))
+      (append_assoc (heard_left f) (flat_map heard_left fs) ns)
+      ∙ good-quiet-left good again wrong f.unit f.fate (flat_map heard_left fs ++ ns) left.0.fate
+      left.0.no_jump quiet.0
+      ∙ good-quiets-left good again (wrong || is_made_wrong f.fate) fs ns left.1 quiet.1
+      ∙ ap (λ (w : Bool). good_after (since_loss good again w) ns)
+      (or-assoc wrong (is_made_wrong f.fate) (any_wrong fs))
+
+  -- What is noted of a unit that is there as it was sent.
+  pub heard-kept : (unit : List ℕ) (fate : Fate)
+      → is_as_sent fate ≡ true
+      → flat_map (λ u. noted number (packet_in distance u)) (left_of unit fate)
+      ≡ noted number (packet_in distance unit)
+  heard-kept unit fate h1 = grind (arith, nat_tests, append-nil, noted)
+
+  -- It was not made wrong.
+  kept-not_wrong : (fate : Fate) → is_as_sent fate ≡ true → is_made_wrong fate ≡ false
+  kept-not_wrong fate h1 = grind (arith, nat_tests)
+
+  -- The repeat of a packet that is there, if it has one.
+  good-again-left : (p : List ℕ) (wrong : Bool) (again : Option Fated) (ns : List Note)
+      → AllByRecursion IsLeft (option_to_list again)
+      → AllByRecursion (λ f. IsRepetition number p (sent_packet distance f)) (option_to_list again)
+      → good_after (since_loss (Some p) false wrong)
+      (flat_map heard_left (option_to_list again) ++ ns)
+      ≡ good_after
+      (since_loss (Some p) (any_kept (option_to_list again))
+      (wrong || any_wrong (option_to_list again))) ns
+  good-again-left p wrong again ns h1 h2 =
+      grind (
+        arith,
+        nat_tests,
+        or-false,
+        append-nil,
+        heard-kept,
+        good-repeat,
+        is_repeat-again,
+        kept-not_wrong,
+        good-lost,
+      )
+
+  -- ---- carriers
+
+  -- The copy of a carrier's packet that is heard, where one is there.
+  abbrev pub copy_of : Option Fated → List ℕ → List ℕ
+  copy_of None p = p
+  copy_of (Some f) p = sent_packet distance f
+
+  -- A carrier, and what may have become of its units.
+  pub record IsLeftCarrier (first : Bool) (c : Carrier Fated) : Type 0 where
+    pub is_carrier : IsCarrier (sent_packet distance) number first c
+    pub packet : IsLeft c.packet
+    pub before : AllByRecursion IsLeft c.before
+    pub again : AllByRecursion IsLeft (option_to_list c.again)
+    pub after : AllByRecursion IsLeft c.after
+
+  -- What is noted of a carrier, part by part.
+  pub heard-carrier : (c : Carrier Fated) (ns : List Note)
+      → flat_map heard_left (items_of_carrier c) ++ ns
+      ≡ heard_left c.packet ++ (flat_map heard_left c.before
+      ++ (flat_map heard_left (option_to_list c.again) ++ (flat_map heard_left c.after ++ ns)))
+  heard-carrier c ns = simp (flat_map-append, append_assoc)
+
+  -- What was made wrong of three lists.
+  wrong-of_three : (a b c : List Fated)
+      → any_wrong (a ++ (b ++ c)) ≡ ((any_wrong a || any_wrong b) || any_wrong c)
+  wrong-of_three a b c = grind (arith, nat_tests, list_any-append, or-assoc)
+
+  -- A carrier whose packet is there.
+  pub good-first : (good : Option (List ℕ)) (again wrong first : Bool) (c : Carrier Fated)
+      (ns : List Note)
+      → IsLeftCarrier first c
+      → is_as_sent c.packet.fate ≡ true
+      → is_repeat (since_loss good again wrong) (sent_packet distance c.packet) ≡ false
+      → good_after (since_loss good again wrong) (flat_map heard_left (items_of_carrier c) ++ ns)
+      ≡ with_good (linked (since_loss good again wrong) (sent_packet distance c.packet))
+      (good_after
+      (since_loss (Some (sent_packet distance c.packet)) (any_kept (option_to_list c.again))
+      (any_wrong (c.before ++ (option_to_list c.again ++ c.after)))) ns)
+  good-first good again wrong first c ns h1 h2 h3 =
+      grind (
+        arith,
+        nat_tests,
+        heard-carrier,
+        heard-kept,
+        good-packet,
+        good-quiets-left,
+        good-again-left,
+        wrong-of_three,
+      )
+
+  -- What is known of it where its packet is not there.
+  pub good-no_first : (good : Option (List ℕ)) (again wrong first : Bool) (c : Carrier Fated)
+      (ns : List Note)
+      → IsLeftCarrier first c
+      → is_as_sent c.packet.fate ≡ false
+      → good_after (since_loss good again wrong) (flat_map heard_left (items_of_carrier c) ++ ns)
+      ≡ good_after (since_loss good again (wrong || any_wrong (c.packet ∷ c.before)))
+      (flat_map heard_left (option_to_list c.again) ++ (flat_map heard_left c.after ++ ns))
+  good-no_first good again wrong first c ns h1 h2 =
+      grind (arith, nat_tests, heard-carrier, good-lost, good-quiets-left, or-assoc)
+
+  -- A repeat whose packet is not there.
+  pub good-second : (good : Option (List ℕ)) (again wrong : Bool) (p : List ℕ) (o : Option Fated)
+      (after : List Fated) (ns : List Note)
+      → AllByRecursion (λ f. IsRepetition number p (sent_packet distance f)) (option_to_list o)
+      → AllByRecursion IsLeft after
+      → AllByRecursion (λ f. is_quiet number (sent_packet distance f) ≡ true) after
+      → any_kept (option_to_list o) ≡ true
+      → is_repeat (since_loss good again wrong) (copy_of o p) ≡ false
+      → good_after (since_loss good again wrong)
+      (flat_map heard_left (option_to_list o) ++ (flat_map heard_left after ++ ns))
+      ≡ with_good (linked (since_loss good again wrong) (copy_of o p))
+      (good_after (since_loss (Some (copy_of o p)) false (any_wrong after)) ns)
+  good-second good again wrong p o after ns h1 h2 h3 h4 h5 =
+      grind (arith, nat_tests, append-nil, heard-kept, or-false, good-packet, good-quiets-left)
+
+  -- No repeat is there.
+  pub good-no_second : (good : Option (List ℕ)) (again wrong : Bool) (o : Option Fated)
+      (after : List Fated) (ns : List Note)
+      → AllByRecursion IsLeft (option_to_list o)
+      → AllByRecursion IsLeft after
+      → AllByRecursion (λ f. is_quiet number (sent_packet distance f) ≡ true) after
+      → any_kept (option_to_list o) ≡ false
+      → good_after (since_loss good again wrong)
+      (flat_map heard_left (option_to_list o) ++ (flat_map heard_left after ++ ns))
+      ≡ good_after
+      (since_loss good again ((wrong || any_wrong (option_to_list o)) || any_wrong after)) ns
+  good-no_second good again wrong o after ns h1 h2 h3 h4 =
+      grind (arith, nat_tests, good-quiets-left, or-false, append-nil, good-lost)

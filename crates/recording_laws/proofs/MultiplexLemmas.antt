@@ -1,0 +1,203 @@
+-- What a multiplexer sends is given back: `law_of_multiplex`.
+use Rattle.std.proofs.lemmas.Bool.Decides.{nat_tests}
+use Rattle.std.proofs.Common.{arith}
+use Rattle.std.proofs.Common.{◌≡◌, ℕ, Bool, true, false, List, [], ◌∷◌, ◌++◌, map, None, refl, sym}
+use Rattle.std.proofs.Common.{ap, ◌∙◌}
+use Rattle.std.specs.List.{AllByRecursion, concat, flat_map, list_any}
+use Rattle.std.proofs.lemmas.Grind.{flat_map-append}
+use Rattle.std.proofs.lemmas.List.{append-nil}
+use Rattle.ttx_pes.specs.Pieces.{IsPiece}
+use Rattle.mpeg_ts.specs.Carried.{carried, with_marks}
+use Rattle.mpeg_ts.specs.GoodPackets.{GoodPacket, GoodPackets, Note, Since, good_after, linked}
+use Rattle.mpeg_ts.specs.GoodPackets.{nothing_since, with_good}
+use Rattle.mpeg_ts.specs.Parts.{Part, begins_part, part_bytes, outcomes, outcomes_of, part_of}
+use Rattle.mpeg_ts.specs.Parts.{parts_from, with_packet}
+use Rattle.mpeg_ts.specs.TransportPacket.{begins, payload}
+use Rattle.recording_laws.specs.Laws.{LawOfMultiplex}
+use Rattle.recording_laws.specs.Multiplex.{AreInSequence, AreNextCarriers, Carrier, IsCarrier}
+use Rattle.recording_laws.specs.Multiplex.{IsSentPes, Multiplex, SentPes, announces, carriers_of}
+use Rattle.recording_laws.specs.Multiplex.{items_of_carrier, items_of_multiplex, packet_in}
+use Rattle.recording_laws.proofs.CarrierLemmas.{IsSomeCarrier, good-carrier, good-carriers}
+use Rattle.recording_laws.proofs.CarrierLemmas.{good-quiets, goods, heard, next-follows}
+use Rattle.recording_laws.proofs.CarrierLemmas.{next-unbroken, since_carrier, since_quiet}
+use Rattle.recording_laws.proofs.PartLemmas.{IsWhole, concat-snoc, parts_from-follows}
+use Rattle.recording_laws.proofs.PartLemmas.{with_marks-whole}
+use Rattle.recording_laws.proofs.RecordingLemmas.{notes-units}
+
+-- A good packet that begins a PES packet begins a part.
+parts_from-begins : (part : Part) (g : GoodPacket) (more : List GoodPacket)
+    → begins g.packet ≡ true
+    → parts_from part (g ∷ more) ≡ part ∷ parts_from (part_of g) more
+unfolding parts_from
+parts_from-begins part g more first = rw first
+
+-- Carriers of PES packets are carriers.
+some-carriers : {A : Type 0} (packet_of : A → List ℕ) (number : ℕ) (others : List (Carrier A))
+    (more : List (Carrier A))
+    → AllByRecursion (IsCarrier packet_of number false) others
+    → AllByRecursion (IsSomeCarrier packet_of number) more
+    → AllByRecursion (IsSomeCarrier packet_of number) (others ++ more)
+some-carriers packet_of number [] more each rest = rest
+some-carriers packet_of number (c ∷ others) more each rest =
+    ((false, each.0), some-carriers packet_of number others more each.1 rest)
+
+module _ {A : Type 0} (packet_of : A → List ℕ) (number : ℕ) where
+  -- All carriers of PES packets are.
+  pub all-carriers : (sent : List (SentPes A))
+      → AllByRecursion (IsSentPes packet_of number) sent
+      → AllByRecursion (IsSomeCarrier packet_of number) (carriers_of sent)
+  all-carriers [] each = grind (arith, nat_tests)
+  all-carriers (s ∷ more) each = grind (arith, nat_tests, some-carriers, (all-carriers more each.1))
+
+  -- What is carried from a part on that is open, behind a carrier.
+  abbrev carried_from : Bool → Part → Carrier A → List (Carrier A) → List ℕ
+  carried_from given part c more =
+      with_marks given false
+      (outcomes false
+      (parts_from part (goods packet_of number (since_carrier packet_of number c) more)))
+
+  -- The other carriers of a PES packet fill up the part of the first.
+  fills-part : (given : Bool) (part : Part) (c : Carrier A) (others rest : List (Carrier A))
+      (bytes then : List ℕ)
+      → IsPiece bytes
+      → part.begins ≡ true
+      → part.after_break ≡ false
+      → part_bytes part ++ concat (map (λ d. payload (packet_of d.packet)) others) ≡ bytes
+      → AllByRecursion (IsCarrier packet_of number false) others
+      → AreNextCarriers packet_of number c (others ++ rest)
+      → ((whole : Part) (last : Carrier A)
+      → IsWhole whole bytes
+      → whole.after_break ≡ false
+      → AreNextCarriers packet_of number last rest
+      → carried_from given whole last rest ≡ then)
+      → carried_from given part c (others ++ rest) ≡ then
+  fills-part given part c [] rest bytes then piece first unbroken joined each next go =
+      go part c
+      (record {
+        begins = first;
+        bytes_are = sym (append-nil (part_bytes part)) ∙ joined;
+        is_piece = piece;
+      })
+      unbroken next
+  fills-part given part c (d ∷ others) rest bytes then piece first unbroken joined each next go =
+      ap (λ (parts : List Part). with_marks given false (outcomes false parts))
+      (parts_from-follows part g later within)
+      ∙ fills-part given (with_packet part g) d others rest bytes then piece first unbroken
+      (concat-snoc part.payloads (payload p)
+      (concat (map (λ e. payload (packet_of e.packet)) others)) bytes joined)
+      each.1 next.1 go
+    where
+      p : List ℕ
+      p = packet_of d.packet
+
+      g : GoodPacket
+      g = linked (since_carrier packet_of number c) p
+
+      later : List GoodPacket
+      later = goods packet_of number (since_carrier packet_of number d) (others ++ rest)
+
+      within : begins_part g ≡ false
+      within =
+          rw (each.0.begins, next-follows packet_of number c d next.0 each.0.begins)
+
+  -- A part that is whole and PES packets behind it are carried one after another.
+  whole-then : (given : Bool) (part : Part) (c : Carrier A) (sent : List (SentPes A))
+      (bytes : List ℕ)
+      → IsWhole part bytes
+      → part.after_break ≡ false
+      → AllByRecursion (IsSentPes packet_of number) sent
+      → AreNextCarriers packet_of number c (carriers_of sent)
+      → carried_from given part c (carriers_of sent) ≡ bytes ++ concat (map (λ s. s.bytes) sent)
+  unfolding parts_from outcomes with_marks
+  whole-then given part c [] bytes h unbroken each next =
+      with_marks-whole given false part [] bytes h unbroken
+  whole-then given part c (s ∷ more) bytes h unbroken each next =
+      ap (λ (parts : List Part). with_marks given false (outcomes false parts))
+      (parts_from-begins part g later is.first.begins)
+      ∙ with_marks-whole given false part (parts_from (part_of g) later) bytes h unbroken
+      ∙ ap (λ (rest : List ℕ). bytes ++ rest)
+      (fills-part true (part_of g) s.first s.others (carriers_of more) s.bytes
+      (s.bytes ++ concat (map (λ s. s.bytes) more)) is.is_piece is.first.begins
+      (next-unbroken packet_of number c s.first next.0)
+      (rw (append-nil (payload p)) is.joined) is.others next.1
+      (λ whole last w u n. whole-then true whole last more s.bytes w u each.1 n))
+    where
+      is : IsSentPes packet_of number s
+      is = each.0
+
+      p : List ℕ
+      p = packet_of s.first.packet
+
+      g : GoodPacket
+      g = linked (since_carrier packet_of number c) p
+
+      later : List GoodPacket
+      later =
+          goods packet_of number (since_carrier packet_of number s.first)
+          (s.others ++ carriers_of more)
+
+  -- What is carried of all.
+  carried-all : (jump : Bool) (sent : List (SentPes A))
+      → AllByRecursion (IsSentPes packet_of number) sent
+      → AreInSequence packet_of number (carriers_of sent)
+      → with_marks false false (outcomes_of
+      (good_after (since_quiet (nothing_since None) jump)
+      (flat_map (heard packet_of number) (flat_map items_of_carrier (carriers_of sent)))))
+      ≡ concat (map (λ s. s.bytes) sent)
+  unfolding good_after outcomes with_marks
+  carried-all jump [] each linked_all = refl
+  carried-all jump (s ∷ more) each linked_all =
+      ap (λ (good : GoodPackets). with_marks false false (outcomes_of good)) (
+      ap (good_after since)
+      (flat_map-append (heard packet_of number) (items_of_carrier s.first)
+      (flat_map items_of_carrier rest))
+      ∙ good-carrier packet_of number since s.first
+      (flat_map (heard packet_of number) (flat_map items_of_carrier rest)) true is.first refl
+      ∙ ap (with_good g)
+      (good-carriers packet_of number s.first rest
+      (some-carriers packet_of number s.others (carriers_of more) is.others
+      (all-carriers more each.1)) linked_all)
+      )
+      ∙ fills-part false (part_of g) s.first s.others (carriers_of more) s.bytes
+      (s.bytes ++ concat (map (λ s. s.bytes) more)) is.is_piece is.first.begins refl
+      (rw (append-nil (payload p)) is.joined) is.others linked_all
+      (λ whole last w u n. whole-then false whole last more s.bytes w u each.1 n)
+    where
+      is : IsSentPes packet_of number s
+      is = each.0
+
+      since : Since
+      since = since_quiet (nothing_since None) jump
+
+      p : List ℕ
+      p = packet_of s.first.packet
+
+      g : GoodPacket
+      g = linked since p
+
+      rest : List (Carrier A)
+      rest = s.others ++ carriers_of more
+
+-- The law of what is sent.
+pub law_of_multiplex : LawOfMultiplex
+unfolding carried
+law_of_multiplex number distance packets recording h =
+    ap (λ (ns : List Note). with_marks false false (outcomes_of (good_after start ns)))
+    (notes-units distance number (items_of_multiplex m) recording h.is_recording
+    ∙ flat_map-append hear m.lead (flat_map items_of_carrier (carriers_of m.sent)))
+    ∙ ap (λ (good : GoodPackets). with_marks false false (outcomes_of good))
+    (good-quiets (packet_in distance) number start m.lead
+    (flat_map hear (flat_map items_of_carrier (carriers_of m.sent))) h.is_multiplex.lead)
+    ∙ carried-all (packet_in distance) number
+    (list_any (λ x. announces number (packet_in distance x)) m.lead) m.sent h.is_multiplex.sent
+    h.is_multiplex.linked
+    ∙ ap concat h.packets_are
+  where
+    m : Multiplex (List ℕ)
+    m = h.multiplex
+
+    start : Since
+    start = nothing_since None
+
+    hear : List ℕ → List Note
+    hear = heard (packet_in distance) number

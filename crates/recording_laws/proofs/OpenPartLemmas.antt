@@ -1,0 +1,760 @@
+-- The rest of a PES packet, where any number of packets is gone, by induction from the front, from
+-- any state. Main lemmas: headless-within, open-within.
+use Rattle.std.proofs.Common.{◌≡◌, ℕ, ◌+◌, ◌%◌, ◌≤◌, ◌⊎◌, inl, inr, Bool, true, false, ◌&&◌, ◌||◌}
+use Rattle.std.proofs.Common.{List, [], ◌∷◌, ◌++◌, length, length-append, refl, sym, ap, ◌∙◌, subst}
+use Rattle.std.proofs.Common.{arith, append_assoc, not, nat_lt, map}
+use Rattle.std.specs.List.{AllByRecursion, concat}
+use Rattle.std.proofs.lemmas.Bool.{cases_Bool}
+use Rattle.std.proofs.lemmas.Bool.Decides.{nat_tests}
+use Rattle.std.proofs.lemmas.List.{append-nil, take-append-le}
+use Rattle.ttx_pes.specs.Pieces.{IsPiece}
+use Rattle.mpeg_ts.specs.Carried.{mark_where, with_marks}
+use Rattle.mpeg_ts.specs.GoodPackets.{GoodPacket}
+use Rattle.mpeg_ts.specs.Parts.{Part, begins_part, outcomes, part_bytes, part_of, parts_from}
+use Rattle.mpeg_ts.specs.Parts.{with_packet, is_break}
+use Rattle.mpeg_ts.specs.TransportPacket.{begins, payload}
+use Rattle.recording_laws.specs.Losses.{Fated, any_wrong, are_there_after, arrives, is_there}
+use Rattle.recording_laws.specs.Losses.{is_wrong_behind, last_carrier, sent_packet, units_before}
+use Rattle.recording_laws.specs.Losses.{units_behind}
+use Rattle.recording_laws.proofs.LeftLemmas.{carrier-payload}
+use Rattle.recording_laws.proofs.ClosedPartLemmas.{Closes, IsBroken, broken-short, closes-piece}
+use Rattle.recording_laws.proofs.ClosedPartLemmas.{parts_from-some, broken-unbegun, closes-broken}
+use Rattle.recording_laws.proofs.PartLemmas.{outcome-whole, IsWhole, parts_from-cut, concat-snoc}
+use Rattle.recording_laws.proofs.PartLemmas.{parts_from-follows}
+use Rattle.recording_laws.proofs.BegunPartLemmas.{ClosesGiven, IsFront, closes-front}
+use Rattle.recording_laws.proofs.ReadingLemmas.{IsMarkExact, is_held, After, Fits, Held, Marked}
+use Rattle.recording_laws.proofs.ReadingLemmas.{Nothing, Reads, reads-marked, skip}
+use Rattle.recording_laws.specs.Multiplex.{Carrier, SentPes, carriers_of, carriers_of_pes}
+use Rattle.recording_laws.specs.Pace.{up_to_pts}
+use Rattle.recording_laws.proofs.LeftNoteLemmas.{IsLeftCarrier}
+use Rattle.recording_laws.proofs.PieceLemmas.{concat-marks, marks-pieces, marks_where}
+use Rattle.recording_laws.proofs.TraceLemmas.{IsHeard, Traced}
+
+-- A part that is closed by a good packet.
+pub closed-by : (wrong_behind : Bool) (part : Part) (given gap : Bool) (front : List ℕ)
+    (given' gap' : Bool) (g : GoodPacket) (later : List GoodPacket)
+    → Closes part given gap front given' gap'
+    → begins_part g ≡ true
+    → with_marks given gap (outcomes wrong_behind (parts_from part (g ∷ later)))
+    ≡ front ++ with_marks given' gap' (outcomes wrong_behind (parts_from (part_of g) later))
+closed-by wrong_behind part given gap front given' gap' g later h1 h2 =
+    grind (arith, nat_tests, parts_from-cut, parts_from-some)
+
+-- The bytes of carriers.
+abbrev pub payloads_of : ℕ → List (Carrier Fated) → List ℕ
+payloads_of distance cs = concat (map (λ c. payload (sent_packet distance c.packet)) cs)
+
+-- What was given, where there is a gap since.
+abbrev pub gapped : Bool → Held
+gapped true = Marked
+gapped false = Nothing
+
+-- Bytes are pieces that come of PES packets.
+pub record Gives (few : Bool) (held : Held) (sent : List (SentPes Fated)) (bytes : List ℕ)
+    : Type 0 where
+  pub pieces : List (List ℕ)
+  pub each : AllByRecursion IsPiece pieces
+  pub joined : bytes ≡ concat pieces
+  pub reads : Reads few held sent pieces
+
+-- The first of them, behind a mark or none, comes of the PES packet whose first packet began the
+-- part that is open.
+pub record GivesOne (few marked : Bool) (s : SentPes Fated) (between : ℕ) (skipped : Bool)
+    (sent : List (SentPes Fated)) (bytes : List ℕ) : Type 0 where
+  pub piece : List ℕ
+  pub is_piece : IsPiece piece
+  pub front : up_to_pts piece ≡ up_to_pts s.bytes
+  pub as_sent : few ≡ true → (arrives s ≡ true) × (piece ≡ s.bytes)
+  pub rest : List (List ℕ)
+  pub each : AllByRecursion IsPiece rest
+  pub joined : bytes ≡ mark_where marked ++ (piece ++ concat rest)
+  pub reads : Reads few (After piece s between skipped) sent rest
+
+-- It does, or nothing comes of that one.
+abbrev pub Opens : Bool → Bool → Bool → SentPes Fated → ℕ → Bool → List (SentPes Fated) → List ℕ
+    → Type 0
+Opens few given marked s between skipped sent bytes =
+    GivesOne few marked s between skipped sent bytes
+    ⊎ ((few ≡ true → arrives s ≡ false) × Gives few (gapped given) sent bytes)
+
+-- ---- what is held
+
+-- Behind a gap a PES packet of which nothing is given changes nothing.
+gapped-skip : (few given : Bool) (s : SentPes Fated) (more : List (SentPes Fated))
+    (pieces : List (List ℕ))
+    → Reads few (gapped given) more pieces
+    → Reads few (skip (gapped given) s) more pieces
+gapped-skip few true s more pieces h = h
+gapped-skip few false s more pieces h = h
+
+-- What comes behind a gap comes behind what was given before.
+held-skip : (few : Bool) (held : Held) (given : Bool) (s : SentPes Fated)
+    (more : List (SentPes Fated)) (pieces : List (List ℕ))
+    → is_held held ≡ given
+    → Reads few (gapped given) more pieces
+    → Reads few (skip held s) more pieces
+held-skip few Nothing true s more pieces e h = absurd (cc e)
+held-skip few Nothing false s more pieces e h = h
+held-skip few Marked true s more pieces e h = h
+held-skip few Marked false s more pieces e h = absurd (cc e)
+held-skip few (After x t between skipped) true s more pieces e h =
+    reads-marked few x t (between + length (carriers_of_pes s)) true more pieces (λ e. refl) h
+held-skip few (After x t between skipped) false s more pieces e h = absurd (cc e)
+
+-- A PES packet of which nothing is given.
+pub gives-later : (few given : Bool) (s : SentPes Fated) (more : List (SentPes Fated))
+    (bytes : List ℕ)
+    → (few ≡ true → arrives s ≡ false)
+    → Gives few (gapped given) more bytes
+    → Gives few (gapped given) (s ∷ more) bytes
+gives-later few given s more bytes gone h = record {
+  pieces = h.pieces;
+  each = h.each;
+  joined = h.joined;
+  reads = inl (gone, gapped-skip few given s more h.pieces h.reads);
+}
+
+-- The same, where another's part is open.
+pub opens-later : (few given marked : Bool) (s : SentPes Fated) (between : ℕ) (skipped : Bool)
+    (t : SentPes Fated) (more : List (SentPes Fated)) (bytes : List ℕ)
+    → (few ≡ true → arrives t ≡ false)
+    → Opens few given marked s (between + length (carriers_of_pes t)) true more bytes
+    → Opens few given marked s between skipped (t ∷ more) bytes
+opens-later few given marked s between skipped t more bytes gone h = elim h [
+  | inl one ↦
+      inl
+      (record {
+        piece = one.piece;
+        is_piece = one.is_piece;
+        front = one.front;
+        as_sent = one.as_sent;
+        rest = one.rest;
+        each = one.each;
+        joined = one.joined;
+        reads = inl (gone, one.reads);
+      })
+  | inr none ↦ inr (none.0, gives-later few given t more bytes gone none.1)
+]
+
+-- A PES packet whose part was opened.
+pub gives-opened : (few : Bool) (held : Held) (given marked : Bool) (s : SentPes Fated)
+    (more : List (SentPes Fated)) (bytes : List ℕ)
+    → is_held held ≡ given
+    → Fits held marked
+    → IsMarkExact few held s marked
+    → Opens few given marked s (length s.others) false more bytes
+    → Gives few held (s ∷ more) bytes
+gives-opened few held given marked s more bytes is fits exact h = elim h [
+  | inl one ↦
+      record {
+        pieces = marks_where marked ++ (one.piece ∷ one.rest);
+        each = marks-pieces marked (one.piece ∷ one.rest) (one.is_piece, one.each);
+        joined = one.joined ∙ sym (concat-marks marked one.piece one.rest);
+        reads =
+            inr (
+              marked,
+              one.piece,
+              one.rest,
+              refl,
+              one.front,
+              fits,
+              one.reads,
+              one.as_sent,
+              exact,
+            );
+      }
+  | inr none ↦
+      record {
+        pieces = none.1.pieces;
+        each = none.1.each;
+        joined = none.1.joined;
+        reads = inl (none.0, held-skip few held given s more none.1.pieces is none.1.reads);
+      }
+]
+
+-- A piece before others.
+pub gives-one : (few marked : Bool) (s : SentPes Fated) (between : ℕ) (skipped : Bool)
+    (sent : List (SentPes Fated)) (piece bytes inner : List ℕ)
+    → IsPiece piece
+    → up_to_pts piece ≡ up_to_pts s.bytes
+    → (few ≡ true → (arrives s ≡ true) × (piece ≡ s.bytes))
+    → bytes ≡ (mark_where marked ++ piece) ++ inner
+    → Gives few (After piece s between skipped) sent inner
+    → GivesOne few marked s between skipped sent bytes
+gives-one few marked s between skipped sent piece bytes inner is front as_sent e h = record {
+  piece = piece;
+  is_piece = is;
+  front = front;
+  as_sent = as_sent;
+  rest = h.pieces;
+  each = h.each;
+  joined =
+      e
+      ∙ append_assoc (mark_where marked) piece inner
+      ∙ ap (λ (l : List ℕ). mark_where marked ++ (piece ++ l)) h.joined;
+  reads = h.reads;
+}
+
+-- What comes behind a gap.
+pub gives-marked : (few : Bool) (x : List ℕ) (s : SentPes Fated) (between : ℕ) (skipped : Bool)
+    (sent : List (SentPes Fated)) (bytes : List ℕ)
+    → (few ≡ true → (skipped || is_wrong_behind s) ≡ true)
+    → Gives few Marked sent bytes
+    → Gives few (After x s between skipped) sent bytes
+gives-marked few x s between skipped sent bytes gap h = record {
+  pieces = h.pieces;
+  each = h.each;
+  joined = h.joined;
+  reads = reads-marked few x s between skipped sent h.pieces gap h.reads;
+}
+
+-- ---- what links carriers, where few are gone
+
+-- The next carrier is gone,
+not-there : (a b c d : Bool) → b ≡ false → (not a && (b && (not c && d))) ≡ false
+not-there a b c d h1 = grind (arith, nat_tests)
+
+-- a unit was made wrong before it,
+wrong-between : (a b c d : Bool) → (a || c) ≡ true → (not a && (b && (not c && d))) ≡ false
+wrong-between a b c d h1 = grind (arith, nat_tests)
+
+-- or neither.
+there-after : (a b c d : Bool)
+    → a ≡ false
+    → b ≡ true
+    → c ≡ false
+    → (not a && (b && (not c && d))) ≡ d
+there-after a b c d h1 h2 h3 = grind (arith, nat_tests)
+
+-- Nothing is lost.
+nothing-lost : (a b : Bool) (n : ℕ)
+    → ((a || b) || nat_lt 0 n) ≡ false
+    → (n ≡ 0) × (a ≡ false) × (b ≡ false)
+nothing-lost a b n h1 =
+    (grind (arith, nat_tests), grind (arith, nat_tests), grind (arith, nat_tests))
+
+-- Something is, and not for a carrier.
+wrong-lost : (a b : Bool) (n : ℕ)
+    → ((a || b) || nat_lt 0 n) ≡ true
+    → n ≡ 0
+    → (a || b) ≡ true
+wrong-lost a b n h1 h2 = grind (arith, nat_tests)
+
+module _ (distance number : ℕ) (wrong_behind few : Bool) where
+  -- What is carried from an open part on.
+  abbrev pub carried_from : Part → Bool → Bool → List GoodPacket → List ℕ
+  carried_from part given gap goods =
+      with_marks given gap (outcomes wrong_behind (parts_from part goods))
+
+  -- ---- how far an open part has come
+
+  -- It has all of its PES packet up to these carriers.
+  pub record IsUnbroken (part : Part) (s : SentPes Fated) (between : ℕ) (skipped : Bool) (n : ℕ)
+      (wrong : Bool) (cs : List (Carrier Fated)) : Type 0 where
+    pub unskipped : skipped ≡ false
+    pub none_gone : n ≡ 0
+    pub joined : part_bytes part ++ payloads_of distance cs ≡ s.bytes
+    pub near : length cs ≤ between
+    pub last : Carrier Fated
+    pub exact :
+        few ≡ true
+        → (arrives s ≡ are_there_after last cs)
+        × (is_wrong_behind s ≡ any_wrong (units_behind (last_carrier last cs)))
+        × (wrong ≡ any_wrong (units_behind last))
+
+  -- It is not whole; or it is, and the next PES packet's first carrier is gone.
+  abbrev pub IsLost : Part → SentPes Fated → Bool → Type 0
+  IsLost part s skipped =
+      (IsBroken part × (arrives s ≡ false))
+      ⊎ (IsWhole part s.bytes × (arrives s ≡ true) × (skipped ≡ true))
+
+  -- It has; or some are gone, since its first packet or later; or there were 16 at least. `between`
+  -- carriers stand between its first packet and the next PES packet's, with these.
+  abbrev pub IsGoing : Part → SentPes Fated → ℕ → Bool → ℕ → Bool → List (Carrier Fated) → Type 0
+  IsGoing part s between skipped n wrong cs =
+      IsUnbroken part s between skipped n wrong cs
+      ⊎ (((1 ≤ n) × (n + length cs ≤ between) × (few ≡ true → IsLost part s skipped))
+      ⊎ ((16 + length cs ≤ between) × (few ≡ false)))
+
+  -- It begins as its PES packet does.
+  pub record IsFirst (part : Part) (s : SentPes Fated) : Type 0 where
+    pub begins : part.begins ≡ true
+    pub is_piece : IsPiece s.bytes
+    pub front : few ≡ false → IsFront part s
+
+  -- It is not whole where carriers are to come.
+  broken-here : (part : Part) (s : SentPes Fated) (between : ℕ) (skipped : Bool) (n : ℕ)
+      (wrong : Bool) (c : Carrier Fated) (cs : List (Carrier Fated))
+      → IsPiece s.bytes
+      → IsLeftCarrier distance number false c
+      → IsUnbroken part s between skipped n wrong (c ∷ cs)
+      → IsBroken part
+  broken-here part s between skipped n wrong c cs is left all =
+      let some = carrier-payload distance number false c left in
+      broken-short part (payloads_of distance (c ∷ cs)) s.bytes all.joined
+      (omega (
+        arith,
+        some,
+        length-append (payload (sent_packet distance c.packet))
+            (payloads_of distance cs),
+      ))
+      is
+
+  -- One more is gone.
+  going-gone : (part : Part) (s : SentPes Fated) (between : ℕ) (skipped : Bool) (n : ℕ)
+      (wrong since : Bool) (c : Carrier Fated) (cs : List (Carrier Fated))
+      → IsPiece s.bytes
+      → IsLeftCarrier distance number false c
+      → (few ≡ true → is_there c ≡ false)
+      → IsGoing part s between skipped n wrong (c ∷ cs)
+      → IsGoing part s between skipped (n + 1) since cs
+  going-gone part s between skipped n wrong since c cs is left gone (inl all) =
+      let none = all.none_gone in
+      let near = all.near in
+      inr
+      (inl (
+        omega arith,
+        omega (arith, none, near),
+        λ e. inl (
+          broken-here part s between skipped n wrong c cs is left all,
+          (all.exact e).0
+              ∙ not-there (any_wrong (units_behind all.last)) (is_there c)
+              (any_wrong (units_before c)) (are_there_after c cs) (gone e),
+        ),
+      ))
+  going-gone part s between skipped n wrong since c cs is left gone (inr (inl some)) =
+      let near = some.1 in inr (inl (omega arith, omega (arith, near), some.2))
+  going-gone part s between skipped n wrong since c cs is left gone (inr (inr far)) =
+      let many = far.0 in inr (inr (omega (arith, many), far.1))
+
+  -- It is whole.
+  whole-here : (part : Part) (s : SentPes Fated) (between : ℕ) (skipped : Bool) (n : ℕ)
+      (wrong : Bool)
+      → IsFirst part s
+      → IsUnbroken part s between skipped n wrong []
+      → IsWhole part s.bytes
+  whole-here part s between skipped n wrong first all = record {
+    begins = first.begins;
+    bytes_are = sym (append-nil (part_bytes part)) ∙ all.joined;
+    is_piece = first.is_piece;
+  }
+
+  -- What is lost stays so.
+  lost-skip : (part : Part) (s : SentPes Fated) (skipped : Bool)
+      → IsLost part s skipped
+      → IsLost part s true
+  lost-skip part s skipped (inl broken) = inl broken
+  lost-skip part s skipped (inr whole) = inr (whole.0, whole.1, refl)
+
+  -- All of a PES packet is passed over, from its first packet on.
+  pub going-skip : (part : Part) (s : SentPes Fated) (between : ℕ) (skipped : Bool) (n : ℕ)
+      (wrong since : Bool) (t : SentPes Fated)
+      → IsFirst part s
+      → IsGoing part s between skipped n wrong []
+      → IsGoing part s (between + length (carriers_of_pes t)) true (n + 1) since t.others
+  going-skip part s between skipped n wrong since t first (inl all) =
+      let none = all.none_gone in
+      inr
+      (inl (
+        omega arith,
+        omega (arith, none),
+        λ e. inr (
+          whole-here part s between skipped n wrong first all,
+          (all.exact e).0,
+          refl,
+        ),
+      ))
+  going-skip part s between skipped n wrong since t first (inr (inl some)) =
+      let near = some.1 in
+      inr (inl (omega arith, omega (arith, near), λ e. lost-skip part s skipped (some.2 e)))
+  going-skip part s between skipped n wrong since t first (inr (inr far)) =
+      let many = far.0 in inr (inr (omega (arith, many), far.1))
+
+  -- 16 are gone, where a packet follows and some are.
+  sixteen : (n size between : ℕ)
+      → 1 ≤ n
+      → n % 16 ≡ 0
+      → n + (size + 1) ≤ between
+      → 16 + size ≤ between
+  sixteen n size between h1 h2 h3 = omega arith
+
+  -- What is known of a packet that follows, where few are gone.
+  abbrev StillThere : ℕ → Bool → Carrier Fated → Type 0
+  StillThere n wrong c =
+      few ≡ true
+      → (n ≡ 0) × (wrong ≡ false) × (any_wrong (units_before c) ≡ false) × (is_there c ≡ true)
+
+  -- A packet that follows belongs to it.
+  going-follows : (part : Part) (s : SentPes Fated) (between : ℕ) (skipped : Bool) (n : ℕ)
+      (wrong since : Bool) (c : Carrier Fated) (cs : List (Carrier Fated)) (g : GoodPacket)
+      → IsGoing part s between skipped n wrong (c ∷ cs)
+      → payload g.packet ≡ payload (sent_packet distance c.packet)
+      → n % 16 ≡ 0
+      → StillThere n wrong c
+      → (few ≡ true → since ≡ any_wrong (units_behind c))
+      → IsGoing (with_packet part g) s between skipped 0 since cs
+  going-follows part s between skipped n wrong since c cs g (inl all) same on still is =
+      let near = all.near in
+      inl
+      (record {
+        unskipped = all.unskipped;
+        none_gone = refl;
+        joined =
+            concat-snoc part.payloads (payload g.packet)
+            (payloads_of distance cs) s.bytes
+            (ap (λ (x : List ℕ).
+            part_bytes part ++ (x ++ payloads_of distance cs)) same
+            ∙ all.joined);
+        near = omega (arith, near);
+        last = c;
+        exact = λ e. (
+          (all.exact e).0
+              ∙ there-after (any_wrong (units_behind all.last)) (is_there c)
+              (any_wrong (units_before c)) (are_there_after c cs)
+              (sym (all.exact e).2 ∙ (still e).1) (still e).3 (still e).2,
+          (all.exact e).1,
+          is e,
+        );
+      })
+  going-follows part s between skipped n wrong since c cs g (inr (inl some)) same on still is =
+      elim (cases_Bool few) [
+        | inl e ↦
+            let first = some.0 in let none = (still e).0 in absurd (omega (arith, first, none))
+        | inr many ↦
+            let near = some.1 in
+            inr (inr (sixteen n (length cs) between some.0 on (omega (arith, near)), many))
+      ]
+  going-follows part s between skipped n wrong since c cs g (inr (inr far)) same on still is =
+      let many = far.0 in inr (inr (omega (arith, many), far.1))
+
+  -- Where the next PES packet begins, its piece fits.
+  pub going-fits : (part : Part) (given gap : Bool) (s : SentPes Fated) (between : ℕ)
+      (skipped : Bool) (n : ℕ) (wrong : Bool) (piece : List ℕ) (longer breaks : Bool)
+      → (part_bytes part ≡ s.bytes → piece ≡ s.bytes)
+      → IsGoing part s between skipped n wrong []
+      → (breaks ≡ false → n % 16 ≡ 0)
+      → Fits (After piece s between skipped) (true && (longer || breaks))
+  going-fits
+      part given gap s between skipped n wrong piece longer breaks as_sent (inl all) on none =
+      inr (all.unskipped, as_sent (sym (append-nil (part_bytes part)) ∙ all.joined))
+  going-fits
+      part given gap s between skipped n wrong piece longer breaks as_sent (inr (inl some)) on none =
+      let follows = on (grind (arith, nat_tests)) in
+      let first = some.0 in
+      let near = some.1 in
+      inl (omega (arith, follows, first, near))
+  going-fits
+      part given gap s between skipped n wrong piece longer breaks as_sent (inr (inr far)) on none =
+      let many = far.0 in inl (omega (arith, many))
+
+  -- It begins as its PES packet does, whatever is joined to it.
+  front-with : (part : Part) (s : SentPes Fated) (g : GoodPacket)
+      → IsFront part s
+      → IsFront (with_packet part g) s
+  front-with part s g h = record {
+    begins = h.begins;
+    long =
+        let long = h.long in
+        omega (arith, long, ap length bytes, length-append (part_bytes part) (payload g.packet));
+    same =
+        ap up_to_pts bytes
+        ∙ take-append-le 14 (part_bytes part) (payload g.packet) h.long
+        ∙ h.same;
+    is_piece = h.is_piece;
+  }
+    where
+      bytes : part_bytes (with_packet part g) ≡ part_bytes part ++ payload g.packet
+      bytes =
+          sym (append-nil (part_bytes (with_packet part g)))
+          ∙ concat-snoc part.payloads (payload g.packet) [] (part_bytes part ++ payload g.packet)
+          (ap (λ (x : List ℕ). part_bytes part ++ x) (append-nil (payload g.packet)))
+
+  -- Nor where it has to.
+  first-with : (part : Part) (s : SentPes Fated) (g : GoodPacket)
+      → IsFirst part s
+      → IsFirst (with_packet part g) s
+  first-with part s g h = record {
+    begins = h.begins;
+    is_piece = h.is_piece;
+    front = λ e. front-with part s g (h.front e);
+  }
+
+  -- ---- what it gives
+
+  -- A piece, and where few are gone the PES packet.
+  pub record ClosesAs (part : Part) (given gap : Bool) (s : SentPes Fated) : Type 0 where
+    pub is : ClosesGiven part given gap s
+    pub exact : few ≡ true → (arrives s ≡ true) × (is.piece ≡ s.bytes) × (is.longer ≡ false)
+
+  -- Or nothing.
+  abbrev pub Closing : Part → Bool → Bool → SentPes Fated → Type 0
+  Closing part given gap s =
+      ClosesAs part given gap s
+      ⊎ (Closes part given gap [] given true × (few ≡ true → arrives s ≡ false))
+
+  -- Where few are gone it is whole, or not.
+  abbrev pub Ends : Part → SentPes Fated → Type 0
+  Ends part s =
+      few ≡ true
+      → (IsBroken part × (arrives s ≡ false)) ⊎ (IsWhole part s.bytes × (arrives s ≡ true))
+
+  -- So one of the two.
+  pub closing : (part : Part) (given gap : Bool) (s : SentPes Fated)
+      → IsFirst part s
+      → Ends part s
+      → Closing part given gap s
+  closing part given gap s first ends = elim (cases_Bool few) [
+    | inl e ↦ elim (ends e) [
+      | inl broken ↦ inr (closes-broken part given gap broken.0, λ f. broken.1)
+      | inr whole ↦
+          inl
+          (record {
+            is = record {
+              piece = s.bytes;
+              longer = false;
+              is_piece = first.is_piece;
+              front = refl;
+              as_sent = λ e. refl;
+              closes =
+                  closes-piece part given gap s.bytes false
+                  (λ cut_off. outcome-whole cut_off part s.bytes whole.0);
+            };
+            exact = λ f. (whole.1, refl, refl);
+          })
+    ]
+    | inr many ↦ elim (closes-front part given gap s (first.front many)) [
+      | inl one ↦ inl (record { is = one; exact = λ e. absurd (cc (e, many)) })
+      | inr broken ↦ inr (broken, λ e. absurd (cc (e, many)))
+    ]
+  ]
+
+  -- What is lost ends so.
+  lost-ends : (part : Part) (s : SentPes Fated) (skipped : Bool)
+      → (few ≡ true → IsLost part s skipped)
+      → Ends part s
+  lost-ends part s skipped lost is = elim (lost is) [
+    | inl broken ↦ inl broken
+    | inr whole ↦ inr (whole.0, whole.1)
+  ]
+
+  -- How it ends before the next PES packet.
+  pub going-ends : (part : Part) (s : SentPes Fated) (between : ℕ) (skipped : Bool) (n : ℕ)
+      (wrong : Bool)
+      → IsFirst part s
+      → IsGoing part s between skipped n wrong []
+      → Ends part s
+  going-ends part s between skipped n wrong first (inl all) is =
+      inr (whole-here part s between skipped n wrong first all, (all.exact is).0)
+  going-ends part s between skipped n wrong first (inr (inl some)) is =
+      lost-ends part s skipped some.2 is
+  going-ends part s between skipped n wrong first (inr (inr far)) is = absurd (cc (is, far.1))
+
+  -- ---- the rest of a PES packet
+
+  -- PES packets lead on from a part that begins none,
+  abbrev pub OnwardHeadless : List (SentPes Fated) → Type 0
+  OnwardHeadless sent =
+      (part : Part) (given gap behind : Bool) (n : ℕ) (wrong : Bool) (goods : List GoodPacket)
+      → part.begins ≡ false
+      → Traced distance number few behind n wrong (carriers_of sent) goods
+      → Gives few (gapped given) sent (carried_from part given gap goods)
+
+  -- and from one that does.
+  abbrev pub OnwardOpen : List (SentPes Fated) → Type 0
+  OnwardOpen sent =
+      (part : Part) (given gap : Bool) (s : SentPes Fated) (between : ℕ) (skipped : Bool) (n : ℕ)
+      (wrong : Bool) (goods : List GoodPacket)
+      → IsFirst part s
+      → IsGoing part s between skipped n wrong []
+      → Traced distance number few true n wrong (carriers_of sent) goods
+      → Opens few given (given && (gap || part.after_break)) s between skipped sent
+      (carried_from part given gap goods)
+
+  -- Both.
+  pub record Onward (sent : List (SentPes Fated)) : Type 0 where
+    pub headless : OnwardHeadless sent
+    pub opened : OnwardOpen sent
+
+  -- The first good packet of a carrier within a PES packet begins none.
+  heard-begins : (behind : Bool) (n : ℕ) (wrong : Bool) (c : Carrier Fated) (g : GoodPacket)
+      → IsLeftCarrier distance number false c
+      → IsHeard distance number few behind n wrong c g
+      → begins g.packet ≡ false
+  heard-begins behind n wrong c g is heard = heard.copy.begins ∙ is.is_carrier.begins
+
+  -- Where it belongs to the part, it follows.
+  heard-follows : (n : ℕ) (wrong : Bool) (c : Carrier Fated) (g : GoodPacket)
+      → IsHeard distance number few true n wrong c g
+      → begins_part g ≡ false
+      → is_break g.link ≡ false
+  heard-follows n wrong c g heard within =
+      let link = (heard.linked refl).cut in grind (arith, nat_tests)
+
+  -- So nothing is lost.
+  heard-still : (n : ℕ) (wrong : Bool) (c : Carrier Fated) (g : GoodPacket)
+      → IsHeard distance number few true n wrong c g
+      → begins_part g ≡ false
+      → StillThere n wrong c
+  heard-still n wrong c g heard within is =
+      let none =
+      nothing-lost wrong (any_wrong (units_before c)) n
+      (sym ((heard.linked refl).exact is).1 ∙ heard-follows n wrong c g heard within) in
+      (none.0, none.1, none.2, heard.there is)
+
+  -- Where it does not, something is lost.
+  heard-breaks : (n : ℕ) (wrong : Bool) (c : Carrier Fated) (g : GoodPacket)
+      → begins g.packet ≡ false
+      → IsHeard distance number few true n wrong c g
+      → begins_part g ≡ true
+      → is_break g.link ≡ true
+  heard-breaks n wrong c g begun heard cut =
+      let link = (heard.linked refl).cut in grind (arith, nat_tests)
+
+  -- So what is open is not whole, or was so before.
+  cut-lost : (part : Part) (s : SentPes Fated) (between : ℕ) (skipped : Bool) (n : ℕ)
+      (wrong : Bool) (c : Carrier Fated) (cs : List (Carrier Fated)) (g : GoodPacket)
+      → IsPiece s.bytes
+      → IsLeftCarrier distance number false c
+      → IsHeard distance number few true n wrong c g
+      → begins_part g ≡ true
+      → IsGoing part s between skipped n wrong (c ∷ cs)
+      → few ≡ true
+      → IsLost part s skipped
+  cut-lost part s between skipped n wrong c cs g is left heard cut (inl all) e =
+      inl (
+        broken-here part s between skipped n wrong c cs is left all,
+        (all.exact e).0
+            ∙ wrong-between (any_wrong (units_behind all.last)) (is_there c)
+            (any_wrong (units_before c)) (are_there_after c cs)
+            (ap (λ (b : Bool). b || any_wrong (units_before c)) (sym (all.exact e).2)
+            ∙ wrong-lost wrong (any_wrong (units_before c)) n
+            (sym ((heard.linked refl).exact e).1
+            ∙ heard-breaks n wrong c g (heard-begins true n wrong c g left heard) heard cut)
+            all.none_gone),
+      )
+  cut-lost part s between skipped n wrong c cs g is left heard cut (inr (inl some)) e = some.2 e
+  cut-lost part s between skipped n wrong c cs g is left heard cut (inr (inr far)) e =
+      absurd (cc (e, far.1))
+
+  -- The rest, behind a part that begins no PES packet.
+  pub headless-within : (more : List (SentPes Fated)) (part : Part) (given gap behind : Bool)
+      (n : ℕ) (wrong : Bool) (cs : List (Carrier Fated)) (goods : List GoodPacket)
+      → Onward more
+      → part.begins ≡ false
+      → AllByRecursion (IsLeftCarrier distance number false) cs
+      → Traced distance number few behind n wrong (cs ++ carriers_of more) goods
+      → Gives few (gapped given) more (carried_from part given gap goods)
+  headless-within more part given gap behind n wrong [] goods go headless each traced =
+      go.headless part given gap behind n wrong goods headless traced
+  headless-within more part given gap behind n wrong (c ∷ cs) goods go headless each traced =
+      elim traced [
+        | inl gone ↦
+            headless-within more part given gap behind (n + 1) gone.0 cs goods go headless each.1
+            gone.2
+        | inr here ↦ elim (cases_Bool (begins_part here.0)) [
+          | inl cut ↦
+              subst (Gives few (gapped given) more)
+              (sym
+              (ap (carried_from part given gap) here.2
+              ∙ closed-by wrong_behind part given gap [] given true here.0 here.1
+              (closes-broken part given gap (broken-unbegun part headless)) cut))
+              (headless-within more (part_of here.0) given true true 0 here.4 cs here.1 go
+              (heard-begins behind n wrong c here.0 each.0 here.3) each.1 here.6)
+          | inr within ↦
+              subst (Gives few (gapped given) more)
+              (sym
+              (ap (carried_from part given gap) here.2
+              ∙ ap (λ (ps : List Part). with_marks given gap (outcomes wrong_behind ps))
+              (parts_from-follows part here.0 here.1 within)))
+              (headless-within more (with_packet part here.0) given gap true 0 here.4 cs here.1 go
+              headless each.1 here.6)
+        ]
+      ]
+
+  -- A part is closed by a packet that begins none: what comes behind it.
+  open-cut : (more : List (SentPes Fated)) (part : Part) (given gap : Bool) (s : SentPes Fated)
+      (between : ℕ) (skipped : Bool) (g : GoodPacket) (later : List GoodPacket)
+      → IsFirst part s
+      → (few ≡ true → IsLost part s skipped)
+      → begins_part g ≡ true
+      → ((given' gap' : Bool)
+      → Gives few (gapped given') more (carried_from (part_of g) given' gap' later))
+      → Opens few given (given && (gap || part.after_break)) s between skipped more
+      (carried_from part given gap (g ∷ later))
+  open-cut more part given gap s between skipped g later first lost cut go =
+      elim (closing part given gap s first (lost-ends part s skipped lost)) [
+        | inl one ↦
+            inl
+            (gives-one few (given && (gap || part.after_break)) s between skipped more one.is.piece
+            (carried_from part given gap (g ∷ later))
+            (carried_from (part_of g) true one.is.longer later) one.is.is_piece one.is.front
+            (λ e. ((one.exact e).0, (one.exact e).1))
+            (closed-by wrong_behind part given gap
+            (mark_where (given && (gap || part.after_break)) ++ one.is.piece) true one.is.longer g
+            later one.is.closes cut)
+            (gives-marked few one.is.piece s between skipped more
+            (carried_from (part_of g) true one.is.longer later)
+            (λ e. elim (lost e) [
+              | inl broken ↦ absurd (cc (broken.1, (one.exact e).0))
+              | inr whole ↦ ap (λ (b : Bool). b || is_wrong_behind s) whole.2
+            ])
+            (go true one.is.longer)))
+        | inr none ↦
+            inr (
+              none.1,
+              subst (Gives few (gapped given) more)
+                  (sym (closed-by wrong_behind part given gap [] given true g later none.0 cut))
+                  (go given true),
+            )
+      ]
+
+  -- The rest, behind a part that begins one.
+  pub open-within : (more : List (SentPes Fated)) (part : Part) (given gap : Bool)
+      (s : SentPes Fated) (between : ℕ) (skipped : Bool) (n : ℕ) (wrong : Bool)
+      (cs : List (Carrier Fated)) (goods : List GoodPacket)
+      → Onward more
+      → IsFirst part s
+      → IsGoing part s between skipped n wrong cs
+      → AllByRecursion (IsLeftCarrier distance number false) cs
+      → Traced distance number few true n wrong (cs ++ carriers_of more) goods
+      → Opens few given (given && (gap || part.after_break)) s between skipped more
+      (carried_from part given gap goods)
+  open-within more part given gap s between skipped n wrong [] goods go first going each traced =
+      go.opened part given gap s between skipped n wrong goods first going traced
+  open-within more part given gap s between skipped n wrong (c ∷ cs) goods go first going each
+      traced =
+      elim traced [
+        | inl gone ↦
+            open-within more part given gap s between skipped (n + 1) gone.0 cs goods go first
+            (going-gone part s between skipped n wrong gone.0 c cs first.is_piece each.0 gone.1
+            going) each.1 gone.2
+        | inr here ↦ elim (cases_Bool (begins_part here.0)) [
+          | inl cut ↦
+              subst
+              (λ (goods : List GoodPacket).
+              Opens few given (given && (gap || part.after_break)) s between skipped more
+              (carried_from part given gap goods))
+              (sym here.2)
+              (open-cut more part given gap s between skipped here.0 here.1 first
+              (cut-lost part s between skipped n wrong c cs here.0 first.is_piece each.0 here.3 cut
+              going)
+              cut
+              (λ given' gap'.
+              headless-within more (part_of here.0) given' gap' true 0 here.4 cs here.1 go
+              (heard-begins true n wrong c here.0 each.0 here.3) each.1 here.6))
+          | inr within ↦
+              subst (Opens few given (given && (gap || part.after_break)) s between skipped more)
+              (sym
+              (ap (carried_from part given gap) here.2
+              ∙ ap (λ (ps : List Part). with_marks given gap (outcomes wrong_behind ps))
+              (parts_from-follows part here.0 here.1 within)))
+              (open-within more (with_packet part here.0) given gap s between skipped 0 here.4 cs
+              here.1 go
+              (first-with part s here.0 first)
+              (going-follows part s between skipped n wrong here.4 c cs here.0 going
+              here.3.copy.payload
+              ((here.3.linked refl).far (heard-follows n wrong c here.0 here.3 within))
+              (heard-still n wrong c here.0 here.3 within) here.5)
+              each.1 here.6)
+        ]
+      ]

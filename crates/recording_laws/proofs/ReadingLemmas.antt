@@ -1,0 +1,489 @@
+-- How pieces are read of PES packets that were sent, where any number of packets is gone; and that
+-- those which keep the pace, without a mark among them, were sent one after another. Main lemma:
+-- read-run.
+use Rattle.std.proofs.Common.{◌≡◌, ℕ, ◌+◌, ◌<◌, ◌≤◌, ◌⊎◌, inl, inr, Bool, true, false, List, []}
+use Rattle.std.proofs.Common.{◌∷◌, ◌++◌, length, refl, sym, ap, ◌∙◌, subst, arith, ◌&&◌, ◌||◌}
+use Rattle.std.specs.Bool.{⊤}
+use Rattle.std.proofs.lemmas.Bool.{cases_Bool}
+use Rattle.std.specs.List.{AllByRecursion}
+use Rattle.mpeg_ts.specs.Carried.{mark}
+use Rattle.recording_laws.specs.Losses.{Fated, any_wrong, arrives, is_wrong_behind, units_before}
+use Rattle.recording_laws.specs.Multiplex.{SentPes, carriers_of_pes}
+use Rattle.recording_laws.specs.Pace.{AreFarApart, AreFarFrom, KeepPace, KeepPaceFrom, frame_by}
+use Rattle.recording_laws.specs.Pace.{up_to_pts}
+use Rattle.recording_laws.proofs.PieceLemmas.{HasNoMark, heads, marks_where, not-empty}
+use Rattle.recording_laws.proofs.PieceLemmas.{sent_bytes, tails}
+
+-- What was given before: nothing; something, and a gap since; or a piece that begins as this PES
+-- packet does. Behind its first carrier so many stand before the next PES packet, and perhaps
+-- nothing comes of a PES packet among them.
+pub data Held : Type 0 where
+  Nothing : Held
+  Marked : Held
+  After : List ℕ → SentPes Fated → ℕ → Bool → Held
+
+-- A PES packet of which nothing is given stands between.
+abbrev pub skip : Held → SentPes Fated → Held
+skip Nothing t = Nothing
+skip Marked t = Marked
+skip (After x s between skipped) t = After x s (between + length (carriers_of_pes t)) true
+
+-- A mark may be missing before the next piece: where nothing was given; or where the one before is
+-- as it was sent, and the next one was sent behind it, if not 16 carriers stand between.
+abbrev pub Fits : Held → Bool → Type 0
+Fits Nothing marked = ⊤
+Fits Marked marked = marked ≡ true
+Fits (After x s between skipped) marked =
+    marked ≡ false → (16 ≤ between) ⊎ ((skipped ≡ false) × (x ≡ s.bytes))
+
+-- Something was given.
+abbrev pub is_held : Held → Bool
+is_held Nothing = false
+is_held Marked = true
+is_held (After x s between skipped) = true
+
+-- There was a gap since, where few are gone in a row.
+abbrev pub is_gap : Held → Bool
+is_gap Nothing = true
+is_gap Marked = true
+is_gap (After x s between skipped) = skipped || is_wrong_behind s
+
+-- Where few are gone in a row, a mark stands exactly where there was a gap.
+abbrev pub IsMarkExact : Bool → Held → SentPes Fated → Bool → Type 0
+IsMarkExact few held s marked =
+    few ≡ true → marked ≡ (is_held held && (is_gap held || any_wrong (units_before s.first)))
+
+-- Pieces come of PES packets, in order; each begins as its PES packet does. Where few are gone in a
+-- row they are those that arrive, each as it was sent.
+abbrev pub Reads : Bool → Held → List (SentPes Fated) → List (List ℕ) → Type 0
+Reads few held [] pieces =
+    (marked : Bool) × (pieces ≡ marks_where marked) × (marked ≡ true → is_held held ≡ true)
+Reads few held (s ∷ more) pieces =
+    ((few ≡ true → arrives s ≡ false) × Reads few (skip held s) more pieces)
+    ⊎ ((marked : Bool) × (x : List ℕ) × (rest : List (List ℕ))
+    × (pieces ≡ marks_where marked ++ (x ∷ rest))
+    × (up_to_pts x ≡ up_to_pts s.bytes)
+    × Fits held marked
+    × Reads few (After x s (length s.others) false) more rest
+    × (few ≡ true → (arrives s ≡ true) × (x ≡ s.bytes))
+    × IsMarkExact few held s marked)
+
+-- What comes behind a gap may come behind a PES packet with a gap behind it.
+pub reads-marked : (few : Bool) (x : List ℕ) (s : SentPes Fated) (between : ℕ) (skipped : Bool)
+    (sent : List (SentPes Fated)) (pieces : List (List ℕ))
+    → (few ≡ true → (skipped || is_wrong_behind s) ≡ true)
+    → Reads few Marked sent pieces
+    → Reads few (After x s between skipped) sent pieces
+reads-marked few x s between skipped [] pieces gap h = (h.0, h.1, λ e. refl)
+reads-marked few x s between skipped (t ∷ more) pieces gap h = elim h [
+  | inl later ↦
+      inl (
+        later.0,
+        reads-marked few x s (between + length (carriers_of_pes t)) true more pieces (λ e. refl)
+            later.1,
+      )
+  | inr here ↦
+      inr (
+        here.0,
+        here.1,
+        here.2,
+        here.3,
+        here.4,
+        λ none. absurd (cc (here.5, none)),
+        here.6,
+        here.7,
+        λ e. here.8 e
+            ∙ ap (λ (z : Bool). z || any_wrong (units_before t.first)) (sym (gap e)),
+      )
+]
+
+-- Marks are.
+marks-same : (marked : Bool) → AllByRecursion (λ p. p ≡ mark) (marks_where marked)
+marks-same true = (refl, tt)
+marks-same false = tt
+
+-- ---- where a piece begins
+
+-- None of these is another piece.
+pub no-piece : (pieces before tail : List (List ℕ)) (x : List ℕ)
+    → AllByRecursion (λ p. p ≡ mark) pieces
+    → pieces ≡ before ++ (x ∷ tail)
+    → x ≡ mark
+no-piece [] before tail x all e = absurd (not-empty before tail x e)
+no-piece (p ∷ pieces) [] tail x all e = sym (heads p x pieces tail e) ∙ all.0
+no-piece (p ∷ pieces) (q ∷ before) tail x all e =
+    no-piece pieces before tail x all.1 (tails p q pieces (before ++ (x ∷ tail)) e)
+
+-- `IsFar` is what is known of PES packets, and of those behind the first of them.
+module _ (few : Bool) (IsFar : List (SentPes Fated) → Type 0)
+    (behind-far : (s : SentPes Fated) (more : List (SentPes Fated)) → IsFar (s ∷ more) → IsFar more)
+  where
+    -- A piece that is no mark began as one of them, and is it where few are gone.
+    pub record Located
+        (x : List ℕ) (tail : List (List ℕ)) (sent : List (SentPes Fated))
+        : Type 0 where
+      pub earlier : List (List ℕ)
+      pub here : SentPes Fated
+      pub later : List (SentPes Fated)
+      pub sent_are : sent_bytes sent ≡ earlier ++ (here.bytes ∷ sent_bytes later)
+      pub front : up_to_pts x ≡ up_to_pts here.bytes
+      pub reads : Reads few (After x here (length here.others) false) later tail
+      pub as_sent : few ≡ true → x ≡ here.bytes
+      pub far : IsFar (here ∷ later)
+
+    -- Of one more.
+    located-behind : (x : List ℕ) (tail : List (List ℕ)) (s : SentPes Fated)
+        (more : List (SentPes Fated))
+        → Located x tail more
+        → Located x tail (s ∷ more)
+    located-behind x tail s more h = record {
+      earlier = s.bytes ∷ h.earlier;
+      here = h.here;
+      later = h.later;
+      sent_are = ap (λ (l : List (List ℕ)). s.bytes ∷ l) h.sent_are;
+      front = h.front;
+      reads = h.reads;
+      as_sent = h.as_sent;
+      far = h.far;
+    }
+
+    -- It is this one, or comes later.
+    located-here : (s : SentPes Fated) (more : List (SentPes Fated)) (y : List ℕ)
+        (rest before tail : List (List ℕ)) (x : List ℕ)
+        → y ∷ rest ≡ before ++ (x ∷ tail)
+        → up_to_pts y ≡ up_to_pts s.bytes
+        → Reads few (After y s (length s.others) false) more rest
+        → (few ≡ true → y ≡ s.bytes)
+        → IsFar (s ∷ more)
+        → ((others : List (List ℕ)) → rest ≡ others ++ (x ∷ tail) → Located x tail more)
+        → Located x tail (s ∷ more)
+    located-here s more y rest [] tail x e front reads as_sent far go =
+        let same = heads y x rest tail e in
+        let behind = tails y x rest tail e in
+        record {
+          earlier = [];
+          here = s;
+          later = more;
+          sent_are = refl;
+          front = ap up_to_pts (sym same) ∙ front;
+          reads =
+              subst (λ (z : List ℕ). Reads few (After z s (length s.others) false) more tail) same
+              (subst (Reads few (After y s (length s.others) false) more) behind reads);
+          as_sent = λ f. sym same ∙ as_sent f;
+          far = far;
+        }
+    located-here s more y rest (z ∷ before) tail x e front reads as_sent far go =
+        located-behind x tail s more (go before (tails y z rest (before ++ (x ∷ tail)) e))
+
+    -- Behind a mark, or none.
+    located-marked : (marked : Bool) (s : SentPes Fated) (more : List (SentPes Fated)) (y : List ℕ)
+        (rest before tail : List (List ℕ)) (x : List ℕ)
+        → marks_where marked ++ (y ∷ rest) ≡ before ++ (x ∷ tail)
+        → (x ≡ mark → ⊥)
+        → up_to_pts y ≡ up_to_pts s.bytes
+        → Reads few (After y s (length s.others) false) more rest
+        → (few ≡ true → y ≡ s.bytes)
+        → IsFar (s ∷ more)
+        → ((others : List (List ℕ)) → rest ≡ others ++ (x ∷ tail) → Located x tail more)
+        → Located x tail (s ∷ more)
+    located-marked false s more y rest before tail x e none front reads as_sent far go =
+        located-here s more y rest before tail x e front reads as_sent far go
+    located-marked true s more y rest [] tail x e none front reads as_sent far go =
+        absurd (none (sym (heads mark x (y ∷ rest) tail e)))
+    located-marked true s more y rest (z ∷ before) tail x e none front reads as_sent far go =
+        located-here s more y rest before tail x (tails mark z (y ∷ rest) (before ++ (x ∷ tail)) e)
+        front reads as_sent far go
+
+    -- Where it begins.
+    pub located : (held : Held) (sent : List (SentPes Fated)) (pieces before tail : List (List ℕ))
+        (x : List ℕ)
+        → Reads few held sent pieces
+        → pieces ≡ before ++ (x ∷ tail)
+        → (x ≡ mark → ⊥)
+        → IsFar sent
+        → Located x tail sent
+    located held [] pieces before tail x reads e none far =
+        absurd
+        (none
+        (no-piece pieces before tail x
+        (subst (AllByRecursion (λ p. p ≡ mark)) (sym reads.1) (marks-same reads.0)) e))
+    located held (s ∷ more) pieces before tail x reads e none far = elim reads [
+      | inl later ↦
+          located-behind x tail s more
+          (located (skip held s) more pieces before tail x later.1 e none (behind-far s more far))
+      | inr here ↦
+          located-marked here.0 s more here.1 here.2 before tail x (sym here.3 ∙ e) none here.4
+          here.6 (λ f. (here.7 f).1) far
+          (λ others f.
+          located (After here.1 s (length s.others) false) more here.2 others tail x here.6 f none
+          (behind-far s more far))
+    ]
+
+module _ (frame_of : List ℕ → ℕ) (pace : ℕ) where
+  -- ---- what follows it
+
+  -- What was sent behind a PES packet, of which this was read.
+  record Follows (x : List ℕ) (s : SentPes Fated) (skipped : Bool) (more : List (SentPes Fated))
+      (run : List (List ℕ)) (last : List ℕ) : Type 0 where
+    unskipped : skipped ≡ false
+    as_sent : x ≡ s.bytes
+    later : List (List ℕ)
+    next : List ℕ
+    sent_are : sent_bytes more ≡ run ++ (next ∷ later)
+    front : up_to_pts next ≡ up_to_pts last
+
+  -- 16 carriers are too many to keep the pace.
+  too-far : (x y a b : List ℕ) (between : ℕ)
+      → up_to_pts x ≡ up_to_pts a
+      → up_to_pts y ≡ up_to_pts b
+      → (16 ≤ between → frame_by frame_of a + pace < frame_by frame_of b)
+      → frame_by frame_of y ≤ frame_by frame_of x + pace
+      → 16 ≤ between
+      → ⊥
+  too-far x y a b between h1 h2 h3 h4 h5 =
+      let far = h3 h5 in
+      let first = ap frame_of h1 in
+      let second = ap frame_of h2 in
+      omega (arith, far, h4, first, second)
+
+  -- One of two: the piece before was as it was sent, and none was skipped.
+  as-sent : (x y : List ℕ) (s t : SentPes Fated) (between : ℕ) (skipped : Bool)
+      → up_to_pts x ≡ up_to_pts s.bytes
+      → up_to_pts y ≡ up_to_pts t.bytes
+      → (16 ≤ between
+      → frame_by frame_of s.bytes + pace < frame_by frame_of t.bytes)
+      → frame_by frame_of y ≤ frame_by frame_of x + pace
+      → (16 ≤ between) ⊎ ((skipped ≡ false) × (x ≡ s.bytes))
+      → (skipped ≡ false) × (x ≡ s.bytes)
+  as-sent x y s t between skipped h1 h2 h3 h4 (inl far) =
+      absurd (too-far x y s.bytes t.bytes between h1 h2 h3 h4 far)
+  as-sent x y s t between skipped h1 h2 h3 h4 (inr next) = next
+
+  -- The next piece is that of this PES packet.
+  follows-here : (x : List ℕ) (s : SentPes Fated) (between : ℕ) (skipped : Bool)
+      (t : SentPes Fated) (more : List (SentPes Fated)) (y : List ℕ) (rest run : List (List ℕ))
+      (last : List ℕ) (behind : List (List ℕ))
+      → y ∷ rest ≡ run ++ (last ∷ behind)
+      → HasNoMark (run ++ last ∷ [])
+      → KeepPaceFrom frame_of pace (frame_by frame_of x) (run ++ last ∷ [])
+      → up_to_pts x ≡ up_to_pts s.bytes
+      → up_to_pts y ≡ up_to_pts t.bytes
+      → (16 ≤ between) ⊎ ((skipped ≡ false) × (x ≡ s.bytes))
+      → (16 ≤ between → frame_by frame_of s.bytes + pace < frame_by frame_of t.bytes)
+      → ((others : List (List ℕ))
+      → rest ≡ others ++ (last ∷ behind)
+      → HasNoMark (others ++ last ∷ [])
+      → KeepPaceFrom frame_of pace (frame_by frame_of y) (others ++ last ∷ [])
+      → Follows y t false more others last)
+      → Follows x s skipped (t ∷ more) run last
+  follows-here x s between skipped t more y rest [] last behind e none keep front second fits far
+      go =
+      let same = heads y last rest behind e in
+      let close = subst (λ (z : List ℕ). frame_by frame_of z ≤ frame_by frame_of x + pace)
+      (sym same) keep.0 in
+      let first = as-sent x y s t between skipped front second far close fits in
+      record {
+        unskipped = first.0;
+        as_sent = first.1;
+        later = sent_bytes more;
+        next = t.bytes;
+        sent_are = refl;
+        front = sym second ∙ ap up_to_pts same;
+      }
+  follows-here x s between skipped t more y rest (z ∷ run) last behind e none keep front second
+      fits far go =
+      let same = heads y z rest (run ++ (last ∷ behind)) e in
+      let close = subst (λ (w : List ℕ). frame_by frame_of w ≤ frame_by frame_of x + pace)
+      (sym same) keep.0 in
+      let first = as-sent x y s t between skipped front second far close fits in
+      let more_is = go run (tails y z rest (run ++ (last ∷ behind)) e) none.1
+      (subst (λ (w : List ℕ). KeepPaceFrom frame_of pace (frame_by frame_of w) (run ++ last ∷ []))
+      (sym same) keep.1) in
+      record {
+        unskipped = first.0;
+        as_sent = first.1;
+        later = more_is.later;
+        next = more_is.next;
+        sent_are = cc (more_is.as_sent, same, more_is.sent_are);
+        front = more_is.front;
+      }
+
+  -- Behind a mark, or none.
+  follows-marked : (marked : Bool) (x : List ℕ) (s : SentPes Fated) (between : ℕ)
+      (skipped : Bool) (t : SentPes Fated) (more : List (SentPes Fated)) (y : List ℕ)
+      (rest run : List (List ℕ)) (last : List ℕ) (behind : List (List ℕ))
+      → marks_where marked ++ (y ∷ rest) ≡ run ++ (last ∷ behind)
+      → HasNoMark (run ++ last ∷ [])
+      → KeepPaceFrom frame_of pace (frame_by frame_of x) (run ++ last ∷ [])
+      → up_to_pts x ≡ up_to_pts s.bytes
+      → up_to_pts y ≡ up_to_pts t.bytes
+      → Fits (After x s between skipped) marked
+      → (16 ≤ between → frame_by frame_of s.bytes + pace < frame_by frame_of t.bytes)
+      → ((others : List (List ℕ))
+      → rest ≡ others ++ (last ∷ behind)
+      → HasNoMark (others ++ last ∷ [])
+      → KeepPaceFrom frame_of pace (frame_by frame_of y) (others ++ last ∷ [])
+      → Follows y t false more others last)
+      → Follows x s skipped (t ∷ more) run last
+  follows-marked false x s between skipped t more y rest run last behind e none keep front second
+      fits far go =
+      follows-here x s between skipped t more y rest run last behind e none keep front second
+      (fits refl) far go
+  follows-marked true x s between skipped t more y rest [] last behind e none keep front second
+      fits far go =
+      absurd (none.0 (sym (heads mark last (y ∷ rest) behind e)))
+  follows-marked true x s between skipped t more y rest (z ∷ run) last behind e none keep front
+      second fits far go =
+      absurd (none.0 (sym (heads mark z (y ∷ rest) (run ++ (last ∷ behind)) e)))
+
+  -- No piece follows.
+  nothing-follows : (rest run : List (List ℕ)) (last : List ℕ) (behind : List (List ℕ))
+      → AllByRecursion (λ p. p ≡ mark) rest
+      → rest ≡ run ++ (last ∷ behind)
+      → HasNoMark (run ++ last ∷ [])
+      → ⊥
+  nothing-follows rest [] last behind all e none = none.0 (no-piece rest [] behind last all e)
+  nothing-follows rest (z ∷ run) last behind all e none =
+      none.0 (no-piece rest [] (run ++ (last ∷ behind)) z all e)
+
+  -- It was skipped.
+  follows-later : (x : List ℕ) (s : SentPes Fated) (skipped : Bool) (t : SentPes Fated)
+      (more : List (SentPes Fated)) (run : List (List ℕ)) (last : List ℕ)
+      → Follows x s true more run last
+      → Follows x s skipped (t ∷ more) run last
+  follows-later x s skipped t more run last h = absurd (cc h.unskipped)
+
+  -- What is read behind a piece without a mark, and keeps the pace, was sent behind it.
+  follows : (x : List ℕ) (s : SentPes Fated) (between : ℕ) (skipped : Bool)
+      (more : List (SentPes Fated)) (rest run : List (List ℕ)) (last : List ℕ)
+      (behind : List (List ℕ))
+      → Reads false (After x s between skipped) more rest
+      → rest ≡ run ++ (last ∷ behind)
+      → HasNoMark (run ++ last ∷ [])
+      → KeepPaceFrom frame_of pace (frame_by frame_of x) (run ++ last ∷ [])
+      → up_to_pts x ≡ up_to_pts s.bytes
+      → AreFarFrom frame_of pace (frame_by frame_of s.bytes) between more
+      → AreFarApart frame_of pace more
+      → Follows x s skipped more run last
+  follows x s between skipped [] rest run last behind reads e none keep front far apart =
+      absurd
+      (nothing-follows rest run last behind
+      (subst (AllByRecursion (λ p. p ≡ mark)) (sym reads.1) (marks-same reads.0)) e none)
+  follows x s between skipped (t ∷ more) rest run last behind reads e none keep front far apart =
+      elim reads [
+        | inl later ↦
+            follows-later x s skipped t more run last
+            (follows x s (between + length (carriers_of_pes t)) true more rest run last behind
+            later.1 e none keep front far.1 apart.1)
+        | inr here ↦
+            follows-marked here.0 x s between skipped t more here.1 here.2 run last behind
+            (sym here.3 ∙ e) none keep front here.4 here.5 far.0
+            (λ others f unmarked paced.
+            follows here.1 t (length t.others) false more here.2 others last behind here.6 f
+            unmarked paced here.4 apart.0 apart.1)
+      ]
+
+  -- What was sent where a run of pieces was read, and one more.
+  pub record WasSent (sent : List (SentPes Fated)) (run : List (List ℕ)) (last : List ℕ)
+      : Type 0 where
+    pub earlier : List (List ℕ)
+    pub later : List (List ℕ)
+    pub next : List ℕ
+    pub sent_are : sent_bytes sent ≡ earlier ++ (run ++ (next ∷ later))
+    pub front : up_to_pts next ≡ up_to_pts last
+
+  -- Pieces without a mark among them, which keep the pace, were sent one after another.
+  pub read-run : (held : Held) (sent : List (SentPes Fated)) (before run : List (List ℕ))
+      (last : List ℕ) (behind : List (List ℕ))
+      → Reads false held sent (before ++ (run ++ (last ∷ behind)))
+      → HasNoMark (run ++ last ∷ [])
+      → KeepPace frame_of pace (run ++ last ∷ [])
+      → AreFarApart frame_of pace sent
+      → WasSent sent run last
+  read-run held sent before [] last behind reads none keep far =
+      let found =
+      located false (AreFarApart frame_of pace) (λ s more far. far.1) held sent
+      (before ++ (last ∷ behind)) before behind last reads refl none.0 far in
+      record {
+        earlier = found.earlier;
+        later = sent_bytes found.later;
+        next = found.here.bytes;
+        sent_are = found.sent_are;
+        front = sym found.front;
+      }
+  read-run held sent before (x ∷ run) last behind reads none keep far =
+      let found =
+      located false (AreFarApart frame_of pace) (λ s more far. far.1) held sent
+      (before ++ (x ∷ (run ++ (last ∷ behind)))) before (run ++ (last ∷ behind)) x reads refl none.0
+      far in
+      let behind_it =
+      follows x found.here (length found.here.others) false found.later (run ++ (last ∷ behind))
+      run last behind found.reads refl none.1 keep found.front found.far.0 found.far.1 in
+      record {
+        earlier = found.earlier;
+        later = behind_it.later;
+        next = behind_it.next;
+        sent_are =
+            found.sent_are
+            ∙ ap (λ (l : List (List ℕ)). found.earlier ++ l)
+            (cc (behind_it.as_sent, behind_it.sent_are));
+        front = behind_it.front;
+      }
+
+-- ---- where few are gone
+
+-- Behind a gap a mark comes first.
+mark-first : (x : List ℕ) (s : SentPes Fated) (between : ℕ) (sent : List (SentPes Fated))
+    (pieces : List (List ℕ)) (y : List ℕ) (tail : List (List ℕ))
+    → Reads true (After x s between true) sent pieces
+    → pieces ≡ y ∷ tail
+    → y ≡ mark
+mark-first x s between [] pieces y tail reads e =
+    no-piece pieces [] tail y
+    (subst (AllByRecursion (λ p. p ≡ mark)) (sym reads.1) (marks-same reads.0)) e
+mark-first x s between (t ∷ more) pieces y tail reads e = elim reads [
+  | inl later ↦
+      mark-first x s (between + length (carriers_of_pes t)) more pieces y tail later.1 e
+  | inr here ↦
+      sym
+      (heads mark y (here.1 ∷ here.2) tail
+      (ap (λ (b : Bool). marks_where b ++ (here.1 ∷ here.2)) (sym (here.8 refl))
+      ∙ sym here.3 ∙ e))
+]
+
+-- What follows a PES packet without a mark was sent behind it.
+pub sent-next : (x : List ℕ) (s : SentPes Fated) (between : ℕ) (sent : List (SentPes Fated))
+    (pieces run behind : List (List ℕ))
+    → Reads true (After x s between false) sent pieces
+    → pieces ≡ run ++ behind
+    → HasNoMark run
+    → (later : List (List ℕ)) × (sent_bytes sent ≡ run ++ later)
+sent-next x s between sent pieces [] behind reads e none = (sent_bytes sent, refl)
+sent-next x s between [] pieces (y ∷ run) behind reads e none =
+    absurd
+    (none.0
+    (no-piece pieces [] (run ++ behind) y
+    (subst (AllByRecursion (λ p. p ≡ mark)) (sym reads.1) (marks-same reads.0)) e))
+sent-next x s between (t ∷ more) pieces (y ∷ run) behind reads e none = elim reads [
+  | inl later ↦
+      absurd
+      (none.0
+      (mark-first x s (between + length (carriers_of_pes t)) more pieces y (run ++ behind) later.1
+      e))
+  | inr here ↦ elim (cases_Bool here.0) [
+    | inl is ↦
+        absurd
+        (none.0
+        (sym
+        (heads mark y (here.1 ∷ here.2) (run ++ behind)
+        (ap (λ (b : Bool). marks_where b ++ (here.1 ∷ here.2)) (sym is) ∙ sym here.3 ∙ e))))
+    | inr not ↦
+        let same =
+        ap (λ (b : Bool). marks_where b ++ (here.1 ∷ here.2)) (sym not) ∙ sym here.3 ∙ e in
+        let next =
+        sent-next here.1 t (length t.others) more here.2 run behind here.6
+        (tails here.1 y here.2 (run ++ behind) same) none.1 in
+        let first = sym (here.7 refl).1 ∙ heads here.1 y here.2 (run ++ behind) same in
+        (next.0, cc (first, next.1))
+  ]
+]

@@ -1,0 +1,360 @@
+-- Where any number of carriers is gone: each good packet is a copy of a carrier's, and the next one
+-- follows it only if 16 carriers, or none, or a multiple are gone between. Main lemma: traced.
+use Rattle.std.proofs.Common.{◌<◌, nat_lt, ◌≡◌, ℕ, ◌+◌, ◌%◌, ◌⊎◌, inl, inr, Bool, true, false, ◌||◌}
+use Rattle.std.proofs.Common.{List, [], ◌∷◌, ◌++◌, Option, Some, None, refl, sym, ap, arith, ◌∙◌}
+use Rattle.std.proofs.Common.{subst}
+use Rattle.std.specs.List.{AllByRecursion, flat_map}
+use Rattle.std.specs.Option.{is_some, option_to_list}
+use Rattle.recording_laws.proofs.LeftLemmas.{IsCounter, few-gone, few-there, fresh-later}
+use Rattle.recording_laws.proofs.LeftLemmas.{break-left, AreRising, IsCopy, IsSomeLeft}
+use Rattle.recording_laws.proofs.LeftLemmas.{carried-no_jump, copy-again, cut-left, good_left}
+use Rattle.recording_laws.proofs.LeftLemmas.{link_left, linked-left}
+use Rattle.std.proofs.lemmas.Bool.{cases_Bool}
+use Rattle.std.proofs.lemmas.Bool.Decides.{nat_tests}
+use Rattle.std.proofs.lemmas.Grind.{flat_map-append}
+use Rattle.std.proofs.lemmas.List.{append-nil}
+use Rattle.mpeg_ts.specs.GoodPackets.{GoodPacket, GoodPackets, Note, good_after, is_repeat}
+use Rattle.mpeg_ts.specs.GoodPackets.{with_good}
+use Rattle.mpeg_ts.specs.Parts.{is_break, is_unlinked}
+use Rattle.mpeg_ts.specs.TransportPacket.{announces_jump, counter}
+use Rattle.recording_laws.specs.Losses.{are_few_gone, is_there, units_before, units_behind, Fated}
+use Rattle.recording_laws.specs.Losses.{any_kept, any_wrong, is_as_sent, sent_packet}
+use Rattle.recording_laws.specs.Multiplex.{Carrier, IsRepetition, is_quiet, items_of_carrier}
+use Rattle.recording_laws.proofs.CarrierLemmas.{good-repeat}
+use Rattle.recording_laws.proofs.LeftNoteLemmas.{or-false, IsLeft, IsLeftCarrier, copy_of, good-first}
+use Rattle.recording_laws.proofs.LeftNoteLemmas.{good-no_first, good-no_second, good-quiets-left}
+use Rattle.recording_laws.proofs.LeftNoteLemmas.{good-second, heard-carrier, heard-kept, heard_left}
+use Rattle.recording_laws.proofs.LeftNoteLemmas.{since_loss}
+
+-- The carriers that are gone between two good packets, where the second follows the first.
+gone-between : (i n a b : ℕ)
+    → a ≡ i % 16
+    → b ≡ (i + 1 + n) % 16
+    → b ≡ (a + 1) % 16
+    → n % 16 ≡ 0
+gone-between i n a b first second on = omega arith
+
+-- Where it does not break, the counter goes on.
+link-far : (i n : ℕ) (g h : List ℕ) (wrong : Bool)
+    → counter g ≡ i % 16
+    → counter h ≡ (i + 1 + n) % 16
+    → is_break (link_left (Some g) wrong h) ≡ false
+    → n % 16 ≡ 0
+link-far i n g h wrong h1 h2 h3 = grind (arith, nat_tests, gone-between)
+
+module _ (distance number : ℕ) (few : Bool) where
+  -- Good packets after those of a carrier, with these notes behind it: none, or a copy of its
+  -- packet.
+  pub record Stays (good : Option (List ℕ)) (c : Carrier Fated) (goods : GoodPackets)
+      (ns : List Note) : Type 0 where
+    pub again : Bool
+    pub since : Bool
+    pub gone : few ≡ true → is_there c ≡ false
+    pub goods_are : goods ≡ good_after (since_loss good again since) ns
+
+  -- A copy of its packet comes first.
+  pub record Comes (good : Option (List ℕ)) (wrong : Bool) (c : Carrier Fated)
+      (goods : GoodPackets) (ns : List Note) : Type 0 where
+    pub copy : List ℕ
+    pub spoiled : Bool
+    pub again : Bool
+    pub since : Bool
+    pub is_copy : IsCopy (sent_packet distance c.packet) copy
+    pub exact :
+        few ≡ true
+        → (is_there c ≡ true)
+        × (spoiled ≡ (wrong || any_wrong (units_before c)))
+        × (since ≡ any_wrong (units_behind c))
+    pub goods_are :
+        goods
+        ≡ with_good (good_left good spoiled copy)
+        (good_after (since_loss (Some copy) again since) ns)
+
+  -- One of the two.
+  abbrev pub Steps : Option (List ℕ) → Bool → Carrier Fated → GoodPackets → List Note → Type 0
+  Steps good wrong c goods ns = Stays good c goods ns ⊎ Comes good wrong c goods ns
+
+  -- Where few are gone its packet is not taken for a repeat of the one before.
+  abbrev pub IsFresh : Option (List ℕ) → Carrier Fated → Type 0
+  IsFresh good c =
+      few ≡ true
+      → (again wrong : Bool) (q : List ℕ)
+      → IsCopy (sent_packet distance c.packet) q
+      → is_repeat (since_loss good again wrong) q ≡ false
+
+  -- A repeat that is heard as one.
+  second-repeat : (good : Option (List ℕ)) (again wrong : Bool) (p : List ℕ) (o : Option Fated)
+      (after : List Fated) (ns : List Note)
+      → AllByRecursion (λ f. IsRepetition number p (sent_packet distance f)) (option_to_list o)
+      → AllByRecursion (IsLeft distance number) after
+      → AllByRecursion (λ f. is_quiet number (sent_packet distance f) ≡ true) after
+      → any_kept (option_to_list o) ≡ true
+      → is_repeat (since_loss good again wrong) (copy_of distance number o p) ≡ true
+      → good_after (since_loss good again wrong)
+      (flat_map (heard_left distance number) (option_to_list o)
+      ++ (flat_map (heard_left distance number) after ++ ns))
+      ≡ good_after (since_loss good true (wrong || any_wrong after)) ns
+  second-repeat good again wrong p o after ns h1 h2 h3 h4 h5 =
+      grind (arith, nat_tests, append-nil, heard-kept, good-repeat, good-quiets-left)
+
+  -- The repeat and what is behind it.
+  second-steps : (good : Option (List ℕ)) (again was wrong first : Bool) (c : Carrier Fated)
+      (ns : List Note)
+      → IsLeftCarrier distance number first c
+      → IsCopy (sent_packet distance c.packet)
+      (copy_of distance number c.again (sent_packet distance c.packet))
+      → IsFresh good c
+      → (few ≡ true
+      → (is_as_sent c.packet.fate ≡ false)
+      × (wrong ≡ (was || any_wrong (c.packet ∷ c.before))))
+      → Steps good was c
+      (good_after (since_loss good again wrong)
+      (flat_map (heard_left distance number) (option_to_list c.again)
+      ++ (flat_map (heard_left distance number) c.after ++ ns))) ns
+  second-steps good again was wrong first c ns h copy new gone =
+      elim (cases_Bool (any_kept (option_to_list c.again))) [
+        | inl kept ↦ elim (cases_Bool (is_repeat (since_loss good again wrong) q)) [
+          | inl same ↦
+              inl
+              (record {
+                again = true;
+                since = wrong || any_wrong c.after;
+                gone = λ e. absurd (cc (same, new e again wrong q copy));
+                goods_are =
+                    second-repeat good again wrong p c.again c.after ns h.is_carrier.again h.after
+                    h.is_carrier.after kept same;
+              })
+          | inr fresh ↦
+              inr
+              (record {
+                copy = q;
+                spoiled = wrong;
+                again = false;
+                since = any_wrong c.after;
+                is_copy = copy;
+                exact = λ e. (
+                  rw ((gone e).0, kept),
+                  rw (gone e).0 (gone e).1,
+                  rw (gone e).0,
+                );
+                goods_are =
+                    good-second distance number good again wrong p c.again c.after ns
+                    h.is_carrier.again h.after h.is_carrier.after kept fresh
+                    ∙ ap (λ (l : GoodPacket).
+                    with_good l (good_after (since_loss (Some q) false (any_wrong c.after)) ns))
+                    (linked-left good again wrong q copy.no_jump);
+              })
+        ]
+        | inr lost ↦
+            inl
+            (record {
+              again = again;
+              since = (wrong || any_wrong (option_to_list c.again)) || any_wrong c.after;
+              gone = λ e. rw ((gone e).0, lost);
+              goods_are =
+                  good-no_second distance number good again wrong c.again c.after ns h.again h.after
+                  h.is_carrier.after lost;
+            })
+      ]
+    where
+      p : List ℕ
+      p = sent_packet distance c.packet
+
+      q : List ℕ
+      q = copy_of distance number c.again p
+
+  -- A packet that is heard as a repeat.
+  first-repeat : (good : Option (List ℕ)) (again wrong first : Bool) (c : Carrier Fated)
+      (ns : List Note)
+      → IsLeftCarrier distance number first c
+      → is_as_sent c.packet.fate ≡ true
+      → is_repeat (since_loss good again wrong) (sent_packet distance c.packet) ≡ true
+      → good_after (since_loss good again wrong)
+      (flat_map (heard_left distance number) (items_of_carrier c) ++ ns)
+      ≡ good_after (since_loss good true (wrong || any_wrong c.before))
+      (flat_map (heard_left distance number) (option_to_list c.again)
+      ++ (flat_map (heard_left distance number) c.after ++ ns))
+  first-repeat good again wrong first c ns h1 h2 h3 =
+      grind (arith, nat_tests, heard-carrier, heard-kept, good-repeat, good-quiets-left)
+
+  -- A carrier, whatever follows it.
+  carrier-steps : (good : Option (List ℕ)) (again wrong first : Bool) (c : Carrier Fated)
+      (ns : List Note)
+      → IsLeftCarrier distance number first c
+      → IsFresh good c
+      → Steps good wrong c
+      (good_after (since_loss good again wrong)
+      (flat_map (heard_left distance number) (items_of_carrier c) ++ ns)) ns
+  carrier-steps good again wrong first c ns h new = elim (cases_Bool (is_as_sent c.packet.fate)) [
+    | inl kept ↦ elim (cases_Bool (is_repeat (since_loss good again wrong) p)) [
+      | inl same ↦
+          subst (λ (l : GoodPackets). Steps good wrong c l ns)
+          (sym (first-repeat good again wrong first c ns h kept same))
+          (second-steps good true wrong (wrong || any_wrong c.before) first c ns h copy new
+          (λ e. absurd (cc (same, new e again wrong p itself))))
+      | inr fresh ↦
+          inr
+          (record {
+            copy = p;
+            spoiled = wrong;
+            again = any_kept (option_to_list c.again);
+            since = any_wrong (c.before ++ (option_to_list c.again ++ c.after));
+            is_copy = itself;
+            exact = λ e. (rw kept, rw kept (sym (or-false wrong)), rw kept);
+            goods_are =
+                good-first distance number good again wrong first c ns h kept fresh
+                ∙ ap (λ (l : GoodPacket).
+                with_good l
+                (good_after
+                (since_loss (Some p) (any_kept (option_to_list c.again))
+                (any_wrong (c.before ++ (option_to_list c.again ++ c.after)))) ns))
+                (linked-left good again wrong p none);
+          })
+    ]
+    | inr lost ↦
+        subst (λ (l : GoodPackets). Steps good wrong c l ns)
+        (sym (good-no_first distance number good again wrong first c ns h lost))
+        (second-steps good again wrong (wrong || any_wrong (c.packet ∷ c.before)) first c ns h copy
+        new (λ e. (lost, refl)))
+  ]
+    where
+      p : List ℕ
+      p = sent_packet distance c.packet
+
+      none : announces_jump p ≡ false
+      none = carried-no_jump number p h.is_carrier.carries h.packet.no_jump
+
+      itself : IsCopy p p
+      itself = record { counter = refl; begins = refl; payload = refl; no_jump = none }
+
+      copy : IsCopy p (copy_of distance number c.again p)
+      copy = copy-again distance number p c.again none h.again h.is_carrier.again
+
+  -- ---- all carriers
+
+  -- What links a good packet to the one before, after so many carriers that are gone, and where a
+  -- unit was made wrong since.
+  pub record IsLinked (n : ℕ) (wrong : Bool) (c : Carrier Fated) (g : GoodPacket) : Type 0 where
+    pub cut : is_unlinked g.link ≡ is_break g.link
+    pub far : is_break g.link ≡ false → n % 16 ≡ 0
+    pub exact :
+        few ≡ true
+        → (n < 15) × (is_break g.link ≡ ((wrong || any_wrong (units_before c)) || nat_lt 0 n))
+
+  -- A good packet that came of a carrier, behind another or not.
+  pub record IsHeard (behind : Bool) (n : ℕ) (wrong : Bool) (c : Carrier Fated) (g : GoodPacket)
+      : Type 0 where
+    pub copy : IsCopy (sent_packet distance c.packet) g.packet
+    pub there : few ≡ true → is_there c ≡ true
+    pub first : behind ≡ false → is_unlinked g.link ≡ true
+    pub linked : behind ≡ true → IsLinked n wrong c g
+
+  -- Good packets that come of carriers, where so many are gone since the one before, if there is
+  -- one, and a unit was made wrong, or none.
+  abbrev pub Traced : Bool → ℕ → Bool → List (Carrier Fated) → List GoodPacket → Type 0
+  Traced behind n wrong [] goods = goods ≡ []
+  Traced behind n wrong (c ∷ cs) goods =
+      ((since : Bool) × (few ≡ true → is_there c ≡ false) × Traced behind (n + 1) since cs goods)
+      ⊎ ((g : GoodPacket) × (more : List GoodPacket)
+      × (goods ≡ g ∷ more) × IsHeard behind n wrong c g
+      × (since : Bool) × (few ≡ true → since ≡ any_wrong (units_behind c))
+      × Traced true 0 since cs more)
+
+  -- What few gone are: less than 15, and those to come.
+  abbrev pub AreFew : ℕ → List (Carrier Fated) → Type 0
+  AreFew n cs = few ≡ true → (n < 15) × (are_few_gone n cs ≡ true)
+
+  -- A step, and then all behind it.
+  split-step : (good : Option (List ℕ)) (again wrong : Bool) (c : Carrier Fated)
+      (cs : List (Carrier Fated))
+      → IsSomeLeft distance number c
+      → IsFresh good c
+      → Steps good wrong c
+      (good_after (since_loss good again wrong)
+      (flat_map (heard_left distance number) (flat_map items_of_carrier (c ∷ cs))))
+      (flat_map (heard_left distance number) (flat_map items_of_carrier cs))
+  split-step good again wrong c cs is new =
+      subst
+      (λ (l : List Note).
+      Steps good wrong c (good_after (since_loss good again wrong) l)
+      (flat_map (heard_left distance number) (flat_map items_of_carrier cs)))
+      (sym
+      (flat_map-append (heard_left distance number) (items_of_carrier c)
+      (flat_map items_of_carrier cs)))
+      (carrier-steps good again wrong is.0 c
+      (flat_map (heard_left distance number) (flat_map items_of_carrier cs)) is.1 new)
+
+  -- What links a copy of a carrier's packet.
+  linked-copy : (good : Option (List ℕ)) (i n : ℕ) (wrong spoiled : Bool) (c : Carrier Fated)
+      (h : List ℕ)
+      → IsCounter good i
+      → counter h ≡ (i + 1 + n) % 16
+      → (few ≡ true → n < 15)
+      → (few ≡ true → spoiled ≡ (wrong || any_wrong (units_before c)))
+      → is_some good ≡ true
+      → IsLinked n wrong c (good_left good spoiled h)
+  linked-copy None i n wrong spoiled c h number_is second small same some = absurd (cc some)
+  linked-copy (Some g) i n wrong spoiled c h number_is second small same some = record {
+    cut = cut-left g h spoiled;
+    far = λ e. link-far i n g h spoiled number_is second e;
+    exact = λ e. (
+      small e,
+      break-left i n g h spoiled number_is second (small e)
+          ∙ ap (λ (b : Bool). b || nat_lt 0 n) (same e),
+    );
+  }
+
+  -- The first is linked to none.
+  first-link : (good : Option (List ℕ)) (spoiled : Bool) (h : List ℕ)
+      → is_some good ≡ false
+      → is_unlinked (link_left good spoiled h) ≡ true
+  first-link None spoiled h none = refl
+  first-link (Some g) spoiled h none = absurd (cc none)
+
+  -- They are.
+  pub traced : (good : Option (List ℕ)) (again wrong : Bool) (i n : ℕ) (cs : List (Carrier Fated))
+      → IsCounter good i
+      → AllByRecursion (IsSomeLeft distance number) cs
+      → AreRising distance number (i + 1 + n) cs
+      → AreFew n cs
+      → Traced (is_some good) n wrong cs
+      (good_after (since_loss good again wrong)
+      (flat_map (heard_left distance number) (flat_map items_of_carrier cs))).packets
+  unfolding good_after
+  traced good again wrong i n [] number_is each rising small = refl
+  traced good again wrong i n (c ∷ cs) number_is each rising small =
+      elim (split-step good again wrong c cs each.0
+      (λ e again w q copy.
+      fresh-later good again w q i n number_is (copy.counter ∙ rising.0) (small e).0)) [
+        | inl stays ↦
+            inl (
+              stays.since,
+              stays.gone,
+              subst (λ (l : GoodPackets). Traced (is_some good) (n + 1) stays.since cs l.packets)
+                  (sym stays.goods_are)
+                  (traced good stays.again stays.since i (n + 1) cs number_is each.1
+                  (subst (λ (j : ℕ). AreRising distance number j cs) (omega arith) rising.1)
+                  (λ e. few-gone n c cs (stays.gone e) (small e).1)),
+            )
+        | inr comes ↦
+            let next = comes.is_copy.counter ∙ rising.0 in
+            inr (
+              good_left good comes.spoiled comes.copy,
+              (good_after (since_loss (Some comes.copy) comes.again comes.since)
+                  (flat_map (heard_left distance number) (flat_map items_of_carrier cs))).packets,
+              ap (λ (l : GoodPackets). l.packets) comes.goods_are,
+              record {
+                copy = comes.is_copy;
+                there = λ e. (comes.exact e).0;
+                first = λ none. first-link good comes.spoiled comes.copy none;
+                linked = λ some.
+                    linked-copy good i n wrong comes.spoiled c comes.copy number_is next
+                    (λ e. (small e).0) (λ e. (comes.exact e).1) some;
+              },
+              comes.since,
+              λ e. (comes.exact e).2,
+              traced (Some comes.copy) comes.again comes.since (i + 1 + n) 0 cs next each.1
+                  (subst (λ (j : ℕ). AreRising distance number j cs) (omega arith) rising.1)
+                  (λ e. (omega arith, few-there n c cs (comes.exact e).0 (small e).1)),
+            )
+      ]

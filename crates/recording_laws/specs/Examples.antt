@@ -1,0 +1,68 @@
+-- Recordings in full, byte by byte: of what a multiplexer sends, and of what losses leave of it.
+use Rattle.std.specs.Prelude.{◌≡◌, ℕ, false, List, [], ◌∷◌, ◌++◌, None, replicate}
+use Rattle.mpeg_ts.specs.Carried.{mark}
+use Rattle.recording_laws.specs.Losses.{Fate, Fated, IsLossy, Kept, LeftOut, MadeWrong, arriving}
+use Rattle.recording_laws.specs.Multiplex.{IsMultiplexed, Multiplex, SentPes}
+
+-- A PES packet of 184 bytes: packet_start_code_prefix, stream_id and PES_packet_length, then this
+-- byte up to its end.
+abbrev pub pes_of : ℕ → List ℕ
+pes_of filler = 0x00 ∷ 0x00 ∷ 0x01 ∷ 0xBD ∷ 0x00 ∷ 0xB2 ∷ replicate 178 filler
+
+-- A transport packet of PID 257 with payload_unit_start_indicator, this byte 3 and this payload.
+abbrev pub packet_with : ℕ → List ℕ → List ℕ
+packet_with byte_3 bytes = 0x47 ∷ 0x41 ∷ 0x01 ∷ byte_3 ∷ bytes
+
+-- The same with transport_error_indicator.
+abbrev pub wrong_packet_with : ℕ → List ℕ → List ℕ
+wrong_packet_with byte_3 bytes = 0x47 ∷ 0xC1 ∷ 0x01 ∷ byte_3 ∷ bytes
+
+-- A packet of PID 8191.
+abbrev pub null_packet : List ℕ
+null_packet = 0x47 ∷ 0x1F ∷ 0xFF ∷ 0x10 ∷ replicate 184 0xFF
+
+-- A PES packet in one packet, with nothing between that and the next.
+abbrev pub sent_in : {A : Type 0} → A → List ℕ → SentPes A
+sent_in item bytes = record {
+  bytes = bytes;
+  first = record { packet = item; before = []; again = None; after = [] };
+  others = [];
+}
+
+-- Two PES packets, each in one packet of PID 257, behind a packet of another PID.
+abbrev pub recording_of_two : List ℕ
+recording_of_two =
+    null_packet ++ (packet_with 0x10 (pes_of 0x20) ++ packet_with 0x11 (pes_of 0x21))
+
+-- They are a multiplex of packets of 188 bytes.
+abbrev pub ExampleOfMultiplex : Type 0
+ExampleOfMultiplex = IsMultiplexed 257 188 (pes_of 0x20 ∷ pes_of 0x21 ∷ []) recording_of_two
+
+-- A unit with such a packet and this PES packet, and what became of it.
+abbrev pub fated : (byte_3 filler : ℕ) → Fate → Fated
+fated byte_3 filler fate =
+    record { unit = packet_with byte_3 (pes_of filler); fate = fate }
+
+-- Four PES packets: the second is left out, and the packet of the third made wrong.
+abbrev pub four_with_losses : Multiplex Fated
+four_with_losses = record {
+  lead = record { unit = null_packet; fate = Kept } ∷ [];
+  sent =
+      sent_in (fated 0x10 0x20 Kept) (pes_of 0x20)
+      ∷ sent_in (fated 0x11 0x21 LeftOut) (pes_of 0x21)
+      ∷ sent_in (fated 0x12 0x22 (MadeWrong (wrong_packet_with 0x12 (pes_of 0x22)))) (pes_of 0x22)
+      ∷ sent_in (fated 0x13 0x23 Kept) (pes_of 0x23)
+      ∷ [];
+}
+
+-- What is there of them.
+abbrev pub recording_with_losses : List ℕ
+recording_with_losses =
+    null_packet
+    ++ (packet_with 0x10 (pes_of 0x20)
+    ++ (wrong_packet_with 0x12 (pes_of 0x22) ++ packet_with 0x13 (pes_of 0x23)))
+
+-- That is a recording with losses. The first and the last of them arrive, with a mark between.
+pub record ExampleOfLosses : Type 0 where
+  pub lossy : IsLossy 257 188 four_with_losses recording_with_losses
+  pub arrives : arriving false false four_with_losses.sent ≡ pes_of 0x20 ++ (mark ++ pes_of 0x23)

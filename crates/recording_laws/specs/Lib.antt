@@ -1,0 +1,6 @@
+pub mod Examples
+pub mod Laws
+pub mod Losses
+pub mod Multiplex
+pub mod Pace
+pub mod PacedCheck

@@ -1,0 +1,22 @@
+-- By the default layout a subtitle that draws a page has no fault, and draws that of its lines:
+-- drawn-none, no_line_faults, drawn-page. By another it draws what its items say: drawn-some.
+use Rattle.std.proofs.Common.{arith}
+use Rattle.std.proofs.lemmas.Bool.Decides.{nat_tests}
+use Rattle.stl_rows.proofs.DefaultLayoutLemmas.{drawn-none, drawn-some}
+use Rattle.stl_rows.proofs.DrawnPageLemmas.{drawn-page, no_line_faults}
+use Rattle.stl_rows.proofs.drawing.draw_on.Goals as goal
+
+pub draw_text-requires-clause-whole : goal.draw_text-requires-clause-whole
+draw_text-requires-clause-whole c =
+    grind (arith, nat_tests, no_line_faults, drawn-none c.args.drawing.now c.args.subtitle.now)
+
+pub returns-in-None : goal.returns-in-None
+returns-in-None c =
+    grind (arith, nat_tests, drawn-page, drawn-none c.args.drawing.now c.args.subtitle.now)
+
+pub unreachable-requires : goal.unreachable-requires
+unreachable-requires c =
+    grind (arith, nat_tests, drawn-some c.args.drawing.now c.args.subtitle.now)
+
+pub returns-in-Ok : goal.returns-in-Ok
+returns-in-Ok c = grind (arith, nat_tests, drawn-some c.args.drawing.now c.args.subtitle.now)

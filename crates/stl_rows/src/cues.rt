@@ -1,0 +1,175 @@
+//! Subtitles in the order of a file: their times and places, and their texts one behind the other.
+
+ghost use Rattle.std.specs.Prelude.{◌≡◌, ℕ, ◌-◌, ◌<◌, ◌≤◌, ◌==◌, ◌++◌, [], ◌∷◌};
+ghost use Rattle.std.specs.Prelude.{Some, length, take};
+ghost use Rattle.std.specs.Prelude.{OnErr, OnOk, slice_get, slice_index_or};
+ghost use Rattle.std.specs.List.Sorted.{IsNonDecreasingBy};
+ghost use Rattle.stl_file.specs.Subtitle.{SubtitleValue};
+ghost use Rattle.stl_rows.specs.Cues.{cue_at};
+
+use crate::record::Record;
+use std::alloc::{AllocError, Allocator};
+use std::marker::Model;
+use stl_file::{Subtitle, TimeCode};
+
+/// A subtitle but for its text, and where that stands among all texts.
+#[derive(Clone, Copy)]
+pub(crate) struct Cue {
+    start: usize,
+    tci: TimeCode,
+    tco: TimeCode,
+    len: u16,
+    sn: u16,
+    sgn: u8,
+    vp: u8,
+    jc: u8,
+}
+
+/// Subtitles in the order of a file. Contracts see the list of them.
+///
+/// A subtitle takes 24 bytes and those of its text, in place of the 1 KB of a `Subtitle`.
+#[derive(Drop)]
+pub struct Cues<A: Allocator + Copy> {
+    cues: Vec<Cue, A>,
+    // The texts of all of them, and of those that were taken away.
+    texts: Vec<u8, A>,
+}
+
+impl<A: Allocator + Copy> Model for Cues<A> {
+    ghost use Rattle.std.specs.Prelude.{All, List, map};
+    ghost use Rattle.stl_file.specs.Subtitle.{SubtitleValue};
+
+    ghost Value = { List SubtitleValue };
+
+    ghost use Rattle.stl_rows.specs.Cues.{IsCueAmong, subtitle_in};
+
+    ghost view = { λ c. map (subtitle_in c.texts.items) c.cues.items };
+
+    ghost invariant = { λ c. All (IsCueAmong c.texts.items) c.cues.items };
+}
+
+// The cue of a subtitle whose text begins at a place among all texts.
+fn cue_at(start: usize, subtitle: &Subtitle) -> Cue
+    ensures { result ≡ cue_at start subtitle.now }
+{
+    Cue {
+        start,
+        tci: subtitle.tci(),
+        tco: subtitle.tco(),
+        len: subtitle.text().len() as u16,
+        sn: subtitle.sn(),
+        sgn: subtitle.sgn(),
+        vp: subtitle.vp(),
+        jc: subtitle.jc(),
+    }
+}
+
+impl<A: Allocator + Copy> Cues<A> {
+    /// None.
+    pub(crate) fn new(alloc: A) -> Cues<A>
+        ensures { result ≡ [] }
+    {
+        Cues {
+            cues: Vec::new(alloc),
+            texts: Vec::new(alloc),
+        }
+    }
+
+    /// How many there are.
+    pub fn len(&self) -> usize
+        ensures { result ≡ length self.now }
+    {
+        self.cues.len()
+    }
+
+    /// Whether there is none.
+    pub fn is_empty(&self) -> bool
+        ensures { result ≡ (length self.now == 0) }
+    {
+        self.cues.is_empty()
+    }
+
+    /// One of them by its index, from 0 and below `len`, lent.
+    pub(crate) fn at(&self, i: usize) -> Record<'_>
+        requires { i < length self.now }
+        ensures value { slice_get self.now i ≡ Some result }
+        ensures is { result ≡ slice_index_or self.now i result }
+    {
+        let cue = self.cues.as_slice()[i];
+        let (_, rest) = self.texts.as_slice().split_at(cue.start);
+        let (text, _) = rest.split_at(cue.len as usize);
+        Record {
+            sgn: cue.sgn,
+            sn: cue.sn,
+            tci: cue.tci,
+            tco: cue.tco,
+            vp: cue.vp,
+            jc: cue.jc,
+            text,
+        }
+    }
+
+    /// The first one, lent. `None` where there is none.
+    pub(crate) fn first(&self) -> Option<Record<'_>>
+        ensures { result ≡ slice_get self.now 0 }
+    {
+        if self.is_empty() {
+            return None;
+        }
+        Some(self.at(0))
+    }
+
+    /// The last one, lent. `None` where there is none.
+    pub(crate) fn last(&self) -> Option<Record<'_>>
+        ensures { result ≡ slice_get self.now (length self.now - 1) }
+    {
+        if self.is_empty() {
+            return None;
+        }
+        Some(self.at(self.len() - 1))
+    }
+
+    /// One of them by its index, from 0 and below `len`.
+    pub fn subtitle(&self, i: usize) -> Subtitle
+        requires { i < length self.now }
+        ensures { slice_get self.now i ≡ Some result }
+    {
+        self.at(i).to_subtitle()
+    }
+
+    /// Adds one behind the last.
+    ///
+    /// # Errors
+    ///
+    /// `AllocError` where memory is refused; they are then as they were.
+    pub(crate) fn push(&mut self, subtitle: &Subtitle) -> Result<(), AllocError>
+        ensures ok { OnOk result (self.new ≡ self.old ++ subtitle.now ∷ []) }
+        ensures err { OnErr result (self.new ≡ self.old) }
+    {
+        let cue = cue_at(self.texts.as_slice().len(), subtitle);
+        self.texts.extend_from_slice(subtitle.text())?;
+        self.cues.push(cue)?;
+        Ok(())
+    }
+
+    /// Keeps so many from the first on.
+    pub(crate) fn truncate(&mut self, n: usize)
+        ensures { self.new ≡ take n self.old }
+    {
+        self.cues.truncate(n);
+    }
+
+    /// How many have ended by a frame, where their TCOs rise: a binary search.
+    pub(crate) fn ended_by(&self, frame: u32) -> usize
+        requires { IsNonDecreasingBy (λ (t : SubtitleValue). t.tco) self.now }
+        ensures bound { result ≤ length self.now }
+        ensures before { (k : ℕ) (d : SubtitleValue)
+            → k < result → (slice_index_or self.now k d).tco ≤ frame }
+        ensures after { (k : ℕ) (d : SubtitleValue)
+            → result ≤ k → k < length self.now → frame < (slice_index_or self.now k d).tco }
+    {
+        self.cues
+            .as_slice()
+            .partition_point(|c| c.tco.frame() <= frame)
+    }
+}

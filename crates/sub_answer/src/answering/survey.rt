@@ -1,0 +1,42 @@
+//! `survey RECORDING`: tells what there is in a recording.
+ghost use Rattle.std.specs.Prelude.{◌≡◌, ◌<◌};
+ghost use Rattle.sub_listing.specs.DeviceCall.{CanFail, CountsFault, sink_call};
+ghost use Rattle.sub_listing.specs.LastLine.{HoldsLastLine};
+ghost use Rattle.sub_answer.specs.SurveyListing.{PrintsSurvey};
+
+use mpeg_ts::SurveyOptions;
+use std::alloc::Global;
+use sub_io::{Flush, Source};
+use sub_listing::{Status, line_of_failed_read, line_of_usage, print_fault_line};
+use sub_request::UsageFault;
+use ts_survey::{SurveyFault, survey};
+use ttx_pes::FailedAt;
+
+/// Prints a line for each fact of a recording, to its end.
+///
+/// `Fault` where a device failed, or memory ran out; what was printed until then stays.
+#[tactic(auto, using(crate::proofs::SurveyListingLemmas::surveys))]
+pub fn print_survey<S: Source, K: Flush>(
+    alloc: Global,
+    options: SurveyOptions,
+    source: &mut S,
+    out: &mut K,
+) -> Status
+    requires source { CanFail (S.failure_count source.old) }
+    requires out { CanFail (K.failure_count out.old) }
+    ensures printed { PrintsSurvey (sink_call K.contents K.failure_count out.old out.new) result }
+    ensures source_count { CountsFault S.failure_count source.old result source.new }
+    ensures out_count { CountsFault K.failure_count out.old result out.new }
+    // Where the source may have to ask its device, all that was printed before is handed on: each
+    // such call may fail, and where one did the line of its failure alone may be held back.
+    ensures followed { K.held out.old ≡ 0
+        → S.failure_count source.old < S.failure_count source.new
+        → HoldsLastLine K.contents K.held K.is_push out.new }
+{
+    match survey(alloc, options, source, out) {
+        Ok(()) => Status::Done,
+        Err(SurveyFault::Read) => print_fault_line(&line_of_failed_read(FailedAt { pes: 0 }), out),
+        Err(SurveyFault::Write) => Status::Fault,
+        Err(SurveyFault::Memory) => print_fault_line(&line_of_usage(&UsageFault::Memory), out),
+    }
+}

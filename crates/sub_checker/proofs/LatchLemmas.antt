@@ -1,0 +1,78 @@
+-- What came to a device behind a latch: `unlatched`.
+use Rattle.std.proofs.Common.{◌≡◌, ◌∙◌, Bool, true, false, List, [], ◌∷◌, refl, sym, subst}
+use Rattle.std.proofs.lemmas.Bool.{true≢false}
+use Rattle.sub_io.proofs.TellingLemmas.{Tells-none, Tells-trans, TellsPrefix-first}
+use Rattle.sub_io.proofs.TellingLemmas.{TellsPrefix-second, TellsPrefix-whole}
+use Rattle.std.proofs.Common.{take}
+use Rattle.sub_io.specs.Telling.{Tells, TellsInTurn, TellsPrefix, TellsSome}
+use Rattle.sub_checker.specs.Latch.{IsLatched}
+use Rattle.sub_rules.specs.declared.event.Event.{Event}
+use Rattle.sub_checker.specs.declared.latch.Latch.{Latch}
+
+module _ {D : Type 0} {g : _} (IsTold : D → Event → D → Type 0) where
+  -- What came to the device of these: all, or a prefix, or none where it had said stop.
+  pub record Comes (old new : Latch D g) (es : List Event) : Type 0 where
+    pub same : new.device.ghost_name ≡ old.device.ghost_name
+    pub stays : old.stopped ≡ true → (new.device.now ≡ old.device.now) × (new.stopped ≡ true)
+    pub whole : new.stopped ≡ false → Tells IsTold old.device.now new.device.now es
+    pub cut : TellsPrefix IsTold old.device.now new.device.now es
+
+  comes-none : (old : Latch D g) → Comes old old []
+  comes-none old = record {
+    same = refl;
+    stays = λ e. (refl, e);
+    whole = λ e. Tells-none _;
+    cut = TellsPrefix-whole _ _ [] (Tells-none _);
+  }
+
+  comes-more : (old mid new : Latch D g) (e : Event) (es : List Event) (s t : Bool)
+      → old.stopped ≡ s
+      → mid.stopped ≡ t
+      → IsLatched IsTold old e mid
+      → Comes mid new es
+      → Comes old new (e ∷ es)
+  comes-more old mid new e es true t is then first rest =
+      let at = first.stays is in
+      let on = rest.stays at.1 in
+      record {
+        same = rest.same ∙ first.same;
+        stays = λ e. (on.0 ∙ at.0, on.1);
+        whole = λ f. absurd (true≢false (sym on.1 ∙ f));
+        cut =
+            rw (on.0, at.0)
+            (TellsPrefix-first _ _ [] (e ∷ es) (TellsPrefix-whole _ _ [] (Tells-none _)));
+      }
+  comes-more old mid new e es false true is then first rest =
+      let on = rest.stays then in
+      record {
+        same = rest.same ∙ first.same;
+        stays = λ e. absurd (true≢false (sym e ∙ is));
+        whole = λ f. absurd (true≢false (sym on.1 ∙ f));
+        cut = rw on.0 (TellsPrefix-first _ _ (e ∷ []) es (TellsPrefix-whole _ _ _ (first.goes is)));
+      }
+  comes-more old mid new e es false false is then first rest = record {
+    same = rest.same ∙ first.same;
+    stays = λ e. absurd (true≢false (sym e ∙ is));
+    whole = λ f. Tells-trans _ _ _ (e ∷ []) es (first.goes is) (rest.whole f);
+    cut = TellsPrefix-second _ _ _ (e ∷ []) es (first.goes is) rest.cut;
+  }
+
+  in_turn : (old new : Latch D g) (es : List Event)
+      → TellsInTurn (IsLatched IsTold) old new es
+      → Comes old new es
+  in_turn old new [] same = subst (λ (s : Latch D g). Comes old s []) (sym same) (comes-none old)
+  in_turn old new (e ∷ es) (mid, first, rest) =
+      comes-more old mid new e es old.stopped mid.stopped refl refl first (in_turn mid new es rest)
+
+  pub unlatched : (old new : Latch D g) (es : List Event)
+      → Tells (IsLatched IsTold) old new es
+      → Comes old new es
+  unlatched old new es told = in_turn old new es told.in_turn
+
+  -- Some of them, whatever they were.
+  pub unlatched_some : (old new : Latch D g) → TellsSome (IsLatched IsTold) old new
+      → (new.device.ghost_name ≡ old.device.ghost_name)
+      × TellsSome IsTold old.device.now new.device.now
+  unlatched_some old new some =
+      let p = unlatched old new some.items some.told in
+      (p.same, record { items = take p.cut.0 _; told = p.cut.2 })

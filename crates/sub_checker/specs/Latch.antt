@@ -1,0 +1,14 @@
+-- A device that may have said stop, behind a latch. Private functions alone cite this.
+use Rattle.std.specs.Prelude.{◌≡◌, true, false, [], ◌∷◌}
+use Rattle.sub_io.specs.Telling.{Tells}
+use Rattle.sub_rules.specs.declared.event.Event.{Event}
+use Rattle.sub_checker.specs.declared.latch.Latch.{Latch}
+
+-- A latch was told an event: so was the device behind it, unless that had said stop.
+pub record IsLatched
+    {D : Type 0} {g : _} (IsTold : D → Event → D → Type 0)
+    (old : Latch D g) (e : Event) (new : Latch D g)
+    : Type 0 where
+  pub same : new.device.ghost_name ≡ old.device.ghost_name
+  pub stays : old.stopped ≡ true → (new.device.now ≡ old.device.now) × (new.stopped ≡ true)
+  pub goes : old.stopped ≡ false → Tells IsTold old.device.now new.device.now (e ∷ [])

@@ -1,0 +1,41 @@
+-- What comes of a piece that was read, and what is kept then. Private functions alone cite this.
+use Rattle.std.specs.Prelude.{◌≡◌, ℕ, Bool, true, false, List, [], ◌∷◌}
+use Rattle.sub_rules.specs.FrameRules.{Task}
+use Rattle.sub_rules.specs.PieceEvents.{marks_of_sent}
+use Rattle.sub_rules.specs.Pieces.{sent_after}
+use Rattle.sub_rules.specs.Transmission.{SentFrame, Transmission}
+use Rattle.sub_rules.specs.Trusted.{Mark}
+use Rattle.sub_rules.specs.Trusted.Mark.{AtPes, Says}
+use Rattle.sub_rules.specs.declared.event.Event.TheVariants.{Told}
+use Rattle.sub_rules.specs.declared.piece.NextPiece.{NextPiece}
+use Rattle.sub_rules.specs.declared.piece.NextPiece.TheVariants as next
+use Rattle.sub_rules.specs.declared.sending.Sending.{Sending}
+
+-- It is passed over.
+abbrev pub is_passed : NextPiece → Bool
+is_passed (next.Passed f) = true
+is_passed (next.Sent s) = false
+
+-- It is sent, and its packets are those of the PES packet before.
+abbrev pub IsAgain : NextPiece → Type 0
+IsAgain (next.Passed f) = ⊥
+IsAgain (next.Sent s) = s.again ≡ true
+
+-- The frame that a sending with these packets sends.
+abbrev pub frame_with : Sending → List (List ℕ) → SentFrame
+frame_with s packets = record { frame = s.frame; packets = packets }
+
+-- What comes of it, PES packet `pes`, where these frames were sent before it.
+abbrev pub marks_of_read : Task → Transmission → ℕ → NextPiece → List (List ℕ) → List Mark
+marks_of_read g sent pes (next.Passed f) packets = AtPes pes ∷ Says (Told f) ∷ []
+marks_of_read g sent pes (next.Sent s) packets = marks_of_sent g sent pes (frame_with s packets)
+
+-- The frames that are sent then.
+abbrev pub sent_with : Task → Transmission → NextPiece → List (List ℕ) → Transmission
+sent_with g sent (next.Passed f) packets = sent
+sent_with g sent (next.Sent s) packets = sent_after g.within sent (frame_with s packets)
+
+-- The packets that were sent last.
+abbrev pub last_with : List (List ℕ) → NextPiece → List (List ℕ) → List (List ℕ)
+last_with last (next.Passed f) packets = last
+last_with last (next.Sent s) packets = packets

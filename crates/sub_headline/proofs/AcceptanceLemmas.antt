@@ -1,0 +1,108 @@
+-- For `law_of_plain_acceptance`: what both files mean is a programme, `programme_of`; and what is
+-- good by the options is good, and the other way.
+use Rattle.std.proofs.Common.{◌≡◌, ℕ, Bool, List, [], ◌∷◌, sym, subst}
+use Rattle.std.specs.Prelude.{All, IsFalse}
+use Rattle.std.specs.List.{AllZip}
+use Rattle.std.proofs.lemmas.List.Elements.{All-cons, All-nil}
+use Rattle.stl_file.specs.Subtitle.{IsSubtitle, SubtitleValue}
+use Rattle.stl_file.specs.SubtitleBlocks.{AreBlocksOf}
+use Rattle.stl_file.proofs.SubtitleBlocksLemmas.{blocks_subtitle}
+use Rattle.stl_rows.specs.Programme.{IsProgramme, ProgrammeValue}
+use Rattle.stl_rows.specs.declared.layout.Drawing.{Drawing}
+use Rattle.sub_plan.specs.Options.{OptionsValue}
+use Rattle.sub_rules.specs.Repeats.{GoodBy}
+use Rattle.sub_rules.specs.Transmission.{Transmission}
+use Rattle.sub_laws.proofs.GoodByLemmas.{law_of_no_delay}
+use Rattle.sub_laws.proofs.PesFileLemmas.{law_of_exact_frames}
+use Rattle.sub_check.specs.CheckedFiles.{IsAccepted, IsAcceptedBy, Mean, MeanWithin}
+use Rattle.sub_headline.specs.Acceptance.{LawOfPlainAcceptance}
+
+-- Each subtitle of a file is one.
+all_subtitles : (ts : List SubtitleValue) (gs : List (List (List ℕ)))
+    → AllZip AreBlocksOf ts gs
+    → All IsSubtitle ts
+all_subtitles [] gs e = All-nil IsSubtitle
+all_subtitles (t ∷ ts) [] e = λ k d h. absurd e
+all_subtitles (t ∷ ts) (g ∷ gs) e =
+    All-cons IsSubtitle t ts (blocks_subtitle t g e.0) (all_subtitles ts gs e.1)
+
+module _ (drawing : Drawing) (options : OptionsValue) (stl pes : List ℕ)
+    (subtitles : List SubtitleValue) (t : Transmission) where
+  -- What files mean is a programme.
+  pub programme_of :
+      Mean drawing options.origin stl pes subtitles t
+      → IsProgramme drawing subtitles
+  programme_of mean = record {
+    each = all_subtitles subtitles _ mean.subtitle_file.rest.are_of;
+    in_order = mean.in_order;
+    drawable = mean.drawable;
+  }
+
+  -- Within no frames they mean the same.
+  exact_of :
+      options.within ≡ 0
+      → MeanWithin drawing options stl pes subtitles t
+      → Mean drawing options.origin stl pes subtitles t
+  exact_of none mean = record {
+    gsi = mean.gsi;
+    subtitle_file = mean.subtitle_file;
+    in_order = mean.in_order;
+    drawable = mean.drawable;
+    carries = (law_of_exact_frames options pes t none).0 mean.carries;
+  }
+
+  of_exact :
+      options.within ≡ 0
+      → Mean drawing options.origin stl pes subtitles t
+      → MeanWithin drawing options stl pes subtitles t
+  of_exact none mean = record {
+    gsi = mean.gsi;
+    subtitle_file = mean.subtitle_file;
+    in_order = mean.in_order;
+    drawable = mean.drawable;
+    carries = (law_of_exact_frames options pes t none).1 mean.carries;
+  }
+
+there :
+    (drawing : Drawing) (options : OptionsValue) (stl pes : List ℕ)
+    → IsFalse options.keeps
+    → options.within ≡ 0
+    → IsAcceptedBy drawing options stl pes
+    → IsAccepted drawing options stl pes
+there drawing options stl pes off none is =
+    let programme : ProgrammeValue = record { drawing = drawing; records = is.subtitles } in
+    let mean = exact_of drawing options stl pes is.subtitles is.transmission none is.mean in
+    let good =
+    (law_of_no_delay programme is.transmission options
+    (programme_of drawing options stl pes is.subtitles is.transmission mean) none).0
+    (subst (λ (k : Bool). GoodBy k programme is.transmission options) off is.good) in
+    record {
+      subtitles = is.subtitles;
+      transmission = is.transmission;
+      mean = mean;
+      good = good.0;
+      complete = good.1;
+    }
+
+back :
+    (drawing : Drawing) (options : OptionsValue) (stl pes : List ℕ)
+    → IsFalse options.keeps
+    → options.within ≡ 0
+    → IsAccepted drawing options stl pes
+    → IsAcceptedBy drawing options stl pes
+back drawing options stl pes off none is =
+    let programme : ProgrammeValue = record { drawing = drawing; records = is.subtitles } in
+    record {
+      subtitles = is.subtitles;
+      transmission = is.transmission;
+      mean = of_exact drawing options stl pes is.subtitles is.transmission none is.mean;
+      good =
+          subst (λ (k : Bool). GoodBy k programme is.transmission options) (sym off)
+          ((law_of_no_delay programme is.transmission options
+          (programme_of drawing options stl pes is.subtitles is.transmission is.mean) none).1
+          (is.good, is.complete));
+    }
+
+pub law_of_plain_acceptance : LawOfPlainAcceptance
+law_of_plain_acceptance drawing options stl pes off none =
+    (there drawing options stl pes off none, back drawing options stl pes off none)

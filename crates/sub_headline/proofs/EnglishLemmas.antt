@@ -1,0 +1,271 @@
+-- For `law_of_headline`: by the default layout an English subtitle is drawn as its English page,
+-- `drawn_is`, so what is due is the English page that is due, `due_is`.
+use Rattle.std.proofs.lemmas.Bool.Decides.{nat_tests}
+use Rattle.std.proofs.lemmas.List.Elements.{All-cons, All-head, All-nil, All-tail}
+use Rattle.std.proofs.Common.{◌≡◌, ◌≢◌, ◌⊎◌, ◌∙◌, ℕ, ◌+◌, ◌≤◌, Bool, true, false, List, [], ◌∷◌}
+use Rattle.std.proofs.Common.{◌++◌, Option, Some, None, Result, Ok, refl, sym, ap, arith, inl, inr}
+use Rattle.std.proofs.Common.{map, subst}
+use Rattle.std.specs.Prelude.{◌==◌, ◌&&◌, nat_lt, length, All, IsOk, if◌then◌else◌}
+use Rattle.std.specs.List.{cons_option, find}
+use Rattle.ttx_page.specs.Page.{Rows}
+use Rattle.stl_file.specs.Subtitle.{IsSubtitle, SubtitleValue}
+use Rattle.stl_rows.specs.declared.fault.RowFault.{RowFault}
+use Rattle.stl_rows.specs.declared.fault.RowFaultKind.{RowFaultKind}
+use Rattle.stl_rows.specs.declared.fault.RowFaultKind.TheVariants.{DoubleRow, Hidden, PastBottom}
+use Rattle.stl_rows.specs.declared.fault.RowFaultKind.TheVariants.{RowTooLong}
+use Rattle.stl_rows.specs.declared.national.National.TheVariants.{English}
+use Rattle.stl_rows.specs.DrawnPage.{drawn}
+use Rattle.stl_rows.specs.DuePage.{drawn_or_blank, due, is_due}
+use Rattle.stl_rows.specs.Line.{has_cells, is_double, prepared}
+use Rattle.stl_rows.specs.PlainPage.{line_fault_kinds, line_faults, lines, when}
+use Rattle.stl_rows.specs.PlainPage.{page_of_lines, plainly_drawn, unless}
+use Rattle.stl_rows.specs.SubSets.{cell_in, has_bytes, sub_set}
+use Rattle.stl_rows.specs.TextCode.{cell_of, cell_of_pair, code_of_other, codes_after}
+use Rattle.stl_rows.specs.TextCode.{first_of, is_common, is_diacritical, is_no_cell}
+use Rattle.stl_rows.specs.TextCode.{is_within, lines_of_codes, new_line, refused_code}
+use Rattle.stl_rows.specs.TextCode.{refused_codes, text_code, with_code}
+use Rattle.stl_rows.proofs.DefaultLayoutLemmas.{default_is_plain}
+use Rattle.sub_headline.specs.EnglishPage.{Fit, IsRead, IsWhole, english_cell, english_due}
+use Rattle.sub_headline.specs.EnglishPage.{english_lines}
+use Rattle.sub_headline.specs.EnglishPage.{english_page, page_or_blank, put}
+use Rattle.sub_headline.specs.Headline.{default_drawing}
+
+-- ---- the cells of bytes
+
+-- A character without a mark is none of a pair.
+no_mark : (x : Bool) (a rest : Option ℕ) → rest ≡ None → (if x && false then a else rest) ≡ None
+no_mark true a rest e = e
+no_mark false a rest e = e
+
+-- English has none of a pair.
+no_second : (byte next : ℕ) → cell_in (sub_set English).characters (Some byte) next ≡ None
+unfolding sub_set has_bytes
+no_second byte next =
+    no_mark (0xA3 == next) _ _
+    (no_mark (0x24 == next) _ _
+    (no_mark (0xA4 == next) _ _ (no_mark (0x40 == next) _ _ (no_mark (0x23 == next) _ _ refl))))
+
+none_either : (x : Bool) (a : Option ℕ) → a ≡ None → (if x then a else None) ≡ None
+none_either true a e = e
+none_either false a e = refl
+
+no_pair : (byte : ℕ) (next : Option ℕ) → cell_of_pair English byte next ≡ None
+unfolding cell_of_pair
+no_pair byte None = none_either (is_diacritical byte) None refl
+no_pair byte (Some next) = none_either (is_diacritical byte) _ (no_second byte next)
+
+-- Its characters, each by its byte.
+by_itself : (x : Bool) (a p q : Option ℕ) → p ≡ q
+    → (if x && true then a else p) ≡ (if x then a else q)
+by_itself true a p q e = refl
+by_itself false a p q e = e
+
+cell_is : (byte : ℕ) → cell_of English byte ≡ english_cell byte
+unfolding cell_of sub_set has_bytes english_cell
+cell_is byte =
+    ap (λ (o : Option ℕ). if is_common byte then Some byte else o)
+    (by_itself (0xA3 == byte) _ _ _
+    (by_itself (0x24 == byte) _ _ _
+    (by_itself (0xA4 == byte) _ _ _
+    (by_itself (0x40 == byte) _ _ _ (by_itself (0x23 == byte) _ _ _ refl)))))
+
+-- ---- the lines of a text
+
+-- Each byte speaks by itself.
+codes_step : (place byte : ℕ) (bytes : List ℕ)
+    → codes_after English place 0 (byte ∷ bytes)
+    ≡ (place, text_code English byte) ∷ codes_after English (place + 1) 0 bytes
+codes_step place byte bytes = rw (no_pair byte (first_of bytes)) refl
+
+none_put : (byte : ℕ) (lines : List (List ℕ))
+    → with_code (code_of_other byte) lines ≡ put None byte lines
+unfolding code_of_other
+none_put byte lines = grind (arith, nat_tests)
+
+put_by : (cell : Option ℕ) (byte : ℕ) (lines : List (List ℕ))
+    → cell_of English byte ≡ cell
+    → with_code (text_code English byte) lines ≡ put cell byte lines
+put_by (Some cell) byte lines e = rw e refl
+put_by None byte lines e = rw e (none_put byte lines)
+
+lines_are : (place : ℕ) (text : List ℕ)
+    → lines_of_codes (codes_after English place 0 text) ≡ english_lines text
+lines_are place [] = refl
+lines_are place (byte ∷ bytes) =
+    ap lines_of_codes (codes_step place byte bytes)
+    ∙ ap (with_code (text_code English byte)) (lines_are (place + 1) bytes)
+    ∙ put_by (english_cell byte) byte (english_lines bytes) (cell_is byte)
+
+-- ---- the bytes that are read
+
+none_read : (byte place : ℕ)
+    → refused_code place (code_of_other byte) ≡ None
+    → (is_no_cell byte ≡ false)
+    → (byte == new_line) ≡ false
+    → ⊥
+unfolding code_of_other
+none_read byte place e code end = grind (arith, nat_tests)
+
+end_is : (byte : ℕ) → (byte == new_line) ≡ true → byte ≡ new_line
+end_is byte e = grind (arith, nat_tests)
+
+read_by : (is_none is_end : Bool) (byte place : ℕ)
+    → is_no_cell byte ≡ is_none
+    → (byte == new_line) ≡ is_end
+    → refused_code place (code_of_other byte) ≡ None
+    → (byte ≡ new_line) ⊎ (is_within 0x80 0x85 byte ≡ true)
+read_by true is_end byte place none end e = inr none
+read_by false true byte place none end e = inl (end_is byte end)
+read_by false false byte place none end e = absurd (none_read byte place e none end)
+
+read_of : (cell : Option ℕ) (byte place : ℕ)
+    → cell_of English byte ≡ cell
+    → refused_code place (text_code English byte) ≡ None
+    → (cell ≢ None) ⊎ (byte ≡ new_line) ⊎ (is_within 0x80 0x85 byte ≡ true)
+read_of (Some cell) byte place is e = inl (λ none. cc)
+read_of None byte place is e =
+    inr (read_by (is_no_cell byte) (byte == new_line) byte place refl refl (rw is at e))
+
+none_first : {X : Type 0} (o : Option X) (xs : List X)
+    → cons_option o xs ≡ []
+    → (o ≡ None) × (xs ≡ [])
+none_first None xs e = (refl, e)
+none_first (Some x) xs e = cc
+
+all_read : (place : ℕ) (text : List ℕ)
+    → refused_codes (codes_after English place 0 text) ≡ []
+    → All IsRead text
+all_read place [] e = All-nil IsRead
+all_read place (byte ∷ bytes) e =
+    let of =
+    none_first (refused_code place (text_code English byte))
+    (refused_codes (codes_after English (place + 1) 0 bytes))
+    (sym (ap refused_codes (codes_step place byte bytes)) ∙ e) in
+    All-cons IsRead byte bytes (read_of (english_cell byte) byte place (cell_is byte) of.0)
+    (all_read (place + 1) bytes of.1)
+
+-- ---- the page of a subtitle
+
+none_of_ok : {A E : Type 0} (es : List E) (value : A) → IsOk (unless es value) → es ≡ []
+none_of_ok [] value ok = refl
+none_of_ok (e ∷ es) value ok = cc
+
+no_either : {A : Type 0} (xs ys : List A) → xs ++ ys ≡ [] → (xs ≡ []) × (ys ≡ [])
+no_either [] ys e = (refl, e)
+no_either (x ∷ xs) ys e = cc
+
+no_map : {A B : Type 0} (f : A → B) (xs : List A) → map f xs ≡ [] → xs ≡ []
+no_map f [] e = refl
+no_map f (x ∷ xs) e = cc
+
+not_when : (b : Bool) (kind : RowFaultKind) → when b kind ≡ [] → b ≡ false
+not_when true kind e = cc
+not_when false kind e = refl
+
+short_line : (n : ℕ) → nat_lt 40 n ≡ false → n ≤ 40
+short_line n e = grind (arith, nat_tests)
+
+high_line : (line : List ℕ) (row : ℕ)
+    → has_cells line && nat_lt 23 row ≡ false
+    → line ≢ []
+    → row ≤ 23
+high_line [] row e some = absurd (some refl)
+high_line (c ∷ cells) row e some = grind (arith, nat_tests)
+
+-- What is said of a line of which nothing is refused.
+fit_line : (row : ℕ) (under : Bool) (line : List ℕ)
+    → line_fault_kinds row under line ≡ []
+    → (length line ≤ 40) × (line ≢ [] → row ≤ 23)
+unfolding line_fault_kinds
+fit_line row under line e =
+    let long = when (nat_lt 40 (length line)) RowTooLong in
+    let low = when (has_cells line && nat_lt 23 row) PastBottom in
+    let double = when (is_double line && (row == 23)) DoubleRow in
+    let three = no_either ((long ++ low) ++ double) (when (has_cells line && under) Hidden) e in
+    let two = no_either (long ++ low) double three.0 in
+    let one = no_either long low two.0 in (
+      short_line (length line) (not_when (nat_lt 40 (length line)) RowTooLong one.0),
+      high_line line row (not_when (has_cells line && nat_lt 23 row) PastBottom one.1),
+    )
+
+fit_of : (number row : ℕ) (under : Bool) (ls : List (List ℕ))
+    → line_faults number row under ls ≡ []
+    → Fit row ls
+fit_of number row under [] e = tt
+fit_of number row under (line ∷ ls) e =
+    let of = no_either _ _ e in
+    let line_fits = fit_line row under line (no_map _ _ of.0) in (
+      line_fits.0,
+      line_fits.1,
+      fit_of (number + 1) (row + 1) (is_double line) ls of.1,
+    )
+
+-- A subtitle that is drawn is drawn as its English page, and nothing of its text is left out.
+pub record IsDrawn (t : SubtitleValue) : Type 0 where
+  pub page : drawn default_drawing t ≡ Ok (english_page t)
+  pub whole : IsWhole t
+
+plain_is : (t : SubtitleValue)
+    → IsOk (plainly_drawn English t)
+    → (plainly_drawn English t ≡ Ok (english_page t)) × IsWhole t
+unfolding plainly_drawn page_of_lines
+plain_is t ok =
+    let none = none_of_ok _ (page_of_lines t.jc t.vp (lines English t)) ok in (
+      ap
+          (λ (es : List RowFault).
+          let r : Result Rows RowFault = unless es (page_of_lines t.jc t.vp (lines English t)) in r)
+          none
+          ∙ ap
+          (λ (ls : List (List ℕ)).
+          let r : Result Rows RowFault = Ok (page_of_lines t.jc t.vp (map prepared ls)) in r)
+          (lines_are 0 t.text),
+      record {
+        read = all_read 0 t.text (no_either _ _ none).0;
+        fit =
+            subst (λ (ls : List (List ℕ)). Fit t.vp (map prepared ls)) (lines_are 0 t.text)
+            (fit_of 0 t.vp false (lines English t) (no_either _ _ none).1);
+      },
+    )
+
+pub drawn_is : (t : SubtitleValue) → IsSubtitle t → IsOk (drawn default_drawing t) → IsDrawn t
+drawn_is t is ok =
+    let plain = default_is_plain English t is.vp.0 in
+    let of = plain_is t (subst (λ (r : Result Rows RowFault). IsOk r) plain ok) in
+    record { page = plain ∙ of.0; whole = of.1 }
+
+pub all_drawn : (ts : List SubtitleValue)
+    → All IsSubtitle ts
+    → All (λ t. IsOk (drawn default_drawing t)) ts
+    → All IsDrawn ts
+all_drawn [] each ok = All-nil IsDrawn
+all_drawn (t ∷ ts) each ok =
+    All-cons IsDrawn t ts
+    (drawn_is t (All-head IsSubtitle t ts each)
+    (All-head (λ t. IsOk (drawn default_drawing t)) t ts ok))
+    (all_drawn ts (All-tail IsSubtitle t ts each)
+    (All-tail (λ t. IsOk (drawn default_drawing t)) t ts ok))
+
+-- ---- the page that is due
+
+due_by : (is : Bool) (t : SubtitleValue) (rest : Option SubtitleValue)
+    → drawn default_drawing t ≡ Ok (english_page t)
+    → drawn_or_blank default_drawing rest ≡ page_or_blank rest
+    → drawn_or_blank default_drawing
+    (let o : Option SubtitleValue = if is then Some t else rest in o)
+    ≡ page_or_blank (if is then Some t else rest)
+due_by true t rest e same = grind (arith, nat_tests)
+due_by false t rest e same = same
+
+found_is : (ts : List SubtitleValue) (f : ℕ)
+    → All IsDrawn ts
+    → drawn_or_blank default_drawing (find (is_due f) ts) ≡ page_or_blank (find (is_due f) ts)
+found_is [] f each = refl
+found_is (t ∷ ts) f each =
+    due_by (is_due f t) t (find (is_due f) ts) (All-head IsDrawn t ts each).page
+    (found_is ts f (All-tail IsDrawn t ts each))
+
+pub due_is : (ts : List SubtitleValue) (f : ℕ)
+    → All IsDrawn ts
+    → due default_drawing ts f ≡ english_due ts f
+unfolding due
+due_is ts f each = found_is ts f each

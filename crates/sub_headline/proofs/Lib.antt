@@ -1,0 +1,5 @@
+pub mod AcceptanceLemmas
+pub mod EnglishLemmas
+pub mod PlainWordLemmas
+pub mod RunLemmas
+pub mod HeadlineLemmas

@@ -1,0 +1,169 @@
+-- For `law_of_plain_words`. A word that is no option is a value, `plain_other`; so two of them are
+-- the two files, `rows_are`, and ask for a check by the default options, `asked_are`.
+use Rattle.std.proofs.Common.{◌≡◌, ◌∙◌, ℕ, Bool, false, List, [], ◌∷◌, Option, Some, None}
+use Rattle.std.proofs.Common.{Ok, Result, refl, sym, ap, arith, codes, inl, inr}
+use Rattle.std.proofs.lemmas.Bool.Decides.{nat_tests}
+use Rattle.std.specs.Prelude.{◌&&◌, ◌||◌, if◌then◌else◌, nat_eq, option_and_then, option_map}
+use Rattle.std.specs.Prelude.{find, unwrap_or}
+use Rattle.std.specs.Str.{bytes_eq}
+use Rattle.clap.specs.Lexer.{long_of, long_of_rest, short_of, short_of_rest, strip_byte}
+use Rattle.clap.specs.Simple.{Shape, built, label_of}
+use Rattle.clap.specs.Walk.{Held, Row, Rule, Step, Walk, after_step, answers_to, arg_by_index}
+use Rattle.clap.specs.Walk.{finished, long_or_other, nothing_held, rows_after}
+use Rattle.clap.specs.Walk.{short_or_plain, subcommand_or_other, to_positional, walked}
+use Rattle.clap.specs.Walk.Waiting.{idle}
+use Rattle.clap.specs.Walk.Step.{trailing, value}
+use Rattle.clap.specs.Words.{Text}
+use Rattle.clap.proofs.OnLiterals.{clap_on_literals}
+use Rattle.ttx_packet.specs.PageId.{page_of_text}
+use Rattle.stl_file.specs.Scope.{whole}
+use Rattle.stl_rows.specs.Layout.{default_layout}
+use Rattle.stl_rows.specs.SubSets.{option_named, sub_set}
+use Rattle.stl_rows.specs.declared.national.National.TheVariants.{English}
+use Rattle.sub_request.specs.declared.request.Request.{Request}
+use Rattle.sub_request.specs.declared.request.UsageFault.{UsageFault}
+use Rattle.sub_words.specs.Arguments.{pes_packets_of}
+use Rattle.sub_words.specs.Commands.{command_in, subttx_app}
+use Rattle.sub_words.specs.Help.{asks_help}
+use Rattle.sub_words.specs.PesTexts.{packet_size_of_text}
+use Rattle.sub_words.specs.Requests.{Asked, AsksFor, asked_by, asked_for, asked_in}
+use Rattle.sub_words.specs.Texts.{number_of_text}
+use Rattle.sub_headline.specs.PlainWords.{IsName, LawOfPlainWords, default_options, whole_pes_file}
+
+-- ---- a name
+
+-- It does not begin with a hyphen.
+no_hyphen : (x : ℕ) (xs : Text) → IsName (x ∷ xs) → nat_eq x 45 ≡ false
+no_hyphen x xs name = grind (arith, nat_tests)
+
+-- It is not `--`.
+no_dashes : (word : Text) → IsName word → bytes_eq word (45 ∷ 45 ∷ []) ≡ false
+no_dashes [] name = refl
+no_dashes (x ∷ xs) name =
+    ap (λ (b : Bool). b && bytes_eq xs (45 ∷ [])) (no_hyphen x xs name)
+
+-- So many words ask for none.
+no_help : (program stl pes : Text)
+    → asks_help (program ∷ codes "check" ∷ stl ∷ pes ∷ []) ≡ false
+unfolding asks_help
+no_help program stl pes = refl
+
+-- ---- a word that is no option is a value
+
+no_long : (word : Text) → IsName word → long_of word ≡ None
+no_long [] name = refl
+no_long (x ∷ xs) name =
+    ap
+    (λ (b : Bool).
+    option_and_then long_of_rest
+    (option_and_then (strip_byte 45) (let o : Option Text = if b then Some xs else None in o)))
+    (no_hyphen x xs name)
+
+no_short : (word : Text) → IsName word → short_of word ≡ None
+no_short [] name = refl
+no_short (x ∷ xs) name =
+    ap
+    (λ (b : Bool).
+    option_and_then short_of_rest (let o : Option Text = if b then Some xs else None in o))
+    (no_hyphen x xs name)
+
+plain_other : (c : List Rule) (position : ℕ) (word : Text) (h : Held)
+    → IsName word
+    → subcommand_or_other c None idle position word h ≡ (h, value)
+plain_other c position word h name =
+    ap
+    (λ (b : Bool).
+    let met : Held × Step =
+    if b then (h, trailing position) else long_or_other c idle word (long_of word) h in met)
+    (no_dashes word name)
+    ∙ ap (λ o. long_or_other c idle word o h) (no_long word name)
+    ∙ ap (λ o. short_or_plain c idle word o h) (no_short word name)
+
+-- Where nothing waits for a value.
+abbrev at_rest : Held → ℕ → Walk
+at_rest h position =
+    record { held = h; waiting = idle; position = position; is_trailing = false; stopped = None }
+
+walked_plain : (c : List Rule) (h : Held) (position : ℕ) (word : Text)
+    → IsName word
+    → walked c [] (at_rest h position) word
+    ≡ to_positional c (arg_by_index c position) word (at_rest h position) h
+unfolding walked
+walked_plain c h position word name =
+    ap (λ (met : Held × Step). after_step c word (at_rest h position) met.0 met.1)
+    (plain_other c position word h name)
+
+-- ---- the words of `check`
+
+-- How `check` is built.
+abbrev check_shape : Shape
+check_shape =
+    unwrap_or (find (λ s. answers_to (codes "check") (label_of s)) (built subttx_app).subs)
+    (built subttx_app).top
+
+-- What two words leave of it.
+abbrev held_of_two : (stl pes : Text) → Held
+held_of_two stl pes =
+    let c = check_shape.rules in
+    let one = to_positional c (arg_by_index c 1) stl (at_rest nothing_held 1) nothing_held in
+    (to_positional c (arg_by_index c 2) pes one one.held).held
+
+command_is : (program stl pes : Text)
+    → command_in (program ∷ codes "check" ∷ stl ∷ pes ∷ [])
+    ≡ Some (codes "check", rows_after check_shape.rules [] (stl ∷ pes ∷ []))
+unfolding command_in subttx_app clap_on_literals
+command_is program stl pes = refl
+
+rows_are : (stl pes : Text)
+    → IsName stl
+    → IsName pes
+    → rows_after check_shape.rules [] (stl ∷ pes ∷ [])
+    ≡ finished check_shape.rules (held_of_two stl pes)
+unfolding subttx_app
+rows_are stl pes is_stl is_pes =
+    ap (λ (w : Walk). finished check_shape.rules (walked check_shape.rules [] w pes).held)
+    (walked_plain check_shape.rules nothing_held 1 stl is_stl)
+    ∙ ap (λ (w : Walk). finished check_shape.rules w.held)
+    (walked_plain check_shape.rules
+    (to_positional check_shape.rules (arg_by_index check_shape.rules 1) stl (at_rest nothing_held 1)
+    nothing_held).held 2 pes is_pes)
+
+asked_are : (stl pes : Text)
+    → asked_in (codes "check") (finished check_shape.rules (held_of_two stl pes))
+    ≡ Ok (Asked.Check stl (whole_pes_file pes) default_options English default_layout whole false)
+unfolding subttx_app clap_on_literals number_of_text page_of_text option_named sub_set
+    pes_packets_of packet_size_of_text
+asked_are stl pes = refl
+
+-- What was asked once is the same.
+same_asked : (told : Option (Result Asked UsageFault)) (a b : Asked)
+    → told ≡ Some (Ok a)
+    → told ≡ Some (Ok b)
+    → a ≡ b
+same_asked told a b one other = let e = sym one ∙ other in cc
+
+plain_asked : (program stl pes : Text)
+    → IsName stl
+    → IsName pes
+    → asked_for (program ∷ codes "check" ∷ stl ∷ pes ∷ [])
+    ≡ Some
+    (Ok (Asked.Check stl (whole_pes_file pes) default_options English default_layout whole false))
+plain_asked program stl pes is_stl is_pes =
+    ap (option_map (λ command. asked_in command.0 command.1)) (command_is program stl pes)
+    ∙ ap (λ (rows : List Row). Some (asked_in (codes "check") rows))
+    (rows_are stl pes is_stl is_pes)
+    ∙ ap (λ asked. Some asked) (asked_are stl pes)
+
+asks_of : (words : List Text) (request : Request) (asked : Asked)
+    → asks_help words ≡ false
+    → asked_for words ≡ Some (Ok asked)
+    → AsksFor words request
+    → asked_by request ≡ asked
+asks_of words request asked none is (inl help) = let e = sym none ∙ help.0 in cc
+asks_of words request asked none is (inr of) = same_asked _ _ _ of.1.asked is
+
+pub law_of_plain_words : LawOfPlainWords
+law_of_plain_words program stl pes request is_stl is_pes asks =
+    asks_of (program ∷ codes "check" ∷ stl ∷ pes ∷ []) request _
+    (no_help program stl pes)
+    (plain_asked program stl pes is_stl is_pes) asks

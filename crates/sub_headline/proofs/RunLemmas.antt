@@ -1,0 +1,62 @@
+-- For `law_of_headline`: a run that does not end with code 2 answered its words, `answered`.
+use Rattle.std.proofs.lemmas.Bool.Decides.{nat_tests}
+use Rattle.std.proofs.Common.{◌≡◌, ◌≢◌, ◌⊎◌, ◌∙◌, ℕ, List, [], Option, Result, ap, arith, inl, inr}
+use Rattle.clap.specs.Words.{Text}
+use Rattle.sub_files.specs.FileCalls.{FileCall}
+use Rattle.sub_request.specs.declared.request.UsageFault.{UsageFault}
+use Rattle.sub_request.specs.declared.request.UsageFault.TheVariants as usage
+use Rattle.sub_listing.specs.Listing.{exit_code}
+use Rattle.sub_listing.specs.declared.status.Status.{Status}
+use Rattle.sub_listing.specs.declared.status.Status.TheVariants.{Done, Fault}
+use Rattle.sub_answer.specs.Ending.{Lines, Says, ToldOfFiles}
+use Rattle.sub_headline.specs.Run.{Answered, EndsRun, RunsProgram}
+
+-- A fault that is said ends a run with `Fault`.
+said : (fault : UsageFault) (old new : Lines) (result : Status)
+    → Says fault old new result
+    → result ≡ Fault
+said fault old new result says = grind (arith, nat_tests)
+
+-- It answered its words, and the code is that of the answer's status.
+pub record HasAnswered
+    {I O : Type 0} (AreMade : List (FileCall I O) → Type 0) (told : ToldOfFiles I O)
+    (IsClose : O → O → Type 0) (given : Result (List Text) UsageFault) (code : ℕ)
+    : Type 0 where
+  pub old : Lines
+  pub new : Lines
+  pub status : Status
+  pub code_is : code ≡ exit_code status
+  pub answered : Answered AreMade told IsClose given old new status
+
+answered_so :
+    {I O : Type 0} (AreMade : List (FileCall I O) → Type 0) (told : ToldOfFiles I O)
+    (IsClose : O → O → Type 0) (given : Result (List Text) UsageFault) (code : ℕ)
+    (status : Status) (old new : Lines)
+    → code ≡ exit_code status
+    → code ≢ 2
+    → EndsRun AreMade told IsClose given old new status
+    ⊎ (AreMade [] × Says usage.Memory old new status)
+    → HasAnswered AreMade told IsClose given code
+answered_so AreMade told IsClose given code status old new code_is not_two (inl (inl is)) =
+    record { old = old; new = new; status = status; code_is = code_is; answered = is }
+answered_so AreMade told IsClose given code status old new code_is not_two (inl (inr un)) =
+    absurd (not_two (code_is ∙ ap exit_code (said un.fault old new status un.says)))
+answered_so AreMade told IsClose given code status old new code_is not_two (inr memory) =
+    absurd (not_two (code_is ∙ ap exit_code (said usage.Memory old new status memory.1)))
+
+pub answered :
+    {I O K : Type 0} (AreMade : List (FileCall I O) → Type 0) (told : ToldOfFiles I O)
+    (IsClose : O → O → Type 0) (given : Result (List Text) UsageFault)
+    (contents : K → Option (List ℕ)) (failure_count : K → ℕ) (output left : K) (code : ℕ)
+    → RunsProgram AreMade told IsClose given contents failure_count output left code
+    → code ≢ 2
+    → HasAnswered AreMade told IsClose given code
+answered AreMade told IsClose given contents failure_count output left code runs not_two =
+    answered_so AreMade told IsClose given code runs.status _ _ runs.code_is not_two runs.ends
+
+-- Status by code.
+pub done_by_code : (status : Status) → exit_code status ≡ 0 → status ≡ Done
+done_by_code status e = grind (arith, nat_tests)
+
+pub no_fault : (status : Status) → exit_code status ≢ 2 → status ≢ Fault
+no_fault status e is = e (ap exit_code is)

@@ -1,0 +1,72 @@
+-- The page of a subtitle in English by the default layout: what its text shows, and where.
+use Rattle.std.specs.Prelude.{◌≡◌, ◌≢◌, ◌⊎◌, ⊤, ℕ, ◌+◌, ◌-◌, ◌≤◌, true, List, [], ◌∷◌}
+use Rattle.std.specs.Prelude.{All, Option, Some, None, ◌==◌, length}
+use Rattle.std.specs.Prelude.{nat_lt, if◌then◌else◌, map, slice_index_or}
+use Rattle.std.specs.List.{find, onto_first, range_with_len}
+use Rattle.ttx_page.specs.Page.{Rows, blank}
+use Rattle.stl_file.specs.Subtitle.{SubtitleValue}
+use Rattle.stl_rows.specs.DuePage.{is_due}
+use Rattle.stl_rows.specs.Line.{prepared, row_of}
+use Rattle.stl_rows.specs.TextCode.{is_common, is_within, new_line}
+
+-- The cell of a byte (EBU Tech 3264, code table 00; EN 300 706, English sub-set): its own number,
+-- or a place of the sub-set.
+unfoldable pub english_cell : ℕ → Option ℕ
+english_cell byte =
+    if is_common byte then Some byte
+    else (if 0xA3 == byte then Some 0x23  -- £
+    else (if 0x24 == byte then Some 0x24  -- $
+    else (if 0xA4 == byte then Some 0x24  -- $
+    else (if 0x40 == byte then Some 0x40  -- @
+    else (if 0x23 == byte then Some 0x5F  -- #
+    else None)))))
+
+-- What a byte puts before lines: its cell; an end of a line; or, of italics, underline and boxing,
+-- nothing.
+abbrev pub put : Option ℕ → ℕ → List (List ℕ) → List (List ℕ)
+put (Some cell) byte lines = onto_first cell lines
+put None byte lines = if byte == new_line then [] ∷ lines else lines
+
+-- The lines of cells of a text.
+abbrev pub english_lines : List ℕ → List (List ℕ)
+english_lines [] = [] ∷ []
+english_lines (byte ∷ bytes) = put (english_cell byte) byte (english_lines bytes)
+
+-- A byte that is put so: no other is left out of a text.
+abbrev pub IsRead : ℕ → Type 0
+IsRead byte =
+    (english_cell byte ≢ None) ⊎ (byte ≡ new_line) ⊎ (is_within 0x80 0x85 byte ≡ true)
+
+-- Prepared lines fit on a page from a row on: none has more than 40 cells, and none that has cells
+-- is below row 23.
+abbrev pub Fit : ℕ → List (List ℕ) → Type 0
+Fit row [] = ⊤
+Fit row (line ∷ lines) =
+    (length line ≤ 40) × (line ≢ [] → row ≤ 23) × Fit (row + 1) lines
+
+-- The prepared lines of a subtitle: each that has cells in a box.
+abbrev pub boxed_lines : SubtitleValue → List (List ℕ)
+boxed_lines t = map prepared (english_lines t.text)
+
+-- Nothing of its text is left out: each byte is read, and its lines fit on the page from row VP on.
+pub record IsWhole (t : SubtitleValue) : Type 0 where
+  pub read : All IsRead t.text
+  pub fit : Fit t.vp (boxed_lines t)
+
+-- The line of a row, where line 0 goes to row VP; none above it or below the last.
+abbrev pub english_line : SubtitleValue → ℕ → List ℕ
+english_line t row =
+    if nat_lt row t.vp then [] else slice_index_or (boxed_lines t) (row - t.vp) []
+
+-- The page of a subtitle: rows 1 to 24, each with its line, in a box, at the column of JC.
+abbrev pub english_page : SubtitleValue → Rows
+english_page t = map (λ row. row_of t.jc (english_line t row)) (range_with_len 1 24)
+
+-- The page that is due of a subtitle, or of none.
+abbrev pub page_or_blank : Option SubtitleValue → Rows
+page_or_blank None = blank
+page_or_blank (Some t) = english_page t
+
+-- The page that is due at a frame: of the subtitle whose TCI has come and whose TCO has not.
+abbrev pub english_due : List SubtitleValue → ℕ → Rows
+english_due subtitles frame = page_or_blank (find (is_due frame) subtitles)

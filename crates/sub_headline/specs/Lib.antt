@@ -1,0 +1,6 @@
+pub mod Acceptance
+pub mod EnglishPage
+pub mod Headline
+pub mod PlainHeadline
+pub mod PlainWords
+pub mod Run

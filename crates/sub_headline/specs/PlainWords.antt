@@ -1,0 +1,44 @@
+-- What the words `check STL PES` ask for, with no option.
+use Rattle.std.specs.Prelude.{◌≡◌, ◌≢◌, [], ◌∷◌, Some, None, false, codes, slice_get}
+use Rattle.clap.specs.Words.{Text}
+use Rattle.stl_file.specs.Scope.{whole}
+use Rattle.stl_rows.specs.Layout.{default_layout}
+use Rattle.stl_rows.specs.declared.national.National.TheVariants.{English}
+use Rattle.sub_plan.specs.Examples.{page_888}
+use Rattle.sub_plan.specs.Options.{OptionsValue}
+use Rattle.sub_request.specs.declared.request.Request.{Request}
+use Rattle.sub_words.specs.Arguments.{PesAsked}
+use Rattle.sub_words.specs.Requests.{Asked, AsksFor, asked_by}
+
+-- The options where none is given: page 888; a header of it within 250 frames, 10 seconds; frame 0
+-- has the PTS 0; complete pages and a pace are not asked for; at each frame's end the page has to
+-- be whole; and each header of it has to erase it.
+abbrev pub default_options : OptionsValue
+default_options = record {
+  page = page_888;
+  every = 250;
+  origin = 0;
+  asks_complete = false;
+  within = 0;
+  pace = None;
+  keeps = false;
+}
+
+-- A word that does not begin with `-`, and so is no option.
+abbrev pub IsName : Text → Type 0
+IsName word = slice_get word 0 ≢ Some 0x2D
+
+-- All of a file of PES packets.
+abbrev pub whole_pes_file : Text → PesAsked
+whole_pes_file name = record { name = name; stream = None; range = None }
+
+-- The words `check STL PES` alone, behind the program's name, ask for a check of these two files by
+-- the default options.
+abbrev pub LawOfPlainWords : Type 0
+LawOfPlainWords =
+    (program stl pes : Text) (request : Request)
+    → IsName stl
+    → IsName pes
+    → AsksFor (program ∷ codes "check" ∷ stl ∷ pes ∷ []) request
+    → asked_by request
+    ≡ Asked.Check stl (whole_pes_file pes) default_options English default_layout whole false

@@ -1,0 +1,8 @@
+//! What exit status 0 of `check` tells: from a run of the program to the headline.
+//!
+//! The functions do nothing: their contracts are laws over the definitions of `specs/`.
+#![tactic(auto)]
+
+mod laws;
+
+pub use laws::{law_of_headline, law_of_plain_acceptance, law_of_plain_words};

@@ -1,6 +1,0 @@
--- The law: DelayLemmas.
-use Rattle.sub_laws.proofs.DelayLemmas.{law_of_finished_stretch}
-use Rattle.sub_laws.proofs.laws.law_of_finished_stretch.Goals as goal
-
-pub returns : goal.returns
-returns c = law_of_finished_stretch

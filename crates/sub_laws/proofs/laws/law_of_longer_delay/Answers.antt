@@ -1,6 +1,0 @@
--- The law: GoodWithinLemmas.
-use Rattle.sub_laws.proofs.GoodWithinLemmas.{law_of_longer_delay}
-use Rattle.sub_laws.proofs.laws.law_of_longer_delay.Goals as goal
-
-pub returns : goal.returns
-returns c = law_of_longer_delay

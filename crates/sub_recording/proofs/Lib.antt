@@ -1,4 +1,0 @@
-pub mod JoinedPaceLemmas
-pub mod PacedCheckLaw
-pub mod PacedFrameLemmas
-pub mod ReadPaceLemmas

@@ -1,6 +1,0 @@
--- The law: TrustedOnAirLemmas.
-use Rattle.sub_trusted.proofs.TrustedOnAirLemmas.{law_of_trusted_with_delay}
-use Rattle.sub_trusted.proofs.laws.law_of_trusted_with_delay.Goals as goal
-
-pub returns : goal.returns
-returns c = law_of_trusted_with_delay

@@ -1,0 +1,40 @@
+-- Words are added one after another, for the lines: adds-word, adds-last and adds-words.
+use Rattle.std.proofs.Common.{◌≡◌, ◌∙◌, true, false, Bool, List, [], ◌++◌, ℕ, sym, ap, refl}
+use Rattle.std.proofs.Common.{subst}
+use Rattle.std.proofs.Common.{append-nil}
+use Rattle.std.proofs.lemmas.List.{append_assoc}
+use Rattle.std.proofs.lemmas.List.Folds.{concat-append}
+use Rattle.ts_survey.specs.Lines.{AddsWords}
+use Rattle.ts_survey.specs.Text.{Adds}
+use Rattle.ts_survey.specs.declared.text.Text.{Text}
+
+-- What is whole in the end was whole before.
+was_whole : (a b : Bool) → (a ≡ true → b ≡ true) → b ≡ false → a ≡ false
+was_whole false b stays whole = refl
+was_whole true b stays whole = let e = sym (stays refl) ∙ whole in cc
+
+-- A word, and then others.
+pub adds-word : {old mid new : Text} {word more : List ℕ}
+    → Adds old word mid
+    → Adds mid more new
+    → Adds old (word ++ more) new
+adds-word {old = old} {mid = mid} {new = new} {word = word} {more = more} first then = record {
+  added = λ whole.
+      then.added whole
+      ∙ ap (λ l. l ++ more) (first.added (was_whole mid.is_lost new.is_lost then.stays_lost whole))
+      ∙ append_assoc old.bytes.items word more;
+  stays_lost = λ lost. then.stays_lost (first.stays_lost lost);
+}
+
+-- The last word.
+pub adds-last : {old new : Text} {word : List ℕ} → Adds old word new → Adds old (word ++ []) new
+adds-last {old = old} {new = new} {word = word} last =
+    subst (λ bytes. Adds old bytes new) (sym (append-nil word)) last
+
+-- Words, and then others.
+pub adds-words : {old mid new : Text} (words more : List (List ℕ))
+    → AddsWords old words mid
+    → AddsWords mid more new
+    → AddsWords old (words ++ more) new
+adds-words {old = old} {mid = mid} {new = new} words more first then =
+    subst (λ bytes. Adds old bytes new) (sym (concat-append words more)) (adds-word first then)

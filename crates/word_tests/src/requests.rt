@@ -1,0 +1,477 @@
+//! The requests that words are read as.
+use crate::asserting::{assert_same, assert_same_in};
+use fixtures::options;
+use mpeg_ts::{PacketSize, Pid};
+use std::alloc::Global;
+use std::process::Abort;
+use std::test::Fail;
+use stl_rows::National;
+use sub_plan::Options;
+use sub_request::{FileNames, Flip, Listening, PesPackets, ReceiverKind, Request, TransportStream};
+use sub_words::ParseWords;
+use ttx_pes::PieceRange;
+
+const NORMAL: [&str; 4] = ["subttx", "normal", "a", "b"];
+
+const SCHEDULE: [&str; 4] = ["subttx", "schedule", "a", "b"];
+
+#[test]
+fn reads_the_words_of_files(rt: HostRuntime) {
+    match Request::parse(rt.alloc(), &NORMAL) {
+        Ok(Request::Normal { input, output }) => assert!(rt; input == "a" && output == "b"),
+        _ => panic!(rt; "no normal form"),
+    }
+}
+
+// Words that ask for help: one for it, alone or with a command beside it.
+#[rattlefmt::skip]
+const HELPS: [&[&str]; 9] = [
+    &["subttx", "--help"],
+    &["subttx", "-h"],
+    &["subttx", "help"],
+    &["subttx", "help", "packet"],
+    &["subttx", "packet", "--help"],
+    &["subttx", "check", "-h"],
+    &["subttx", "survey", "-h"], // the last command of the table
+    &["subttx", "-h", "extract"],
+    &["subttx", "--help", "check"],
+];
+
+#[test]
+fn reads_the_words_for_help(rt: HostRuntime) {
+    for words in &HELPS {
+        match Request::parse(rt.alloc(), *words) {
+            Ok(Request::Help) => {}
+            _ => panic!(rt; "no help"),
+        }
+    }
+}
+
+// A file may have the name of a word for help.
+#[test]
+fn reads_the_name_of_a_file_behind_two_dashes(rt: HostRuntime) {
+    match Request::parse(rt.alloc(), &["subttx", "show", "--", "--help"]) {
+        Ok(Request::Show { stl }) => assert!(rt; stl == "--help"),
+        _ => panic!(rt; "no listing"),
+    }
+}
+
+#[test]
+fn reads_help_behind_a_command_as_the_name_of_a_file(rt: HostRuntime) {
+    match Request::parse(rt.alloc(), &["subttx", "show", "help"]) {
+        Ok(Request::Show { stl }) => assert!(rt; stl == "help"),
+        _ => panic!(rt; "no listing"),
+    }
+}
+
+// Asserts that words ask for the schedule of files a and b with these options.
+fn assert_schedules<'a>(
+    rt: &(impl Abort + Alloc<A = Global>),
+    words: &'a [&'a str],
+    want: &Options,
+    is_serial: bool,
+    option: National,
+) {
+    match Request::parse(rt.alloc(), words) {
+        Ok(request) => assert_is_schedule(rt, &request, want, is_serial, option),
+        Err(_) => panic!(rt; "no request"),
+    }
+}
+
+fn assert_is_schedule(
+    rt: &impl Abort,
+    request: &Request<'_>,
+    want: &Options,
+    is_serial: bool,
+    option: National,
+) {
+    match request {
+        Request::Schedule {
+            stl,
+            pes,
+            options,
+            serial,
+            national,
+            ..
+        } => {
+            assert!(rt; *stl == "a" && *pes == "b" && *options == *want);
+            assert!(rt; *serial == is_serial && *national == option);
+            assert_writes(rt, request);
+        }
+        _ => panic!(rt; "no schedule"),
+    }
+}
+
+#[rattlefmt::skip]
+#[test]
+fn reads_the_words_of_a_schedule(rt: HostRuntime) -> Result<(), Fail> {
+    let defaults = options("888", 250, 0)?;
+    assert_schedules(&rt, &SCHEDULE, &defaults, false, National::English);
+    let words = [
+        "subttx", "schedule", "a", "b", "--serial", "--page", "100", "--every", "25", "--origin",
+        "1", "--option", "german",
+    ];
+    let given = options("100", 25, 1)?;
+    assert_schedules(&rt, &words, &given, true, National::German);
+    Ok(())
+}
+
+// Asserts that a request reads a subtitle file a and writes a file b.
+fn assert_writes(rt: &impl Abort, request: &Request<'_>) {
+    match request.files() {
+        FileNames::Write(input, output) => assert!(rt; input.name() == "a" && output.name() == "b"),
+        _ => panic!(rt; "no file is written"),
+    }
+}
+
+// Asserts that words ask for a check of files a and b with these flags.
+fn assert_checks<'a>(
+    rt: &(impl Abort + Alloc<A = Global>),
+    words: &'a [&'a str],
+    is_complete: bool,
+    is_all: bool,
+) {
+    match Request::parse(rt.alloc(), words) {
+        Ok(request) => assert_is_check(rt, &request, is_complete, is_all),
+        Err(_) => panic!(rt; "no request"),
+    }
+}
+
+fn assert_is_check(rt: &impl Abort, request: &Request<'_>, is_complete: bool, is_all: bool) {
+    match request {
+        Request::Check {
+            stl,
+            pes,
+            options,
+            all,
+            ..
+        } => {
+            assert!(rt; *stl == "a" && pes.name == "b");
+            assert!(rt; options.asks_complete() == is_complete && *all == is_all);
+        }
+        _ => panic!(rt; "no check"),
+    }
+}
+
+#[test]
+fn reads_the_flags_of_a_check(rt: HostRuntime) {
+    assert_checks(&rt, &["subttx", "check", "a", "b"], false, false);
+    assert_checks(
+        &rt,
+        &["subttx", "check", "a", "b", "--complete"],
+        true,
+        false,
+    );
+    assert_checks(&rt, &["subttx", "check", "a", "b", "--all"], false, true);
+    let both = ["subttx", "check", "--all", "a", "b", "--complete"];
+    assert_checks(&rt, &both, true, true);
+}
+
+// What of a subtitle file words ask for: whether open subtitles too, and from which frame up to
+// before which.
+fn scope_of<'a>(alloc: Global, words: &'a [&'a str]) -> Option<(bool, u32, u32)> {
+    match Request::parse(alloc, words) {
+        Ok(Request::Check { scope, .. }) => Some((scope.takes_open, scope.from, scope.to)),
+        Ok(Request::Schedule { scope, .. }) => Some((scope.takes_open, scope.from, scope.to)),
+        _ => None,
+    }
+}
+
+#[rattlefmt::skip]
+#[test]
+fn reads_what_of_a_subtitle_file_is_taken(rt: HostRuntime) {
+    let check = ["subttx", "check", "a", "b"];
+    assert_same(&rt, &scope_of(rt.alloc(), &check), &Some((false, 0, 2_160_000)));
+    let from = ["subttx", "check", "a", "b", "--from", "10:00:00:00"];
+    assert_same(&rt, &scope_of(rt.alloc(), &from), &Some((false, 900_000, 2_160_000)));
+    let part = [
+        "subttx", "schedule", "a", "b", "--to", "10:00:00:01", "--open", "--from", "00:00:00:01",
+    ];
+    assert_same(&rt, &scope_of(rt.alloc(), &part), &Some((true, 1, 900_001)));
+}
+
+// How many frames the options of a request allow.
+fn allowed(request: &Request<'_>) -> Option<u64> {
+    match request {
+        Request::Check { options, .. } => Some(options.within()),
+        Request::Listen { listening, .. } => Some(listening.options.within()),
+        _ => None,
+    }
+}
+
+// Asserts how many frames words allow.
+fn assert_allows<'a>(rt: &(impl Abort + Alloc<A = Global>), words: &'a [&'a str], frames: u64) {
+    match Request::parse(rt.alloc(), words) {
+        Ok(request) => assert_same(rt, &allowed(&request), &Some(frames)),
+        Err(_) => panic!(rt; "no request"),
+    }
+}
+
+#[rattlefmt::skip]
+#[test]
+fn reads_the_frames_that_are_allowed(rt: HostRuntime) {
+    assert_allows(&rt, &["subttx", "check", "a", "b"], 0);
+    assert_allows(&rt, &["subttx", "check", "a", "b", "--within", "0"], 0);
+    assert_allows(&rt, &["subttx", "check", "--within=50", "a", "b", "--complete"], 50);
+    assert_allows(&rt, &["subttx", "check", "a", "b", "--within", "0000000007"], 7);
+    let at = "10:00:00:10";
+    assert_allows(&rt, &["subttx", "listen", "a", "--at", at], 0);
+    assert_allows(&rt, &["subttx", "listen", "a", "--within", "1", "--at", at], 1);
+}
+
+// The repeat bound and the pace of a check.
+fn bounds(request: &Request<'_>) -> Option<(u64, Option<u64>)> {
+    match request {
+        Request::Check { options, .. } => Some((options.every(), options.pace())),
+        _ => None,
+    }
+}
+
+// Asserts them, by words.
+fn assert_bounds<'a>(
+    rt: &(impl Abort + Alloc<A = Global>),
+    words: &'a [&'a str],
+    want: (u64, Option<u64>),
+) {
+    match Request::parse(rt.alloc(), words) {
+        Ok(request) => assert_same(rt, &bounds(&request), &Some(want)),
+        Err(_) => panic!(rt; "no request"),
+    }
+}
+
+#[rattlefmt::skip]
+#[test]
+fn reads_a_pace(rt: HostRuntime) {
+    assert_bounds(&rt, &["subttx", "check", "a", "b"], (250, None));
+    assert_bounds(&rt, &["subttx", "check", "a", "b", "--pace", "1"], (250, Some(1)));
+    let day = ["subttx", "check", "--pace=2160000", "a", "b", "--every", "2160000"];
+    assert_bounds(&rt, &day, (2_160_000, Some(2_160_000)));
+}
+
+// Whether repeats may keep the page of a check.
+fn keeps(request: &Request<'_>) -> Option<bool> {
+    match request {
+        Request::Check { options, .. } => Some(options.may_keep()),
+        _ => None,
+    }
+}
+
+// Asserts that, by words.
+fn assert_keeps<'a>(rt: &(impl Abort + Alloc<A = Global>), words: &'a [&'a str], want: bool) {
+    match Request::parse(rt.alloc(), words) {
+        Ok(request) => assert_same(rt, &keeps(&request), &Some(want)),
+        Err(_) => panic!(rt; "no request"),
+    }
+}
+
+#[rattlefmt::skip]
+#[test]
+fn reads_whether_repeats_may_keep(rt: HostRuntime) {
+    assert_keeps(&rt, &["subttx", "check", "a", "b"], false);
+    assert_keeps(&rt, &["subttx", "check", "a", "b", "--complete", "--within", "2"], false);
+    assert_keeps(&rt, &["subttx", "check", "--keeping", "a", "b"], true);
+    let all = ["subttx", "check", "a", "b", "--complete", "--keeping", "--pace", "5", "--all"];
+    assert_keeps(&rt, &all, true);
+}
+
+// Asserts that words ask to listen to file a with this page and PTS of frame 0, up to a frame,
+// with this number of packets passed over, and with these flips and lost packets.
+fn assert_listens<'a>(
+    rt: &(impl Abort + Alloc<A = Global>),
+    words: &'a [&'a str],
+    want: &Options,
+    (at, skip): (u32, u64),
+    flips: &[Flip],
+    lost: &[u64],
+    receiver: ReceiverKind,
+) {
+    match Request::parse(rt.alloc(), words) {
+        Ok(request) => match &request {
+            Request::Listen { pes, listening } => {
+                assert!(rt; pes.name == "a" && listening.receiver == receiver);
+                assert_asks(rt, listening, want, at, skip);
+                assert!(rt; listening.flips.as_slice() == flips);
+                assert!(rt; listening.lost.as_slice() == lost);
+            }
+            _ => panic!(rt; "no listening"),
+        },
+        Err(_) => panic!(rt; "no request"),
+    }
+}
+
+// Asserts what is listened to: the page, the PTS of frame 0, up to which frame, and from which
+// packet on.
+fn assert_asks(rt: &impl Abort, listening: &Listening, want: &Options, at: u32, skip: u64) {
+    assert!(rt; listening.options.page() == want.page());
+    assert!(rt; listening.options.origin() == want.origin());
+    assert!(rt; listening.at == at && listening.skip == skip);
+}
+
+// The flips of `--flip 1:21:1,02:0:8`.
+#[rattlefmt::skip]
+const FLIPS: [Flip; 2] = [
+    Flip { packet: 1, byte: 21, bit: 1 },
+    Flip { packet: 2, byte: 0, bit: 8 },
+];
+
+#[test]
+fn reads_the_words_of_a_receiver_by_default(rt: HostRuntime) -> Result<(), Fail> {
+    let words = ["subttx", "listen", "a", "--at", "10:00:00:10"];
+    let defaults = options("888", 250, 0)?;
+    assert_listens(
+        &rt,
+        &words,
+        &defaults,
+        (900_010, 0),
+        &[],
+        &[],
+        ReceiverKind::Blank,
+    );
+    Ok(())
+}
+
+#[rattlefmt::skip]
+#[test]
+fn reads_the_words_of_a_receiver(rt: HostRuntime) -> Result<(), Fail> {
+    let words = [
+        "subttx", "listen", "a", "--page", "100", "--origin", "1", "--at", "23:59:59:24",
+        "--skip", "07", "--flip", "1:21:1,02:0:8", "--lose", "3,4", "--receiver", "keep",
+    ];
+    let given = options("100", 250, 1)?;
+    assert_listens(&rt, &words, &given, (2_159_999, 7), &FLIPS, &[3, 4], ReceiverKind::Keep);
+    Ok(())
+}
+
+#[test]
+fn names_what_is_read_and_what_is_written(rt: HostRuntime) {
+    let normal = Request::Normal {
+        input: "a",
+        output: "b",
+    };
+    assert_writes(&rt, &normal);
+    match (Request::Show { stl: "a" }).files() {
+        FileNames::ReadStl(input) => assert_same(&rt, &input.name(), &"a"),
+        _ => panic!(rt; "no file is read"),
+    }
+}
+
+// The PES packets that a request reads.
+fn read_by<'r, 'a>(request: &'r Request<'a>) -> Option<&'r PesPackets<'a>> {
+    match request {
+        Request::Packets { pes } => Some(pes),
+        Request::Check { pes, .. } => Some(pes),
+        Request::Listen { pes, .. } => Some(pes),
+        _ => None,
+    }
+}
+
+// Asserts which PES packets of a file b words ask for.
+fn assert_reads<'a>(
+    rt: &(impl Abort + Alloc<A = Global>),
+    words: &'a [&'a str],
+    stream: &Option<TransportStream>,
+    range: &Option<PieceRange>,
+) {
+    let Ok(request) = Request::parse(rt.alloc(), words) else {
+        return panic!(rt; "{words:?} is no request");
+    };
+    match read_by(&request) {
+        Some(pes) => {
+            assert_same(rt, &pes.name, &"b");
+            assert_same_in(rt, &pes.stream, stream, &words);
+            assert_same_in(rt, &pes.range, range, &words);
+        }
+        None => panic!(rt; "{words:?} reads no PES packets"),
+    }
+}
+
+// The transport packets of a PID.
+fn stream_of(number: u16, packet_size: PacketSize) -> Option<TransportStream> {
+    match Pid::new(number) {
+        Some(pid) => Some(TransportStream { pid, packet_size }),
+        None => None,
+    }
+}
+
+#[rattlefmt::skip]
+#[test]
+fn reads_which_pes_packets_are_read(rt: HostRuntime) {
+    let all = None;
+    assert_reads(&rt, &["subttx", "packets", "b"], &None, &all);
+    assert_reads(&rt, &["subttx", "check", "a", "b"], &None, &all);
+    assert_reads(&rt, &["subttx", "listen", "b", "--at", "10:00:00:10"], &None, &all);
+    // from the second on, and from one to another
+    let behind = PieceRange::new(2, None);
+    assert_reads(&rt, &["subttx", "packets", "b", "--pes", "2-"], &None, &behind);
+    let some = PieceRange::new(0, Some(1));
+    assert_reads(&rt, &["subttx", "check", "--pes=0-1", "a", "b"], &None, &some);
+    let one = PieceRange::new(3, Some(3));
+    let at = "10:00:00:10";
+    assert_reads(&rt, &["subttx", "listen", "b", "--pes", "3-3", "--at", at], &None, &one);
+}
+
+#[rattlefmt::skip]
+#[test]
+fn reads_of_which_transport_packets(rt: HostRuntime) {
+    let all = None;
+    let plain = stream_of(257, PacketSize::Plain);
+    assert_reads(&rt, &["subttx", "packets", "b", "--pid", "257"], &plain, &all);
+    assert_reads(&rt, &["subttx", "check", "a", "b", "--pid", "0x101"], &plain, &all);
+    let at = "10:00:00:10";
+    assert_reads(&rt, &["subttx", "listen", "--pid=257", "b", "--at", at], &plain, &all);
+    let given = ["subttx", "packets", "b", "--packet-size", "188", "--pid", "257"];
+    assert_reads(&rt, &given, &plain, &all);
+    let stamped = stream_of(4353, PacketSize::TimeStamped);
+    let given = ["subttx", "check", "a", "b", "--packet-size=192", "--pid", "0x1101"];
+    assert_reads(&rt, &given, &stamped, &all);
+    let corrected = stream_of(8190, PacketSize::ErrorCorrected);
+    let given = [
+        "subttx", "listen", "b", "--pid", "8190", "--packet-size", "204", "--pes", "7-", "--at", at,
+    ];
+    assert_reads(&rt, &given, &corrected, &PieceRange::new(7, None));
+    // The packet size alone has no effect.
+    assert_reads(&rt, &["subttx", "packets", "b", "--packet-size", "192"], &None, &all);
+}
+
+// Asserts that words ask for the PES packets of file a, to be written into file b.
+fn assert_extracts<'a>(
+    rt: &(impl Abort + Alloc<A = Global>),
+    words: &'a [&'a str],
+    want: &Option<TransportStream>,
+) {
+    let Ok(request) = Request::parse(rt.alloc(), words) else {
+        return panic!(rt; "{words:?} is no request");
+    };
+    match &request {
+        Request::Extract {
+            recording,
+            pes,
+            stream,
+        } => {
+            assert!(rt; *recording == "a" && *pes == "b");
+            assert_same(rt, &Some(*stream), want);
+            assert_writes_pes(rt, &request);
+        }
+        _ => panic!(rt; "{words:?} extracts nothing"),
+    }
+}
+
+// Asserts that a request reads a recording a and writes a file b.
+fn assert_writes_pes(rt: &impl Abort, request: &Request<'_>) {
+    match request.files() {
+        FileNames::Extract(input, output) => {
+            assert!(rt; input.name() == "a" && output.name() == "b");
+        }
+        _ => panic!(rt; "no file is written"),
+    }
+}
+
+#[rattlefmt::skip]
+#[test]
+fn reads_the_words_that_extract(rt: HostRuntime) {
+    let plain = stream_of(257, PacketSize::Plain);
+    assert_extracts(&rt, &["subttx", "extract", "a", "b", "--pid", "257"], &plain);
+    let stamped = stream_of(4353, PacketSize::TimeStamped);
+    let given = ["subttx", "extract", "--pid=0x1101", "--packet-size=192", "a", "b"];
+    assert_extracts(&rt, &given, &stamped);
+}
