@@ -20,11 +20,13 @@ from subtitles.calls.result import schema
 from subtitles.core.built import TOP, read
 from subtitles.core.words import INSTALLED, Stop
 from subtitles.qc import options as of_pairs
+from .cited import rows_of_numbers
 from .prefix import COMPLETION, TOOLS
 
 TABLE = os.path.join("docs", "manual", "all-commands.md")
 PROGRAM_PAGE, QC_PAGE = os.path.join("docs", "subttx.1"), os.path.join("docs", "subttx-qc.1")
 SCHEMA = os.path.join("docs", "verdict.schema.json")
+NUMBERS = os.path.join("docs", "ASSURANCE.md")  # the rows of the proof in numbers
 QC_CHAPTER = os.path.join("docs", "manual", "qc.md")
 MADE = re.compile(r'^((?:\.\\"|#|<!--) made: (\w+)(?: -->)?\n)(.*?)'
                   r'^((?:\.\\"|#|<!--) end(?: -->)?\n)', re.M | re.S)
@@ -258,5 +260,8 @@ def made() -> dict[str, str]:
     helps = [help_of(tool) for tool in TOOLS]
     parts = {PROGRAM_PAGE: of_program(usage, table), QC_PAGE: of_qc(helps[TOOLS.index("qc")]),
              QC_CHAPTER: of_chapter(), COMPLETION: completed(usage, table, helps)}
+    numbers = text(NUMBERS)
+    for row, counted in rows_of_numbers(TOP):
+        numbers = numbers.replace(row, counted)
     return {**{name: with_parts(text(name), of) for name, of in parts.items()},
-            SCHEMA: laid_out(schema()) + "\n"}
+            SCHEMA: laid_out(schema()) + "\n", NUMBERS: numbers}

@@ -1,7 +1,7 @@
 #!/bin/bash
 #SBATCH --job-name=subttx
 #SBATCH --output=log/%a.txt
-# A job of an array of Slurm: sbatch judge.sh. Line N of the file `list` is `STL RECORDING`.
-read -r stl recording <<<"$(sed -n "${SLURM_ARRAY_TASK_ID}p" list)"
-subttx-qc "$stl" "$recording" --option auto -o out
-[ $? != 2 ]
+# A job of an array of Slurm: sbatch judge.sh. It judges its line of the file `list`, by the words
+# that --batch takes there and under the name that it has there; no shell evaluates them.
+subttx-qc --batch list --line "$SLURM_ARRAY_TASK_ID" --option auto -o out
+[ $? -le 1 ]  # refused is judged; anything else is tried again

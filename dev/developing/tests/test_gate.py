@@ -1,5 +1,5 @@
 """The gate's script where the toolchain's `rt ci` takes no words, with a stand-in for it; no script
-of this repository evaluates what it was given; and a worker of a queue of jobs."""
+of this repository evaluates what it was given; and the engines of the manual."""
 from __future__ import annotations
 
 import os
@@ -7,8 +7,9 @@ import re
 import shutil
 import subprocess
 
+from subtitles.calls.objects import object_at
 from subtitles.core.built import TOP, read
-from .bench import Case, Done
+from .bench import Case, Done, example_bytes, tool_path
 
 # `rt help` says what `rt ci` takes; `rt ci` notes the words that it got.
 RT = """#!/bin/sh
@@ -19,11 +20,6 @@ esac
 """
 NO_WORDS = "  rt ci                   the merge gate"
 NAMES = "  rt ci NAME..            the same for these crates"
-QC = """#!/bin/sh
-for word; do printf '<%s>' "$word"; done >>'CALLED'
-echo >>'CALLED'
-exit STATUS
-"""
 EVALUATES = re.compile(r"^\s*(?:[^#]*[;&|(]\s*)?(?:eval|exec\s+sh\s+-c)\b")
 
 
@@ -70,41 +66,66 @@ class Gate(Case):
                 self.must(name, not found, found)
 
 
-class Worker(Case):
-    """docs/manual/worker.sh."""
+class Engines(Case):
+    """The engines of the manual, each on a list with what a shell would obey, lines that are wrong,
+    and a name that stands there twice."""
 
-    def work(self, job: bytes, status: int = 0) -> tuple[str, list[str]]:
-        """What qc was called with for a job, and the folder in which the job lies then."""
-        for folder in ("new", "taken", "done", "failed"):
-            os.makedirs(self.path(f"queue/{folder}"), exist_ok=True)
-        called = self.path("called")
-        self.write("called", b"")
-        self.write("queue/new/1", job)
-        qc = self.write_program("qc", QC.replace("CALLED", called).replace("STATUS", str(status)))
-        self.call(["sh", os.path.join(TOP, "docs", "manual", "worker.sh"), "queue", "out"],
-                  env={**os.environ, "QC": qc})
-        lies = [folder for folder in ("new", "taken", "done", "failed")
-                if os.path.exists(self.path(f"queue/{folder}/1"))]
-        return read(called) or "", lies
+    LINES = ["in/one.stl in/one.pes", "'in/a b; touch hit.stl' in/one.pes --page 888",
+             "in/$(touch${IFS}hit).stl in/one.pes", "in/one.stl in/bad.pes",
+             "in/one.stl in/one.pes -p /bin/true", "-one.stl in/one.pes"]
+    WANTED = {"one": "accepted", "a b; touch hit": "accepted", "$(touch${IFS}hit)": "accepted",
+              "one~2": "refused", "line 5": "not judged", "line 6": "not judged"}
 
-    def test_words_are_lines_and_nothing_is_evaluated(self) -> None:
-        """A name may hold a space, `;` and whatever else a shell would obey."""
-        for name, job, want in [
-                ("two files", b"a.stl\na.pes\n", "<a.stl><a.pes><-o><out>\n"),
-                ("no end of the last line", b"a.stl\na.pes", "<a.stl><a.pes><-o><out>\n"),
-                ("options", b"a.stl\na.ts\n--pid\nauto\n",
-                 "<a.stl><a.ts><--pid><auto><-o><out>\n"),
-                ("a space and a semicolon", b"a b; touch hit.stl\na.pes\n",
-                 "<a b; touch hit.stl><a.pes><-o><out>\n"),
-                ("what a shell obeys", b"$(touch hit) `touch hit` '*.stl\na.pes\n",
-                 "<$(touch hit) `touch hit` '*.stl><a.pes><-o><out>\n")]:
-            called, lies = self.work(job)
-            self.must(name, called == want and lies == ["done"], (called, lies))
-        self.must("nothing was run", not os.path.exists(self.path("hit")))
+    def setUp(self) -> None:
+        super().setUp()
+        for folder in ("in", "bin", "home"):
+            os.mkdir(self.path(folder))
+        for name in ("one.stl", "a b; touch hit.stl", "$(touch${IFS}hit).stl"):
+            self.write(f"in/{name}", example_bytes("hello.stl"))
+        for name, data in (("one", "hello"), ("bad", "no-erase")):
+            self.write(f"in/{name}.pes", example_bytes(f"{data}.pes"))
+        self.write("list", "".join(f"{line}\n" for line in self.LINES).encode())
+        self.write_program("bin/subttx-qc", f'#!/bin/sh\nexec {tool_path("qc")} "$@" -p '
+                                            f"'{self.bench.program}'\n")
+        self.env = {**os.environ, "PATH": f"{self.path('bin')}:{os.environ['PATH']}"}
 
-    def test_a_job_lies_where_its_status_says(self) -> None:
-        """Another status than 0, 1 and 2 is no end of qc: the job is there for another worker."""
-        for status, folder in [(0, "done"), (1, "done"), (2, "failed"), (3, "new"), (137, "new")]:
-            lies = self.work(b"a.stl\na.pes\n", status)[1]
-            self.must(str(status), lies == [folder], lies)
-            os.remove(self.path(f"queue/{folder}/1"))
+    def is_judged(self, name: str) -> None:
+        """Tests that each line has its result, and nothing was run."""
+        os.makedirs(self.path("out"), exist_ok=True)
+        found = {path.removesuffix(".json"): (object_at(self.path(f"out/{path}")) or {})["verdict"]
+                 for path in os.listdir(self.path("out")) if path.endswith(".json")}
+        self.must(name, found == self.WANTED and not os.path.exists(self.path("hit")) and
+                  "index.html" not in os.listdir(self.path("out")), found)
+
+    def test_slurm(self) -> None:
+        """The script as Slurm calls it; a job that did not judge failed."""
+        script = os.path.join(TOP, "docs", "manual", "judge.sh")
+        ended = [self.call(["bash", script], env={**self.env, "SLURM_ARRAY_TASK_ID": f"{number}"})
+                 for number in range(1, 8)]
+        self.must("statuses", [done.status for done in ended] == [0, 0, 0, 0, 1, 1, 1], ended)
+        self.is_judged("results")
+        if not shutil.which("sbatch") or self.call(["sinfo"]).status:
+            self.skipTest("an array of Slurm, since no node of it is here")
+        shutil.rmtree(self.path("out"))
+        os.mkdir(self.path("log"))
+        self.call(["sbatch", "--wait", "--array=1-6", script], env=self.env)
+        self.is_judged("an array")
+
+    def test_parallel(self) -> None:
+        """The manual's command: what was not judged is tried again, and nothing else."""
+        if not shutil.which("parallel"):
+            self.skipTest("GNU parallel, which is not here")
+        manual = read(os.path.join(TOP, "docs", "manual", "many-pairs.md")) or ""
+        command = " ".join(re.findall(r"`(seq [^`]*)`", manual)[0].split())
+        self.write("hosts", b":\n")
+        command = command.replace("parallel", "parallel --sshloginfile hosts --workdir .")
+        env = {**self.env, "PARALLEL_HOME": self.path("home")}
+        done = self.call(["bash", "-c", command], env=env)
+        self.is_judged(f"results: {done}")
+        times = {name: os.stat(self.path(f"out/{name}.json")).st_mtime_ns for name in self.WANTED}
+        self.write("list", "".join(f"{line}\n" for line in [
+            *self.LINES[:4], self.LINES[0], self.LINES[5]]).encode())
+        self.call(["bash", "-c", command], env=env)
+        self.must("again", os.path.exists(self.path("out/one~3.json")) and times["one"] == os.stat(
+            self.path("out/one.json")).st_mtime_ns and times["line 6"] != os.stat(
+                self.path("out/line 6.json")).st_mtime_ns)

@@ -8,53 +8,19 @@ import json
 import os
 import signal
 import socket
-import sys
 import time
-from typing import Any, Callable
+from typing import Any
 from unittest import mock
 
 from subtitles.calls import batch
-from subtitles.calls.batch import Calls, all_rows, kept_rows, progress_line, words_of
-from subtitles.calls.forked import Forked, ended_of, qc, signals_held
-from subtitles.calls.members import ASKED
-from subtitles.calls.main import parser_of
-from subtitles.calls.objects import Row, found, object_at, row_of, unjudged
+from subtitles.calls.batch import Calls, all_rows, kept_rows
+from subtitles.calls.forked import qc
+from subtitles.calls.objects import Row, row_of
 from subtitles.calls.pairs import Item, no_file, pairs_at
-from subtitles.calls.single import SIGNALS
 from subtitles.core.words import Stop
-from subtitles.qc.asked import asked_of
-from subtitles.qc.made_with import program_at
-from subtitles.qc.typed import Typed
-from .bench import SECONDS, Case, alone
-from .parts import asked_for
+from .bench import Case
 from .results import result
 from .test_channel_tables import defaults
-
-# A call that writes the object of its pair, with the verdict that its subtitle file names, and ends
-# with its status.
-CALL = """#!/bin/sh
-words="$*" out= object= files="$(readlink /proc/$$/fd/0) $(readlink /proc/$$/fd/1)"
-while [ $# -gt 0 ]; do
-    case $1 in
-        --name=*) name=${1#*=} ;; --json) object=$2 ;; -o) out=$2 ;; --) stl=$2 ;;
-    esac
-    shift
-done
-kind=$(cat "$stl")
-[ "$kind" = waits ] && exec sleep 9
-[ "$kind" = changes ] && echo more >>"$stl"
-case $kind in
-    accepted | changes | other | silent) status=0 ;; refused) status=1 ;; *) status=2 ;;
-esac
-case $kind in other | changes) kind=accepted ends=9 ;; *) ends=$status ;; esac
-echo "qc: one" >&2; echo "qc: told last" >&2
-session=$(cut -d ' ' -f 6 /proc/$$/stat)
-[ "$kind" = silent ] ||
-    sed "s|WORDS|$words|; s|OWN|$((session == $$))|; s|FILES|$files|" "${0%/*}/$kind" \
-        >"${object:-$out/$name.json}"
-exit $ends
-"""
-TOLD = ["WORDS", "OWN", "FILES"]  # in whose place the call has how it was called
 
 
 def row(name: str, verdict: str, line: str = "", hint: str = "", faults: int = 0) -> Row:
@@ -125,227 +91,6 @@ class Lists(Case):
                       ("h\x1b.stl", "h\x1b.m2ts"))])
 
 
-class Judged(Case):
-    """Calls for pairs, side by side."""
-
-    is_alone = True  # its calls are forked from what has no other thread
-
-    def setUp(self) -> None:
-        super().setUp()
-        path = self.write_program("call", CALL)
-        for verdict in ("accepted", "refused", "not judged"):
-            self.write(verdict, json.dumps(result(verdict, notes=TOLD)).encode())
-        self.typed = Typed("tools/qc", self.bench.program)
-
-        def execute(words: list[str]) -> int:
-            for file in os.listdir("/proc/self/fd"):  # that it goes on is known by one of them
-                with contextlib.suppress(OSError):
-                    os.set_inheritable(int(file), True)
-            os.execv(path, [path, *words])
-
-        asking = mock.patch.object(batch, "qc", execute)
-        asking.start()
-        self.addCleanup(asking.stop)
-        os.mkdir(self.path("temporary"))
-        os.mkdir(self.path("out"))
-        self.write("one.ts", b"1")
-
-    def item(self, kind: str, name: str = "one", *words: str) -> Item:
-        """A pair whose call ends so."""
-        stl = self.write(f"{name}.stl", kind.encode())
-        return Item(name, asked_for(stl, self.path("one.ts"), *words), None)
-
-    def judged(self, calls: Calls, item: Item) -> Row:
-        """The row of a pair that is judged alone."""
-        return calls.begin(item) or next(calls.rows(SECONDS))
-
-    def test_words(self) -> None:
-        """Of the call for a pair: where its object goes, and what is asked."""
-        for out, is_kept in ((None, False), (self.path("out"), False), (self.path("out"), True)):
-            calls = Calls(self.typed, self.path("temporary"), out, is_kept)
-            item = self.item("refused", "one", "--every", "50")._replace(name="pair")
-            path = os.path.join(out or self.path("temporary"), "pair.json")
-            self.must("row", self.judged(calls, item).name == "pair" and calls.path(item) == path)
-            have = object_at(path)
-            kept = f"-o {out}{' --keep' * is_kept}" if out else f"--json {path}"
-            called, own, files = have["notes"] if have else TOLD
-            self.must("words", called.startswith(
-                f"--name=pair --claimed {kept} -p {self.typed.program_path} --every 50 ") and
-                called.endswith(f" -- {self.path('one.stl')} {self.path('one.ts')}")
-                and own == "1" and files.split() == [os.devnull, os.devnull]
-                and not calls.running, have)
-
-    def test_all_words(self) -> None:
-        """What is asked of a pair is asked of its call, also where it is 0."""
-        for words in ("", "--origin 0 --pid 0", "--start tcp", "--origin 5 --pid 257 --within 3",
-                      "--strict --allow-lost --no-complete --severity file --breaks 2 --pes 3-9",
-                      "--page 1A0 --every 7 --option german"):
-            asked = asked_for("a.stl", "a.ts", *words.split())
-            again = asked_of(parser_of("").parse_args(words_of(asked)))
-            self.must(words, again == asked, again)
-
-    def test_one(self) -> None:
-        """The row by its object; where that is another call's, or files changed, none, and nothing
-        is left of an earlier call."""
-        calls = Calls(self.typed, self.path("temporary"), self.path("out"), False)
-        for kind, verdict, line in (
-                ("accepted", "accepted", "accepted 72 Content"),
-                ("refused", "refused", "refused 72 Content"),
-                ("not judged", "not judged", "why"), ("silent", "not judged", "told last"),
-                ("other", "not judged", "told last"),
-                ("changes", "not judged", "a file was written to while it was judged")):
-            item = self.item(kind)
-            self.write("out/one.json", json.dumps(result("accepted")).encode())
-            found_row = self.judged(calls, item)
-            self.must(kind, (found_row.name, found_row.verdict, found_row.line) == (
-                "one", verdict, line), found_row)
-            have = object_at(calls.path(item))
-            self.must("its object", have is not None and have["verdict"] == verdict, have)
-        none = self.judged(calls, Item("two", None, "no pair"))
-        self.must("no pair", (none.name, none.verdict, none.line) == (
-            "two", "not judged", "no pair") and object_at(self.path("out/two.json")) == unjudged(
-                "two", "no pair"))
-        with mock.patch("os.fork", side_effect=BlockingIOError(11, "Try again")):
-            gone = self.judged(calls, self.item("accepted"))
-        self.must("no call", gone.line == "no process was begun: Try again", gone)
-        for name in ("one", "two"):
-            calls.begin(self.item("waits", name))
-        calls.stop()
-        self.must("all are ended", not calls.running)
-        calls.leave(Item("three", None, "x"), "stopped")
-        self.must("nothing is written then", not os.path.exists(self.path("out/three.json")))
-
-    def test_one_that_dies(self) -> None:
-        """It costs its own pair alone, however it ends; what it told last is its reason."""
-        kinds: list[tuple[str, Callable[[], object], str]] = [
-            ("killed", lambda: os.kill(os.getpid(), signal.SIGKILL), "it did not end by itself"),
-            ("an error", lambda: 1 // 0, "it did not end by itself"),
-            ("no memory", lambda: os.abort(), "it did not end by itself"),
-            ("no words", lambda: qc(["--none"]), "--none"),
-            ("a signal", lambda: signal.raise_signal(signal.SIGTERM), "it did not end by itself")]
-        for name, does, reason in kinds:
-            calls = Calls(self.typed, self.path("temporary"), self.path("out"), False)
-            with mock.patch.object(batch, "qc", lambda words: does()):
-                calls.begin(self.item("accepted", "dies"))
-            calls.begin(self.item("accepted", "other"))
-            rows: dict[str, Row] = {}
-            while calls.running:
-                rows.update((one.name, one) for one in calls.rows(SECONDS))
-            self.must(name, [rows[one].verdict for one in ("dies", "other")] == [
-                "not judged", "accepted"] and reason in rows["dies"].line, rows)
-
-    def test_what_a_call_has(self) -> None:
-        """Its own session, nothing to read, nobody who reads what it prints, and no file and lock
-        of who called it; signals end it as ever, though they are held when it begins."""
-        kept = open(self.write("kept", b""), "rb")
-        self.addCleanup(kept.close)
-
-        def look() -> int:
-            files = [os.path.realpath(f"/proc/self/fd/{file}") for file in range(2)]
-            told = [files == [os.devnull] * 2, os.getsid(0) == os.getpid(),
-                    not os.path.exists(f"/proc/self/fd/{kept.fileno()}"),
-                    not signal.pthread_sigmask(signal.SIG_BLOCK, []),
-                    all(signal.getsignal(one) == signal.default_int_handler for one in SIGNALS)]
-            print(told, file=sys.stderr)
-            return 7
-
-        with signals_held():
-            call = Forked(look)
-        self.must("all", call.end() == (7, [str([True] * 5)]))
-
-    def test_all(self) -> None:
-        """Each once, what is kept not again; the words of each are its own."""
-        calls = Calls(self.typed, self.path("temporary"), self.path("out"), False)
-        items = [self.item(kind, f"name{at}", *(["--strict"] if at == 1 else []))
-                 for at, kind in enumerate(("accepted", "refused", "accepted", "not judged"))]
-        kept = {"name2": row("name2", "waived", "kept")}
-        rows = all_rows(calls, items, kept, 2)
-        self.must("verdicts", {name: one.verdict for name, one in rows.items()} == {
-            "name0": "accepted", "name1": "refused", "name2": "waived", "name3": "not judged"},
-            rows)
-        self.must("strict", ["--strict" in (object_at(calls.path(one)) or {})["notes"][0]
-                             for one in items[:2]] == [False, True])
-        self.must("not called", not os.path.exists(calls.path(items[2])))
-
-    def test_stopped(self) -> None:
-        """A signal ends the calls that run, and no other is begun: what was judged is kept. What
-        else ends them is told."""
-        kinds = ("accepted", "waits", "waits", "waits")
-        for reason in (KeyboardInterrupt(), ValueError("odd")):
-            calls = Calls(self.typed, self.path("temporary"), self.path("out"), False)
-            items = [self.item(kind, f"name{at}") for at, kind in enumerate(kinds)]
-            lines: list[str] = []
-
-            def show(progress: object, line: str) -> None:
-                lines.append(line)
-                if line.startswith("1 of 4 pairs: 1 accepted"):
-                    raise reason
-
-            with mock.patch("subtitles.qc.progress.Progress.show", show), \
-                    mock.patch.object(batch, "ignore_signals") as ignored:
-                if isinstance(reason, KeyboardInterrupt):
-                    rows = all_rows(calls, items, {}, 2)
-                    self.must("rows", list(rows) == ["name0"], rows)
-                else:
-                    self.assertRaises(ValueError, all_rows, calls, items, {}, 2)
-            self.must("ended", calls.is_stopped and not calls.running and lines and
-                      ignored.called == isinstance(reason, KeyboardInterrupt))
-            self.must("objects", os.listdir(self.path("out")) == ["name0.json"])
-
-    def test_stopped_when_others_are_over(self) -> None:
-        """What was judged by then counts, though nobody had looked at it yet."""
-        calls = Calls(self.typed, self.path("temporary"), self.path("out"), False)
-        items = [self.item("accepted", f"name{at}") for at in range(3)]
-
-        def stopped(*_: object) -> None:
-            while not all(os.path.exists(calls.path(item)) for item in items) or \
-                    len(ended_of(calls.running, SECONDS)) < len(calls.running):
-                time.sleep(0.01)
-            raise KeyboardInterrupt
-
-        with mock.patch("subtitles.qc.progress.Progress.show", stopped), \
-                mock.patch.object(batch, "ignore_signals"):
-            rows = all_rows(calls, items, {}, 3)
-        self.must("all", sorted(rows) == ["name0", "name1", "name2"], rows)
-
-    def test_kept(self) -> None:
-        """What an earlier call has judged as it would be judged now; not what it did not judge, and
-        no object of another program, or that is none."""
-        calls = Calls(self.typed, self.path("temporary"), self.path("out"), False)
-        items = [self.item("accepted", name) for name in (
-            "one", "two", "three", "four", "six", "seven", "eight")]
-        items.append(Item("five", None, "no pair"))
-        program = program_at(self.typed.program_path)
-        mores: list[dict[str, Any]] = [
-            {}, {}, {"program": {**program._asdict(), "sha256": "1" * 64}}, {}, {"format": 2},
-            {"found": None}, {"asked": None}]
-        verdicts = ("refused", "not judged", "accepted", "waived", *["accepted"] * 3)
-        for item, verdict, more in zip(items, verdicts, mores):
-            assert item.asked
-            have = {**result(verdict), "asked": ASKED.made(item.asked), "found": found(item.asked),
-                    "program": program._asdict(), **more}
-            self.write(f"out/{item.name}.json", json.dumps(have).encode())
-        self.write("out/five.json", json.dumps(result()).encode())
-        for text in (b"", b"{", b"[]"):
-            self.write("out/eight.json", text)
-            rows = kept_rows(calls, items)
-            self.must("kept", {name: one.verdict for name, one in rows.items()} ==
-                      {"one": "refused", "four": "waived"}, rows)
-
-    @alone
-    def test_progress(self) -> None:
-        """How many of which verdict, and how long the others will take, by those of this call."""
-        rows = {name: row(name, verdict) for name, verdict in (
-            ("a", "accepted"), ("b", "refused"), ("c", "lost"), ("d", "not judged"))}
-        self.must("none of this call", progress_line(rows, 9, 4, 0.0) ==
-                  "4 of 9 pairs: 1 accepted, 2 refused, 1 not judged")
-        rows["e"] = row("e", "waived")
-        with mock.patch.object(time, "monotonic", return_value=110.0):
-            said = progress_line(rows, 9, 3, 100.0)
-        self.must("left", said == "5 of 9 pairs: 1 accepted, 1 waived, 2 refused, 1 not judged; "
-                  "20 seconds left", said)
-
-
 class Batches(Case):
     """A whole call for many pairs, in which a test stands for the judging."""
 
@@ -359,7 +104,7 @@ class Batches(Case):
         words = argparse.Namespace(**{**vars(defaults()), "batch": self.write("list", "".join(
             f"{self.path(name)}.stl {self.path('one.ts')}\n" for name in ("one", "two", "three")
         ).encode()), "out": None, "program": self.bench.program, "is_kept": False, "jobs": None,
-            "is_resumed": False, "json": None, "csv": None, "junit": None, **more})
+            "is_resumed": False, "line": None, "json": None, "csv": None, "junit": None, **more})
 
         def all_rows(calls: Calls, items: list[Item], kept: dict[str, Row], jobs: int) \
                 -> dict[str, Row]:

@@ -11,7 +11,7 @@ from subtitles.calls import batch, collecting, main, single, watching
 from subtitles.calls.channel import channel, recorder
 from subtitles.calls.main import file_in, name_in, parser_of
 from subtitles.calls.modes import (
-    TAKEN_BY, jobs_word, minutes_word, mode_of, refuse_options, seconds_word)
+    TAKEN_BY, jobs_word, line_word, minutes_word, mode_of, refuse_options, seconds_word)
 from subtitles.calls.channel.planned import Planned
 from subtitles.core.built import TOP
 from subtitles.core.words import Stop
@@ -30,7 +30,7 @@ CALLS: dict[Mode, list[str]] = {
 VALUES = {"--page": "801", "--every": "25", "--within": "1", "--option": "german", "--origin": "7",
           "--start": "tcp", "--breaks": "1", "--pes": "2-9", "--pid": "0x101", "--severity": "file",
           "-o": "out", "--json": "x", "--csv": "x", "--junit": "x", "--stall": "5", "-p": "none",
-          "--jobs": "2", "--settled": "1", "--patience": "9", "--from": "00:00:01:00",
+          "--line": "2", "--jobs": "2", "--settled": "1", "--patience": "9", "--from": "00:00:01:00",
           "--to": "00:00:02:00", "--layout": "fit", "--pace": "9", "--spool": "feed",
           "--on-result": "true"}
 MANUAL = os.path.join(TOP, "docs", "manual", "qc.md")
@@ -197,6 +197,7 @@ class Words(unittest.TestCase):
 
     def test_numbers(self) -> None:
         for read, good, bad in (
+                (line_word, ("1", "9999999"), ("0", "10000000", "-1", "", "x", "\u00b2")),
                 (jobs_word, ("1", "9999"), ("0", "10000", "-1", "", "x", "\u00b2")),
                 (seconds_word, ("0", "99999"), ("100000", "-1", "", "1.5", "\u0663")),
                 (minutes_word, ("1", "1440"), ("0", "1441", "", "10000", "00001", "-1"))):

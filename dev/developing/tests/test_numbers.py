@@ -82,7 +82,7 @@ OWN: dict[str, dict[str, object]] = {
     "reading.order": {"PAUSE": 2, "FEW": 20}, "reading.timeline": {"LEAST": 250},
     "reading.timing": {"MOST_LATE": 60}}
 NONE = ("batch", "channel", "collect", "csv", "found_layout", "here", "json", "junit", "jobs",
-        "name", "on_result", "origin", "out", "pes", "pid", "program", "recording", "severity",
+        "line", "name", "on_result", "origin", "out", "pes", "pid", "program", "recording", "severity",
         "spool", "start", "stl", "watch")
 FALSE = ("is_claimed", "is_cut", "is_fitted", "is_kept", "is_loss_allowed", "is_resumed",
          "is_strict")

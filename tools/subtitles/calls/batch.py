@@ -21,7 +21,7 @@ from .claim import InUse, claimed, claimed_for_batch, clear, refuse_files_of
 from .forked import Forked, ended_of, qc, signals_held
 from .objects import (
     ENDING, Row, found, is_current, left_by_call, object_at, put, row_of, unjudged)
-from .pairs import Item, pairs_at
+from .pairs import Item, at_line, pairs_at
 from .single import ignore_signals
 
 WAIT = 0.2  # seconds between two looks at what is done
@@ -154,10 +154,12 @@ def judge(words: argparse.Namespace, called: str) -> int:
     if words.is_resumed and words.out is None:
         raise Stop("--resume goes with -o, where the results of an earlier call are")
     items = pairs_at(words.batch, words)
-    inputs = inputs_of(items, words.batch)
-    collecting.refuse_names(words, inputs, words.out)
+    inputs, of_all = inputs_of(items, words.batch), words.out
+    if words.line is not None:  # others judge the other lines: nothing is written over all of them
+        items, of_all = [at_line(items, words.batch, words.line)], None
+    collecting.refuse_names(words, inputs, of_all)
     with temporary_folder("subttx-qc-") as folder, \
-            claimed_for_batch(words.out):
+            claimed_for_batch(of_all):
         calls = Calls(typed, folder, words.out, words.is_kept)
         calls.inputs = inputs
         kept = kept_rows(calls, items) if words.is_resumed else {}
@@ -166,7 +168,7 @@ def judge(words: argparse.Namespace, called: str) -> int:
         rows = [known[item.name] for item in done]
         status = collecting.end(words, rows, [
             calls.unwritten.get(item.name) or calls.path(item) for item in done],
-            calls.is_stopped, words.out)
+            calls.is_stopped, of_all)
         if calls.is_stopped:
             tell(f"stopped when {len(done)} of {counted(len(items), 'pair')} were judged"
                  + ("; --resume judges the others" if words.out is not None else ""))

@@ -24,6 +24,7 @@ def number_word(what: str, least: int, most: int) -> Callable[[str], int]:
     return read
 
 
+line_word = number_word("a line", 1, 9_999_999)
 jobs_word = number_word("pairs at a time", 1, 9_999)
 seconds_word = number_word("seconds", 0, 99_999)
 minutes_word = number_word("minutes", 1, 1_440)  # a day at most
@@ -46,6 +47,8 @@ OF_CALL = (
     Option("-p", "PROGRAM", "the program that is asked", CALLS, "./subttx", field="program"),
     Option("--resume", None, "keep what an earlier call has judged in the same way",
            (BATCH, CHANNEL), field="is_resumed", default=False),
+    Option("--line", "N", "judge line N of LIST alone, as an engine's job does", (BATCH,),
+           field="line", read=line_word),
     Option("--jobs", "N", "pairs at a time", (BATCH, WATCH), "as many as processors", field="jobs",
            read=jobs_word),
     Option("--settled", "S", "seconds after which a file that does not change is whole", (WATCH,),

@@ -25,6 +25,7 @@ class Item(NamedTuple):
     asked: Asked | None
     reason: str | None
     files: Sequence[str | None] = ()
+    line: int = 0  # of a list
 
 
 def pairs_at(path: str, defaults: argparse.Namespace) -> list[Item]:
@@ -113,7 +114,16 @@ def of_list(path: str, defaults: argparse.Namespace) -> list[Item]:
             asked = asked_of_line(line.words, defaults)
         except (Stop, ValueError) as reason:
             items.append(Item(names.line(line.number), None,
-                              f"{path}, line {line.number}: {reason}"))
+                              f"{path}, line {line.number}: {reason}", line=line.number))
             continue
-        items.append(with_files(Item(names.pair(asked.stl), asked, None)))
+        items.append(with_files(Item(names.pair(asked.stl), asked, None, line=line.number)))
     return items
+
+
+def at_line(items: Sequence[Item], path: str, line: int) -> Item:
+    """The pair of a line of a list, or why it is none."""
+    for item in items:
+        if item.line == line:
+            return item
+    raise Stop(f"{path} is no list: --line goes with a LIST" if not items[0].line else
+               f"{path}, line {line}: there is no pair")

@@ -98,7 +98,8 @@ def spans_of(row: bytes, number: int, option: int, is_boxed_page: bool) -> list[
     return spans
 
 
-def grouped(spans: Iterable[CellStyle], key: Callable[[CellStyle], Key]) -> Iterator[tuple[Key, int, str]]:
+def grouped(spans: Iterable[CellStyle], key: Callable[[CellStyle], Key]) \
+        -> Iterator[tuple[Key, int, str]]:
     """Neighbours with the same key, as the first column and the letters."""
     column = 0
     for value, several in itertools.groupby(spans, key):

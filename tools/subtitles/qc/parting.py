@@ -29,7 +29,7 @@ def parted(found: Sequence[Found], whole: Found, subtitles: Sequence[Subtitle],
 
 
 def refuse_others(parts: Sequence[Found], subtitles: Sequence[Subtitle], stl: str) -> None:
-    """`Unclear` where a subtitle of the file `stl` is in none of several parts, or parts have others
+    """`Unclear` where a subtitle of the file `stl` is in none of several parts, or they have others
     than it has, or in another order."""
     own = [one for part in parts for one in subtitles if part.between.has(one.begin)]
     if any(part.stage for part in parts):
