@@ -155,10 +155,9 @@ def run_all(tests: Several, at_once: int, is_verbose: bool) -> Counts:
 
     units = list(in_units(tests))
     done = []
-    for one in units:
-        if is_alone(one):
-            with signals_kept():
-                done.append(run(one))
+    for unit in filter(is_alone, units):
+        with signals_kept():
+            done.append(run(unit))
     with ThreadPoolExecutor(at_once) as pool:
         done += pool.map(run, [one for one in units if not is_alone(one)])
     whole = Counts(is_verbose)
