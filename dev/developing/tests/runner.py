@@ -1,14 +1,19 @@
 """Finds the tests of this folder and runs them side by side."""
 from __future__ import annotations
 
+import ast
+import functools
+import contextlib
 import itertools
 import os
+import signal
 import sys
 import unittest
 from concurrent.futures import ThreadPoolExecutor
 from types import TracebackType
 from typing import Iterator, Sequence, Tuple, Type, Union
 
+from subtitles.calls.single import SIGNALS
 from subtitles.core.words import Stop
 from .. import DEV
 
@@ -73,13 +78,38 @@ def flattened(tests: unittest.TestSuite) -> Iterator[unittest.TestCase]:
 
 
 def found(names: Sequence[str]) -> list[unittest.TestCase]:
-    """All tests, or those in whose names one of some words is; each word has to be in one."""
+    """All tests, or those that are of one of some words: in whose names it is, or which call the
+    module of the tools that it names; each word has to be of one."""
     everything = list(flattened(unittest.TestLoader().discover(FOLDER, PATTERN, DEV)))
     for name in names:
-        if not any(name in one.id() for one in everything):
-            raise Stop(f"no test is named {name}")
-    return [one for one in everything
-            if not names or any(name in one.id() for name in names)]
+        if not any(is_of(one, name) for one in everything):
+            raise Stop(f"no test is named {name}, and none calls a module of that name")
+    return [one for one in everything if not names or any(is_of(one, name) for name in names)]
+
+
+def is_of(test: unittest.TestCase, name: str) -> bool:
+    """Whether a test is of a word."""
+    return name in test.id() or module_of(name) in called_by(type(test).__module__)
+
+
+def module_of(name: str) -> str:
+    """The module of the tools that a path or a dotted name is of, as `qc/pace.py` or `qc.pace`."""
+    dotted = name.removesuffix(".py").replace("/", ".").removeprefix("tools.")
+    return "subtitles." + dotted.removeprefix("subtitles.")
+
+
+@functools.lru_cache(None)
+def called_by(module: str) -> frozenset[str]:
+    """The modules of the tools of which the module of a test takes something by itself."""
+    path = getattr(sys.modules.get(module), "__file__", None)
+    if path is None:
+        return frozenset()
+    with open(path, encoding="utf-8") as file:
+        tree = ast.parse(file.read())
+    taken = [(one.module or "", alias.name) for one in ast.walk(tree)
+             if isinstance(one, ast.ImportFrom) for alias in one.names]
+    return frozenset(name for base, alias in taken for name in (base, f"{base}.{alias}")
+                     if base.startswith("subtitles"))
 
 
 def has_fixture(kind: Type[unittest.TestCase]) -> bool:
@@ -104,6 +134,17 @@ def in_units(tests: Several) -> Iterator[Several]:
             yield from ([one] for one in several)
 
 
+@contextlib.contextmanager
+def signals_kept() -> Iterator[None]:
+    """A call in this process takes no signal any more in its end: the next test does again."""
+    before = {one: signal.getsignal(one) for one in SIGNALS}
+    try:
+        yield
+    finally:
+        for one, taken in before.items():
+            signal.signal(one, taken)
+
+
 def run_all(tests: Several, at_once: int, is_verbose: bool) -> Counts:
     """Runs tests, some at once; before them those that run alone."""
 
@@ -113,7 +154,10 @@ def run_all(tests: Several, at_once: int, is_verbose: bool) -> Counts:
         return counts
 
     units = list(in_units(tests))
-    done = [run(one) for one in units if is_alone(one)]
+    done = []
+    for unit in filter(is_alone, units):
+        with signals_kept():
+            done.append(run(unit))
     with ThreadPoolExecutor(at_once) as pool:
         done += pool.map(run, [one for one in units if not is_alone(one)])
     whole = Counts(is_verbose)

@@ -30,7 +30,8 @@ WATCHED = 3.0  # seconds for which a folder is watched
 OLD = '{"format": 4, "verdict": "not judged", "status": 2, "name": "old", "reason": "old"}\n'
 STEMS = ["film", "film.1", "film.2", "index", ".film", "film~2", "a\udce9", "a%E9", "a\\xe9",
          "a\x1b[31m", "two\nlines", "line 2", "-film", "=film", "x" * 240, "Film", "<script>", "50%"]
-KINDS = ["single", "single", "single", "folder", "folder", "list", "list", "collect", "watch"]
+KINDS = ["single", "single", "single", "folder", "folder", "list", "list", "collect", "watch",
+         "channel"]
 VERDICTS = re.compile(r"accepted|waived|refused|not accepted|\d+ faults|\d+ subtitles?, nothing")
 JUDGED = re.compile(r"(\d+) pairs?: (.*)")
 Entry = tuple[int, bytes]  # the kind of a file, and its bytes, or where a link leads to
@@ -73,7 +74,9 @@ class World:
     def __init__(self, number: int, top: str, program: str) -> None:
         self.chance, self.top, self.program = random.Random(number), top, program
         self.kind = self.chance.choice(KINDS)
-        self.out = self.chance.choice(["out", "out", "in", "."]) if self.kind != "watch" else "out"
+        self.out = self.chance.choice(["out", "out", "in", "."])
+        if self.kind in ("watch", "channel"):
+            self.out = "out"
         for folder in ("in", "out", "outside"):
             os.mkdir(self.path(folder))
         self.write("outside/secret", b"theirs\n")
@@ -189,7 +192,7 @@ class World:
 
         def does() -> int:
             os.chdir(self.top)
-            sys.stdout = open(printed.name, "w", encoding="utf-8", errors="surrogateescape")
+            os.dup2(os.open(printed.name, os.O_WRONLY), 1)
             status = qc(self.words)
             sys.stdout.flush()
             return status
@@ -205,10 +208,11 @@ class World:
         return Done(status, said, told)
 
     def may_wait(self) -> bool:
-        """Whether it may wait until a signal ends it: for pairs, or for who writes to a pipe."""
-        return self.kind in ("watch", "channel") or self.kind == "single" and any(
+        """Whether it may wait until a signal ends it: for pairs, or for who writes to a pipe, or
+        reads one, that it was given."""
+        return self.kind in ("watch", "channel") or any(
             os.path.exists(path) and stat.S_ISFIFO(os.stat(path).st_mode)
-            for path in map(self.path, self.words[-2:]))
+            for path in map(self.path, self.words))
 
     # ---- what holds
 
@@ -250,7 +254,11 @@ class World:
 
     def is_output(self, name: str) -> bool:
         """Whether a file may be new: in the folder of outputs."""
-        return os.path.dirname(name) == ("" if self.out == "." else self.out)
+        return os.path.dirname(name) == ("" if self.out == "." else self.out) or self.is_kept(name)
+
+    def is_kept(self, name: str) -> bool:
+        """Whether a file is of what a channel keeps of its feed and of its list."""
+        return self.kind == "channel" and name.startswith("out.feed")
 
     def may_change(self, name: str, entry: Entry) -> bool:
         """Whether what was there may be gone or be another one: a result, or what has the name of
@@ -270,6 +278,8 @@ class World:
     def is_whole(self, name: str, entry: Entry) -> bool:
         """Whether a new file is a whole result."""
         ending, data = os.path.splitext(name)[1], entry[1]
+        if self.is_kept(name) or self.kind == "channel" and name == "out/channel.json":
+            return True
         if not stat.S_ISREG(entry[0]):
             return False
         if name.endswith("all.json"):

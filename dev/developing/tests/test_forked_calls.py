@@ -17,7 +17,6 @@ from subtitles.calls.members import ASKED
 from subtitles.calls.main import parser_of
 from subtitles.calls.objects import Row, found, object_at, unjudged
 from subtitles.calls.pairs import Item
-from subtitles.calls.single import SIGNALS
 from subtitles.qc.asked import asked_of
 from subtitles.qc.made_with import program_at
 from subtitles.qc.typed import Typed
@@ -164,7 +163,8 @@ class Judged(Case):
 
     def test_what_a_call_has(self) -> None:
         """Its own session, nothing to read, nobody who reads what it prints, and no file and lock
-        of who called it; signals end it as ever, though they are held when it begins."""
+        of who called it. Signals end it as ever, though they are held when it begins; one that is
+        ignored does not."""
         kept = open(self.write("kept", b""), "rb")
         self.addCleanup(kept.close)
 
@@ -173,13 +173,17 @@ class Judged(Case):
             told = [files == [os.devnull] * 2, os.getsid(0) == os.getpid(),
                     not os.path.exists(f"/proc/self/fd/{kept.fileno()}"),
                     not signal.pthread_sigmask(signal.SIG_BLOCK, []),
-                    all(signal.getsignal(one) == signal.default_int_handler for one in SIGNALS)]
+                    [signal.getsignal(one) for one in (signal.SIGTERM, signal.SIGHUP)] == [
+                        signal.default_int_handler, signal.SIG_IGN]]
             print(told, file=sys.stderr)
             return 7
 
+        for one, taken in ((signal.SIGTERM, signal.SIG_DFL), (signal.SIGHUP, signal.SIG_IGN)):
+            self.addCleanup(signal.signal, one, signal.signal(one, taken))
         with signals_held():
             call = Forked(look)
-        self.must("all", call.end() == (7, [str([True] * 5)]))
+        ended = call.end()
+        self.must("all", ended == (7, [str([True] * 5)]), ended)
 
     def test_all(self) -> None:
         """Each once, what is kept not again; the words of each are its own."""

@@ -33,9 +33,7 @@ class Lists(Case):
     """The lists of the READMEs and of the packages."""
 
     def test_are_whole(self) -> None:
-        """The README of a folder lists its scripts, that of tools/ the packages too. One of tools/
-        that calls the script of dev/ with its name may be listed there alone."""
-        elsewhere = set(entries(os.path.join(TOP, "dev")))
+        """The README of a folder lists its scripts, that of tools/ the packages too."""
         for name, package, is_listed in FOLDERS:
             folder = os.path.join(TOP, name)
             text = read(os.path.join(folder, "README.md")) or ""
@@ -43,8 +41,6 @@ class Lists(Case):
             inside = entries(os.path.join(folder, package)) if is_listed else []
             wanted = [one for one in [*entries(folder), *inside]
                       if one not in ("README.md", package + "/")]
-            if name == "tools":
-                wanted = [one for one in wanted if one in rows or one not in elsewhere]
             self.must(name, sorted(rows) == sorted(wanted), set(rows) ^ set(wanted))
 
     def test_are_whole_of_packages(self) -> None:

@@ -8,7 +8,7 @@ from types import ModuleType
 from unittest import mock
 
 from subtitles.calls import batch, collecting, main, single, watching
-from subtitles.calls.channel import channel, recorder
+from subtitles.calls.channel import call, recorder
 from subtitles.calls.main import file_in, name_in, parser_of
 from subtitles.calls.modes import (
     TAKEN_BY, jobs_word, line_word, minutes_word, mode_of, refuse_options, seconds_word)
@@ -108,9 +108,9 @@ class Modes(Case):
             (CALLS[COLLECT], collecting, "collect", {"collect": "in"}),
             (CALLS[WATCH], watching, "watch", {"settled": 5}),
             ([*CALLS[WATCH], "--settled", "0"], watching, "watch", {"settled": 0}),
-            (CALLS[CHANNEL], channel, "judge", {"patience": 60, "stall": 10}),
-            ([*CALLS[CHANNEL], "--patience", "1"], channel, "judge", {"patience": 1}),
-            ([*CALLS[CHANNEL], "--spool", "x"], channel, "judge", {"spool": "x"})]
+            (CALLS[CHANNEL], call, "judge", {"patience": 60, "stall": 10}),
+            ([*CALLS[CHANNEL], "--patience", "1"], call, "judge", {"patience": 1}),
+            ([*CALLS[CHANNEL], "--spool", "x"], call, "judge", {"spool": "x"})]
         for line, module, name, wanted in rows:
             with mock.patch.object(module, name, return_value=7) as called:
                 self.must(f"{line}", main.answer("", "tools/qc", line) == 7)

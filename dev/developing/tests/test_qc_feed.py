@@ -280,3 +280,11 @@ class Feeds(Case):
         for word in ("x", "-1", "1.5"):
             done = qc(self, STORY, example("story.pes"), "--stall", word)
             self.must(f"--stall {word}", done.status == 2 and len(done.told) == 1, done)
+
+    def test_no_room(self) -> None:
+        """Where what comes can't be kept that is said, and nothing waits."""
+        data = stream(self, "story", example_bytes("story.pes")) * 400
+        command = 'ulimit -f 200; exec "$0" "$1" - --json one.json -p "$2"'
+        done = self.call(["bash", "-c", command, tool_path("qc"), STORY, self.bench.program], data)
+        self.must("said", done.status == 2 and "File too large" in done.told[-1], done)
+        self.must("its object", "File too large" in json.loads(self.read("one.json"))["reason"])

@@ -19,12 +19,13 @@ from subtitles.calls.batch import Calls, kept_rows
 from subtitles.calls.channel.results import Results
 from subtitles.calls.machine import object_of
 from subtitles.calls.members import FAULT as ROWS_OF_FAULT
-from subtitles.calls.objects import object_at, unjudged
+from subtitles.calls.objects import has_had_its_turn, object_at, unjudged
 from subtitles.calls.pairs import Item
 from subtitles.calls.result import FORMAT, LISTS, VERDICT, misfit, schema
 from subtitles.calls.watching import Watch
 from subtitles.core.built import TOP, read
-from subtitles.core.shapes import Listed, Integer
+from subtitles.core.outputs import Inputs
+from subtitles.core.shapes import Integer, Listed
 from subtitles.core.told import SILENT, UNDECIDED
 from subtitles.core.words import Stop
 from subtitles.qc.made_with import MadeWith
@@ -203,15 +204,20 @@ class ReadBack(Case):
         words, typed = self.words(), Typed("tools/qc", self.bench.program)
         with contextlib.redirect_stdout(io.StringIO()), contextlib.redirect_stderr(io.StringIO()):
             status = collecting.collect(words)
-            rows = [Watch(words, typed).rows, Results(words, self.folder).rows]
-        for known in rows:
-            collecting.write_index(self.path("out"), [*known.values()])
+            rows = Watch(words, typed).rows
+        collecting.write_index(self.path("out"), [*rows.values()])
         names = sorted(name.removesuffix(".json") for name in os.listdir(self.path("out"))
                        if name.endswith(".json"))
-        self.must("names", [sorted(known) for known in rows] == [names] * 2, rows)
+        self.must("names", sorted(rows) == names, rows)
         calls = Calls(typed, self.folder, self.path("out"), False)
         asked = asked_for(self.path("story.stl"), self.path("x.pes"))
         kept_rows(calls, [Item(name, asked, None) for name in names])
+        os.makedirs(self.path("kept"), exist_ok=True)
+        channel = Results(self.path("kept"), self.path("out"), Inputs(), lambda path, word: None)
+        for name in names:
+            result_of = channel.result(name)
+            self.must(f"channel: {name}", result_of is None or misfit(result_of) is None and
+                      has_had_its_turn(result_of, asked) in (True, False), result_of)
         pairs: list[dict[str, Any]] = json.loads(self.read("x.json"))["pairs"]
         self.must("all pairs", len(pairs) == len(names) and status == 2, (len(pairs), names))
         self.must("all fit", all(misfit(one) is None for one in pairs))

@@ -7,10 +7,13 @@ from typing import Any
 
 from developing.pes import pes_packet
 from subtitles.core.spans import Span
-from subtitles.core.times import NO_FRAME, TICKS
+from subtitles.core.times import CLOCK, NO_FRAME, TICKS
+from subtitles.preview import blocks
 from subtitles.qc.missing import places_on
+from subtitles.reading.alignment import back_at
 from subtitles.reading.gaps import Place
 from subtitles.reading.order import pauses_in
+from subtitles.reading.packets import Change
 from subtitles.reading.timeline import Timeline, timeline_near
 from .bench import Case, example, example_bytes
 from .judged import in_pipe, judged, programme
@@ -133,3 +136,20 @@ class Values(Case):
                               (1000, [0, 600, 1000]), (3000, [0, 600, 1000])):
             near = timeline_near(packets, PAGE, 0, 0, Span(1000, 1001), every)
             self.must(f"{every}", [*near.sendings] == wanted, [*near.sendings])
+
+    def test_back_over_the_wrap(self) -> None:
+        """A text that is erased and sent again is back within so many frames, over 2^33 too, and
+        not after more."""
+        rows = ((20, b"text"),)
+        for erased, sent, wanted in ((10, 20, 2), (10, 36, None), (-10, 5, 2), (-10, 15, 2),
+                                     (-10, 16, None), (-10, 1000, None)):
+            changes = [Change(TICKS * (erased - 5) % CLOCK, b"text", 0, rows),
+                       Change(TICKS * erased % CLOCK, b"", 1),
+                       Change(TICKS * sent % CLOCK, b"text", 2, rows)]
+            self.must(f"{erased} {sent}", back_at(changes, 0, 25) == wanted)
+
+    def test_letters_of_a_page(self) -> None:
+        """No byte of a text is markup in the page that shows it."""
+        for byte, wanted in ((ord("<"), "&lt;"), (ord("&"), "&amp;"), (ord(">"), "&gt;"),
+                             (ord("A"), "A"), (0x0B, "<i>0B</i>")):
+            self.must(f"{byte:02X}", str(blocks.readable(byte)) == wanted, blocks.readable(byte))

@@ -117,8 +117,8 @@ def answer(text: str, called: str, line: list[str]) -> int:
         from . import watching
         return watching.watch(words, called)
     if words.channel is not None:
-        from .channel import channel
-        return channel.judge(words, called)
+        from .channel import call
+        return call.judge(words, called)
     if words.spool is not None:
         from .channel import recorder
         return recorder.record_alone(words.stl, words.spool)

@@ -5,6 +5,7 @@ segments   the segments on disk, read as they grow, and which of them a programm
 state      what recorder and judge tell each other
 journal    values in a file that only grows
 
+call       a call that judges, and how it ends
 channel    the judge: list and segments held against each other, one programme after another
 planned    its list, by entries
 queue      those that are waited for, the first of the list

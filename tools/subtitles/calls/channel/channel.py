@@ -7,25 +7,22 @@ import contextlib
 import dataclasses
 import errno
 import os
-import signal
 import tempfile
 import time
 from typing import Any, Iterator
 
-from ...core.outputs import Inputs, temporary_folder
+from ...core.outputs import Inputs
 from ...core.times import FRAMES_OF_A_DAY, TICKS, time_of
-from ...core.words import Stop, counted, line_of, say, shown, tell
-from ...qc.asked import AUTO_OF_FEED, Asked
+from ...core.words import Stop, counted, line_of, say, shown
+from ...qc.asked import Asked
 from ...qc.clock import FITTED_SHORT
 from ...qc.ending import Ending
-from ...qc.options import AUTO, LAYOUT
 from ...qc.progress import Progress
-from ...qc.status import NOT_JUDGED, of_all
+from ...qc.status import NOT_JUDGED
 from ...qc.typed import Typed
 from ...qc.unclear import Unclear
 from ...reading.finding import Origin
 from .. import collecting, single
-from ..claim import locking
 from ..objects import ENDING, Row, objects_in, row_of, unjudged
 from . import hook, machine
 from .feed_clock import MINUTE
@@ -33,7 +30,7 @@ from .hearing import Hearing
 from .journal import Journal
 from .planned import Planned, Programme
 from .queue import Arrival, Queue
-from .recorder import Recorded, signals
+from .recorder import Recorded
 from .results import Results
 from .running import ANEW, ENDED, LOST, MARGIN, OnAir
 from .segments import Segments
@@ -57,8 +54,8 @@ class Channel:
                                self.call_command)
         self.queue = Queue(Planned(words.channel, words, Journal(os.path.join(folder, "list")),
                                    self.results.result), self.patience)
-        self.hearing = Hearing(Typed(called, words.program).program_path, words.pid, self.segments.begun(),
-                               self.segments.before)
+        self.hearing = Hearing(Typed(called, words.program).program_path, words.pid,
+                               self.segments.begun(), self.segments.before)
         self.machine = machine.Machine(words.out)
         self.running: OnAir | None = None
         self.progress = Progress()
@@ -383,43 +380,3 @@ class Channel:
     def time_of_feed(self) -> str:
         """How long the feed has been heard."""
         return time_of(self.now // TICKS % FRAMES_OF_A_DAY)
-
-
-def judge(words: argparse.Namespace, called: str) -> int:
-    """Judges the programmes of a channel until the feed has ended, or a signal ends it."""
-    if words.passed_on.get(LAYOUT) == AUTO:
-        raise Stop(AUTO_OF_FEED)
-    if words.on_result is not None:
-        hook.refuse_command(words.on_result)
-    for one in signals():
-        signal.signal(one, signal.default_int_handler)
-    with contextlib.ExitStack() as stack:
-        folder = spool_of(words) or stack.enter_context(temporary_folder("subttx-qc-"))
-        stack.enter_context(locking(folder, ".lock", "another channel is recorded in "))
-        channel = Channel(words, called, folder)
-        try:
-            reason = channel.hear(words.stl)
-            channel.stop(reason)
-        except KeyboardInterrupt:
-            single.ignore_signals()
-            channel.is_stopped = True
-            channel.say(f"stopped at {channel.time_of_feed()} of the feed")
-        finally:
-            channel.hearing.close()
-    for name, why in channel.results.failed.items():
-        tell(f"{shown(name)}: its result was not written: {why}")
-    if not channel.verdicts and not channel.is_stopped:
-        tell(f"{words.channel} names no programme")
-    return of_all(channel.verdicts, channel.is_stopped or bool(channel.results.failed))
-
-
-def spool_of(words: argparse.Namespace) -> str | None:
-    """The folder with the segments: the one in which another call records, that of --spool, or one
-    beside that of -o; `None` where it is temporary."""
-    if os.path.isdir(words.stl):
-        if words.spool is not None:
-            raise Stop(f"{words.stl} is the folder in which a feed is recorded: --spool is too many")
-        return str(words.stl)
-    if words.spool is None and words.out is not None:
-        return f"{os.path.normpath(words.out)}.feed"
-    return str(words.spool) if words.spool is not None else None

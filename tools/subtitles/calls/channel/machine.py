@@ -36,12 +36,14 @@ class Machine:
         """Something was lost."""
         self.loss = date()
 
-    def tell(self, sent: str | None, waiting: Sequence[str], ticks: int, segments: Segments) -> None:
+    def tell(self, sent: str | None, waiting: Sequence[str], ticks: int, segments: Segments
+             ) -> None:
         """Tells which programme is sent, and which are waited for, since so many ticks."""
         if self.path is None:
             return
         numbers = numbers_in(segments.folder)
-        known = {"sent": sent, "waiting": [*waiting], "loss": self.loss, "verdict": self.verdict}
+        known = {"sent": sent, "waiting": [*waiting], "last_loss": self.loss,
+                 "last_verdict": self.verdict}
         if known == self.known and time.monotonic() < self.next:
             return
         self.known, self.next = known, time.monotonic() + EACH

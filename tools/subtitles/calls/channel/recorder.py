@@ -161,7 +161,7 @@ def record(name: str, folder: str, alive: int) -> bool:
     while True:
         try:
             with Input(name) as source, \
-                    locking(folder, ".recorder", "another feed is recorded in "):
+                    locking(folder, "recorder", "another feed is recorded in "):
                 return Recorder(folder, source, alive).record()
         except Stop:
             tries -= 1

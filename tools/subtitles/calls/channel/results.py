@@ -55,8 +55,9 @@ class Results:
 
     def ended(self) -> int:
         """When the last programme was over that has its result, by the time of the feed."""
-        return max((over for name, over in self.journal.entries(2)
-                    if self.result(name) is not None), default=0)
+        over: list[tuple[int, str]] = [(time, name) for name, time in self.journal.entries(2)]
+        return next((time for time, name in sorted(over, reverse=True)
+                     if self.result(name) is not None), 0)
 
     def judge(self, call: Callable[[str], int], name: str, paths: Sequence[str]
               ) -> tuple[str | None, dict[str, Any]]:

@@ -1,0 +1,183 @@
+"""What a channel tells those that are no people: channel.json, and a command after each result."""
+from __future__ import annotations
+
+import json
+import os
+import shutil
+import signal
+import subprocess
+import time
+from unittest import mock
+
+from subtitles.calls.channel import hook
+from subtitles.calls.channel.hook import failure_of, refuse_command
+from subtitles.core.words import Stop
+from .bench import Case, example, tool_path
+from .listings import BEGIN, SECOND, Lines, Programmes, Told, texts_of
+from .test_qc_channel import SOON
+
+
+class Machine(Programmes):
+    """channel.json."""
+
+    def told(self) -> dict[str, object]:
+        """What stands in it, but for the dates."""
+        known = json.loads(self.read("out/channel.json"))
+        verdict = known["last_verdict"] or {"date": None}
+        self.must("its dates", len(known.pop("date")) == 20 and all(
+            one is None or len(one) == 20 for one in (known["last_loss"], verdict.pop("date"))))
+        return dict(known)
+
+    def look(self, channel: Told) -> dict[str, object]:
+        """What stands there after a second."""
+        channel.next_write = 0.0
+        channel.keep()
+        return self.told()
+
+    def test_what_it_says(self) -> None:
+        """Which is sent, which are waited for and since when, the last loss and the last verdict,
+        and what is kept."""
+        channel, lines = Told(self, self.listed("one", "two"), self.path("out")), Lines()
+        nothing = {"format": 1, "sent": None, "last_loss": None, "last_verdict": None,
+                   "waiting_seconds": 0, "waiting": ["one", "two"], "segments": 0, "bytes": 0}
+        self.must("at first", self.look(channel) == nothing, self.told())
+        channel.give([*lines.sent(texts_of("one"), BEGIN)][:14])
+        self.must("one is sent", self.look(channel) == {
+            **nothing, "sent": "one", "waiting": ["two"], "waiting_seconds": 9}, self.told())
+        channel.give([lines.pes(BEGIN + SECOND * 11, "hecb", 20, SECOND)])
+        with open(os.path.join(channel.folder, "000000001.seg"), "wb") as file:
+            file.write(bytes(188))
+        channel.lose()
+        found = self.look(channel)
+        self.must("a loss", found["last_loss"] is not None and found["last_verdict"] == {
+            "name": "one", "verdict": "accepted"}, found)
+        self.must("what is kept", (found["segments"], found["bytes"]) == (1, 188), found)
+
+    def test_when(self) -> None:
+        """When something changes, and every ten seconds; where it can't be written nothing else
+        happens."""
+        channel, now = Told(self, self.listed("one"), self.path("out")), [100.0]
+        with mock.patch("time.monotonic", lambda: now[0]):
+            channel.tell_machine()
+            for seconds, is_new in ((1.0, False), (9.0, False), (10.0, True), (11.0, False)):
+                os.unlink(self.path("out/channel.json")) if os.path.exists(
+                    self.path("out/channel.json")) else None
+                now[0] = 100.0 + seconds
+                channel.tell_machine()
+                self.must(f"{seconds}", os.path.exists(self.path("out/channel.json")) == is_new)
+        channel.machine.path, channel.machine.next = self.path("none/channel.json"), 0.0
+        channel.tell_machine()
+
+    def test_programme_of_that_name(self) -> None:
+        """It has another file."""
+        os.rename(self.files["one"], self.path("channel.stl"))
+        channel = Told(self, f"{self.path('channel.stl')}\n", self.path("out"))
+        channel.give(Lines().sent(texts_of("one"), BEGIN, 20))
+        self.must("its result", json.loads(self.read("out/%63hannel.json"))["verdict"] ==
+                  "accepted" and self.look(channel)["format"] == 1)
+
+
+class Folders(Programmes):
+    """Folders that can't be written to, or are emptied."""
+
+    def test_results_that_are_written_later(self) -> None:
+        """Said once, and tried again; the first and the second. One that is there is not changed by
+        one of the same name."""
+        os.rmdir(self.path("out"))
+        self.write("out", b"no folder")
+        channel, lines = Told(self, self.listed("one", "two", "three"), self.path("out")), Lines()
+        for number, name in enumerate(("one", "two")):
+            channel.give(lines.sent(texts_of(name), BEGIN + 60 * SECOND * number, 20))
+        for _ in range(2):
+            channel.next_write = 0.0
+            channel.keep()
+        again = [line for line in channel.said if "is tried again" in line]
+        self.must("said", [line.partition(":")[0] for line in again] == ["one", "two"],
+                  channel.said)
+        os.unlink(self.path("out"))
+        channel.next_write = 0.0
+        channel.keep()
+        self.must("written", not channel.results.failed and all(
+            json.loads(self.read(f"out/{name}.json"))["verdict"] == "accepted"
+            for name in ("one", "two")))
+        shutil.rmtree(self.path("out"))
+        channel.give(lines.sent(texts_of("three"), BEGIN + 120 * SECOND, 20))
+        self.must("emptied", os.path.exists(self.path("out/three.json")), channel.said)
+
+    def test_result_that_could_not_be_kept(self) -> None:
+        """Where its folder can't be written to it goes to that of the results at once."""
+        channel = Told(self, self.listed("one"), self.path("out"))
+        with mock.patch("os.rename", side_effect=OSError(28, "No space")):
+            channel.give(Lines().sent(texts_of("one"), BEGIN, 20))
+        self.must("written", json.loads(self.read("out/one.json"))["verdict"] == "accepted" and
+                  not channel.results.kept, channel.said)
+
+    def test_lists_that_are_none(self) -> None:
+        """A device, a pipe, and one that stands in the place of a result: that stays."""
+        os.mkfifo(self.path("pipe"))
+        for name in ("/dev/zero", "pipe", "out"):
+            done = self.tool("qc", "--channel", name, example("story.pes"), "-o", "results", "-p",
+                             self.bench.program)
+            self.must(name, done.status == 2 and name in done.told[-1] and not done.out, done)
+        text = f"{example('story.stl')}\n".encode()
+        self.write("out/story.json", text)
+        done = self.tool("qc", "--channel", "out/story.json", example("story.pes"), "-o", "out",
+                         "-p", self.bench.program)
+        self.must("an output", done.status == 2 and self.read("out/story.json") == text and
+                  done.told == ["qc: story: its result was not written: out/story.json is an input "
+                                "too"], done)
+
+
+class Commands(Case):
+    """A command after each result."""
+
+    def test_failures(self) -> None:
+        """Why one failed: its status, that it can't be called, or that it takes too long; nothing
+        of it goes on then."""
+        path = self.path("told")
+        for name, text, why in (
+                ("good", f'echo "$1 $2 $#" >{path}', None),
+                ("bad", "exit 7", "ended with status 7"),
+                ("killed", "kill -9 $$", "ended with status -9"),
+                ("slow", f"echo $$ >{path}; sleep 60", "did not end within 1 second")):
+            command = self.write_program(name, f"#!/bin/sh\n{text}\n")
+            with mock.patch.object(hook, "LONGEST", 1):
+                failure = failure_of(command, "a b.json", "not judged")
+            self.must(name, failure == (why and f"{command} {why}"), failure)
+            if name == "good":
+                self.must("its words", self.read("told") == b"a b.json not judged 2\n")
+        self.must("it is gone", not os.path.exists(f"/proc/{int(self.read('told'))}/fd/0"))
+        self.must("none", "No such file" in (failure_of(self.path("none"), "", "") or ""))
+        refuse_command("sh")
+        for wrong in ("none at all", self.write("file", b"")):
+            self.assertRaises(Stop, refuse_command, wrong)
+
+    def test_each_result(self) -> None:
+        """It is called once for each that stays; a failure is said, and changes nothing."""
+        self.write("list", f"{example('story.stl')}\nnone.stl\n"
+                           f"{example('german.stl')} --option german\n".encode())
+        command = self.write_program(
+            "command", f'#!/bin/sh\ntest -f "$1" && echo "$1 $2" >>{self.path("told")}; exit 3\n')
+        words = ["qc", "--channel", "list", example("story.pes"), "-o", "out", "--on-result",
+                 command, "-p", self.bench.program]
+        for _ in range(2):
+            done = self.tool(words[0], *words[1:])
+            told = self.read("told").decode().splitlines()
+            self.must("told", told == ["out/story.json accepted", "out/none.json not judged"], told)
+        self.must("said", done.status == 2 and done.out.count(b"ended with status 3") == 0 and
+                  b"2 programmes of an earlier call kept" in done.out, done)
+
+    def test_hang_up_that_is_ignored(self) -> None:
+        """As by nohup: it goes on; any other signal ends it."""
+        self.write("list", b"none.stl\n")
+        words = ["sh", "-c", 'trap "" HUP; exec "$0" "$@"', tool_path("qc"), "--channel", "list",
+                 "-", "-o", "out", "-p", self.bench.program]
+        with subprocess.Popen(words, cwd=self.folder, stdin=subprocess.PIPE,
+                              stdout=subprocess.PIPE) as process:
+            assert process.stdout
+            self.must("it has begun", b"none  not judged" in process.stdout.readline())
+            process.send_signal(signal.SIGHUP)
+            time.sleep(0.5)
+            self.must("it goes on", process.poll() is None)
+            process.send_signal(signal.SIGINT)
+            self.must("it ends", process.wait(SOON) == 2)

@@ -1,0 +1,54 @@
+"""Why nothing of a PID is given, or nothing more."""
+from __future__ import annotations
+
+from typing import Tuple
+
+from subtitles.core.times import TICKS
+from subtitles.reading.gaps import Place, places_of, what_of, why_refused
+from subtitles.reading.packets import Clocked, Mark, Packets, Run
+from .bench import Case
+
+Jump = Tuple[int, int]  # the PTS around one
+ONE = [Run(0, 1, 0, 0, "-", "")]
+
+
+class Refused(Case):
+    """The whole table, with one of several TS packets that is scrambled."""
+
+    def test_why(self) -> None:
+        for packets, wanted in (
+                (Packets(5), "PID 0x5 carries nothing"),
+                (Packets(5, packets=1, scrambled=1),
+                 "PID 0x5 is scrambled: all 1 TS packet of it"),
+                (Packets(5, packets=9, scrambled=9),
+                 "PID 0x5 is scrambled: all 9 TS packets of it"),
+                *((Packets(5, packets=9, scrambled=count),
+                   "PID 0x5 has no whole PES packet in 9 TS packets") for count in (0, 1, 8)),
+                (Packets(5, ONE, packets=9, scrambled=9), None),
+                (Packets(5, ONE, packets=9), None)):
+            told = why_refused(packets)
+            self.must(f"{packets.packets} {packets.scrambled}", told == wanted, told)
+
+
+class Places(Case):
+    """Where something is missing: marks, the PCR, jumps that are announced."""
+
+    def test_places(self) -> None:
+        """Each once; what is announced is left out where it is known already."""
+        runs = [Run(at, 1, at * TICKS, 0, "-", "") for at in range(9)]
+        jump = 3 * TICKS, 5 * TICKS
+        clocked = Clocked(3 * TICKS, 5 * TICKS, 9 * TICKS, 9, TICKS, 9, "broken")
+        rows: list[tuple[list[Mark], list[Clocked], list[Jump], list[tuple[Jump, bool]]]] = [
+                ([], [], [], []), ([], [], [jump], [(jump, True)]),
+                ([], [], [jump, (7 * TICKS, 8 * TICKS)],
+                 [(jump, True), ((7 * TICKS, 8 * TICKS), True)]),
+                ([], [clocked], [jump], [(jump, False)]),
+                ([Mark(4, 3 * TICKS, 2, 0)], [], [jump], [(jump, False)])]
+        for marks, clocks, jumps, wanted in rows:
+            own = [run._replace(pts=None, fault=45) if run.first in {mark.number for mark in marks}
+                   else run for run in runs]
+            packets = Packets(5, own, marks=marks, clocked=clocks, jumps=jumps)
+            told = [((one.before, one.after), one.is_announced) for one in places_of(packets)]
+            self.must(f"{marks} {clocks} {jumps}", told == wanted, told)
+        self.must("said", what_of(Place(1, 2, is_announced=True)) == "more time passes than usual, "
+                  "and a jump of the counter is announced")
