@@ -117,6 +117,7 @@ def measured(path: str, folder: str, width: int, is_dark: bool) -> list[str]:
         text = file.read()
     name = f"measured-{width}-{is_dark}-{os.path.basename(path)}"
     text = re.sub(r"<details(?! open)", '<details open="open"', text)
+    text = re.sub(r'<meta http-equiv="Content-Security-Policy"[^>]*/>', "", text)  # for the script
     if is_dark:
         text = text.replace("(prefers-color-scheme: dark)", "(min-width: 1px)")
     with open(os.path.join(folder, name), "w", encoding="utf-8") as file:

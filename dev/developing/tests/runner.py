@@ -3,14 +3,17 @@ from __future__ import annotations
 
 import ast
 import functools
+import contextlib
 import itertools
 import os
+import signal
 import sys
 import unittest
 from concurrent.futures import ThreadPoolExecutor
 from types import TracebackType
 from typing import Iterator, Sequence, Tuple, Type, Union
 
+from subtitles.calls.single import SIGNALS
 from subtitles.core.words import Stop
 from .. import DEV
 
@@ -131,6 +134,17 @@ def in_units(tests: Several) -> Iterator[Several]:
             yield from ([one] for one in several)
 
 
+@contextlib.contextmanager
+def signals_kept() -> Iterator[None]:
+    """A call in this process takes no signal any more in its end: the next test does again."""
+    before = {one: signal.getsignal(one) for one in SIGNALS}
+    try:
+        yield
+    finally:
+        for one, taken in before.items():
+            signal.signal(one, taken)
+
+
 def run_all(tests: Several, at_once: int, is_verbose: bool) -> Counts:
     """Runs tests, some at once; before them those that run alone."""
 
@@ -140,7 +154,10 @@ def run_all(tests: Several, at_once: int, is_verbose: bool) -> Counts:
         return counts
 
     units = list(in_units(tests))
-    done = [run(one) for one in units if is_alone(one)]
+    done = []
+    for unit in filter(is_alone, units):
+        with signals_kept():
+            done.append(run(unit))
     with ThreadPoolExecutor(at_once) as pool:
         done += pool.map(run, [one for one in units if not is_alone(one)])
     whole = Counts(is_verbose)

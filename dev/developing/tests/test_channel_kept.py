@@ -134,6 +134,7 @@ class Read(Folders):
         self.must("a new folder", Segments(folder).begun() is None)
         self.segments(folder, 0, 5)
         self.must("as it was", Segments(folder).begun() == Begin(0, 0, True))
+        self.must("nothing was read", [*Segments(folder).before()] == [])
         for number in (0, 1):
             os.unlink(path_of(folder, number))
         self.must("of the third", Segments(folder).begun() == Begin(SECOND * 2, 2, True))

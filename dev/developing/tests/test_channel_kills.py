@@ -1,6 +1,6 @@
 """A channel whose processes are ended at random moments, and begun again: each line has one result,
-which never changes, and it is that of a day without that. With --speed a day of forty programmes and
-twenty moments of each kind, else five programmes and three moments."""
+which never changes, and it is that of a day without that. With --speed a day of forty programmes
+and twenty moments of each kind, else five programmes and three moments."""
 from __future__ import annotations
 
 import contextlib

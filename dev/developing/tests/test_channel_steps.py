@@ -184,8 +184,8 @@ class Steps(Programmes):
         for count, said in ((14, "one  not judged: something of the feed was not recorded at "
                              "11:06:49:00, in mid-programme"),
                             (16, f"one  accepted 5 frames; {FITTED_SHORT}"),
-                            (4, "one  not judged: its beginning was missed: the feed was heard from "
-                             "11:06:45:00 on")):
+                            (4, "one  not judged: its beginning was missed: the feed was heard "
+                             "from 11:06:45:00 on")):
             channel, lines = Told(self, self.listed("one", "two")), Lines()
             told = [*lines.sent(texts_of("one"), BEGIN, 20)]
             channel.give(told[:count])
@@ -222,7 +222,8 @@ class Steps(Programmes):
         and the first is open."""
         for first, last, is_open, why in (
                 (0, 12, True, "the feed ended at 11:06:48:00, in mid-programme"),
-                (2, None, False, "its beginning was missed: the feed was heard from 11:06:42:00 on"),
+                (2, None, False,
+                 "its beginning was missed: the feed was heard from 11:06:42:00 on"),
                 (2, 14, True, "its beginning was missed: the feed was heard from 11:06:42:00 on; "
                  "the feed ended at 11:06:49:00, in mid-programme")):
             channel = Told(self, self.listed("one"), self.path("out"))

@@ -134,7 +134,8 @@ class Streams(Case):
         data = bytes_of([one for at, one in enumerate(sent) if at not in own])
         for more, line, word, pace in (
                 ((), "", "refused", 2), ((), "--pace none", "accepted", None),
-                (("--pace", "none"), "--pace 9", "refused", 9), (("--pace", "17"), "", "accepted", 17)):
+                (("--pace", "none"), "--pace 9", "refused", 9),
+                (("--pace", "17"), "", "accepted", 17)):
             status, lines, [known] = self.channel(data, *more, line=line)
             self.must(f"{more} {line}", (known["verdict"], status, known["parts"][0]["pace"]) == (
                 word, int(word == "refused"), pace) and known["asked"]["pace"] == (

@@ -23,9 +23,9 @@ class Machine(Programmes):
     def told(self) -> dict[str, object]:
         """What stands in it, but for the dates."""
         known = json.loads(self.read("out/channel.json"))
+        verdict = known["last_verdict"] or {"date": None}
         self.must("its dates", len(known.pop("date")) == 20 and all(
-            one is None or len(one) == 20 for one in (
-                known["last_loss"], (known["last_verdict"] or {"date": None}).pop("date", None))), known)
+            one is None or len(one) == 20 for one in (known["last_loss"], verdict.pop("date"))))
         return dict(known)
 
     def look(self, channel: Told) -> dict[str, object]:
@@ -136,7 +136,8 @@ class Commands(Case):
         of it goes on then."""
         path = self.path("told")
         for name, text, why in (
-                ("good", f'echo "$1 $2 $#" >{path}', None), ("bad", "exit 7", "ended with status 7"),
+                ("good", f'echo "$1 $2 $#" >{path}', None),
+                ("bad", "exit 7", "ended with status 7"),
                 ("killed", "kill -9 $$", "ended with status -9"),
                 ("slow", f"echo $$ >{path}; sleep 60", "did not end within 1 second")):
             command = self.write_program(name, f"#!/bin/sh\n{text}\n")

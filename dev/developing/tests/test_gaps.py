@@ -1,11 +1,14 @@
 """Why nothing of a PID is given, or nothing more."""
 from __future__ import annotations
 
+from typing import Tuple
+
 from subtitles.core.times import TICKS
 from subtitles.reading.gaps import Place, places_of, what_of, why_refused
 from subtitles.reading.packets import Clocked, Mark, Packets, Run
 from .bench import Case
 
+Jump = Tuple[int, int]  # the PTS around one
 ONE = [Run(0, 1, 0, 0, "-", "")]
 
 
@@ -35,12 +38,13 @@ class Places(Case):
         runs = [Run(at, 1, at * TICKS, 0, "-", "") for at in range(9)]
         jump = 3 * TICKS, 5 * TICKS
         clocked = Clocked(3 * TICKS, 5 * TICKS, 9 * TICKS, 9, TICKS, 9, "broken")
-        for marks, clocks, jumps, wanted in (
+        rows: list[tuple[list[Mark], list[Clocked], list[Jump], list[tuple[Jump, bool]]]] = [
                 ([], [], [], []), ([], [], [jump], [(jump, True)]),
                 ([], [], [jump, (7 * TICKS, 8 * TICKS)],
                  [(jump, True), ((7 * TICKS, 8 * TICKS), True)]),
                 ([], [clocked], [jump], [(jump, False)]),
-                ([Mark(4, 3 * TICKS, 2, 0)], [], [jump], [((3 * TICKS, 5 * TICKS), False)])):
+                ([Mark(4, 3 * TICKS, 2, 0)], [], [jump], [(jump, False)])]
+        for marks, clocks, jumps, wanted in rows:
             own = [run._replace(pts=None, fault=45) if run.first in {mark.number for mark in marks}
                    else run for run in runs]
             packets = Packets(5, own, marks=marks, clocked=clocks, jumps=jumps)

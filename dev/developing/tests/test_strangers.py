@@ -2,17 +2,26 @@
 from __future__ import annotations
 
 import os
+import random
 import signal
 import subprocess
 import sys
 import time
 from typing import Callable
+from xml.etree import ElementTree as tree
 
+from developing.looks import browser
+from subtitles.calls.index_page import page_of
+from subtitles.calls.objects import Row
+from subtitles.core.markup import POLICY
 from .. import DEV
 from .bench import Case, example, example_bytes, tool_path
 
 SHARES, EACH = 3, 20  # of the gate; with --speed there are 500 calls
 ALL = 500
+TAGS = {"html", "head", "meta", "title", "style", "body", "h1", "p", "small", "table", "thead",
+        "tbody", "tr", "th", "td", "br", "a"}
+ATTRIBUTES = {"lang", "charset", "http-equiv", "content", "name", "class", "href"}
 # Milliseconds after which a signal comes; with --speed one comes after each of ALL_STARTS.
 STARTS = {signal.SIGINT: range(0, 101, 10), signal.SIGTERM: range(0, 401, 80),
           signal.SIGHUP: range(40, 401, 80)}
@@ -69,6 +78,48 @@ class Inputs(Case):
         self.must("of the others", sorted(os.listdir(self.path("out"))) == sorted([
             *before, "index.html", *(f"{name}.{one}" for name in ("a", "a~2")
                                      for one in ("html", "json", "txt"))]))
+
+
+class Pages(Case):
+    """Pages over all pairs, of results that strangers have written."""
+
+    PIECES = ["<script>document.title='run'</script>", "<img src='http://127.0.0.1:9/x' onerror="
+              "'document.title=1'>", '"><svg onload="document.title=1">', "</title>", "&lt;", "a b",
+              "javascript:1", "{}", "\x1b[31m", "\u202e", "</style><b>", "<!--", "]]>", "'", "\n"]
+
+    def page(self, number: int) -> str:
+        """Writes a page; answers its path."""
+        chance = random.Random(number)
+
+        def text() -> str:
+            return "".join(chance.choice(self.PIECES) for _ in range(chance.randrange(1, 5)))
+
+        rows = [Row(text(), text(), chance.choice(["accepted", "refused", "not judged", text()]),
+                    chance.randrange(3), text(), chance.randrange(9), {text(): 1, text(): 2},
+                    [text()], 0.5, text(), text()) for _ in range(chance.randrange(1, 9))]
+        return self.write(f"{number}.html", page_of(self.folder, rows, text()))
+
+    def test_marks(self) -> None:
+        """No element or attribute is there that the page has not for text alone."""
+        for number in range(200):
+            root = tree.parse(self.page(number)).getroot()
+            for one in root.iter():
+                self.assertIn(one.tag.rpartition("}")[2], TAGS)
+                self.assertLessEqual(one.attrib.keys(), ATTRIBUTES)
+        self.assertIn(POLICY, self.read("0.html").decode().replace("&#x27;", "'"))
+
+    def test_browser(self) -> None:
+        """Nothing is loaded, run or logged."""
+        command = browser()
+        if command is None:
+            self.skipTest("30 pages in a browser, since there is none")
+        for number in range(30):
+            done = self.call([command, "--headless", "--no-sandbox", "--disable-gpu",
+                              f"--user-data-dir={self.path('profile')}", "--enable-logging=stderr",
+                              "--dump-dom", f"file://{self.page(number)}"])
+            self.must(f"{number}", b"<table" in done.out and not any(
+                "CONSOLE" in line for line in done.told), done.told)
+            self.must(f"{number}: as it was written", b"<title>run" not in done.out)
 
 
 class Starts(Case):

@@ -55,7 +55,7 @@ def spool_of(words: argparse.Namespace) -> str | None:
     beside that of -o; `None` where it is temporary."""
     if os.path.isdir(words.stl):
         if words.spool is not None:
-            raise Stop(f"{words.stl} is the folder in which a feed is recorded: --spool is too many")
+            raise Stop(f"{words.stl} is a folder in which a feed is recorded: --spool is too many")
         return str(words.stl)
     if words.spool is None and words.out is not None:
         return f"{os.path.normpath(words.out)}.feed"

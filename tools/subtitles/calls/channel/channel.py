@@ -54,8 +54,8 @@ class Channel:
                                self.call_command)
         self.queue = Queue(Planned(words.channel, words, Journal(os.path.join(folder, "list")),
                                    self.results.result), self.patience)
-        self.hearing = Hearing(Typed(called, words.program).program_path, words.pid, self.segments.begun(),
-                               self.segments.before)
+        self.hearing = Hearing(Typed(called, words.program).program_path, words.pid,
+                               self.segments.begun(), self.segments.before)
         self.machine = machine.Machine(words.out)
         self.running: OnAir | None = None
         self.progress = Progress()

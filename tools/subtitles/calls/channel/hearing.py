@@ -1,4 +1,4 @@
-"""The pages of a feed that programmes are waited for on, each heard by a call of `subttx survey`."""
+"""The pages of a feed that programmes are waited for on, each heard by a call of `survey`."""
 from __future__ import annotations
 
 import select

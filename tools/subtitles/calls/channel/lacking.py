@@ -1,5 +1,5 @@
-"""What a feed lacks of the PID of a page, told for a person: times at which it is silent, and places
-at which something is missing."""
+"""What a feed lacks of the PID of a page, told for a person: times at which it is silent, and
+places at which something is missing."""
 from __future__ import annotations
 
 import collections

@@ -36,7 +36,8 @@ class Machine:
         """Something was lost."""
         self.loss = date()
 
-    def tell(self, sent: str | None, waiting: Sequence[str], ticks: int, segments: Segments) -> None:
+    def tell(self, sent: str | None, waiting: Sequence[str], ticks: int, segments: Segments
+             ) -> None:
         """Tells which programme is sent, and which are waited for, since so many ticks."""
         if self.path is None:
             return

@@ -103,7 +103,7 @@ class Segments:
     def before(self) -> Iterator[bytes]:
         """All that was read so far, since the last loss."""
         for number in self.there():
-            left = self.file.tell() if number == self.at and self.file else None
+            left = None if number < self.at else self.file.tell() if self.file else 0
             with contextlib.suppress(FileNotFoundError), \
                     open(path_of(self.folder, number), "rb") as file:
                 while left != 0 and (data := file.read(PART if left is None else min(PART, left))):
