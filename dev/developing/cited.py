@@ -1,11 +1,11 @@
 """Names that the documents cite in backquotes, and whether the sources have them; and how much has
-to be read for some of them, and the numbers of the proof."""
+to be read for some of them, and may have to be, and the numbers of the proof."""
 from __future__ import annotations
 
 import glob
 import os
 import re
-from typing import Iterator
+from typing import Iterator, Mapping, Optional
 
 from subtitles.core.built import read
 from .definitions import Library, counts
@@ -18,6 +18,8 @@ DOCUMENTS = {"docs/HEADLINE.md": "", "docs/ASSURANCE.md": "", "docs/CLAUSES.md":
              "docs/ARCHITECTURE.md": "|"}
 # A row of the table of what has to be read: what is read, how it is printed, and the counts.
 ROW = re.compile(r"^\| (.*) \| `tools/reading-list (\S+)` \| (\d+) \| (\d+) \| (\d+) \|$", re.M)
+# For these at most so many lines may have to be read, so that the law of a run can be.
+MOST_LINES = {"run_in_memory.headline": 700, "run_in_memory.acceptance": 1100}
 NUMBERS = re.compile(r"^## The proof in numbers$.*?(?=^## )", re.M | re.S)
 NUMBER = re.compile(r"^\| (.*) \| ([\d,]+) \|$", re.M)  # a row there: what is counted, how many
 PARTS = ("src", "specs", "must-fail", "release-edits")  # of a crate, whose words are taken
@@ -109,6 +111,14 @@ def rows_of_counts(top: str) -> Iterator[tuple[str, str]]:
         found = counts(*library.reading(row[2]))
         yield row[0], "| {} | `tools/reading-list {}` | {} | {} | {} |".format(
             row[1], row[2], *found)
+
+
+def too_long(top: str, most_lines: Mapping[str, int]) -> Iterator[Optional[str]]:
+    """Of each of the names what is wrong where more lines have to be read for it than may be."""
+    library = Library(top)
+    for name, most in most_lines.items():
+        lines = counts(*library.reading(name))[1]
+        yield f"{name} has {lines} lines to be read, {most} at most" if lines > most else None
 
 
 def numbers_of(top: str) -> list[int]:

@@ -4,6 +4,7 @@ from __future__ import annotations
 import os
 
 from subtitles.core.words import Stop
+from ..cited import too_long
 from ..definitions import Library, counts
 from ..promises import clauses_in, unknown_clauses
 from .bench import Case
@@ -87,6 +88,13 @@ class ReadingLists(Case):
             self.must(name, found == want, found)
         self.must("counts, with no comment", counts(*them.reading("total")) == (3, 6, 2),
                   counts(*them.reading("total")))
+
+    def test_holds_how_much_is_to_be_read(self) -> None:
+        """As many lines as there may be, and one more."""
+        library(self)
+        told = list(too_long(self.folder, {"total": 6, "high/count.other": 2}))
+        self.must("lines", told == [None, "high/count.other has 6 lines to be read, 2 at most"],
+                  told)
 
     def test_refuses_what_is_unclear(self) -> None:
         """A name of two files, and names of none."""
