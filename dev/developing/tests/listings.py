@@ -114,9 +114,9 @@ class Told(Channel):
         ended = self.results.ended()
         known = Begin(ended, (BEGIN + ended) % CLOCK, True) if ended else None
         self.hearing = Pages("none", words.pid, known, lambda: ())
-        self.segments.between = lambda *times: ["segment"]  # type: ignore[method-assign]
+        self.segments.between = lambda *times: ["segment"]  # type: ignore[assignment]
         self.segments.known = -2
-        self.results.judge = self.judged  # type: ignore[method-assign]
+        self.results.judge = self.judged  # type: ignore[assignment]
         self.go_on()
         self.hearing.turn_to([self.words.page])
 

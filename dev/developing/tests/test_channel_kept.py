@@ -107,8 +107,8 @@ class Read(Folders):
             left = numbers_in(folder)
             self.must("dropped", 45 < left[0] <= 50 and left == [*range(left[0], 100)], left)
             for time, is_there in ((40, False), (49, False), (50, True), (99, True)):
-                paths = segments.between(SECOND * time, 0, SECOND * 99)
-                self.must(f"{time}", (paths is not None) == is_there, paths)
+                kept = segments.between(SECOND * time, 0, SECOND * 99)
+                self.must(f"{time}", (kept is not None) == is_there, kept)
             self.must("all that was read", b"".join(segments.before()) ==
                       b"".join(self.kept(folder)))
             segments.drop(1 << 60)

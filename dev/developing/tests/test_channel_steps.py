@@ -239,7 +239,7 @@ class Steps(Programmes):
         """A programme is not judged of which something is not there any more."""
         for error, why in ((28, "No space left on device"), (0, "No such file or directory")):
             channel = Told(self, self.listed("one"))
-            channel.segments.between = lambda *_: None  # type: ignore[method-assign]
+            channel.segments.between = lambda *_: None  # type: ignore[assignment]
             channel.state[ERROR] = error
             channel.give(Lines().sent(texts_of("one"), BEGIN, 20))
             self.must(why, not Judging.made and channel.said == [
@@ -278,7 +278,7 @@ class Steps(Programmes):
         channel = Told(self, self.listed("one", "two"), patience=60)
         channel.give([*Lines().sent(texts_of("one"), BEGIN)][:14])
         floors = list[int]()
-        channel.segments.drop = floors.append  # type: ignore[method-assign]
+        channel.segments.drop = floors.append  # type: ignore[assignment]
         assert channel.running
         for is_sent, later, ended, floor in (
                 (True, 0, 0, -2), (True, 9, 0, -2), (False, 30, 0, -12), (False, 50, 40, 28),
