@@ -88,6 +88,10 @@ class World:
             self.plant()
         self.write("list", self.lines_of_list())
         self.words = self.chosen()
+        # What was typed may be a link: what that leads to is meant.
+        self.meant = {os.path.relpath(os.path.realpath(self.path(word)), os.path.realpath(top))
+                      for before, word in zip(self.words, self.words[1:])
+                      if before in ("--json", "--csv") and os.path.islink(self.path(word))}
 
     def path(self, name: str) -> str:
         """A file of the tree."""
@@ -220,10 +224,11 @@ class World:
         """What does not hold of a call."""
         found = [f"changed: {name!r}" for name, entry in before.items()
                  if after.get(name) != entry and not self.may_change(name, entry)]
-        found += [f"outside: {name!r}" for name in after.keys() - before.keys()
+        found += [f"outside: {name!r}" for name in after.keys() - before.keys() - self.meant
                   if not self.is_output(name)]
         found += [f"half a result: {name!r}" for name, entry in after.items()
-                  if before.get(name) != entry and not self.is_whole(name, entry)]
+                  if before.get(name) != entry and not self.is_whole(name, entry)
+                  and name not in self.meant]
         text = "\n".join([*done.said, *done.told])
         found += ["a mistake"] * ("mistake of this tool" in text or "Traceback" in text)
         found += ["what a terminal obeys"] * bool(re.search("[\x00-\x09\x0b-\x1f\x7f]", text))
