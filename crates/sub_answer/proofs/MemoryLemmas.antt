@@ -69,7 +69,7 @@ Tells _ file bytes status = ⊤
 
 tells :
     (request : Request) (file bytes : List ℕ) (stl_left pes_left : Option (List ℕ))
-    (Untouched : Type 0) (IsFile : SinkCall → Type 0) (old new : Lines) (result : Status)
+    (Untouched : Type 0) (IsFile : InputCall → SinkCall → Type 0) (old new : Lines) (result : Status)
     → EndsWith request (IsSourceOf told_of_memory whole_file (Some file) stl_left)
     (IsSourceOf told_of_memory (part_asked request) (Some bytes) pes_left) Untouched IsFile old new
     result

@@ -1,6 +1,6 @@
 -- How a run ends that answers a request over its files: what was answered, what was handed on, and
 -- the status.
-use Rattle.std.specs.Prelude.{◌≡◌, ◌⊎◌, ℕ, ◌+◌, List, [], ◌∷◌, ◌++◌, Option, Some, None, false}
+use Rattle.std.specs.Prelude.{◌≡◌, ◌⊎◌, ℕ, ◌+◌, ◌<◌, List, [], ◌∷◌, ◌++◌, Option, Some, None, false}
 use Rattle.std.specs.Io.KnownBytes.{Keeps, append_known, prepend_known}
 use Rattle.sub_io.specs.Buffered.{HandsOn, HeldBack, ReadAhead, failures_and_refused}
 use Rattle.sub_request.specs.Files.{files_of}
@@ -17,7 +17,7 @@ use Rattle.sub_listing.specs.Faults.{usage_line}
 use Rattle.sub_listing.specs.Listing.{PrintsOrFails, fault_listing}
 use Rattle.sub_listing.specs.declared.status.Status.{Status}
 use Rattle.sub_listing.specs.declared.status.Status.TheVariants.{Done, Fault}
-use Rattle.sub_answer.specs.Answering.{Answers, InputCall}
+use Rattle.sub_answer.specs.Answering.{Answers, InputCall, WritesBefore}
 use Rattle.sub_answer.specs.Part.{IsPartOf, part_asked, whole_file}
 use Rattle.sub_answer.specs.declared.part.Part.{Part}
 
@@ -73,18 +73,19 @@ pub record HandsOnBeside
   pub status : Status
   pub call : IsHandedOn printed file status new result
 
--- A request was answered, of sources and a file that are so in their calls, and then the lines were
--- handed on. `Untouched` says that no byte of the second source was read.
+-- A request was answered, of sources and a file that are so in their calls, the file beside that of
+-- the first source, and then the lines were handed on. `Untouched` says that no byte of the second
+-- source was read.
 pub record EndsWith
     (request : Request) (IsFirst IsSecond : InputCall → Type 0) (Untouched : Type 0)
-    (IsFile : SinkCall → Type 0) (old new : Lines) (result : Status)
+    (IsFile : InputCall → SinkCall → Type 0) (old new : Lines) (result : Status)
     : Type 0 where
   pub first : InputCall
   pub first_is : IsFirst first
   pub second : InputCall
   pub second_is : IsSecond second
   pub file : SinkCall
-  pub file_is : IsFile file
+  pub file_is : IsFile first file
   pub status : Status
   pub printed : Lines
   pub answers :
@@ -103,20 +104,23 @@ abbrev pub IsEmptySource : InputCall → Type 0
 IsEmptySource input = input.call.told ≡ Some []
 
 -- The file had taken nothing before.
-abbrev pub IsEmptyFile : SinkCall → Type 0
-IsEmptyFile call = call.old ≡ Some []
+abbrev pub IsEmptyFile : InputCall → SinkCall → Type 0
+IsEmptyFile first call = call.old ≡ Some []
 
--- A file behind a buffer in the calls of an answer, by what is told of it and how often it has
--- failed. As they left it, it was closed.
+-- A file behind a buffer in the calls of the answer to a request, beside those of its first source,
+-- by what is told of it and how often it has failed. As they left it, it was closed.
 pub record IsClosedAfter
     {D : Type 0} (contents : D → Option (List ℕ)) (failure_count : D → ℕ) (IsClose : D → D → Type 0)
-    (old new : HeldBack D) (call : SinkCall)
+    (request : Request) (old new : HeldBack D) (first : InputCall) (call : SinkCall)
     : Type 0 where
   pub left : HeldBack D
   pub call_is : call ≡ buffered_call contents failure_count old left
   pub closed : IsClose left.device new.device
   -- What it holds back stays so.
   pub held_is : new.held ≡ left.held
+  -- Where the source of a recording may have to ask its device, all that was written before is with
+  -- the device of the file: each such call may fail, and where one did nothing is held back.
+  pub written : WritesBefore request (first.call.old_count < first.call.new_count) (left.held ≡ [])
 
 -- A file of which this part is read, in the calls of an answer, which leave it so, by what is told
 -- of it and how often it has failed: there is a buffer before it, which held nothing, and no other
@@ -133,19 +137,20 @@ pub record IsReadFrom
       (let buffer : ReadAhead I = record { device = file; held = []; room = room } in buffer) new
       input
 
--- A file that is written, in the calls of an answer, and was closed as they left it; so it is then:
--- there is a buffer before it, which held nothing, and no other device. Where the run ends with
--- `Done` the buffer holds nothing back, and no call has failed.
+-- A file that is written, in the calls of the answer to a request, beside those of its first
+-- source, and was closed as they left it; so it is then: there is a buffer before it, which held
+-- nothing, and no other device. Where the run ends with `Done` the buffer holds nothing back, and
+-- no call has failed.
 pub record IsWrittenTo
     {O : Type 0} (contents : O → Option (List ℕ)) (failure_count : O → ℕ) (IsClose : O → O → Type 0)
-    (result : Status) (file left : O) (call : SinkCall)
+    (request : Request) (result : Status) (file left : O) (first : InputCall) (call : SinkCall)
     : Type 0 where
   pub room : ℕ
   pub new : HeldBack O
   pub left_is : left ≡ new.device
   pub closed :
-      IsClosedAfter contents failure_count IsClose
-      (record { device = file; held = []; room = room; failed = false; refused = 0 }) new call
+      IsClosedAfter contents failure_count IsClose request
+      (record { device = file; held = []; room = room; failed = false; refused = 0 }) new first call
   pub whole :
       result ≡ Done
       → HandsOn failure_count
@@ -179,14 +184,16 @@ IsSourceOf told part (Some file) (Some left) =
 IsSourceOf told part None None = IsEmptySource
 IsSourceOf told part opened left = λ input. ⊥
 
--- A file is the one that was created, which is left so, or an empty one where none was.
+-- The file of a request is the one that was created, which is left so, or an empty one where none
+-- was.
 abbrev pub IsSinkOf :
     {I O : Type 0}
-    → ToldOfFiles I O → (O → O → Type 0) → Status → (created left : Option O) → SinkCall → Type 0
-IsSinkOf told IsClose result (Some file) (Some left) =
-    IsWrittenTo told.contents told.writes_failed IsClose result file left
-IsSinkOf told IsClose result None None = IsEmptyFile
-IsSinkOf told IsClose result created left = λ call. ⊥
+    → ToldOfFiles I O → (O → O → Type 0) → Request → Status → (created left : Option O) → InputCall
+    → SinkCall → Type 0
+IsSinkOf told IsClose request result (Some file) (Some left) =
+    IsWrittenTo told.contents told.writes_failed IsClose request result file left
+IsSinkOf told IsClose request result None None = IsEmptyFile
+IsSinkOf told IsClose request result created left = λ first call. ⊥
 
 -- The sources of a request and its file, of those that were opened and created, and which part of
 -- its first source is read.
@@ -247,7 +254,7 @@ EndsOver told IsClose request devices left old new result =
     EndsWith request (IsSourceOf told devices.part devices.first left.first)
     (IsSourceOf told (part_asked request) devices.second left.second)
     (left.second ≡ devices.second)
-    (IsSinkOf told IsClose result devices.file left.file) old new result
+    (IsSinkOf told IsClose request result devices.file left.file) old new result
 
 -- A request was answered over devices, and then the files were let go as that left them, by the
 -- calls that were made.

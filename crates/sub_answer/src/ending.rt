@@ -81,7 +81,7 @@ pub fn answer_with_file<N: FirstPacket<S>, S: Source, F: Close, O: HandOn<F>>(
         (λ input. input
         ≡ input_call S.remaining S.failure_count N.number N.passed first.old first.new)
         IsEmptySource ⊤
-        (IsClosedAfter F.contents F.failure_count F.is_close file.old file.new)
+        (IsClosedAfter F.contents F.failure_count F.is_close request.now file.old file.new)
         (lines_in O.contents O.held_back O.failure_count out.old)
         (lines_in O.contents O.held_back O.failure_count out.new) result }
     ensures done { result ≡ Status.Done → HandsOn F.failure_count file.old file.new
@@ -129,7 +129,7 @@ fn answer_and_hand_on<
         (λ input. input
         ≡ input_call T.remaining T.failure_count M.number M.passed second.old second.new)
         (second.new ≡ second.old)
-        (IsClosedAfter F.contents F.failure_count F.is_close file.old file.new)
+        (IsClosedAfter F.contents F.failure_count F.is_close request.now file.old file.new)
         (lines_in O.contents O.held_back O.failure_count out.old)
         (lines_in O.contents O.held_back O.failure_count out.new) result }
     ensures done { result ≡ Status.Done → HandsOn F.failure_count file.old file.new

@@ -34,7 +34,7 @@ pub fn answer_part<S: Source + Drop, F: Close, O: HandOn<F>>(
     requires out { O.failure_count out.old ≡ 0 }
     ensures ends { EndsWith request.now (IsPartOf part S.remaining S.failure_count whole result.1)
         IsEmptySource ⊤
-        (IsClosedAfter F.contents F.failure_count F.is_close file.old file.new)
+        (IsClosedAfter F.contents F.failure_count F.is_close request.now file.old file.new)
         (lines_in O.contents O.held_back O.failure_count out.old)
         (lines_in O.contents O.held_back O.failure_count out.new) result.0 }
     ensures done { result.0 ≡ Status.Done → HandsOn F.failure_count file.old file.new }

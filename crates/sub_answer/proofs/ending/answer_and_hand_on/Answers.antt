@@ -1,5 +1,6 @@
 use Rattle.std.proofs.Common.{refl}
 use Rattle.sub_answer.specs.Ending.{lines_in}
+use Rattle.sub_answer.proofs.EndingLemmas.{written_before}
 use Rattle.sub_answer.proofs.ending.answer_and_hand_on.Goals as goal
 
 pub returns-clause-ends : goal.returns-clause-ends
@@ -14,6 +15,9 @@ returns-clause-ends g c = record {
     call_is = refl;
     closed = c.close.ensures.call.device;
     held_is = c.close.ensures.call.held;
+    written =
+        written_before c.args.request.now _ c.args.file.now.held c.answer-status.new.file.held
+        c.requires.file.1 c.answer-status.ensures.written;
   };
   status = c.answer-status.result;
   printed = lines_in g.O.Sink.contents g.O.HandOn.held_back g.O.Sink.failure_count

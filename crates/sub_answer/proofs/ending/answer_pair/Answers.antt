@@ -6,4 +6,4 @@ pub returns : goal.returns
 returns g c =
     ends_weaker _ _ _ _ _ _ _ _ _ _ _ _ c.answer_and_hand_on.ensures.ends
     (λ call is. is) (λ call is. is) (λ is. is)
-    (λ call is. rw is.call_is (rw (c.new-file.ensures, c.new.ensures) refl))
+    (λ first call is. rw is.call_is (rw (c.new-file.ensures, c.new.ensures) refl))

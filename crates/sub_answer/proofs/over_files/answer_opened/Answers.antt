@@ -10,5 +10,5 @@ returns-in-Nothing g c =
       are_let_go = refl;
       ends =
           ends_weaker _ _ _ _ _ _ _ _ _ _ _ _ c.read_nothing.ensures
-          (λ call is. is) (λ call is. is) (λ is. refl) (λ call is. is);
+          (λ call is. is) (λ call is. is) (λ is. refl) (λ first call is. is);
     })

@@ -24,7 +24,7 @@ returns g c = record {
         is_part = rw (c.part_asked.ensures, c.new-first.ensures, c.into_file.ensures) at is;
       })
       (λ input is. is) (λ is. refl)
-      (λ call is. record {
+      (λ first call is. record {
         room = _;
         new = _;
         left_is = c.into_inner-2.ensures;

@@ -30,7 +30,7 @@ returns g c = record {
             c.answer_with_file-status.new.first input is);
       })
       (λ input is. is) (λ is. refl)
-      (λ call is. record {
+      (λ first call is. record {
         room = _;
         new = _;
         left_is = c.into_inner-2.ensures;

@@ -37,5 +37,5 @@ returns g c = record {
       })
       (λ is.
       ap Some (rw (c.into_inner-2.ensures, is, c.new-second.ensures, c.into_file-2.ensures) refl))
-      (λ call is. is);
+      (λ first call is. is);
 }

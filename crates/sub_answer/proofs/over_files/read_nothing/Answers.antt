@@ -5,4 +5,5 @@ use Rattle.sub_answer.proofs.over_files.read_nothing.Goals as goal
 pub returns : goal.returns
 returns g c =
     ends_weaker _ _ _ _ _ _ _ _ _ _ _ _ c.answer_from.ensures
-    (λ call is. rw is (ap Some c.new-first.ensures)) (λ call is. is) (λ is. is) (λ call is. is)
+    (λ call is. rw is (ap Some c.new-first.ensures)) (λ call is. is) (λ is. is)
+    (λ first call is. is)

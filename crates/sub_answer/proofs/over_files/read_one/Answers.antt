@@ -16,5 +16,5 @@ returns g c = record {
         is_part = rw c.new-whole.ensures at is;
       })
       (λ input is. is) (λ is. refl)
-      (λ call is. rw is.call_is (rw (c.new-none.ensures, c.new.ensures) refl));
+      (λ first call is. rw is.call_is (rw (c.new-none.ensures, c.new.ensures) refl));
 }

@@ -29,7 +29,7 @@ returns-in-None-None-clause-ends g c =
     all_of_source g.S.Source.remaining g.S.Source.failure_count c.args.whole
     c.answer_with_file-status.new.first input c.args.part
     c.in-None-None.is-0 c.in-None-None.is-1 is)
-    (λ input is. is) (λ is. is) (λ call is. is)
+    (λ input is. is) (λ is. is) (λ first call is. is)
 
 pub returns-in-None-Some-clause-ends : goal.returns-in-None-Some-clause-ends
 returns-in-None-Some-clause-ends g c =
@@ -41,7 +41,7 @@ returns-in-None-Some-clause-ends g c =
     c.args.part c.in-None-Some.range c.in-None-Some.is-0 c.in-None-Some.is-1
     (told_is is ∙ c.new-first.ensures.remaining) (number_is is ∙ c.new-first.ensures.first)
     (old_is is ∙ c.new-first.ensures.count) (new_is is)))
-    (λ input is. is) (λ is. is) (λ call is. is)
+    (λ input is. is) (λ is. is) (λ first call is. is)
 
 pub returns-in-Some-None-clause-ends : goal.returns-in-Some-None-clause-ends
 returns-in-Some-None-clause-ends g c =
@@ -57,7 +57,7 @@ returns-in-Some-None-clause-ends g c =
     ∙ ap (λ (v : SourceValue g.row.S.Denot). g.S.Source.failure_count v.device)
     c.new-first-in-Some-None.ensures.start)
     (new_is is)))
-    (λ input is. is) (λ is. is) (λ call is. is)
+    (λ input is. is) (λ is. is) (λ first call is. is)
 
 pub returns-in-Some-Some-clause-ends : goal.returns-in-Some-Some-clause-ends
 returns-in-Some-Some-clause-ends g c =
@@ -76,4 +76,4 @@ returns-in-Some-Some-clause-ends g c =
     ∙ ap (λ (v : SourceValue g.row.S.Denot). g.S.Source.failure_count v.device)
     c.new-carried.ensures.start)
     (new_is is)))
-    (λ input is. is) (λ is. is) (λ call is. is)
+    (λ input is. is) (λ is. is) (λ first call is. is)

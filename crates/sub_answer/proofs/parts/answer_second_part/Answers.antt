@@ -30,7 +30,7 @@ returns-in-None-None g c =
     all_of_source g.T.Source.remaining g.T.Source.failure_count c.args.whole
     c.answer_pair-status.new.second input c.args.part
     c.in-None-None.is-0 c.in-None-None.is-1 is)
-    (λ is. is) (λ call is. is)
+    (λ is. is) (λ first call is. is)
 
 pub returns-in-None-Some : goal.returns-in-None-Some
 returns-in-None-Some g c =
@@ -44,7 +44,7 @@ returns-in-None-Some g c =
     (told_is is ∙ c.new-input.ensures.remaining) (number_is is ∙ c.new-input.ensures.first)
     (old_is is ∙ c.new-input.ensures.count) (new_is is)))
     (λ is. rw (c.into_inner.ensures, is, c.new-input.ensures.inner) refl)
-    (λ call is. is)
+    (λ first call is. is)
 
 pub returns-in-Some-None : goal.returns-in-Some-None
 returns-in-Some-None g c =
@@ -62,7 +62,7 @@ returns-in-Some-None g c =
     c.new-input-in-Some-None.ensures.start)
     (new_is is)))
     (λ is. rw (c.into_inner-in-Some-None.ensures, is, c.new-input-in-Some-None.ensures.start) refl)
-    (λ call is. is)
+    (λ first call is. is)
 
 pub returns-in-Some-Some : goal.returns-in-Some-Some
 returns-in-Some-Some g c =
@@ -89,4 +89,4 @@ returns-in-Some-Some g c =
       c.new-input-in-Some-Some.ensures.inner,
       c.new-carried.ensures.start,
     ) refl)
-    (λ call is. is)
+    (λ first call is. is)
