@@ -47,19 +47,26 @@ EachReceiverGets subtitles transmission =
     → Gets subtitles g f (on_air transmission g j f)
     (IsHit page_888 (on_air transmission g j f) got) new
 
--- The headline, of the bytes of both files.
-pub record Headline (stl pes : List ℕ) : Type 0 where
+-- What the bytes of both files are.
+pub record AreFilesOf
+    (stl pes : List ℕ) (subtitles : List SubtitleValue) (transmission : Transmission)
+    : Type 0 where
   -- The one is a GSI block and the TTI blocks of these subtitles (EBU Tech 3264), in order, and
   -- nothing of their texts is left out.
-  pub subtitles : List SubtitleValue
   pub gsi : List ℕ
   pub subtitle_file : IsFile stl gsi subtitles
   pub in_order : AreInOrder subtitles
   pub texts : All IsWhole subtitles
   -- The other is PES packets (EN 300 472), one for each frame of this transmission, by PTS 0 for
   -- frame 0.
-  pub transmission : Transmission
   pub carries : Carries 0 pes transmission
+
+-- The headline, of the bytes of both files.
+pub record Headline (stl pes : List ℕ) : Type 0 where
+  -- They are those of some subtitles and of a transmission.
+  pub subtitles : List SubtitleValue
+  pub transmission : Transmission
+  pub files : AreFilesOf stl pes subtitles transmission
   -- It lasts from the first TCI to the last TCO.
   pub covers :
       All (λ t. (first_frame transmission ≤ t.tci) × (t.tco ≤ last_frame transmission)) subtitles
