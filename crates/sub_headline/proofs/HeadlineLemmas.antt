@@ -6,7 +6,8 @@ use Rattle.std.proofs.Common.{Bool, ap, arith, codes, false, refl, subst, sym}
 use Rattle.std.proofs.lemmas.Bool.Decides.{nat_tests}
 use Rattle.clap.specs.Words.{Text}
 use Rattle.ttx_page.specs.Page.{Rows, cell, space}
-use Rattle.ttx_page.specs.Shown.{IsHit}
+use Rattle.ttx_page.specs.DroppedRows.{ExcusedBy}
+use Rattle.ttx_page.specs.LostRows.{IsHitOrLost, arrivals_of}
 use Rattle.stl_file.specs.Scope.{whole}
 use Rattle.stl_rows.specs.Programme.{ProgrammeValue}
 use Rattle.stl_rows.specs.Layout.{default_layout, drawing_within}
@@ -133,7 +134,7 @@ plain_headline stl pes is =
     let of =
     programme_of default_drawing default_options stl pes is.subtitles is.transmission is.mean in
     let drawn = drawn_of stl pes is.subtitles is.transmission is.mean in
-    let robust = (law_of_good programme is.transmission default_options is.good).robust in
+    let trusted = (law_of_good programme is.transmission default_options is.good).trusted in
     record {
       subtitles = is.subtitles;
       transmission = is.transmission;
@@ -142,16 +143,19 @@ plain_headline stl pes is =
         begins_in programme is.transmission of is.good.rules.starts is.good.rules.lasts k d below,
         ends_in programme is.transmission of is.good.rules.starts is.good.rules.lasts k d below,
       );
-      receivers = λ g j f got old new listening near unheard closed hears.
-          let served = robust g j f got old new listening near unheard closed hears in
+      receivers = λ class g j f arrived got old new is_got hears.
+          let served = trusted.recovers class g j f arrived got old new is_got hears in
           record {
             in_time = served.in_time;
+            heard = served.heard;
             cells = λ header row column is_cell.
                 subst
                 (λ (due : Rows).
                 (cell new.page row column ≡ cell due row column)
                 ⊎ ((cell new.page row column ≡ space)
-                × IsHit page_888 (on_air is.transmission g j f) got row column))
+                × ExcusedBy class
+                (IsHitOrLost page_888 (on_air is.transmission g j f) (arrivals_of arrived got))
+                row column))
                 (due_is is.subtitles f drawn) (served.cells header row column is_cell);
           };
     }
