@@ -1,6 +1,6 @@
 -- For `law_of_headline`: by the default layout an English subtitle is drawn as its English page,
--- `drawn_is`, so what is due is the English page that is due, `due_is`; and it is drawn where nothing
--- of its text is left out, `ok_of_whole`.
+-- `drawn_is`, so what is due is the English page that is due, `due_is`; and it is drawn where
+-- nothing of its text is left out, `ok_of_whole`.
 use Rattle.std.proofs.lemmas.Bool.Decides.{nat_tests}
 use Rattle.std.proofs.lemmas.List.Elements.{All-cons, All-head, All-nil, All-tail}
 use Rattle.std.proofs.Common.{◌≡◌, ◌≢◌, ◌⊎◌, ◌∙◌, ℕ, ◌+◌, ◌≤◌, Bool, true, false, List, [], ◌∷◌}
@@ -199,7 +199,8 @@ fit_line row under line e =
     record {
       short = short_line (length line) (not_when (nat_lt 40 (length line)) RowTooLong one.0);
       high = high_line line row (not_when (has_cells line && nat_lt 23 row) PastBottom one.1);
-      tall = not_low (is_double line) row (not_when (is_double line && (row == 23)) DoubleRow two.1);
+      tall =
+          not_low (is_double line) row (not_when (is_double line && (row == 23)) DoubleRow two.1);
       seen = not_under line under (not_when (has_cells line && under) Hidden three.1);
     }
 

@@ -37,9 +37,9 @@ abbrev pub IsRead : ℕ → Type 0
 IsRead byte =
     (english_cell byte ≢ None) ⊎ (byte ≡ new_line) ⊎ (is_within 0x80 0x85 byte ≡ true)
 
--- A prepared line fits on a row, under a line of double height or not: it has at most 40 cells; none
--- of them is below row 23, nor double height on it, since row 24 is kept free; and under a line of
--- double height, which would hide them, it has none.
+-- A prepared line fits on a row, under a line of double height or not: it has at most 40 cells;
+-- none of them is below row 23, nor double height on it, since row 24 is kept free; and under a
+-- line of double height, which would hide them, it has none.
 pub record IsFit (row : ℕ) (is_under_double : Bool) (line : List ℕ) : Type 0 where
   pub short : length line ≤ 40
   pub high : line ≢ [] → row ≤ 23

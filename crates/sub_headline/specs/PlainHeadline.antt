@@ -33,11 +33,11 @@ pub record Gets
       → (cell new.page row column ≡ cell (english_due subtitles f) row column)
       ⊎ ((cell new.page row column ≡ space) × IsExcused row column)
 
--- Every receiver gets that, of both classes: wherever it is switched on, and asked, in the frames of
--- the transmission; whatever packets arrive, of which all page headers do, each with at most one
--- wrong bit in a byte; whatever it held before, any page, heard or not, open or not; and whatever it
--- may choose. A space is excused where its byte was hit or its row lost; in a receiver that drops
--- rows, where any byte of its row was hit, or the row lost.
+-- Every receiver gets that, of both classes: wherever it is switched on, and asked, in the frames
+-- of the transmission; whatever packets arrive, of which all page headers do, each with at most one
+-- wrong bit in a byte; whatever it held before, any page, heard or not, open or not; and whatever
+-- it may choose. A space is excused where its byte was hit or its row lost; in a receiver that
+-- drops rows, where any byte of its row was hit, or the row lost.
 abbrev pub EachReceiverGets : List SubtitleValue → Transmission → Type 0
 EachReceiverGets subtitles transmission =
     (class : ReceiverClass) (g j f : ℕ) (arrived : List Bool) (got : List (List ℕ))
