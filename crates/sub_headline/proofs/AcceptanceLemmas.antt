@@ -18,7 +18,7 @@ use Rattle.sub_check.specs.CheckedFiles.{IsAccepted, IsAcceptedBy, Mean, MeanWit
 use Rattle.sub_headline.specs.Acceptance.{LawOfPlainAcceptance}
 
 -- Each subtitle of a file is one.
-all_subtitles : (ts : List SubtitleValue) (gs : List (List (List ℕ)))
+pub all_subtitles : (ts : List SubtitleValue) (gs : List (List (List ℕ)))
     → AllZip AreBlocksOf ts gs
     → All IsSubtitle ts
 all_subtitles [] gs e = All-nil IsSubtitle

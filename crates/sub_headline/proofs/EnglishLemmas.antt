@@ -1,11 +1,12 @@
 -- For `law_of_headline`: by the default layout an English subtitle is drawn as its English page,
--- `drawn_is`, so what is due is the English page that is due, `due_is`.
+-- `drawn_is`, so what is due is the English page that is due, `due_is`; and it is drawn where
+-- nothing of its text is left out, `ok_of_whole`.
 use Rattle.std.proofs.lemmas.Bool.Decides.{nat_tests}
 use Rattle.std.proofs.lemmas.List.Elements.{All-cons, All-head, All-nil, All-tail}
 use Rattle.std.proofs.Common.{◌≡◌, ◌≢◌, ◌⊎◌, ◌∙◌, ℕ, ◌+◌, ◌≤◌, Bool, true, false, List, [], ◌∷◌}
 use Rattle.std.proofs.Common.{◌++◌, Option, Some, None, Result, Ok, refl, sym, ap, arith, inl, inr}
 use Rattle.std.proofs.Common.{map, subst}
-use Rattle.std.specs.Prelude.{◌==◌, ◌&&◌, nat_lt, length, All, IsOk, if◌then◌else◌}
+use Rattle.std.specs.Prelude.{◌==◌, ◌&&◌, nat_lt, length, All, IsOk, IsTrue, if◌then◌else◌}
 use Rattle.std.specs.List.{cons_option, find}
 use Rattle.ttx_page.specs.Page.{Rows}
 use Rattle.stl_file.specs.Subtitle.{IsSubtitle, SubtitleValue}
@@ -21,14 +22,13 @@ use Rattle.stl_rows.specs.PlainPage.{line_fault_kinds, line_faults, lines, when}
 use Rattle.stl_rows.specs.PlainPage.{page_of_lines, plainly_drawn, unless}
 use Rattle.stl_rows.specs.SubSets.{cell_in, has_bytes, sub_set}
 use Rattle.stl_rows.specs.TextCode.{cell_of, cell_of_pair, code_of_other, codes_after}
-use Rattle.stl_rows.specs.TextCode.{first_of, is_common, is_diacritical, is_no_cell}
+use Rattle.stl_rows.specs.TextCode.{fault_of, first_of, is_common, is_diacritical, is_no_cell}
 use Rattle.stl_rows.specs.TextCode.{is_within, lines_of_codes, new_line, refused_code}
 use Rattle.stl_rows.specs.TextCode.{refused_codes, text_code, with_code}
 use Rattle.stl_rows.proofs.DefaultLayoutLemmas.{default_is_plain}
-use Rattle.sub_headline.specs.EnglishPage.{Fit, IsRead, IsWhole, english_cell, english_due}
-use Rattle.sub_headline.specs.EnglishPage.{english_lines}
-use Rattle.sub_headline.specs.EnglishPage.{english_page, page_or_blank, put}
-use Rattle.sub_headline.specs.Headline.{default_drawing}
+use Rattle.sub_headline.specs.Acceptance.{default_drawing}
+use Rattle.sub_headline.specs.EnglishPage.{Fit, IsFit, IsRead, IsWhole, english_cell, english_due}
+use Rattle.sub_headline.specs.EnglishPage.{english_lines, english_page, page_or_blank, put}
 
 -- ---- the cells of bytes
 
@@ -172,10 +172,22 @@ high_line : (line : List ℕ) (row : ℕ)
 high_line [] row e some = absurd (some refl)
 high_line (c ∷ cells) row e some = grind (arith, nat_tests)
 
+not_low : (is : Bool) (row : ℕ) → is && (row == 23) ≡ false → IsTrue is → row ≢ 23
+not_low true row e double at_23 = grind (arith, nat_tests)
+not_low false row e double at_23 = cc
+
+not_under : (line : List ℕ) (under : Bool)
+    → has_cells line && under ≡ false
+    → IsTrue under
+    → line ≡ []
+not_under [] under e is = refl
+not_under (c ∷ cells) true e is = cc
+not_under (c ∷ cells) false e is = cc
+
 -- What is said of a line of which nothing is refused.
 fit_line : (row : ℕ) (under : Bool) (line : List ℕ)
     → line_fault_kinds row under line ≡ []
-    → (length line ≤ 40) × (line ≢ [] → row ≤ 23)
+    → IsFit row under line
 unfolding line_fault_kinds
 fit_line row under line e =
     let long = when (nat_lt 40 (length line)) RowTooLong in
@@ -183,20 +195,22 @@ fit_line row under line e =
     let double = when (is_double line && (row == 23)) DoubleRow in
     let three = no_either ((long ++ low) ++ double) (when (has_cells line && under) Hidden) e in
     let two = no_either (long ++ low) double three.0 in
-    let one = no_either long low two.0 in (
-      short_line (length line) (not_when (nat_lt 40 (length line)) RowTooLong one.0),
-      high_line line row (not_when (has_cells line && nat_lt 23 row) PastBottom one.1),
-    )
+    let one = no_either long low two.0 in
+    record {
+      short = short_line (length line) (not_when (nat_lt 40 (length line)) RowTooLong one.0);
+      high = high_line line row (not_when (has_cells line && nat_lt 23 row) PastBottom one.1);
+      tall =
+          not_low (is_double line) row (not_when (is_double line && (row == 23)) DoubleRow two.1);
+      seen = not_under line under (not_when (has_cells line && under) Hidden three.1);
+    }
 
 fit_of : (number row : ℕ) (under : Bool) (ls : List (List ℕ))
     → line_faults number row under ls ≡ []
-    → Fit row ls
+    → Fit row under ls
 fit_of number row under [] e = tt
 fit_of number row under (line ∷ ls) e =
-    let of = no_either _ _ e in
-    let line_fits = fit_line row under line (no_map _ _ of.0) in (
-      line_fits.0,
-      line_fits.1,
+    let of = no_either _ _ e in (
+      fit_line row under line (no_map _ _ of.0),
       fit_of (number + 1) (row + 1) (is_double line) ls of.1,
     )
 
@@ -222,7 +236,7 @@ plain_is t ok =
       record {
         read = all_read 0 t.text (no_either _ _ none).0;
         fit =
-            subst (λ (ls : List (List ℕ)). Fit t.vp (map prepared ls)) (lines_are 0 t.text)
+            subst (λ (ls : List (List ℕ)). Fit t.vp false (map prepared ls)) (lines_are 0 t.text)
             (fit_of 0 t.vp false (lines English t) (no_either _ _ none).1);
       },
     )
@@ -269,3 +283,106 @@ pub due_is : (ts : List SubtitleValue) (f : ℕ)
     → due default_drawing ts f ≡ english_due ts f
 unfolding due
 due_is ts f each = found_is ts f each
+
+-- ---- a subtitle of which nothing is left out
+
+both_none : {A : Type 0} (xs ys : List A) → xs ≡ [] → ys ≡ [] → xs ++ ys ≡ []
+both_none [] ys e f = f
+both_none (x ∷ xs) ys e f = cc
+
+no_first : {X : Type 0} (o : Option X) (xs : List X) → o ≡ None → xs ≡ [] → cons_option o xs ≡ []
+no_first None xs e f = f
+no_first (Some x) xs e f = cc
+
+end_taken : (byte place : ℕ) → byte ≡ new_line → refused_code place (code_of_other byte) ≡ None
+unfolding code_of_other
+end_taken byte place e =
+    subst (λ (b : ℕ). refused_code place (code_of_other b) ≡ None) (sym e) refl
+
+no_cell_taken : (byte place : ℕ)
+    → is_no_cell byte ≡ true
+    → refused_code place (code_of_other byte) ≡ None
+unfolding code_of_other
+no_cell_taken byte place e = grind (arith, nat_tests)
+
+taken : (cell : Option ℕ) (byte place : ℕ)
+    → cell_of English byte ≡ cell
+    → (cell ≢ None) ⊎ (byte ≡ new_line) ⊎ (is_within 0x80 0x85 byte ≡ true)
+    → refused_code place (text_code English byte) ≡ None
+taken (Some cell) byte place is read = rw is refl
+taken None byte place is (inl some) = absurd (some refl)
+taken None byte place is (inr (inl end)) = rw is (end_taken byte place end)
+taken None byte place is (inr (inr within)) = rw is (no_cell_taken byte place within)
+
+all_taken : (place : ℕ) (text : List ℕ)
+    → All IsRead text
+    → refused_codes (codes_after English place 0 text) ≡ []
+all_taken place [] read = refl
+all_taken place (byte ∷ bytes) read =
+    ap refused_codes (codes_step place byte bytes)
+    ∙ no_first (refused_code place (text_code English byte))
+    (refused_codes (codes_after English (place + 1) 0 bytes))
+    (taken (english_cell byte) byte place (cell_is byte) (All-head IsRead byte bytes read))
+    (all_taken (place + 1) bytes (All-tail IsRead byte bytes read))
+
+not_long : (n : ℕ) → n ≤ 40 → nat_lt 40 n ≡ false
+not_long n le = grind (arith, nat_tests)
+
+not_past : (line : List ℕ) (row : ℕ)
+    → (line ≢ [] → row ≤ 23)
+    → has_cells line && nat_lt 23 row ≡ false
+not_past [] row high = refl
+not_past (c ∷ cells) row high = let le = high (λ none. cc) in grind (arith, nat_tests)
+
+not_double : (is : Bool) (row : ℕ) → (IsTrue is → row ≢ 23) → is && (row == 23) ≡ false
+not_double true row tall = let not = tall refl in grind (arith, nat_tests)
+not_double false row tall = refl
+
+not_hidden : (line : List ℕ) (under : Bool)
+    → (IsTrue under → line ≡ [])
+    → has_cells line && under ≡ false
+not_hidden [] under seen = refl
+not_hidden (c ∷ cells) true seen = let none = seen refl in cc
+not_hidden (c ∷ cells) false seen = refl
+
+none_when : (b : Bool) (kind : RowFaultKind) → b ≡ false → when b kind ≡ []
+none_when b kind e = ap (λ (b : Bool). when b kind) e
+
+none_of_line : (row : ℕ) (under : Bool) (line : List ℕ)
+    → IsFit row under line
+    → line_fault_kinds row under line ≡ []
+unfolding line_fault_kinds
+none_of_line row under line fit =
+    both_none _ _
+    (both_none _ _
+    (both_none _ _ (none_when _ RowTooLong (not_long (length line) fit.short))
+    (none_when _ PastBottom (not_past line row fit.high)))
+    (none_when _ DoubleRow (not_double (is_double line) row fit.tall)))
+    (none_when _ Hidden (not_hidden line under fit.seen))
+
+none_of_lines : (number row : ℕ) (under : Bool) (ls : List (List ℕ))
+    → Fit row under ls
+    → line_faults number row under ls ≡ []
+none_of_lines number row under [] fit = refl
+none_of_lines number row under (line ∷ ls) fit =
+    both_none _ _ (ap (map (fault_of number)) (none_of_line row under line fit.0))
+    (none_of_lines (number + 1) (row + 1) (is_double line) ls fit.1)
+
+ok_of_none : {A E : Type 0} (es : List E) (value : A) → es ≡ [] → IsOk (unless es value)
+ok_of_none [] value none = refl
+ok_of_none (e ∷ es) value none = cc
+
+plain_ok : (t : SubtitleValue) → IsWhole t → IsOk (plainly_drawn English t)
+unfolding plainly_drawn page_of_lines
+plain_ok t whole =
+    ok_of_none _ (page_of_lines t.jc t.vp (lines English t))
+    (both_none (refused_codes (codes_after English 0 0 t.text))
+    (line_faults 0 t.vp false (lines English t)) (all_taken 0 t.text whole.read)
+    (none_of_lines 0 t.vp false (lines English t)
+    (subst (λ (ls : List (List ℕ)). Fit t.vp false (map prepared ls)) (sym (lines_are 0 t.text))
+    whole.fit)))
+
+pub ok_of_whole : (t : SubtitleValue) → IsSubtitle t → IsWhole t → IsOk (drawn default_drawing t)
+ok_of_whole t is whole =
+    subst (λ (r : Result Rows RowFault). IsOk r) (sym (default_is_plain English t is.vp.0))
+    (plain_ok t whole)

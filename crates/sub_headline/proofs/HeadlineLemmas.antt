@@ -6,7 +6,8 @@ use Rattle.std.proofs.Common.{Bool, ap, arith, codes, false, refl, subst, sym}
 use Rattle.std.proofs.lemmas.Bool.Decides.{nat_tests}
 use Rattle.clap.specs.Words.{Text}
 use Rattle.ttx_page.specs.Page.{Rows, cell, space}
-use Rattle.ttx_page.specs.Shown.{IsHit}
+use Rattle.ttx_page.specs.DroppedRows.{ExcusedBy}
+use Rattle.ttx_page.specs.LostRows.{IsHitOrLost, arrivals_of}
 use Rattle.stl_file.specs.Scope.{whole}
 use Rattle.stl_rows.specs.Programme.{ProgrammeValue}
 use Rattle.stl_rows.specs.Layout.{default_layout, drawing_within}
@@ -35,12 +36,15 @@ use Rattle.sub_answer.specs.FilesInMemory.{TellsAccepted, told_of_memory}
 use Rattle.sub_answer.specs.Part.{through_range, through_stream}
 use Rattle.sub_answer.proofs.MemoryLemmas.{law_of_files_in_memory}
 use Rattle.sub_plan.specs.Examples.{page_888}
-use Rattle.sub_headline.specs.Headline.{LawOfHeadline, default_drawing}
+use Rattle.sub_headline.specs.Acceptance.{default_drawing}
+use Rattle.sub_headline.specs.Headline.{LawOfHeadline}
 use Rattle.sub_headline.specs.PlainHeadline.{Headline}
 use Rattle.sub_headline.specs.PlainWords.{IsName, default_options, whole_pes_file}
 use Rattle.sub_headline.specs.Run.{RunsProgram}
 use Rattle.sub_headline.proofs.AcceptanceLemmas.{law_of_plain_acceptance, programme_of}
-use Rattle.sub_headline.proofs.EnglishLemmas.{all_drawn, due_is}
+use Rattle.sub_headline.proofs.EnglishAcceptanceLemmas.{drawn_of, files_of}
+use Rattle.sub_headline.proofs.EnglishAcceptanceLemmas.{law_of_english_acceptance}
+use Rattle.sub_headline.proofs.EnglishLemmas.{due_is}
 use Rattle.sub_headline.proofs.PlainWordLemmas.{law_of_plain_words}
 use Rattle.sub_headline.proofs.RunLemmas.{HasAnswered, answered, done_by_code, no_fault}
 
@@ -129,30 +133,29 @@ plain_headline stl pes is =
     record { drawing = default_drawing; records = is.subtitles } in
     let of =
     programme_of default_drawing default_options stl pes is.subtitles is.transmission is.mean in
-    let drawn = all_drawn is.subtitles of.each of.drawable in
-    let robust = (law_of_good programme is.transmission default_options is.good).robust in
+    let drawn = drawn_of stl pes is.subtitles is.transmission is.mean in
+    let trusted = (law_of_good programme is.transmission default_options is.good).trusted in
     record {
       subtitles = is.subtitles;
-      gsi = is.mean.gsi;
-      subtitle_file = is.mean.subtitle_file;
-      in_order = is.mean.in_order;
-      texts = λ k d below. (drawn k d below).whole;
       transmission = is.transmission;
-      carries = is.mean.carries;
+      files = files_of stl pes is.subtitles is.transmission is.mean;
       covers = λ k d below. (
         begins_in programme is.transmission of is.good.rules.starts is.good.rules.lasts k d below,
         ends_in programme is.transmission of is.good.rules.starts is.good.rules.lasts k d below,
       );
-      receivers = λ g j f got old new listening near unheard closed hears.
-          let served = robust g j f got old new listening near unheard closed hears in
+      receivers = λ class g j f arrived got old new is_got hears.
+          let served = trusted.recovers class g j f arrived got old new is_got hears in
           record {
             in_time = served.in_time;
+            heard = served.heard;
             cells = λ header row column is_cell.
                 subst
                 (λ (due : Rows).
                 (cell new.page row column ≡ cell due row column)
                 ⊎ ((cell new.page row column ≡ space)
-                × IsHit page_888 (on_air is.transmission g j f) got row column))
+                × ExcusedBy class
+                (IsHitOrLost page_888 (on_air is.transmission g j f) (arrivals_of arrived got))
+                row column))
                 (due_is is.subtitles f drawn) (served.cells header row column is_cell);
           };
     }
@@ -200,6 +203,9 @@ law_of_headline contents failure_count given before after output left code runs 
       (λ two. absurd (omega (arith, none, two)))).0
       none),
   λ program stl pes file bytes is_stl is_pes given_is stl_is pes_is not_two.
+      let by =
       code_tells contents failure_count output left before after given code runs program stl pes
-      file bytes is_stl is_pes given_is stl_is pes_is not_two,
+      file bytes is_stl is_pes given_is stl_is pes_is not_two in
+      let same = law_of_english_acceptance file bytes in
+      (λ none. same.0 (by.0 none), λ is. by.1 (same.1 is)),
 )

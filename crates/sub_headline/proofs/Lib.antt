@@ -1,5 +1,6 @@
 pub mod AcceptanceLemmas
 pub mod EnglishLemmas
+pub mod EnglishAcceptanceLemmas
 pub mod PlainWordLemmas
 pub mod RunLemmas
 pub mod HeadlineLemmas

@@ -1,12 +1,12 @@
 -- The page of a subtitle in English by the default layout: what its text shows, and where.
-use Rattle.std.specs.Prelude.{◌≡◌, ◌≢◌, ◌⊎◌, ⊤, ℕ, ◌+◌, ◌-◌, ◌≤◌, true, List, [], ◌∷◌}
-use Rattle.std.specs.Prelude.{All, Option, Some, None, ◌==◌, length}
+use Rattle.std.specs.Prelude.{◌≡◌, ◌≢◌, ◌⊎◌, ⊤, ℕ, ◌+◌, ◌-◌, ◌≤◌, Bool, true, false, List, []}
+use Rattle.std.specs.Prelude.{◌∷◌, All, IsTrue, Option, Some, None, ◌==◌, length}
 use Rattle.std.specs.Prelude.{nat_lt, if◌then◌else◌, map, slice_index_or}
 use Rattle.std.specs.List.{find, onto_first, range_with_len}
 use Rattle.ttx_page.specs.Page.{Rows, blank}
 use Rattle.stl_file.specs.Subtitle.{SubtitleValue}
 use Rattle.stl_rows.specs.DuePage.{is_due}
-use Rattle.stl_rows.specs.Line.{prepared, row_of}
+use Rattle.stl_rows.specs.Line.{is_double, prepared, row_of}
 use Rattle.stl_rows.specs.TextCode.{is_common, is_within, new_line}
 
 -- The cell of a byte (EBU Tech 3264, code table 00; EN 300 706, English sub-set): its own number,
@@ -37,12 +37,20 @@ abbrev pub IsRead : ℕ → Type 0
 IsRead byte =
     (english_cell byte ≢ None) ⊎ (byte ≡ new_line) ⊎ (is_within 0x80 0x85 byte ≡ true)
 
--- Prepared lines fit on a page from a row on: none has more than 40 cells, and none that has cells
--- is below row 23.
-abbrev pub Fit : ℕ → List (List ℕ) → Type 0
-Fit row [] = ⊤
-Fit row (line ∷ lines) =
-    (length line ≤ 40) × (line ≢ [] → row ≤ 23) × Fit (row + 1) lines
+-- A prepared line fits on a row, under a line of double height or not: it has at most 40 cells;
+-- none of them is below row 23, nor double height on it, since row 24 is kept free; and under a
+-- line of double height, which would hide them, it has none.
+pub record IsFit (row : ℕ) (is_under_double : Bool) (line : List ℕ) : Type 0 where
+  pub short : length line ≤ 40
+  pub high : line ≢ [] → row ≤ 23
+  pub tall : IsTrue (is_double line) → row ≢ 23
+  pub seen : IsTrue is_under_double → line ≡ []
+
+-- Prepared lines fit on a page from a row on, under such a line or not.
+abbrev pub Fit : ℕ → Bool → List (List ℕ) → Type 0
+Fit row is_under_double [] = ⊤
+Fit row is_under_double (line ∷ lines) =
+    IsFit row is_under_double line × Fit (row + 1) (is_double line) lines
 
 -- The prepared lines of a subtitle: each that has cells in a box.
 abbrev pub boxed_lines : SubtitleValue → List (List ℕ)
@@ -51,7 +59,7 @@ boxed_lines t = map prepared (english_lines t.text)
 -- Nothing of its text is left out: each byte is read, and its lines fit on the page from row VP on.
 pub record IsWhole (t : SubtitleValue) : Type 0 where
   pub read : All IsRead t.text
-  pub fit : Fit t.vp (boxed_lines t)
+  pub fit : Fit t.vp false (boxed_lines t)
 
 -- The line of a row, where line 0 goes to row VP; none above it or below the last.
 abbrev pub english_line : SubtitleValue → ℕ → List ℕ

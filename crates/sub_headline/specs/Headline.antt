@@ -3,19 +3,12 @@ use Rattle.std.specs.Prelude.{◌≡◌, ◌≢◌, ◌↔◌, ℕ, List, [], �
 use Rattle.clap.specs.Words.{Text}
 use Rattle.sub_files.specs.FileCalls.{CallsInTurn}
 use Rattle.sub_files.specs.MemoryFiles.{IsMemoryCall, MemFilesValue, bytes_at}
-use Rattle.stl_rows.specs.Layout.{default_layout, drawing_by}
-use Rattle.stl_rows.specs.declared.layout.Drawing.{Drawing}
-use Rattle.stl_rows.specs.declared.national.National.TheVariants.{English}
 use Rattle.sub_request.specs.declared.request.UsageFault.{UsageFault}
-use Rattle.sub_check.specs.CheckedFiles.{IsAccepted}
 use Rattle.sub_answer.specs.FilesInMemory.{told_of_memory}
+use Rattle.sub_headline.specs.PlainAcceptance.{IsPlainlyAccepted}
 use Rattle.sub_headline.specs.PlainHeadline.{Headline}
-use Rattle.sub_headline.specs.PlainWords.{IsName, default_options}
+use Rattle.sub_headline.specs.PlainWords.{IsName}
 use Rattle.sub_headline.specs.Run.{RunsProgram}
-
--- English letters, the default layout, all of the file.
-abbrev pub default_drawing : Drawing
-default_drawing = drawing_by English default_layout
 
 -- Where the words that the system gave are `check STL PES`, behind the program's own name, and the
 -- files hold these bytes, this is so.
@@ -35,11 +28,10 @@ abbrev pub TellsHeadline : Result (List Text) UsageFault → MemFilesValue → �
 TellsHeadline given files code = OfCheck given files (λ file bytes. code ≡ 0 → Headline file bytes)
 
 -- Where it is not 2, which tells that a device failed or memory ran out, it is 0 exactly where they
--- are accepted: they mean subtitles and a good transmission of these.
+-- are accepted: they are those of some subtitles and of a good transmission of these.
 abbrev pub TellsAcceptance : Result (List Text) UsageFault → MemFilesValue → ℕ → Type 0
 TellsAcceptance given files code =
-    OfCheck given files (λ file bytes.
-    code ≢ 2 → (code ≡ 0) ↔ IsAccepted default_drawing default_options file bytes)
+    OfCheck given files (λ file bytes. code ≢ 2 → (code ≡ 0) ↔ IsPlainlyAccepted file bytes)
 
 -- Of a run of the program over files in memory, whatever standard output is, its code tells both.
 abbrev pub LawOfHeadline : {K : Type 0} → (K → Option (List ℕ)) → (K → ℕ) → Type 0

@@ -1,6 +1,7 @@
 pub mod Acceptance
 pub mod EnglishPage
 pub mod Headline
+pub mod PlainAcceptance
 pub mod PlainHeadline
 pub mod PlainWords
 pub mod Run

@@ -1,5 +1,5 @@
-//! What exit status 0 of `check` tells, in three steps and as one law.
-ghost use Rattle.sub_headline.specs.Acceptance.{LawOfPlainAcceptance};
+//! What exit status 0 of `check` tells, in four steps and as one law.
+ghost use Rattle.sub_headline.specs.Acceptance.{LawOfEnglishAcceptance, LawOfPlainAcceptance};
 ghost use Rattle.sub_headline.specs.Headline.{LawOfHeadline};
 ghost use Rattle.sub_headline.specs.PlainWords.{LawOfPlainWords};
 
@@ -9,6 +9,11 @@ use sub_io::Sink;
 /// options exactly where they mean subtitles and a good transmission of these.
 pub fn law_of_plain_acceptance()
     ensures { LawOfPlainAcceptance }
+{}
+
+/// By the default options files are accepted exactly where they are by English's own page and rules.
+pub fn law_of_english_acceptance()
+    ensures { LawOfEnglishAcceptance }
 {}
 
 /// The words `check STL PES` alone ask for a check of these two files by the default options.

@@ -1,0 +1,184 @@
+-- For `law_of_english_acceptance`: the files that mean subtitles and a transmission by the default
+-- options are theirs, `files_of` and `mean_of`; and what is good for these is good by English's own
+-- page and rules, `english_of` and `good_of`.
+use Rattle.std.proofs.Common.{◌≡◌, ◌∙◌, ℕ, Bool, false, List, None, ap, sym}
+use Rattle.std.specs.Prelude.{All, IsFalse, IsTrue}
+use Rattle.ttx_packet.specs.declared.header.Header.{Header}
+use Rattle.ttx_packet.specs.PageHeader.{c12, c13, c14}
+use Rattle.ttx_page.specs.Page.{Rows, cell}
+use Rattle.stl_file.specs.Subtitle.{IsSubtitle, SubtitleValue}
+use Rattle.stl_rows.specs.declared.national.National.TheVariants.{English}
+use Rattle.stl_rows.specs.declared.national.NationalBits.{NationalBits}
+use Rattle.stl_rows.specs.SubSets.{sub_set}
+use Rattle.sub_plan.specs.Sending.{national_bits}
+use Rattle.sub_rules.specs.Good.{Good, IsSubtitleHeader, KeepsPace}
+use Rattle.sub_rules.specs.Transmission.{Transmission}
+use Rattle.sub_check.specs.CheckedFiles.{IsAccepted, Mean}
+use Rattle.sub_headline.specs.Acceptance.{LawOfEnglishAcceptance, default_drawing}
+use Rattle.sub_headline.specs.PlainAcceptance.{IsEnglishGood, IsEnglishHeader, IsPlainlyAccepted}
+use Rattle.sub_headline.specs.PlainHeadline.{AreFilesOf}
+use Rattle.sub_headline.specs.PlainWords.{default_options}
+use Rattle.sub_headline.proofs.AcceptanceLemmas.{all_subtitles, programme_of}
+use Rattle.sub_headline.proofs.EnglishLemmas.{IsDrawn, all_drawn, due_is, ok_of_whole}
+
+-- ---- a header
+
+abbrev bits_of : Bool → Bool → Bool → NationalBits
+bits_of a b c = record { c12 = a; c13 = b; c14 = c }
+
+option_is : (h : Header)
+    → IsFalse (c12 h)
+    → IsFalse (c13 h)
+    → IsFalse (c14 h)
+    → national_bits h ≡ bits_of false false false
+option_is h first second third =
+    ap (λ (a : Bool). bits_of a (c13 h) (c14 h)) first
+    ∙ ap (λ (b : Bool). bits_of false b (c14 h)) second
+    ∙ ap (λ (c : Bool). bits_of false false c) third
+
+english_header : (h : Header) → IsSubtitleHeader English h → IsEnglishHeader h
+unfolding sub_set
+english_header h is = record {
+  erases = is.erases;
+  no_newsflash = is.no_newsflash;
+  subtitle = is.subtitle;
+  suppressed = is.suppressed;
+  displayed = is.displayed;
+  first_option = ap (λ (bits : NationalBits). bits.c12) is.option;
+  second_option = ap (λ (bits : NationalBits). bits.c13) is.option;
+  third_option = ap (λ (bits : NationalBits). bits.c14) is.option;
+}
+
+subtitle_header : (h : Header) → IsEnglishHeader h → IsSubtitleHeader English h
+unfolding sub_set
+subtitle_header h is = record {
+  erases = is.erases;
+  no_newsflash = is.no_newsflash;
+  subtitle = is.subtitle;
+  suppressed = is.suppressed;
+  displayed = is.displayed;
+  option = option_is h is.first_option is.second_option is.third_option;
+}
+
+-- ---- what is not asked for
+
+no_pace : (transmission : Transmission) → KeepsPace None transmission
+no_pace transmission frames f some from to = cc
+
+not_asked : {A : Type 0} → IsTrue false → A
+not_asked asked = cc
+
+-- ---- a transmission
+
+module _ (subtitles : List SubtitleValue) (transmission : Transmission)
+    (drawn : All IsDrawn subtitles) where
+  english_of :
+      Good (record { drawing = default_drawing; records = subtitles }) transmission default_options
+      → IsEnglishGood subtitles transmission
+  english_of good = record {
+    not_empty = good.rules.not_empty;
+    rising = good.rules.rising;
+    whole = good.rules.whole;
+    starts = good.rules.starts;
+    lasts = good.rules.lasts;
+    exact = good.rules.exact;
+    serial = good.rules.serial;
+    control = λ k d below n packet within h is.
+        english_header h (good.rules.control k d below n packet within h is);
+    spans = good.rules.spans;
+    opens = good.rules.opens;
+    repeats = good.rules.repeats;
+    content = λ f row column from to is_cell.
+        good.content f row column from to is_cell
+        ∙ ap (λ (due : Rows). cell due row column) (due_is subtitles f drawn);
+  }
+
+  good_of :
+      IsEnglishGood subtitles transmission
+      → Good (record { drawing = default_drawing; records = subtitles }) transmission
+      default_options
+  good_of good = record {
+    rules = record {
+      not_empty = good.not_empty;
+      rising = good.rising;
+      whole = good.whole;
+      starts = good.starts;
+      lasts = good.lasts;
+      exact = good.exact;
+      serial = good.serial;
+      control = λ k d below n packet within h is.
+          subtitle_header h (good.control k d below n packet within h is);
+      spans = good.spans;
+      opens = good.opens;
+      repeats = good.repeats;
+      paced = no_pace transmission;
+    };
+    content = λ f row column from to is_cell.
+        good.content f row column from to is_cell
+        ∙ ap (λ (due : Rows). cell due row column) (sym (due_is subtitles f drawn));
+  }
+
+-- ---- both files
+
+module _ (stl pes : List ℕ) (subtitles : List SubtitleValue) (transmission : Transmission) where
+  pub drawn_of :
+      Mean default_drawing default_options.origin stl pes subtitles transmission
+      → All IsDrawn subtitles
+  drawn_of mean =
+      let of = programme_of default_drawing default_options stl pes subtitles transmission mean in
+      all_drawn subtitles of.each of.drawable
+
+  pub files_of :
+      Mean default_drawing default_options.origin stl pes subtitles transmission
+      → AreFilesOf stl pes subtitles transmission
+  files_of mean = record {
+    gsi = mean.gsi;
+    subtitle_file = mean.subtitle_file;
+    in_order = mean.in_order;
+    texts = λ k d below. (drawn_of mean k d below).whole;
+    carries = mean.carries;
+  }
+
+  mean_of :
+      AreFilesOf stl pes subtitles transmission
+      → Mean default_drawing default_options.origin stl pes subtitles transmission
+  mean_of files =
+      let each : All IsSubtitle subtitles =
+      all_subtitles subtitles _ files.subtitle_file.rest.are_of in
+      record {
+        gsi = files.gsi;
+        subtitle_file = files.subtitle_file;
+        in_order = files.in_order;
+        drawable = λ k d below. ok_of_whole _ (each k d below) (files.texts k d below);
+        carries = files.carries;
+      }
+
+there : (stl pes : List ℕ)
+    → IsAccepted default_drawing default_options stl pes
+    → IsPlainlyAccepted stl pes
+there stl pes is = record {
+  subtitles = is.subtitles;
+  transmission = is.transmission;
+  files = files_of stl pes is.subtitles is.transmission is.mean;
+  good =
+      english_of is.subtitles is.transmission
+      (drawn_of stl pes is.subtitles is.transmission is.mean) is.good;
+}
+
+back : (stl pes : List ℕ)
+    → IsPlainlyAccepted stl pes
+    → IsAccepted default_drawing default_options stl pes
+back stl pes is =
+    let mean = mean_of stl pes is.subtitles is.transmission is.files in
+    record {
+      subtitles = is.subtitles;
+      transmission = is.transmission;
+      mean = mean;
+      good =
+          good_of is.subtitles is.transmission
+          (drawn_of stl pes is.subtitles is.transmission mean) is.good;
+      complete = not_asked;
+    }
+
+pub law_of_english_acceptance : LawOfEnglishAcceptance
+law_of_english_acceptance stl pes = (there stl pes, back stl pes)

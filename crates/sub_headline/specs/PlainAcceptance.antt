@@ -1,0 +1,82 @@
+-- What is accepted by `check STL PES`, without options: the seven rules of `Good` for English
+-- subtitles, in as few words as there are.
+use Rattle.std.specs.Prelude.{◌≡◌, ℕ, ◌<◌, ◌≤◌, IfSome, IsFalse, IsTrue, List, length}
+use Rattle.ttx_packet.specs.declared.header.Header.{Header}
+use Rattle.ttx_packet.specs.PageHeader.{HasExactWords, c10, c12, c13, c14, c4, c5, c6, c7}
+use Rattle.ttx_page.specs.declared.packet_kind.PacketKind.TheVariants.{ThisPage}
+use Rattle.ttx_page.specs.Page.{IsCell, cell}
+use Rattle.ttx_page.specs.PacketKind.{kind}
+use Rattle.ttx_page.specs.Shown.{shown}
+use Rattle.stl_file.specs.Subtitle.{SubtitleValue}
+use Rattle.stl_rows.specs.Programme.{first_in, last_out}
+use Rattle.sub_plan.specs.Examples.{page_888}
+use Rattle.sub_rules.specs.Good.{HasCleanSpans, HoldsHeader, IsInOneMode, Repeats}
+use Rattle.sub_rules.specs.Transmission.{EachPacket, IsRising, Transmission, first_frame}
+use Rattle.sub_rules.specs.Transmission.{last_frame, on_air_until}
+use Rattle.sub_headline.specs.EnglishPage.{english_due}
+use Rattle.sub_headline.specs.PlainHeadline.{AreFilesOf}
+
+-- The control bits of the header of a subtitle in English: the page is erased, C4; it is a
+-- subtitle, C6, and no newsflash, C5; the header row is suppressed, C7; display is not inhibited,
+-- C10; and C12 to C14 are clear, which is English. C8, update indicator, and C9, interrupted
+-- sequence, may be set or clear.
+pub record IsEnglishHeader (h : Header) : Type 0 where
+  pub erases : IsTrue (c4 h)
+  pub no_newsflash : IsFalse (c5 h)
+  pub subtitle : IsTrue (c6 h)
+  pub suppressed : IsTrue (c7 h)
+  pub displayed : IsFalse (c10 h)
+  pub first_option : IsFalse (c12 h)
+  pub second_option : IsFalse (c13 h)
+  pub third_option : IsFalse (c14 h)
+
+-- Where the packet is a header of page 888, it is such a header.
+abbrev pub IsControlledInEnglish : List ℕ → Type 0
+IsControlledInEnglish packet =
+    (h : Header) → kind page_888 packet ≡ ThisPage h → IsEnglishHeader h
+
+-- At the end of each frame from the first to the last, with packets of its own or not, the page
+-- that is due is shown.
+abbrev pub ShowsEnglishPages : List SubtitleValue → Transmission → Type 0
+ShowsEnglishPages subtitles transmission =
+    (f row column : ℕ)
+    → first_frame transmission ≤ f
+    → f ≤ last_frame transmission
+    → IsCell row column
+    → shown page_888 (on_air_until transmission f) row column
+    ≡ cell (english_due subtitles f) row column
+
+-- A good transmission of these subtitles on page 888, by the seven rules.
+pub record IsEnglishGood (subtitles : List SubtitleValue) (transmission : Transmission)
+    : Type 0 where
+  -- 1. There is a frame, the frames rise, packets are 42 bytes, and the frames reach from the first
+  -- TCI to the last TCO.
+  pub not_empty : 0 < length transmission
+  pub rising : IsRising transmission
+  pub whole : EachPacket (λ packet. length packet ≡ 42) transmission
+  pub starts : IfSome (first_in subtitles) (λ tci. first_frame transmission ≤ tci)
+  pub lasts : IfSome (last_out subtitles) (λ tco. tco ≤ last_frame transmission)
+  -- 2. The address bytes of each packet, and all eight coded bytes of each packet X/0, are code
+  -- words with no bit wrong.
+  pub exact : EachPacket HasExactWords transmission
+  -- 3. All page headers, of any page, agree on C11.
+  pub serial : EachPacket (λ one. EachPacket (IsInOneMode one) transmission) transmission
+  -- 4. Each header of the page is that of a subtitle in English.
+  pub control : EachPacket IsControlledInEnglish transmission
+  -- 5. While the page is open each row has odd parity and stays as it is, and no packet X/25 to
+  -- X/28 of its magazine comes.
+  pub spans : HasCleanSpans page_888 transmission
+  -- 6. The first frame holds a header of the page, and so does one of each 250 that follow one
+  -- another.
+  pub opens : HoldsHeader page_888 transmission (first_frame transmission)
+  pub repeats : Repeats page_888 250 transmission
+  -- 7. At each frame's end the page that is due is shown.
+  pub content : ShowsEnglishPages subtitles transmission
+
+-- The bytes of both files are accepted: they are those of some subtitles and of a good transmission
+-- of these.
+pub record IsPlainlyAccepted (stl pes : List ℕ) : Type 0 where
+  pub subtitles : List SubtitleValue
+  pub transmission : Transmission
+  pub files : AreFilesOf stl pes subtitles transmission
+  pub good : IsEnglishGood subtitles transmission
