@@ -5,5 +5,6 @@
 
 mod laws;
 
-pub use laws::{law_of_english_acceptance, law_of_headline};
-pub use laws::{law_of_plain_acceptance, law_of_plain_words};
+pub use laws::{
+    law_of_english_acceptance, law_of_headline, law_of_plain_acceptance, law_of_plain_words,
+};
