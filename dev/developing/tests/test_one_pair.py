@@ -430,8 +430,8 @@ class Overview(Case):
                   ">list</a>" in lines["b"] and ">report</a>" in lines["a"])
         self.must("why", "why<br/>more<br/>and<" in lines["b"] and "four" not in lines["b"] and
                   "refused 72<br/>a hint" in lines["d<"] and "accepted 5" not in lines["a"])
-        self.must("causes", lines["d<"].count("&#215;") == 6 and "&#8230;" in lines["d<"] and
-                  "&#8230;" not in lines["c"] and "9 faults<br/>" in lines["d<"] and
+        self.must("causes", lines["d<"].count("&times;") == 6 and "&hellip;" in lines["d<"] and
+                  "&hellip;" not in lines["c"] and "9 faults<br/>" in lines["d<"] and
                   "1 fault<br/>" in lines["c"] and "0 faults" in lines["e"] and
                   "fault" not in lines["b"])
         self.must("name", "d&lt;" in lines["d<"] and 'class="not-judged"' in lines["b"])

@@ -3,6 +3,7 @@ from __future__ import annotations
 
 import os
 import random
+import re
 import signal
 import subprocess
 import sys
@@ -102,7 +103,8 @@ class Pages(Case):
     def test_marks(self) -> None:
         """No element or attribute is there that the page has not for text alone."""
         for number in range(200):
-            root = tree.parse(self.page(number)).getroot()
+            with open(self.page(number), encoding="utf-8") as file:
+                root = tree.fromstring(re.sub("&(times|hellip);", "", file.read()))
             for one in root.iter():
                 self.assertIn(one.tag.rpartition("}")[2], TAGS)
                 self.assertLessEqual(one.attrib.keys(), ATTRIBUTES)

@@ -66,8 +66,8 @@ def rank(row: Row) -> tuple[int, str]:
 def line_of(folder: str, row: Row) -> Markup:
     """The line of a pair."""
     causes = list(row.causes.items())
-    told = [markup("{} &#215; {}", count, cause) for cause, count in causes[:MOST_CAUSES]]
-    told += [markup("&#8230;")] if len(causes) > MOST_CAUSES else []
+    told = [markup("{} &times; {}", count, cause) for cause, count in causes[:MOST_CAUSES]]
+    told += [markup("&hellip;")] if len(causes) > MOST_CAUSES else []
     faults = markup("{}", counted(row.faults, "fault") if row.is_judged else "")
     if told:
         faults += markup("<br/><small>{}</small>", joined(told, "<br/>"))
