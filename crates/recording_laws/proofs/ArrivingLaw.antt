@@ -12,7 +12,8 @@ use Rattle.recording_laws.proofs.LeadsLemmas.{Leads, leads-gone, leads-there, le
 use Rattle.recording_laws.proofs.PieceLemmas.{concat-marks, marks_where, one-way, sent_bytes}
 use Rattle.recording_laws.proofs.ReadingLaw.{law_of_reading}
 use Rattle.recording_laws.proofs.OpenPartLemmas.{Gives}
-use Rattle.recording_laws.proofs.ReadingLemmas.{After, Held, Marked, Nothing, Reads, is_gap, is_held}
+use Rattle.recording_laws.proofs.ReadingLemmas.{After, Held, Marked, Nothing, Reads, is_gap}
+use Rattle.recording_laws.proofs.ReadingLemmas.{is_held}
 use Rattle.recording_laws.proofs.ReadingLemmas.{Located, located, sent-next, skip}
 use Rattle.std.specs.Bool.{⊤}
 

@@ -11,16 +11,19 @@ use Rattle.mpeg_ts.specs.Carried.{carried, with_marks}
 use Rattle.mpeg_ts.specs.GoodPackets.{GoodPackets, Note, good_after, nothing_since}
 use Rattle.mpeg_ts.specs.Parts.{outcomes_of}
 use Rattle.mpeg_ts.specs.TransportPacket.{counter, payload}
-use Rattle.recording_laws.specs.Losses.{AreLosses, Fate, Fated, IsFate, IsSpoiled, any_wrong, left_of}
+use Rattle.recording_laws.specs.Losses.{AreLosses, Fate, Fated, IsFate, IsSpoiled, any_wrong}
+use Rattle.recording_laws.specs.Losses.{left_of}
 use Rattle.recording_laws.specs.Losses.{sent_packet, units_left}
-use Rattle.recording_laws.specs.Multiplex.{AreInSequence, AreNextCarriers, AreRecordedUnits, Carrier}
+use Rattle.recording_laws.specs.Multiplex.{AreInSequence, AreNextCarriers, AreRecordedUnits}
+use Rattle.recording_laws.specs.Multiplex.{Carrier}
 use Rattle.recording_laws.specs.Multiplex.{IsCarrier, IsNextCarrier, IsRecordedUnit, IsRecording}
 use Rattle.recording_laws.specs.Multiplex.{IsSentPes, Multiplex, SentPes, announces, carriers_of}
 use Rattle.recording_laws.specs.Multiplex.{items_of_carrier, items_of_multiplex, packet_in}
 use Rattle.recording_laws.specs.Multiplex.{carriers_of_pes}
 use Rattle.recording_laws.proofs.LeftLemmas.{AreRising, IsSomeLeft, carried-no_jump}
 use Rattle.ttx_pes.specs.Pieces.{IsPiece}
-use Rattle.recording_laws.proofs.LeftNoteLemmas.{IsLeft, IsLeftCarrier, good-quiets-left, heard_left}
+use Rattle.recording_laws.proofs.LeftNoteLemmas.{IsLeft, IsLeftCarrier, good-quiets-left}
+use Rattle.recording_laws.proofs.LeftNoteLemmas.{heard_left}
 use Rattle.recording_laws.proofs.LeftNoteLemmas.{since_loss}
 use Rattle.recording_laws.proofs.RecordingLemmas.{noted, notes-units}
 

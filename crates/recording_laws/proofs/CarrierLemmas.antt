@@ -12,7 +12,8 @@ use Rattle.mpeg_ts.specs.GoodPackets.{Note, Since, nothing_since, good_after, li
 use Rattle.mpeg_ts.specs.GoodPackets.{is_same, counts_on, with_good, GoodPacket, Follows, link_from}
 use Rattle.mpeg_ts.specs.Parts.{is_break}
 use Rattle.mpeg_ts.specs.TransportPacket.{counter, begins}
-use Rattle.recording_laws.specs.Multiplex.{Carrier, IsCarrier, IsRepetition, IsNextCarrier, is_quiet}
+use Rattle.recording_laws.specs.Multiplex.{Carrier, IsCarrier, IsRepetition, IsNextCarrier}
+use Rattle.recording_laws.specs.Multiplex.{is_quiet}
 use Rattle.recording_laws.specs.Multiplex.{carries, announces, items_of_carrier, AreNextCarriers}
 use Rattle.recording_laws.proofs.RecordingLemmas.{noted}
 

@@ -15,7 +15,8 @@ use Rattle.mpeg_ts.specs.Parts.{is_break, is_unlinked}
 use Rattle.mpeg_ts.specs.PacketsInStep.{lead_size}
 use Rattle.mpeg_ts.specs.TransportPacket.{announces_jump, begins, counter, payload}
 use Rattle.recording_laws.specs.Losses.{Fated, are_few_gone, is_there, sent_packet}
-use Rattle.recording_laws.specs.Multiplex.{Carrier, IsRecordedUnit, IsRepetition, announces, carries}
+use Rattle.recording_laws.specs.Multiplex.{Carrier, IsRecordedUnit, IsRepetition, announces}
+use Rattle.recording_laws.specs.Multiplex.{carries}
 use Rattle.recording_laws.specs.Multiplex.{packet_in}
 use Rattle.recording_laws.proofs.CarrierLemmas.{counter-same}
 use Rattle.recording_laws.proofs.LeftNoteLemmas.{IsLeft, IsLeftCarrier, copy_of, since_loss}

@@ -13,7 +13,8 @@ use Rattle.recording_laws.specs.Losses.{Fate, Fated, IsFate, any_kept, any_wrong
 use Rattle.recording_laws.specs.Losses.{is_made_wrong, left_of, sent_packet}
 use Rattle.recording_laws.specs.Multiplex.{Carrier, IsCarrier, IsRepetition, announces, is_quiet}
 use Rattle.recording_laws.specs.Multiplex.{IsRecordedUnit, items_of_carrier, packet_in}
-use Rattle.recording_laws.proofs.CarrierLemmas.{good-packet, good-quiet, good-repeat, is_repeat-again}
+use Rattle.recording_laws.proofs.CarrierLemmas.{good-packet, good-quiet, good-repeat}
+use Rattle.recording_laws.proofs.CarrierLemmas.{is_repeat-again}
 use Rattle.recording_laws.proofs.CarrierLemmas.{since_quiet}
 use Rattle.recording_laws.proofs.RecordingLemmas.{noted}
 

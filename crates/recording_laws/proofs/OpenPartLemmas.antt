@@ -437,8 +437,8 @@ module _ (distance number : ℕ) (wrong_behind few : Bool) where
   going-fits
       part given gap s between skipped n wrong piece longer breaks as_sent (inl all) on none =
       inr (all.unskipped, as_sent (sym (append-nil (part_bytes part)) ∙ all.joined))
-  going-fits
-      part given gap s between skipped n wrong piece longer breaks as_sent (inr (inl some)) on none =
+  going-fits part given gap s between skipped n wrong piece longer breaks as_sent
+      (inr (inl some)) on none =
       let follows = on (grind (arith, nat_tests)) in
       let first = some.0 in
       let near = some.1 in

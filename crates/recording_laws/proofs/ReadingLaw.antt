@@ -14,9 +14,11 @@ use Rattle.recording_laws.specs.Laws.{LawOfPace}
 use Rattle.std.proofs.lemmas.Bool.{cases_Bool}
 use Rattle.std.proofs.lemmas.Bool.Decides.{nat_tests}
 use Rattle.recording_laws.specs.Losses.{AreLosses, are_few_gone, are_there_after, arrives, is_there}
-use Rattle.recording_laws.specs.Losses.{is_wrong_behind, units_before, units_behind, Fated, any_wrong}
+use Rattle.recording_laws.specs.Losses.{is_wrong_behind, units_before, units_behind, Fated}
+use Rattle.recording_laws.specs.Losses.{any_wrong}
 use Rattle.recording_laws.specs.Losses.{sent_packet}
-use Rattle.recording_laws.specs.Multiplex.{Multiplex, Carrier, SentPes, carriers_of, carriers_of_pes}
+use Rattle.recording_laws.specs.Multiplex.{Multiplex, Carrier, SentPes, carriers_of}
+use Rattle.recording_laws.specs.Multiplex.{carriers_of_pes}
 use Rattle.recording_laws.specs.Multiplex.{items_of_carrier}
 use Rattle.recording_laws.proofs.ReadingLemmas.{IsMarkExact, is_held, After, Fits, Held, Nothing}
 use Rattle.recording_laws.proofs.ReadingLemmas.{Reads, WasSent, read-run}
@@ -27,7 +29,8 @@ use Rattle.recording_laws.proofs.CarriedLeftLemmas.{first_counter, pes-rising, I
 use Rattle.recording_laws.proofs.OpenPartLemmas.{closed-by, payloads_of, Gives, Onward, Opens}
 use Rattle.recording_laws.proofs.OpenPartLemmas.{carried_from, gapped, closing, going-ends, IsFirst}
 use Rattle.recording_laws.proofs.OpenPartLemmas.{gives-later, gives-one, gives-opened, going-fits}
-use Rattle.recording_laws.proofs.OpenPartLemmas.{going-skip, headless-within, open-within, opens-later}
+use Rattle.recording_laws.proofs.OpenPartLemmas.{going-skip, headless-within, open-within}
+use Rattle.recording_laws.proofs.OpenPartLemmas.{opens-later}
 use Rattle.recording_laws.proofs.OpenPartLemmas.{IsGoing}
 use Rattle.recording_laws.proofs.LeftNoteLemmas.{or-true, heard_left, since_loss}
 use Rattle.recording_laws.proofs.ClosedPartLemmas.{broken-unbegun, closes-broken}
@@ -252,8 +255,8 @@ module _ (distance number : ℕ) (wrong_behind few : Bool) where
             gives-later few given t more
             (carried_from distance number wrong_behind few part given gap goods)
             (λ e. not-first t (gone.1 e))
-            (headless-within distance number wrong_behind few more part given gap behind (n + 1) gone.0
-            t.others goods go headless is.others gone.2)
+            (headless-within distance number wrong_behind few more part given gap behind (n + 1)
+            gone.0 t.others goods go headless is.others gone.2)
         | inr here ↦
             subst (Gives few (gapped given) (t ∷ more))
             (sym
@@ -298,8 +301,9 @@ module _ (distance number : ℕ) (wrong_behind few : Bool) where
             later one.is.closes (first-cuts t g is heard.copy))
             (opening t more g later since (After one.is.piece s between skipped) true one.is.longer
             go is holds heard.copy (λ e. (heard.there e, behind e)) traced refl
-            (going-fits distance number wrong_behind few part given gap s between skipped n
-            wrong one.is.piece one.is.longer (is_break g.link) one.is.as_sent going (heard.linked refl).far)
+            (going-fits distance number wrong_behind few part given gap s between skipped n wrong
+            one.is.piece one.is.longer (is_break g.link) one.is.as_sent going
+            (heard.linked refl).far)
             (going-exact part s between skipped n wrong one.is.piece one.is.longer t g going heard
             (λ e. ((one.exact e).0, (one.exact e).2)))))
         | inr broken ↦

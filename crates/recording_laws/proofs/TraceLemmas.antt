@@ -21,7 +21,8 @@ use Rattle.recording_laws.specs.Losses.{are_few_gone, is_there, units_before, un
 use Rattle.recording_laws.specs.Losses.{any_kept, any_wrong, is_as_sent, sent_packet}
 use Rattle.recording_laws.specs.Multiplex.{Carrier, IsRepetition, is_quiet, items_of_carrier}
 use Rattle.recording_laws.proofs.CarrierLemmas.{good-repeat}
-use Rattle.recording_laws.proofs.LeftNoteLemmas.{or-false, IsLeft, IsLeftCarrier, copy_of, good-first}
+use Rattle.recording_laws.proofs.LeftNoteLemmas.{or-false, IsLeft, IsLeftCarrier, copy_of}
+use Rattle.recording_laws.proofs.LeftNoteLemmas.{good-first}
 use Rattle.recording_laws.proofs.LeftNoteLemmas.{good-no_first, good-no_second, good-quiets-left}
 use Rattle.recording_laws.proofs.LeftNoteLemmas.{good-second, heard-carrier, heard-kept, heard_left}
 use Rattle.recording_laws.proofs.LeftNoteLemmas.{since_loss}
