@@ -59,8 +59,8 @@ class Ranges(Case):
             ("00:01:02:00", "00:01:07:15", day)], found.said)
         self.must("places", [one["position"] for one in found.result["subtitles"]] == [4, 5, 6])
         page = self.read("out/one.html")
-        self.must("report", b'id="s4"' in page and b'id="s3"' not in page and
-                  b"--from 00:01:00:00" in page)
+        self.must("report", b"<title>subtitle 4: " in page and
+                  b"<title>subtitle 3: " not in page and b"--from 00:01:00:00" in page)
         self.must("files", sorted(os.listdir(self.path("out"))) == [
             "one.html", "one.json", "one.txt"])
 
