@@ -14,7 +14,7 @@ from subtitles.calls.channel.running import LATER
 from subtitles.calls.channel.state import ERROR
 from subtitles.core.times import CLOCK, TICKS
 from subtitles.qc.clock import FITTED_SHORT
-from .listings import BEGIN, LAST, SECOND, Judging, Lines, Programmes, Told, texts_of
+from .listings import BEGIN, LAST, SECOND, Judging, Lines, Pages, Programmes, Told, texts_of
 from .results import result
 from .test_channel_tables import FIRST
 
@@ -198,6 +198,28 @@ class Steps(Programmes):
             self.must("two", self.names()[-1] == "two" and Judging.made[-1].words.origin ==
                       (BEGIN + 60 * SECOND - TICKS * FIRST) % CLOCK, channel.said)
             self.must("time", channel.queue.ended == 60 * SECOND + TICKS * LAST)
+
+    def test_heard_once_more(self) -> None:
+        """What an earlier call has judged is of no other programme, though something is lost before
+        it, or an encoder begins anew there: that is heard once more, too."""
+        self.write("copy.stl", self.read("one.stl"))
+        listed = self.listed("one") + self.path("copy.stl") + "\n"
+        for kind in ("lost", "anew"):
+            spool, out = (self.path(f"{kind} {name}") for name in ("spool", "out"))
+            os.mkdir(spool)
+            for turn in range(2):
+                channel, lines = Told(self, listed, out, spool=spool), Lines()
+                channel.hearing = Pages("none", None, None, lambda: ())
+                channel.go_on()
+                first = BEGIN if kind == "lost" else BEGIN + CLOCK // 2
+                channel.give(lines.pes(first + SECOND * at) for at in range(5))
+                if kind == "lost":
+                    channel.lose()
+                channel.give(lines.sent(texts_of("one"), BEGIN + SECOND * 10, 20))
+                self.must(f"{kind} {turn}", self.names() == ["one"] * (turn == 0), channel.said)
+            channel.give(lines.sent(texts_of("one"), BEGIN + SECOND * 90, 20))
+            self.must(f"{kind}: its own", self.names() == ["copy"] and Judging.made[0].words.origin
+                      == (BEGIN + SECOND * 90 - TICKS * FIRST) % CLOCK, channel.said)
 
     def test_end_of_the_feed(self) -> None:
         """What is there is judged, and the others are open; a line that is none is not."""

@@ -120,8 +120,9 @@ class Queue:
 
     def wait_anew(self, since: int, ended: int | None = None) -> None:
         """The first one is another one than before, and is waited for since a time; its subtitle
-        file may have come meanwhile."""
+        file may have come meanwhile. What an earlier call has judged may be heard once more, and is
+        over all the same: `ended` never goes back."""
         self.since = since
-        self.ended = self.ended if ended is None else ended
+        self.ended = max(self.ended, self.ended if ended is None else ended)
         for one in self.waiting:
             one.begin(self.ended, self.until)
