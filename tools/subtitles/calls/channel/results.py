@@ -61,7 +61,7 @@ class Results:
     def ended(self) -> int:
         """When the last programme was over that has a result which stays, by the time of the feed.
         One that is open may have begun before that: it is looked for in all that is kept."""
-        over = {name: time for name, time in self.journal.entries(2)}  # of each its last one
+        over: dict[str, int] = {name: time for name, time in self.journal.entries(2)}  # its last
         return next((over[name] for name in sorted(over, key=lambda name: over[name], reverse=True)
                      if self.has(name)), 0)
 
