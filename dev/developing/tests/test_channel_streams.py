@@ -224,11 +224,13 @@ class Streams(Case):
         feed = Feed(self, count=20)
         del feed.pes[400:800]  # sixteen seconds
         status, lines, _ = self.channel(bytes_of(feed.stream()))
-        # It is told by the PCR, of which there is no line for each; and how much of the stream
-        # comes at once says which of them is the first to tell it.
+        # It is told by the PCR, of which there is a line each second. How much of the stream comes
+        # at once says which of them is the first to tell it, and whether the last PES packet is
+        # known by then, or one of the second before it.
         silent = re.fullmatch(r"nothing of PID 0x101 for (\d+) seconds of the stream, after PTS "
-                              rf"{feed.at(250)}", lines[0])
+                              r"(\d+)", lines[0])
         self.must("told", status == 1 and len(lines) == 3 and silent and 8 <= int(silent[1]) < 17
+                  and int(silent[2]) in {feed.at(frame) for frame in range(250, 275)}
                   and lines[1] == f"PID 0x101 goes on at PTS {feed.at(675)}", lines)
 
 
@@ -283,3 +285,25 @@ class Ends(Case):
             self.must("again", again.status == 2 and b"one  not judged: something of the feed was "
                       b"not recorded at 10:00:17:0" in again.out, again)
 
+    def test_file_that_grows(self) -> None:
+        """A programme that is open is looked for in what is kept of it: once the file has grown it
+        is judged whole, however few of its cues came since."""
+        feed = Feed(self, count=8)
+        sent = feed.stream()
+        own = [at for at, one in enumerate(sent) if one.pid == TELETEXT_PID]
+        self.write("list", b"one.stl\n")
+        for count in (3, 5, 7):  # subtitles that come first
+            part = sent[:own[BEFORE * FRAMES_A_SECOND + EACH * count - 10]]
+            for data, status, said in ((part, 2, "not judged: the feed ended at 10:00:"),
+                                       (sent, 0, "accepted ")):
+                self.grow(f"{count}.ts", bytes_of(data))
+                done = self.tool("qc", "--channel", "list", f"{count}.ts", "-o",
+                                 f"out {count}", "-p", self.bench.program)
+                lines = verdicts(done.out.decode().splitlines())
+                self.must(f"{count}: {said}", done.status == status and
+                          [line.startswith(f"one  {said}") for line in lines] == [True], lines)
+
+    def grow(self, name: str, data: bytes) -> None:
+        """A file has more of the bytes with which it begins."""
+        with open(self.path(name), "ab") as file:
+            file.write(data[file.tell():])

@@ -28,7 +28,7 @@ from . import hook, machine
 from .feed_clock import MINUTE
 from .hearing import Hearing
 from .journal import Journal
-from .planned import Planned, Programme
+from .planned import Planned
 from .queue import Arrival, Queue
 from .recorder import Recorded
 from .results import Results
@@ -353,15 +353,10 @@ class Channel:
             programme.has_ended = True
             self.unjudged(programme.name, programme.reason or reason, programme.reason is None)
         self.publish()
-        if all(self.has_result(one) for one in self.queue.planned.programmes):
+        if all(self.results.has(one.name) for one in self.queue.planned.programmes):
             self.segments.clear()
         self.results.sweep()
         self.tell_machine()
-
-    def has_result(self, programme: Programme) -> bool:
-        """Whether a programme has a result that stays."""
-        known = self.results.result(programme.name)
-        return known is not None and not known.get("open")
 
     def tell_machine(self) -> None:
         """What a machine asks."""

@@ -53,11 +53,17 @@ class Results:
                 return known
         return self.kept.get(name)
 
+    def has(self, name: str) -> bool:
+        """Whether a programme has a result that stays."""
+        known = self.result(name)
+        return known is not None and not known.get("open")
+
     def ended(self) -> int:
-        """When the last programme was over that has its result, by the time of the feed."""
-        over: list[tuple[int, str]] = [(time, name) for name, time in self.journal.entries(2)]
-        return next((time for time, name in sorted(over, reverse=True)
-                     if self.result(name) is not None), 0)
+        """When the last programme was over that has a result which stays, by the time of the feed.
+        One that is open may have begun before that: it is looked for in all that is kept."""
+        over: dict[str, int] = {name: time for name, time in self.journal.entries(2)}  # its last
+        return next((over[name] for name in sorted(over, key=lambda name: over[name], reverse=True)
+                     if self.has(name)), 0)
 
     def judge(self, call: Callable[[str], int], name: str, paths: Sequence[str]
               ) -> tuple[str | None, dict[str, Any]]:
