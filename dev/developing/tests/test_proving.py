@@ -112,7 +112,8 @@ class Proving(Case):
         self.must("then none", not clone.prove())
         clone.add_to(os.path.join("crates", "sub_check", "src", "lib.rt"), "// changed\n")
         proved = clone.prove()
-        self.must("those above a change", proved == ["sub_check", "sub_answer", "subttx"], proved)
+        self.must("those above a change", proved == [
+            "sub_check", "sub_answer", "sub_headline", "subttx"], proved)
         self.must("all", sorted(clone.prove("--anew")) == sorted(clone.crates))
 
     def test_finds_a_source_that_changes_meanwhile(self) -> None:
