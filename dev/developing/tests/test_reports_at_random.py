@@ -14,13 +14,14 @@ import re
 import subprocess
 import sys
 import tempfile
+import threading
 import unittest
 import xml.etree.ElementTree as tree
 from typing import Callable, Iterator
-from unittest import mock
 
 from developing.pes import DATA, UNIT, mirrored, packet, pts_bytes, pts_in, whole_in
 from developing.stl import boxed, gsi_block, subtitle_blocks, tti_block
+from subtitles.core.manual import Meaning
 from subtitles.core.stl import NEW_LINE, USER_DATA
 from subtitles.core.teletext import page_name
 from subtitles.core.times import CLOCK, FRAMES_OF_A_DAY, TICKS
@@ -171,6 +172,24 @@ class Made:
         return words + ["--no-complete"] * (chance.random() < 0.75)
 
 
+class Here(threading.local):
+    """Whether this thread makes a row: other tests run in threads beside it."""
+
+    is_row = False
+
+
+HERE, OF_MANUAL = Here(), report.meanings
+
+
+def meanings_here() -> dict[int, Meaning]:
+    """The manual's words; of a row others, so that it stays as it is where these are worded anew.
+    """
+    return MEANINGS if HERE.is_row else OF_MANUAL()
+
+
+setattr(report, "meanings", meanings_here)
+
+
 def report_made(number: int, folder: str) -> tuple[Judged, str]:
     """The pair of a number, judged, and its report; why, or its line, where there is none."""
     out = os.path.join(folder, "out")
@@ -187,9 +206,12 @@ def report_made(number: int, folder: str) -> tuple[Judged, str]:
 def made(number: int) -> Iterator[tuple[Judged, str]]:
     """The same while its files are there, without the style and with other words for the manual's.
     """
-    with tempfile.TemporaryDirectory() as folder, \
-            mock.patch.object(report, "meanings", lambda: MEANINGS):
-        found, page = report_made(number, folder)
+    with tempfile.TemporaryDirectory() as folder:
+        HERE.is_row = True
+        try:
+            found, page = report_made(number, folder)
+        finally:
+            HERE.is_row = False
         yield found, STYLE.sub("", page.replace(folder, "FOLDER"))
 
 

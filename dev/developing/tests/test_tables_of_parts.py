@@ -102,8 +102,8 @@ class Named(Case):
         asked = asked_for("one.stl", "one.ts", "--page", "150", "--every", "50", "--no-complete",
                           "--pid", "0x101", "--origin", "7", "--within", "2", "--breaks", "1",
                           "--pes", "2-9", "--option", "german")
-        whole = "tools/qc one.stl one.ts --page 150 --every 50 --option german --no-complete " \
-            "--within 2 --pid 0x101 --origin 7 --breaks 1 --pes 2-9"
+        whole = "tools/qc one.stl one.ts --page 150 --every 50 --option german --origin 7 " \
+            "--no-complete --pid 0x101 --breaks 1 --pes 2-9 --within 2"  # in the table's order
         for more, wanted in (((), whole), (("--page", "P"), whole.replace(" --page 150", "")
                                            + " --page P"),
                              (("--origin", "T"), whole.replace(" --origin 7", "") + " --origin T"),

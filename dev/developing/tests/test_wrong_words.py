@@ -122,9 +122,9 @@ class WrongWords(Case):
             for words in (["poke", device], ["poke", device, "-c", "4"], ["text", device],
                           ["qc", STL, "--severity", device], ["qc", "--batch", device]):
                 done = self.tool(*words)
+                wanted = "a file" if "--severity" in words else "a file or a pipe"
                 self.must(" ".join(words), done ==
-                          (2, b"", [f"{words[0]}: {device} is a device: give "
-                                                             "a file or a pipe"]), done)
+                          (2, b"", [f"{words[0]}: {device} is a device: give {wanted}"]), done)
             for words in ["poke", "-"], ["poke", "/dev/stdin"]:
                 done = self.call(["sh", "-c", 'exec "$0" "$@" <' + device,
                                   tool_path(words[0]), *words[1:]])
@@ -132,11 +132,12 @@ class WrongWords(Case):
                           and done.told == [f"{words[0]}: {words[1]} is a device: give a file or a "
                                             "pipe"], done)
 
-    def test_reads_pipes_and_the_empty_device(self) -> None:
+    def test_reads_pipes_and_no_device(self) -> None:
         done = self.tool("poke", "/dev/stdin", data=b"abc")
         self.must("a pipe by its name", done == (0, b"abc", []), done)
         done = self.tool("poke", "/dev/null")
-        self.must("/dev/null", done == (0, b"", []), done)
+        self.must("/dev/null", done == (2, b"", ["poke: /dev/null is a device: give a file or a pipe"]),
+                  done)
 
     def test_pokes(self) -> None:
         """One change after another, up to the last byte and no farther; so many bytes of that."""
