@@ -21,7 +21,7 @@ from typing import Callable, Iterator
 
 from developing.pes import DATA, UNIT, mirrored, packet, pts_bytes, pts_in, whole_in
 from developing.stl import boxed, gsi_block, subtitle_blocks, tti_block
-from subtitles.core.manual import Meaning
+from subtitles.core.manual import Meaning, meanings
 from subtitles.core.stl import NEW_LINE, USER_DATA
 from subtitles.core.teletext import page_name
 from subtitles.core.times import CLOCK, FRAMES_OF_A_DAY, TICKS
@@ -178,13 +178,13 @@ class Here(threading.local):
     is_row = False
 
 
-HERE, OF_MANUAL = Here(), report.meanings
+HERE = Here()
 
 
 def meanings_here() -> dict[int, Meaning]:
     """The manual's words; of a row others, so that it stays as it is where these are worded anew.
     """
-    return MEANINGS if HERE.is_row else OF_MANUAL()
+    return MEANINGS if HERE.is_row else meanings()
 
 
 setattr(report, "meanings", meanings_here)

@@ -136,8 +136,8 @@ class WrongWords(Case):
         done = self.tool("poke", "/dev/stdin", data=b"abc")
         self.must("a pipe by its name", done == (0, b"abc", []), done)
         done = self.tool("poke", "/dev/null")
-        self.must("/dev/null", done == (2, b"", ["poke: /dev/null is a device: give a file or a pipe"]),
-                  done)
+        self.must("/dev/null", done ==
+                  (2, b"", ["poke: /dev/null is a device: give a file or a pipe"]), done)
 
     def test_pokes(self) -> None:
         """One change after another, up to the last byte and no farther; so many bytes of that."""
