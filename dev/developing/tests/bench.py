@@ -16,7 +16,6 @@ import shutil
 import subprocess
 import sys
 import tempfile
-import threading
 import unittest
 from typing import Any, Callable, NamedTuple, Sequence, TypeVar
 
@@ -45,25 +44,26 @@ class Bench:
     def __init__(self) -> None:
         self.folder, self.is_timed, self.over = "", False, list[str]()
         self.chosen: str | None = None
-        self.lock = threading.Lock()
 
     @property
     def program(self) -> str:
         """The path of the program: the chosen one, or the one that ./subttx runs."""
-        with self.lock:
-            if self.chosen is None:
-                self.chosen = os.path.realpath(built_program(None))
+        if self.chosen is None:
+            self.chosen = os.path.realpath(built_program(None))
         return self.chosen
 
+    def make_top(self) -> str:
+        """The folder of those of all tests, which another user can look into."""
+        if not self.folder:
+            self.folder = tempfile.mkdtemp()
+            os.chmod(self.folder, 0o755)
+            atexit.register(shutil.rmtree, self.folder, ignore_errors=True)
+        return self.folder
+
     def make_folder(self, name: str) -> str:
-        """Makes the folder of a test, which another user can look into."""
-        with self.lock:
-            if not self.folder:
-                self.folder = tempfile.mkdtemp()
-                os.chmod(self.folder, 0o755)
-                atexit.register(shutil.rmtree, self.folder, ignore_errors=True)
-            made = os.path.join(self.folder, name)
-            os.mkdir(made)
+        """Makes the folder of a test."""
+        made = os.path.join(self.make_top(), name)
+        os.mkdir(made)
         return made
 
 
@@ -102,12 +102,10 @@ class Case(unittest.TestCase):
         return self.path(name)
 
     def write_program(self, name: str, text: str) -> str:
-        """Writes a program; answers its path. Another process writes it: a call that begins in
-        another thread meanwhile would hold it open, and then nobody could run it."""
-        done = self.call(["sh", "-c", 'cat >"$0" && chmod 755 "$0"', self.path(name)],
-                         text.encode())
-        assert done.status == 0, done
-        return self.path(name)
+        """Writes a program; answers its path."""
+        path = self.write(name, text.encode())
+        os.chmod(path, 0o755)
+        return path
 
     def read(self, name: str) -> bytes:
         """The bytes of a file of the test."""

@@ -3,19 +3,19 @@ from __future__ import annotations
 
 import ast
 import functools
-import contextlib
+import gc
 import itertools
+import json
 import os
-import signal
+import select
 import sys
 import unittest
-from concurrent.futures import ThreadPoolExecutor
 from types import TracebackType
 from typing import Iterator, Sequence, Tuple, Type, Union
 
-from subtitles.calls.single import SIGNALS
 from subtitles.core.words import Stop
-from .. import DEV
+from .. import DEV, TOOLS
+from .bench import BENCH
 
 FOLDER = os.path.dirname(os.path.realpath(__file__))
 PATTERN = "test_*.py"
@@ -89,13 +89,21 @@ def found(names: Sequence[str]) -> list[unittest.TestCase]:
 
 def is_of(test: unittest.TestCase, name: str) -> bool:
     """Whether a test is of a word."""
-    return name in test.id() or module_of(name) in called_by(type(test).__module__)
+    return name in test.id() or (is_module(name) and
+                                 module_of(name) in called_by(type(test).__module__))
 
 
 def module_of(name: str) -> str:
     """The module of the tools that a path or a dotted name is of, as `qc/pace.py` or `qc.pace`."""
     dotted = name.removesuffix(".py").replace("/", ".").removeprefix("tools.")
     return "subtitles." + dotted.removeprefix("subtitles.")
+
+
+@functools.lru_cache(None)
+def is_module(name: str) -> bool:
+    """Whether a name is of a module, or a package, that the tools have."""
+    path = os.path.join(TOOLS, *module_of(name).split("."))
+    return os.path.exists(f"{path}.py") or os.path.isdir(path)
 
 
 @functools.lru_cache(None)
@@ -117,14 +125,6 @@ def has_fixture(kind: Type[unittest.TestCase]) -> bool:
     return "setUpClass" in kind.__dict__
 
 
-def is_alone(several: Several) -> bool:
-    """Whether a test runs while no other one does: it is timed, or takes what is printed, which all
-    threads share."""
-    return any(getattr(one, "is_alone", False) or
-               getattr(getattr(one, one.id().rpartition(".")[2], None), "is_alone", False)
-               for one in several)
-
-
 def in_units(tests: Several) -> Iterator[Several]:
     """What runs in one go: a test, or those of a class that share something."""
     for kind, several in itertools.groupby(tests, type):
@@ -134,34 +134,51 @@ def in_units(tests: Several) -> Iterator[Several]:
             yield from ([one] for one in several)
 
 
-@contextlib.contextmanager
-def signals_kept() -> Iterator[None]:
-    """A call in this process takes no signal any more in its end: the next test does again."""
-    before = {one: signal.getsignal(one) for one in SIGNALS}
-    try:
-        yield
-    finally:
-        for one, taken in before.items():
-            signal.signal(one, taken)
+class Apart:
+    """Tests in a process of their own, forked from one that has all loaded: what they replace,
+    print and leave behind is theirs, and one that dies costs nothing else."""
+
+    def __init__(self, several: Several, is_verbose: bool) -> None:
+        self.name = name_of(several[0])
+        sys.stdout.flush()
+        self.said, said = os.pipe()
+        self.process = os.fork()
+        if not self.process:
+            try:
+                counts = Counts(is_verbose)
+                unittest.TestSuite(several).run(counts)
+                counts.over += BENCH.over
+                os.write(said, json.dumps((counts.passed, counts.failed, counts.over)).encode())
+            finally:
+                os._exit(0)
+        os.close(said)
+
+    def fileno(self) -> int:
+        """What can be waited for: it has ended once there is something to read, or nothing more."""
+        return self.said
+
+    def add_to(self, whole: Counts) -> None:
+        """Adds what came of them; that they ended before they said so is a failure."""
+        said = os.read(self.said, 1 << 16)
+        os.close(self.said)
+        _, status = os.waitpid(self.process, 0)
+        if not said:
+            print(f"FAILED: {self.name}: its process ended by {status}", flush=True)
+        passed, failed, over = json.loads(said or b"[0, 1, []]")
+        whole.passed, whole.failed = whole.passed + passed, whole.failed + failed
+        whole.over += over
 
 
 def run_all(tests: Several, at_once: int, is_verbose: bool) -> Counts:
-    """Runs tests, some at once; before them those that run alone."""
-
-    def run(several: Several) -> Counts:
-        counts = Counts(is_verbose)
-        unittest.TestSuite(several).run(counts)
-        return counts
-
-    units = list(in_units(tests))
-    done = []
-    for unit in filter(is_alone, units):
-        with signals_kept():
-            done.append(run(unit))
-    with ThreadPoolExecutor(at_once) as pool:
-        done += pool.map(run, [one for one in units if not is_alone(one)])
-    whole = Counts(is_verbose)
-    for one in done:
-        whole.passed, whole.failed = whole.passed + one.passed, whole.failed + one.failed
-        whole.over += one.over
+    """Runs tests, some at once."""
+    whole, running = Counts(is_verbose), list[Apart]()
+    waiting = list(in_units(tests))[::-1]
+    BENCH.make_top()
+    gc.freeze()  # what all of them have is neither looked at nor given back
+    while running or waiting:
+        while waiting and len(running) < at_once:
+            running.append(Apart(waiting.pop(), is_verbose))
+        for one in select.select(running, [], [])[0]:
+            running.remove(one)
+            one.add_to(whole)
     return whole

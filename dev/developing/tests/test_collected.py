@@ -19,8 +19,6 @@ from .test_many_pairs import row
 class Collected(Case):
     """What is printed and written of many pairs."""
 
-    is_alone = True  # it takes what is printed
-
     ROWS = [row("one", "accepted", "accepted 5 frames"), row("second", "refused", "refused 72 "
             "Content frame 1; more", "a hint", 12), row("c", "not judged", "why\nmore"),
             row("d", "waived", "waived: refused 5 X", "", 3)]

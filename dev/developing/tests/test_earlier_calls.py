@@ -222,8 +222,6 @@ class Objects(Case):
 class Watched(Case):
     """A folder that is watched."""
 
-    is_alone = True  # it takes what is printed
-
     def words(self, **more: Any) -> argparse.Namespace:
         words = argparse.Namespace(**vars(defaults()))
         vars(words).update({"watch": self.path("in"), "out": self.path("out"), "settled": 0,

@@ -94,7 +94,6 @@ class Lists(Case):
 class Batches(Case):
     """A whole call for many pairs, in which a test stands for the judging."""
 
-    is_alone = True  # it takes what is printed
     seen: Any = None  # how the judging was called
 
     def batch(self, judged: str, *, is_stopped: bool = False, **more: Any) \

@@ -140,8 +140,6 @@ class Ends(Case):
 class Writes(Case):
     """The files of a pair."""
 
-    is_alone = True  # it takes what is printed
-
     def setUp(self) -> None:
         super().setUp()
         os.mkdir(self.path("out"))

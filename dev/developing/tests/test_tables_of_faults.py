@@ -28,7 +28,7 @@ from subtitles.qc.speech import Speech
 from subtitles.qc.unclear import Unclear
 from subtitles.qc.why import tell
 from subtitles.reading.receiver import BLANK_PAGE, OLD
-from .bench import Case, alone
+from .bench import Case
 from .judged import Heard
 from .parts import (
     CLOSING, HEADER, answer, asked_for, packets_told, part_with, row, timeline_of)
@@ -245,7 +245,6 @@ class Words(Case):
         verdict.parts = parts[1:2]
         self.must("none", not list(hints_of(verdict)))
 
-    @alone
     def test_lists(self) -> None:
         """The first forty lines, how many more there are, and the last; and of causes."""
         for count in (0, 1, 40, 41, 42, 50):
@@ -336,7 +335,6 @@ class Made(Case):
             self.must(f"{name} {text}", proved_line(self.path("top/bin/subttx"), "5") == wanted)
             os.unlink(path)
 
-    @alone
     def test_progress(self) -> None:
         """Each fifth of a second, on a terminal alone, up to its width; taken away once."""
         for is_terminal, times, shown in ((True, (0.0, 0.1, 0.2, 0.5), 3), (False, (0.0, 9.0), 0)):

@@ -16,7 +16,7 @@ from subtitles.core.gsi import titles_in
 from subtitles.core.letters import letters_of
 from subtitles.core.programme import SubtitleList, Subtitle
 from subtitles.core.words import Stop
-from .bench import Case, alone
+from .bench import Case
 
 GSI = 1024
 
@@ -93,7 +93,6 @@ class Blocks(unittest.TestCase):
             self.assertEqual(len(list(stl.frames_of_all([stored(begin, end), stored(one, two)]))),
                              len(wanted) + 1)
 
-    @alone
     def test_readable(self) -> None:
         """Damage behind a subtitle is told, and before the first ends it."""
         good = gsi_block(b"", 0, 0)

@@ -23,7 +23,7 @@ from subtitles.core.markup import joined, markup
 from subtitles.core.outputs import (
     Inputs, is_replaced, result_file, temporary_folder, whole_file)
 from subtitles.core.words import Stop
-from .bench import Case, alone
+from .bench import Case
 from .test_hints import TOOLS, modules
 from .test_tables_of_files import refused
 
@@ -300,7 +300,6 @@ class Words(Case):
 class Signals(Case):
     """A signal while a file is written."""
 
-    @alone
     def test_as_the_file_takes_its_name(self) -> None:
         """Just before that the file stays as it was, just behind it the new one stands; either way
         it is the signal that is told."""
@@ -325,7 +324,6 @@ class Signals(Case):
                       os.listdir(self.folder))
 
 
-    @alone
     def test_of_a_folder(self) -> None:
         """Once it is made, among what is done in it, and while it goes: it is gone."""
         for place in ("os.mkdir", "shutil.rmtree", ""):

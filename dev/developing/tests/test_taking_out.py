@@ -15,7 +15,7 @@ from developing.pes import MARK, pes_packet
 from subtitles.core.times import CLOCK, TICKS, frame_of
 from subtitles.reading.cutting import cut_of
 from ..every_place.recordings import carried
-from .bench import Case, Done, alone, example, example_bytes, moved, packets, tool_path
+from .bench import Case, Done, example, example_bytes, moved, packets, tool_path
 from .muxed import spaced
 from .parts import CLOSING, HEADER, packets_told, row
 
@@ -267,7 +267,6 @@ class Streams(Case):
             self.must(f"{name}: before it", b"".join(one[4:] for one in own) ==
                       b"".join(packets(data)[:count]))
 
-    @alone
     def test_is_fast(self) -> None:
         """A stream of a tenth of Teletext is read and listed, and one of nothing else is made."""
         least = FAST if self.bench.is_timed else ANYWHERE
