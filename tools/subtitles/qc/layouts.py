@@ -250,7 +250,7 @@ def draws(layout: Layout, one: Sent, option: NationalOption) -> bool:
 
 def count_drawn(layout: Layout, found: Sequence[Sent], option: NationalOption) -> int:
     """How many subtitles a layout draws as they were sent."""
-    return sum(draws(layout, one, option) for one in found)
+    return sum(count for one, count in Counter(found).items() if draws(layout, one, option))
 
 
 def simplest(layout: Layout, found: Sequence[Sent], option: NationalOption) -> Layout:
