@@ -8,13 +8,11 @@ import io
 import json
 import os
 from typing import Any, Sequence
-from unittest import mock
 
 from subtitles.calls import index_page, overview
 from subtitles.calls.objects import Row, found
 from subtitles.calls.claim import clear
-from subtitles.calls.single import (
-    Files, Output, end, end_pair, judge_pair, name_of, now, refuse_outputs)
+from subtitles.calls.single import Files, Output, end, end_pair, name_of, now, refuse_outputs
 from subtitles.qc.asked import Asked
 from subtitles.qc.checking import Answer
 from subtitles.qc.clock import FITTED, GIVEN, RECORDING, Clock, Found
@@ -22,7 +20,6 @@ from subtitles.qc.made_with import program_at
 from subtitles.qc.names import Names
 from subtitles.qc.severity import Severity
 from subtitles.qc.typed import Typed
-from subtitles.qc.unclear import Unclear
 from subtitles.qc.part import Part
 from subtitles.qc.verdict import Gap, Verdict
 from subtitles.qc.warned import Warned
@@ -301,49 +298,6 @@ class Writes(Case):
         self.must("lines", lines == [*many, "70 faults", *many[:29]], lines[65:75])
         self.must("name", name_of(asked_for("a.stl", None)) == "a.stl" and
                   name_of(asked_for("a.stl", "b.ts")) == "a.stl b.ts")
-
-    def test_judged(self) -> None:
-        """Whatever ends judging early is why, and all is written."""
-        rows: list[tuple[BaseException, str, tuple[str, ...]]] = [
-            (Unclear("why", "a", "b"), "why", ("a", "b")), (ValueError("wrong"), "wrong", ()),
-            (KeyboardInterrupt(), "stopped at x", ())]
-        for raised, reason, to_type in rows:
-            verdict, raising = self.verdict(), raised
-
-            class Judging:
-                """A pair that ends so."""
-
-                def __init__(self, verdict: Verdict) -> None:
-                    self.verdict, self.speech = verdict, Heard()
-                    self.speech.commands.append("typed")
-
-                recording = None
-
-                def judge(self) -> None:
-                    raise raising
-
-                def stop(self, now: str) -> str:
-                    return "x"
-
-            pair: Any = Judging(verdict)
-            files = self.files(verdict, json=self.path("one.json"))
-            with mock.patch("subtitles.calls.single.ignore_signals"):  # this is a thread
-                judge_pair(pair, files)
-            self.must(f"{raised!r}", (verdict.to_type, verdict.is_stopped) ==
-                      (to_type, isinstance(raised, KeyboardInterrupt)) and verdict.reason and
-                      reason in verdict.reason, verdict.reason)
-            have = json.loads(self.read("one.json"))
-            self.must("object", reason in have["reason"] and have["commands"] == ["typed"] and
-                      0 <= have["seconds"] < 60, have)
-
-    def test_hints(self) -> None:
-        """Parts may have the same: each stands there once, in their order."""
-        verdict = self.verdict()
-        pair: Any = argparse.Namespace(verdict=verdict, judge=lambda: None, recording=None,
-                                       speech=argparse.Namespace(commands=[]))
-        with mock.patch("subtitles.calls.single.hints_of", return_value=["b", "a", "b"]):
-            judge_pair(pair, self.files(verdict))
-        self.must("once", verdict.hints == ["b", "a"], verdict.hints)
 
     def test_end_that_fails(self) -> None:
         """Where the verdict can't be said it is not judged, in the object too."""
