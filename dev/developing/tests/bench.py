@@ -7,18 +7,23 @@ developing.tests.test_clocks`.
 from __future__ import annotations
 
 import atexit
+import contextlib
+import functools
 import importlib.machinery
 import importlib.util
 import io
 import os
 import random
+import runpy
 import shutil
 import subprocess
 import sys
 import tempfile
+import traceback
 import unittest
-from typing import Any, Callable, NamedTuple, Sequence, TypeVar
+from typing import Any, Callable, NamedTuple, NoReturn, Sequence, TypeVar
 
+from developing import DEV, TOOLS
 from developing.pes import pes_packets, pts_bytes, pts_in
 from developing.stl import gsi_block, subtitle_blocks
 from subtitles.core.built import TOP, built_program
@@ -114,10 +119,13 @@ class Case(unittest.TestCase):
 
     def call(self, command: Sequence[str], data: bytes | None = None,
              env: dict[str, str] | None = None, user: int | None = None) -> Done:
-        """Runs a command in the folder; what it prints, and its lines on standard error."""
+        """Runs a command in the folder; what it prints, and its lines on standard error. Of a tool
+        a process is forked that has all loaded, unless it is to have another environment."""
+        is_loaded = env is None and user is None and is_python(command[0])
         done = subprocess.run(command, cwd=self.folder, check=False, stdout=subprocess.PIPE,
                               stderr=subprocess.PIPE, timeout=SECONDS, input=data or b"",
-                              env=env, user=user)
+                              env=env, user=user, preexec_fn=functools.partial(
+                                  become, command) if is_loaded else None)
         return Done(done.returncode, done.stdout, done.stderr.decode().splitlines())
 
     def tool(self, name: str, *words: str, data: bytes | None = None) -> Done:
@@ -146,6 +154,39 @@ def tool_path(name: str) -> str:
     """The file of a tool, of tools/ where it has one there, else of dev/."""
     path = os.path.join(TOP, "tools", name)
     return path if os.path.exists(path) else os.path.join(TOP, "dev", name)
+
+
+@functools.lru_cache(None)
+def is_python(path: str) -> bool:
+    """Whether a file is a tool of this repository, in Python."""
+    if os.path.dirname(path) not in (TOOLS, DEV):
+        return False
+    with open(path, "rb") as file:
+        return file.readline().endswith(b"python3\n")
+
+
+def become(command: Sequence[str]) -> NoReturn:
+    """Does in a process that was forked for it what a tool does."""
+    status: object = 1
+    try:
+        for name in os.listdir("/proc/self/fd"):
+            if int(name) > 2:
+                with contextlib.suppress(OSError):
+                    os.close(int(name))
+        sys.argv, sys.path[:0] = [*command], [os.path.dirname(command[0])]
+        sys.stdin, sys.stdout, sys.stderr = (
+            open(number, mode, closefd=False) for number, mode in enumerate("rww"))
+        runpy.run_path(command[0], run_name="__main__")
+    except SystemExit as end:
+        status = end.code or 0
+    except BaseException:
+        traceback.print_exc()
+    finally:
+        with contextlib.suppress(OSError, ValueError):
+            sys.stdout.flush()
+        with contextlib.suppress(OSError, ValueError):
+            sys.stderr.flush()
+        os._exit(status if isinstance(status, int) else 1)
 
 
 def script(name: str) -> Any:
