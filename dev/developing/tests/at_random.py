@@ -148,10 +148,12 @@ def in_folder() -> Iterator[None]:
 
 def called(words: list[str], program: str, more: Sequence[str] = ("-p", "PROGRAM")) -> Said:
     """All that a call of qc says; not by the time, and with other words for the manual's."""
+    others: list[tuple[Any, str, object]] = [
+        (checks, "subprocess", Here),
+        (Ending, "is_due", lambda self, packets: packets.count > 2 * self.count + 4),
+        *((module, "meanings", lambda: MEANINGS) for module in (beside, faults, report))]
     with contextlib.ExitStack() as stack:
-        for module, name, other in ((checks, "subprocess", Here), *(
-                (module, "meanings", lambda: MEANINGS) for module in (beside, faults, report)),
-                (Ending, "is_due", lambda self, packets: packets.count > 2 * self.count + 4)):
+        for module, name, other in others:
             stack.enter_context(mock.patch.object(module, name, other))
         status, out, told = in_process(lambda line: main("", "tools/qc", line), [
             "tools/qc", *words, *(program if one == "PROGRAM" else one for one in more)])

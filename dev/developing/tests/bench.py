@@ -122,6 +122,7 @@ class Case(unittest.TestCase):
         """Runs a command in the folder; what it prints, and its lines on standard error. Of a tool
         a process is forked that has all loaded, unless it is to have another environment."""
         is_loaded = env is None and user is None and is_python(command[0])
+        sys.__stdout__.flush()
         done = subprocess.run(command, cwd=self.folder, check=False, stdout=subprocess.PIPE,
                               stderr=subprocess.PIPE, timeout=SECONDS, input=data or b"",
                               env=env, user=user, preexec_fn=functools.partial(
@@ -174,8 +175,8 @@ def become(command: Sequence[str]) -> NoReturn:
                 with contextlib.suppress(OSError):
                     os.close(int(name))
         sys.argv, sys.path[:0] = [*command], [os.path.dirname(command[0])]
-        sys.stdin, sys.stdout, sys.stderr = (
-            open(number, mode, closefd=False) for number, mode in enumerate("rww"))
+        for name in ("stdin", "stdout", "stderr"):
+            setattr(sys, name, getattr(sys, f"__{name}__"))
         runpy.run_path(command[0], run_name="__main__")
     except SystemExit as end:
         status = end.code or 0

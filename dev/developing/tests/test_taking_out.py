@@ -273,8 +273,8 @@ class Streams(Case):
         own = sent(STORY)
         video = bytes([0x47, 2, 0, 0x10]) + bytes(range(PAYLOAD))
         mixed = b"".join(one[:3] + bytes([0x10 | at & 15]) + one[4:] + 9 * video
-                         for at, one in enumerate(own * (60_000 // len(own))))
-        pes = self.write("long.pes", example_bytes("story.pes") * 40_000)
+                         for at, one in enumerate(own * (15_000 // len(own))))
+        pes = self.write("long.pes", example_bytes("story.pes") * 10_000)
         path = self.write("mixed.ts", mixed)
         program = ["-p", self.bench.program]
         for name, *words in (("a tenth of it", "ts2pes", path, PID, *program),
@@ -286,9 +286,9 @@ class Streams(Case):
             print(f"{name}: {speed:.0f} MB of transport stream a second of the processor")
             self.must(name, speed >= least, speed)
             self.must(f"{name}: its bytes", {
-                "a tenth of it": done.out == b"".join(STORY) * 10_000,
+                "a tenth of it": done.out == b"".join(STORY) * 2_500,
                 "a list of it": done.out.startswith(b"PID 0x101: announced nothing; subtitle page"),
-                "pes2ts": done.out[2::188].count(1) == 240_000}[name])
+                "pes2ts": done.out[2::188].count(1) == 60_000}[name])
 
 
 def sent(pes: Sequence[bytes]) -> list[bytes]:
