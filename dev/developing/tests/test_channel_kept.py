@@ -13,7 +13,7 @@ from subtitles.calls.channel.journal import Journal
 from subtitles.calls.channel.recorder import AHEAD, NotWanted, Recorder
 from subtitles.calls.channel.segments import (
     LEAST, MANY, PART, Begin, Segments, numbers_in, path_of)
-from subtitles.calls.channel.state import ENDED, ERROR, FILE, HEARD, Exchange
+from subtitles.calls.channel.state import ERROR, FILE, HEARD, Exchange
 from subtitles.core.files import Input
 from .bench import Case
 from .listings import SECOND
@@ -173,14 +173,15 @@ class Read(Folders):
     def test_state(self) -> None:
         """Numbers, at once; of a file that is gone none."""
         state = Exchange(self.new("one"))
-        self.must("none", [state[at] for at in (HEARD, ERROR, ENDED, FILE)] == [0] * 4)
-        state[ENDED] = 1
+        self.must("none, with room for all", os.path.getsize(state.path) == 48 and
+                  [state[at] for at in (HEARD, ERROR, FILE)] == [0] * 3)
+        state[ERROR] = 1
         state.put(FILE, 2, 3, 1 << 63, 5)
-        self.must("known", state[ENDED] == 1 and state.several(FILE, 4) == [2, 3, 1 << 63, 5]
+        self.must("known", state[ERROR] == 1 and state.several(FILE, 4) == [2, 3, 1 << 63, 5]
                   and state[HEARD] == 0)
         os.unlink(state.path)
         state[HEARD] = 7
-        self.must("anew", (state[HEARD], state[ENDED]) == (7, 0))
+        self.must("anew", (state[HEARD], state[ERROR]) == (7, 0))
         Exchange(self.path("none"))[HEARD] = 7
 
 
@@ -294,12 +295,11 @@ class Written(Folders):
         path = self.write("feed", b"G" * 1000)
         folder = self.new("one")
         with self.recorder(folder, path) as one:
-            self.must("its end", one.record() and one.state[ENDED] == 1)
+            self.must("its end", one.record())
         with self.recorder(folder, path) as one:
-            self.must("it begins", one.state[ENDED] == 0)
             one.number = one.state[HEARD] + AHEAD + 1
             with mock.patch.object(one, "wait", side_effect=NotWanted):
-                self.must("ahead", not one.record() and one.state[ENDED] == 0)
+                self.must("ahead", not one.record())
         with self.recorder(folder, path) as one, mock.patch.object(
                 one.source, "read", side_effect=OSError(errno.EIO, "x")):
             self.must("an error", one.record() and one.state[ERROR] == errno.EIO)

@@ -262,24 +262,10 @@ class Steps(Programmes):
         for error, why in ((28, "No space left on device"), (0, "No such file or directory")):
             channel = Told(self, self.listed("one"))
             channel.segments.between = lambda *_: None  # type: ignore[assignment]
-            channel.state[ERROR] = error
+            channel.segments.state[ERROR] = error
             channel.give(Lines().sent(texts_of("one"), BEGIN, 20))
             self.must(why, not Judging.made and channel.said == [
                 f"one  not judged: the feed could not be kept: {why}"], channel.said)
-
-    def test_feed_that_stands_still(self) -> None:
-        """Told once, after as many seconds; that it goes on is told too, and then it may stand
-        still again."""
-        channel = Told(self, self.listed("one"))
-        for turn in range(2):
-            for still, count in ((9.4, 0), (10, 1), (11, 1), (99, 1)):
-                channel.stall(still)
-                self.must(f"turn {turn}, {still}", channel.said == [
-                    "nothing has come for 10 seconds"] * count, channel.said)
-            channel.stall(0)
-            self.must("goes on", channel.said.pop() == "the feed goes on")
-            channel.stall(0)
-            channel.said.clear()
 
     def test_forgets(self) -> None:
         """Changes, and what is told, that came more than patience and a margin ago."""

@@ -4,19 +4,15 @@ from __future__ import annotations
 import json
 import re
 import shutil
-import signal
-import subprocess
-import time
 from typing import Any, Sequence
 
 from developing.pes import pts_bytes
 from developing.stl import boxed, gsi_block, subtitle_blocks
 from subtitles.core.times import CLOCK, FRAMES_A_SECOND, TICKS
-from .bench import Case, packets, tool_path
+from .bench import Case, packets
+from .channels import FITTED, SECOND, verdicts
 from .muxed import TELETEXT_PID, Sent, stream_of
-from .test_qc_channel import SOON, verdicts
 
-SECOND = TICKS * FRAMES_A_SECOND
 BEGIN = CLOCK - 20 * SECOND  # of a feed: PTS begin again within it
 FIRST = 900_000  # the frame of the first subtitle, at 10:00:00:00
 EACH, LASTS = 75, 50  # frames from one subtitle to the next one, and of each
@@ -24,7 +20,6 @@ BEFORE, AFTER = 5, 20  # seconds of a feed before its first TCI, and after its l
 OTHER_PID = 0x102
 NULL = b"\x47\x1f\xff\x10" + b"\xff" * 184
 MUCH = NULL * (17 * 2 ** 20 // len(NULL))  # more than what is looked through for a first TS packet
-FITTED = "; the clock was fitted to the recording"
 
 
 class Feed:
@@ -236,29 +231,6 @@ class Streams(Case):
 
 class Ends(Case):
     """Feeds that end, and channels that are ended, in mid-programme."""
-
-    def run_channel(self, data: bytes, *wanted: bytes) -> subprocess.Popen[bytes]:
-        """A channel to which bytes were handed, once they were heard, and it has said something."""
-        command = [tool_path("qc"), "--channel", "list", "-", "-o", "out", "--stall", "2", "-p",
-                   self.bench.program]
-        log = open(self.path("log"), "wb")
-        with log:
-            process = subprocess.Popen(command, cwd=self.folder, stdin=subprocess.PIPE, stdout=log,
-                                       stderr=log)
-        assert process.stdin
-        process.stdin.write(data)
-        process.stdin.flush()
-        end = time.monotonic() + SOON
-        for words in wanted:
-            while words not in self.read("log") and time.monotonic() < end:
-                time.sleep(0.1)
-        time.sleep(1)  # it goes on at once with what it has heard
-        return process
-
-    def lines(self) -> list[str]:
-        """What it said of programmes."""
-        return [line for line in verdicts(self.read("log").decode().splitlines())
-                if not line.startswith(("nothing", "the feed goes on", "PID 0x101 goes on"))]
 
     def test_feed_that_ends(self) -> None:
         """In mid-programme: it is not judged, and is waited for by the next call. Its last TCO is

@@ -2,14 +2,11 @@
 from __future__ import annotations
 
 import argparse
-import errno
-import os
 from unittest import mock
 
 from developing.stl import boxed, gsi_block, subtitle_blocks
 from subtitles.calls.channel.awaited import BEFORE, NEAR, Awaited, Changes, Timed
 from subtitles.calls.channel.feed_clock import SECOND, FeedClock
-from subtitles.calls.claim import claimed, claimed_for_batch
 from subtitles.core.times import CLOCK, EARLY, TICKS
 from subtitles.core.words import Stop, Words
 from subtitles.qc.asked import add_pair_options
@@ -176,40 +173,6 @@ class Tables(Case):
             midnight = Timed(stl, "english", 0, since).midnight(clock)
             self.must(f"since {since}, {before}", midnight == (
                 TICKS * ((before or 0) - end) if is_there else None), midnight)
-
-    def test_calls_one_after_another(self) -> None:
-        """A folder and the files of a pair belong to one call at a time; each may come after."""
-        folder = self.path("claimed/here")
-        for turn in range(2):
-            with claimed(folder, "one"), claimed(folder, "two"), claimed_for_batch(folder):
-                for again, why in ((claimed(folder, "one"), "another call is writing the files of "
-                                    f"one in {folder}"), (
-                        claimed_for_batch(folder), f"another batch is judging into {folder}")):
-                    with self.assertRaises(Stop) as refused, again:
-                        self.must("never", False)
-                    self.must("why", str(refused.exception) == why, refused.exception)
-            self.must(f"turn {turn}", os.listdir(folder) == [])
-        with claimed(None, "one"), claimed_for_batch(None):
-            self.must("no folder", True)
-        locked: list[str] = []
-
-        def flock(handle: int, kind: int) -> None:
-            """The first time somebody takes the file away, and then locks are not known."""
-            locked.append(os.readlink(f"/proc/self/fd/{handle}"))
-            if len(locked) == 1:
-                os.unlink(locked[0])
-            elif len(locked) == 3:
-                raise OSError(errno.ENOLCK, "No locks")
-
-        with mock.patch("fcntl.flock", flock):
-            for count in (2, 3):
-                with claimed(folder, "one"):
-                    self.must("its file", os.listdir(folder) == [".one.lock"]
-                              and len(locked) == count, locked)
-        self.must("nothing is left", os.listdir(folder) == [])
-        with self.assertRaises(OSError) as told, claimed_for_batch(self.write("file", b"")):
-            self.must("never", False)
-        self.must("its name", told.exception.filename == self.path("file"))
 
     def test_edges_within_some_frames(self) -> None:
         """Within N one edge may be N frames later than another, and no more."""

@@ -162,6 +162,13 @@ def end_pair(verdict: Verdict, speech: Speech, files: Files) -> None:
         silence()
 
 
+def heed_signals(handler: Callable[..., object] = signal.default_int_handler) -> None:
+    """Lets signals end this call, but those that are ignored: nohup lets a hang-up pass."""
+    for one in SIGNALS:
+        if signal.getsignal(one) != signal.SIG_IGN:
+            signal.signal(one, handler)
+
+
 def ignore_signals() -> None:
     """Takes no signal any more that would end this call."""
     for one in SIGNALS:

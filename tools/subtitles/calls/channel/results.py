@@ -14,11 +14,10 @@ from typing import Any, Callable, Sequence
 from ...core.outputs import Inputs, new_name, result_file
 from ...core.words import Stop, ended, line_of
 from ..claim import refuse
-from ..forked import INPUT, Forked, ended_of, signals_held
+from ..forked import INPUT, Forked, beside, ended_of, signals_held
 from ..objects import ENDING, left_by_call, object_at, put, unjudged, value_at
 from ..result import FORMAT, misfit
 from .journal import Journal
-from .recorder import close_all_but
 
 LONGEST = 60.0  # seconds in which a programme is judged, and one more for each so many bytes:
 SLOWEST = 2_000_000
@@ -177,15 +176,15 @@ def called(does: Callable[[], int], longest: float) -> tuple[int, list[str]]:
 def ended_by(paths: Sequence[str], does: Callable[[], int]) -> int:
     """The status of what reads some files, one after another, on standard input."""
     own, into = os.pipe()
-    if not os.fork():
-        try:
-            close_all_but(into)
-            with open(into, "wb") as pipe:
-                for path in paths:
-                    with open(path, "rb") as file:
-                        shutil.copyfileobj(file, pipe)
-        finally:
-            os._exit(0)
+
+    def hand_on() -> bool:
+        with open(into, "wb") as pipe:
+            for path in paths:
+                with open(path, "rb") as file:
+                    shutil.copyfileobj(file, pipe)
+        return True
+
+    beside(hand_on, into)
     os.close(into)
     os.dup2(own, INPUT)
     os.close(own)

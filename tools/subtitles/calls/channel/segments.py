@@ -8,6 +8,7 @@ import os
 from typing import BinaryIO, Iterator, NamedTuple
 
 from .journal import Journal
+from .state import HEARD, Exchange
 
 PART = 1 << 18  # bytes that are read at a time
 LEAST = 1 << 20  # bytes by which what is told of a feed is behind what was read of it, at most
@@ -50,7 +51,7 @@ class Segments:
     """
 
     def __init__(self, folder: str) -> None:
-        self.folder = folder
+        self.folder, self.state = folder, Exchange(folder)
         self.index = Journal(os.path.join(folder, "index"))
         self.begins = {number: Begin(*rest) for number, *rest in self.index.entries(4)}
         self.known, self.count = max(self.begins, default=-1), len(self.begins)
@@ -88,6 +89,7 @@ class Segments:
         if self.file is None:
             with contextlib.suppress(FileNotFoundError):
                 self.file = open(path_of(self.folder, self.at), "rb", buffering=0)
+                self.state[HEARD] = self.at + 1
         return self.file.read(PART) if self.file else b""
 
     def following(self) -> int | None:
