@@ -21,7 +21,7 @@ import sys
 import tempfile
 import traceback
 import unittest
-from typing import Any, Callable, NamedTuple, NoReturn, Sequence, TypeVar
+from typing import Any, Callable, NamedTuple, NoReturn, Sequence
 
 from developing import DEV, TOOLS
 from developing.pes import pes_packets, pts_bytes, pts_in
@@ -31,7 +31,6 @@ from subtitles.core.times import CLOCK
 
 EXAMPLES = os.path.join(TOP, "examples")
 SECONDS = 300  # for one call, on a machine that does other things too
-Test = TypeVar("Test", bound=Callable[..., None])
 
 
 class Done(NamedTuple):
@@ -73,12 +72,6 @@ class Bench:
 
 
 BENCH = Bench()
-
-
-def alone(test: Test) -> Test:
-    """A test that is timed, and so runs while no other one does."""
-    setattr(test, "is_alone", True)
-    return test
 
 
 class Case(unittest.TestCase):

@@ -158,8 +158,6 @@ def texts_of(name: str) -> list[str]:
 class Programmes(Case):
     """Files of programmes, by their names."""
 
-    is_alone = True  # what a channel calls is replaced, which threads share
-
     def setUp(self) -> None:
         super().setUp()
         os.mkdir(self.path("out"))

@@ -105,8 +105,6 @@ def kind_of(line: str) -> tuple[str, str]:
 class Lists(Case):
     """Lists at random."""
 
-    is_alone = True  # what a channel calls is replaced, which threads share
-
     def test_each_programme_has_one_result(self) -> None:
         """In its order, whatever is written to the list meanwhile, and where signals end a channel
         with which another one goes on."""

@@ -7,7 +7,7 @@ import subprocess
 
 from subtitles.calls.channel.segments import numbers_in, size_in
 from subtitles.core.times import CLOCK
-from .bench import Case, alone, packets
+from .bench import Case, packets
 from .channels import BEGIN, SECOND, Running, blank, make_programme
 from .muxed import in_frames
 
@@ -19,7 +19,6 @@ COUNT, LASTS = 300, 900  # subtitles of a programme, and seconds
 class Days(Case):
     """A feed of programmes of a quarter of an hour."""
 
-    @alone
     def test_takes_no_more(self) -> None:
         """A week of 40 programmes a day (with --speed; else four): memory with all children, open
         files, and what is kept of the feed."""

@@ -25,8 +25,6 @@ PES = [pes_packet(SECOND * at, [HEADER, CLOSING]) for at in range(9)] + [MARK]
 class Folders(Case):
     """Folders with segments."""
 
-    is_alone = True  # what a recorder waits is replaced, which threads share
-
     def new(self, name: str) -> str:
         """A new folder."""
         os.mkdir(self.path(name))

@@ -13,7 +13,7 @@ import time
 from typing import Any
 
 from subtitles.core.times import CLOCK
-from .bench import Case, alone, packets
+from .bench import Case, packets
 from .channels import BEGIN, SECOND, SOON, Running, blank, family_of, make_programme, until
 from .muxed import in_frames
 
@@ -101,7 +101,6 @@ class Moments(Case):
             found += [pid] * any(one.endswith("/feed.ts") for one in files)
         return found
 
-    @alone
     def test_of_a_file(self) -> None:
         """It is read on from where it was: nothing is lost."""
         self.must("it ends", self.judge_file("whole"))
@@ -124,7 +123,6 @@ class Moments(Case):
                 one for one in left if one.startswith("work-") or one.endswith(".seg")], left)
         self.tell()
 
-    @alone
     def test_of_a_pipe(self) -> None:
         """The recorder and the judge are services of their own: what the recorder did not write is
         lost, and then a programme is not judged; no other one is."""

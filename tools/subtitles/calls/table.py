@@ -30,7 +30,7 @@ def cell_words(cell: Members | None) -> str:
     """A cell as its code, and its character where it has one."""
     if cell is None:
         return ""
-    return f"{cell['code']} {cell['character']}" if cell["character"] else cell["code"]
+    return f"{cell['code']} {cell['character'] or ''}".rstrip()
 
 
 def of_pair(verdict: Verdict) -> Known:
