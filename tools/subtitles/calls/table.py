@@ -30,7 +30,8 @@ def cell_words(cell: Members | None) -> str:
     """A cell as its code, and its character where it has one."""
     if cell is None:
         return ""
-    return f"{cell['code']} {cell['character'] or ''}".rstrip()
+    code: str = cell["code"]
+    return f"{code} {cell['character']}" if cell["character"] else code
 
 
 def of_pair(verdict: Verdict) -> Known:
