@@ -135,7 +135,7 @@ def judge_pair(pair: Pair, files: Files) -> None:
         ignore_signals()  # what is known is written now
         verdict.is_stopped = True
         verdict.reason = f"stopped at {pair.stop(now())}"
-    verdict.commands = pair.speech.commands
+    verdict.commands, verdict.chosen = pair.speech.commands, pair.speech.chosen
     verdict.seconds = round(time.monotonic() - began, 3)
     try:
         files.write(pair.recording)
