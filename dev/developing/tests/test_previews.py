@@ -7,6 +7,7 @@ import unittest
 from developing.pes import packet
 from subtitles.preview.places import around, marked_bytes
 from subtitles.preview.seen import Seen
+from .parts import in_page
 
 
 class Places(unittest.TestCase):
@@ -24,9 +25,10 @@ class Places(unittest.TestCase):
                 ([10, 20, 30], 55, "last at 00:00:01:05, 25 frames before")):
             held.sendings = array.array("I", sendings)
             with self.subTest(frame=frame):
-                self.assertIn(f": {wanted}.</p>", around(held, frame, "888"))
+                self.assertIn(f": {wanted}.</p>", in_page(around(held, frame, "888")))
         held.sendings = array.array("I")
-        self.assertEqual(around(held, 5, "888"), "<p>The file has no header of page 888.</p>")
+        self.assertEqual(in_page(around(held, 5, "888")),
+                         "<p>The file has no header of page 888.</p>")
 
     def test_marked_bytes(self) -> None:
         """Of a header ten bytes by Hamming 8/4 and its text by parity, of rows two and their text,
@@ -36,9 +38,9 @@ class Places(unittest.TestCase):
             data = packet(0, number, [0] * 8 if number == 0 else (), b"A" * (32 + 8 * (number > 0)))
             for at in range(2, 42):
                 wrong = data[:at] + bytes([data[at] ^ 0x80]) + data[at + 1:]
-                marks = marked_bytes(wrong).replace("<wbr/>", "")
+                marks = in_page(marked_bytes(wrong)).replace("<wbr/>", "")
                 is_marked = at < coded or has_text
                 with self.subTest(number=number, at=at):
                     self.assertEqual("<u>" in marks, is_marked)
                     self.assertEqual(marks.count("<u>"), int(is_marked))
-            self.assertNotIn("<u>", marked_bytes(data))
+            self.assertNotIn("<u>", in_page(marked_bytes(data)))

@@ -15,7 +15,7 @@ from subtitles.preview.report import mark_unheard
 from subtitles.qc.causes import Cause
 from subtitles.qc.checking import Answer
 from subtitles.qc.counted import End
-from .parts import fault_of
+from .parts import fault_of, in_page
 
 # Three subtitles, of which the second has another number than its place.
 SUBTITLES = [Subtitle(1, 1, 25, 50, 20, 2, b"one"), Subtitle(2, 7, 75, 100, 20, 2, b"two"),
@@ -183,18 +183,19 @@ class Why(unittest.TestCase):
                 (80, 1, "subtitle 2 (SN 7), 00:00:03:00: early &amp; 2"),
                 (80, 3, "subtitle 2 (SN 7), 00:00:03:00: early &amp; 2")):
             with self.subTest(frame=frame, due=due):
-                self.assertEqual(reasons.words(72, frame, due), words)
+                self.assertEqual(in_page(reasons.words(72, frame, due)), words)
 
     def test_list(self) -> None:
         """A row for each, what was sent in words, and how many are left out."""
         for sent, words in (("", "nothing"), ("due", "the same"), ("other", "other")):
-            row = self.reasons([]).row(Cause(2, "late", 3, None, None, sent, 100))
+            row = in_page(self.reasons([]).row(
+                Cause(2, "late", 3, None, None, sent, 100)))
             self.assertIn(f'<td data-name="Sent">{words}</td>', row)
             self.assertIn('<th scope="row">subtitle 3, 00:00:04:00</th>', row)
         for count, left in ((1000, None), (1001, "1 more subtitle"),
                             (1002, "2 more subtitles")):
             causes = [Cause(0, "late", 3, None, None, "", number) for number in range(count)]
-            words = Reasons.section(self.reasons(causes)) if count else ""
+            words = in_page(self.reasons(causes).section())
             self.assertEqual(words.count("<th scope=\"row\">"), 1000)
             self.assertEqual("Left out here" in words, left is not None)
             self.assertIn(f"{left}." if left else "", words)
@@ -228,8 +229,8 @@ class Lists(unittest.TestCase):
             looks: Any = SimpleNamespace(entries=SimpleNamespace(frame_of=lambda entry: None))
             made.looks = looks
             vars(made)["section"] = lambda entry: "one "
-            self.assertEqual(made.others(), "one " * (min(listed, 100) - 1))
-            said = made.listed()
+            self.assertEqual(in_page(made.others()), "one " * (min(listed, 100) - 1))
+            said = in_page(made.listed())
             self.assertEqual("left out here" in said, words is not None)
             self.assertIn(words or "", said)
             self.assertEqual("first 100 entries" in said, listed > 100)
@@ -237,6 +238,6 @@ class Lists(unittest.TestCase):
             self.assertEqual(said.count('<a href="#f'), min(listed, 100) - 1)
             for index in (1, 2, 100, 101):
                 if index <= listed:
-                    steps = made.steps(made.entries[index - 1])
+                    steps = in_page(made.steps(made.entries[index - 1]))
                     self.assertEqual(("previous" in steps, "next" in steps), (
                         1 < index <= 101, index < min(listed, 100)), index)

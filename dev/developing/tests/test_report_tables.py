@@ -16,7 +16,7 @@ from subtitles.preview.packet_words import packet_lines
 from subtitles.preview.places import between, between_words, passed_words, units_table
 from subtitles.preview.program import Unit
 from .bench import Case
-from .parts import fault_of
+from .parts import fault_of, in_page
 
 ORIGIN = CLOCK - 20 * TICKS
 LINKS = ("timeline", "faults", "place", "causes", "subtitles", "pages", "key", "files")
@@ -32,7 +32,7 @@ class Parts(unittest.TestCase):
                                           reasons=reasons, seen=seen)
             shown = {"timeline": looks, "faults": count, "place": count, "causes": reasons,
                      "subtitles": looks, "pages": seen, "key": looks, "files": True}
-            found = navigation(report).split('href="#')[1:]
+            found = in_page(navigation(report)).split('href="#')[1:]
             self.assertEqual([one.partition('"')[0] for one in found],
                              [name for name in LINKS if shown[name]])
 
@@ -51,7 +51,7 @@ class Parts(unittest.TestCase):
             for halt, within, order in ((None, 0, ""), (7, 0, "not after"), (0, 1, "before")):
                 seen: Any = SimpleNamespace(count=1234, passed=Spans(spans), ending=end, halt=halt,
                                             within=within)
-                self.assertEqual(reading_words(seen).replace("1234", "1,234"), words + (
+                self.assertEqual(in_page(reading_words(seen)).replace("1234", "1,234"), words + (
                     f" A receiver follows the file as far as PES packet {halt}, whose frame is "
                     f"{order} that of the one before." if order else ""))
 
@@ -67,13 +67,13 @@ class Parts(unittest.TestCase):
             seen: Any = SimpleNamespace(count=1, passed=Spans(), ending=None, halt=None,
                                         pages=pages,
                                         page=(0, 0x88))
-            text = pages_table(report, seen)
+            text = in_page(pages_table(report, seen))
             self.assertEqual((text.count("<tr>") - bool(count), "No header of page 888" in text,
                               f"{count - 200} more page" in text), (
                 min(count, 200), True, count > 200), count)
         pages = {(0, 0x88): known(1234, ORIGIN, (ORIGIN + 45 * TICKS) % CLOCK)}
         seen.pages = pages
-        text = pages_table(report, seen)
+        text = in_page(pages_table(report, seen))
         self.assertNotIn("No header", text)
         for part in (">888 checked<", ">1,234<", f">{ORIGIN}<", ">00:00:00:00<", ">90000<",
                      ">00:00:01:20<", ">C7 (9); C8 (4); C4 (3); C6 (2)<"):
@@ -142,7 +142,7 @@ class Places(Case):
                 ([4], None, True, 3, 0), ([4, 5], 1, True, 3, 1), ([4], 1, False, 1, 1),
                 ([4], 7, False, 0, 0), ([4], None, False, 0, 0)):
             program: Any = SimpleNamespace(units=lambda some: units if some == known else [])
-            text = units_table(program, known, 30, broken, has_all)
+            text = in_page(units_table(program, known, 30, broken, has_all))
             self.assertEqual((text.count("<pre>magazine 8 packet 4\ntext |&lt;b&gt; "), text.count("named by the refusal"),
                               text.count('class="named"'), "no Teletext packet" in text,
                               "<details open=" in text), (count, named, named, count == 0,

@@ -10,6 +10,7 @@ from typing import Any
 
 from developing.stl import gsi_block, tti_block
 from subtitles.core.manual import Meaning
+from subtitles.core.markup import markup
 from subtitles.core.times import FRAMES_OF_A_DAY
 from subtitles.preview import page, program as asking
 from subtitles.preview.counts import (
@@ -25,7 +26,7 @@ from subtitles.qc.midnight import AT_MIDNIGHT
 from subtitles.qc.subtitle_file import SubtitleFile
 from subtitles.qc.sums import SummedFile
 from .bench import Case, example
-from .parts import asked_for, fault_of, part_with
+from .parts import asked_for, fault_of, in_page, part_with
 from .test_report_faults import SUBTITLES, faults
 
 
@@ -69,28 +70,30 @@ class Box(unittest.TestCase):
                 (self.refused(1, word="waived"), "waived", page.UNSEEN),
                 (self.refused(1, word="lost", lost=lost), "unseen", page.UNSEEN),
                 (self.report(word="warned"), "unseen", page.UNSEEN)):
-            box = verdict_box(one)
+            box = in_page(verdict_box(one))
             with self.subTest(kind=kind):
-                self.assertTrue(box.startswith(f'<div class="verdict {kind}">{shape}'), box[:60])
+                self.assertTrue(box.startswith(
+                    f'<div class="verdict {kind}">{shape.source}'), box[:60])
                 self.assertEqual("3 lost" in box, bool(one.lost))
 
     def test_words(self) -> None:
         """How many faults more, what stands beside the verdict, and the sentence before it."""
         for count, words in ((1, None), (2, 'and 1 more fault: <a href="#faults">all 2 faults</a>'),
                              (3, "and 2 more faults: "), (1234, "and 1,233 more faults: ")):
-            box = verdict_box(self.refused(count))
+            box = in_page(verdict_box(self.refused(count)))
             with self.subTest(count=count):
                 self.assertEqual("more fault" in box, words is not None)
                 self.assertIn(words or "", box)
-        box = verdict_box(self.report(notes=["a & b", "c"], sentence="It <is>.", fitted="d"))
+        box = in_page(verdict_box(self.report(notes=["a & b", "c"], sentence="It <is>.",
+                                              fitted="d")))
         self.assertIn("".join(f'<p class="note">{one}</p>' for one in ("a &amp; b", "c", "d")), box)
         self.assertLess(box.index("It &lt;is&gt;."), box.index("accepted 5 frames"))
-        self.assertNotIn("What receivers show", verdict_box(self.report()))
+        self.assertNotIn("What receivers show", in_page(verdict_box(self.report())))
 
     def test_lost(self) -> None:
         """Five places are told at once, more are unfolded."""
         for count, is_unfolded in ((1, False), (5, False), (6, True)):
-            words = lost_places(["<x>"] * count)
+            words = in_page(lost_places(["<x>"] * count))
             self.assertEqual((words.count("<li>&lt;x&gt;</li>"), "<details>" in words),
                              (count, is_unfolded))
 
@@ -107,21 +110,22 @@ class Box(unittest.TestCase):
             looks: Any = SimpleNamespace(entries=SimpleNamespace(
                 drawn=range(1, drawn + 1), odd=set(range(1, odd + 1)),
                 counted=lambda subtitles: "all as due"))
-            said = subtitles_words(self.report(within=within, subtitles=[1] * count), looks)
+            said = in_page(subtitles_words(self.report(within=within, subtitles=[1] * count),
+                                           looks))
             with self.subTest(drawn=drawn):
                 self.assertIn(f"<p>{words}: all as due.", said)
                 self.assertEqual(said.count('href="#s'), links)
                 self.assertEqual((" ..." in said, "The first 500 of them have pictures." in said),
                                  (drawn > 100, odd > drawn))
-        self.assertIn("no subtitle", subtitles_words(self.report(subtitles=[]), looks))
+        self.assertIn("no subtitle", in_page(subtitles_words(self.report(subtitles=[]), looks)))
 
     def test_numbers(self) -> None:
         """A row for each number, rising; the one of the verdict leads there."""
-        self.assertEqual(numbers_table(self.refused(1)), "")
+        self.assertEqual(in_page(numbers_table(self.refused(1))), "")
         one = self.refused(3)
         one.faults.counts = {73: 1234, 68: 2}
         one.faults.firsts[73] = fault_of("refused 73 Gap frame 00:00:02:00")
-        table = numbers_table(one)
+        table = in_page(numbers_table(one))
         self.assertEqual(re.findall('row">(.*?)</th><td data-name="Faults">(.*?)</td>', table),
                          [("68 Parity", "2"), ("73 Gap", "1,234")])
         self.assertEqual((table.count("at the verdict"), table.count('id="n73"'),
@@ -141,13 +145,15 @@ class Box(unittest.TestCase):
                 one = self.report(part=part_of(file.name), first=fault_of(told), meanings={
                     21: Meaning("EmptyTime", "`a` < b", "do it")}, faults=SimpleNamespace(
                         firsts={21: fault_of(told)}))
-                self.assertEqual(means_and_do(one, 21), ("<code>a</code> &lt; b", do))
-                self.assertEqual(meaning_of_verdict(one), '<dl id="n21"><dt>means</dt><dd><code>a'
-                                 f"</code> &lt; b</dd><dt>do</dt><dd>{do}</dd></dl>")
+                self.assertEqual([*map(in_page, means_and_do(one, 21) or ())],
+                                 ["<code>a</code> &lt; b", do])
+                self.assertEqual(in_page(meaning_of_verdict(one)),
+                                 '<dl id="n21"><dt>means</dt><dd><code>a</code> &lt; b</dd>'
+                                 f"<dt>do</dt><dd>{do}</dd></dl>")
                 self.assertIsNone(means_and_do(one, 20))
-        self.assertIn('id="n21">docs/manual/', meaning_of_verdict(self.report(
-            first=fault_of(told))))
-        self.assertEqual(meaning_of_verdict(self.report()), "")
+        self.assertIn('id="n21">docs/manual/', in_page(meaning_of_verdict(self.report(
+            first=fault_of(told)))))
+        self.assertEqual(in_page(meaning_of_verdict(self.report())), "")
 
     def test_scope(self) -> None:
         """What the verdict speaks of, and what nobody looked at."""
@@ -159,7 +165,7 @@ class Box(unittest.TestCase):
                  "00:00:01:00 to 00:00:02:00, 2 subtitles; part 1 of 3<", [DELAY, BETWEEN, ROW_0]),
                 (Scope([], None, 0, FRAMES_OF_A_DAY, 2, None, True, False), "24:00:00:00, 2 s",
                  [DELAY, ROW_0])):
-            box = one.box()
+            box = in_page(one.box())
             self.assertIn(wanted, box)
             self.assertEqual(one.not_checked(), checked)
             self.assertEqual(("x / y" in box, "a&lt;b" in box and "1,234 bytes" in box,
@@ -173,14 +179,16 @@ class Reports(Case):
         """What is made from files: each with its size and its sum, words by lines, the prover's."""
         file = SummedFile("a<b", 1234, "f" * 64)
         for proved, words in (("x & y", "x &amp; y</code>"), (None, "no file PROVED says")):
-            text = page.made_from([("STL", file), ("PES", file)], "a date", MadeWith(
-                "1.2.3", "", proved), [("One", "a\nb"), ("Two", "<")])
+            text = in_page(page.made_from([("STL", file), ("PES", file)], "a date", MadeWith(
+                "1.2.3", "", proved), [("One", "a\nb"), ("Two", "<")]))
             self.must(words, text.count("<td>1,234 bytes</td>") == 2 and words in text and
                       text.count("a&lt;b</td>") == 2 and text.count("f" * 64) == 2, text)
             self.must("words", "<dt>Date</dt><dd>a date</dd><dt>Version</dt><dd>1.2.3</dd><dt>One"
                       '</dt><dd><code class="long">a<br/>b</code></dd><dt>Two</dt><dd><code '
                       'class="long">&lt;</code></dd><dt>PROVED</dt>' in text, text)
-        text = page.document("a <line>", "b & c", ["one", "two"])
+        text = in_page(page.document("a <line>", "b & c", [markup("one"), markup("two")]))
+        wrong = page.document("a", "b", ["<b>"])  # type: ignore[list-item]
+        self.must("no text stands for markup", "\n&lt;b&gt;\n" in in_page(wrong))
         self.must("document", "<title>a &lt;line&gt; &#8211; b &amp; c</title>" in text and
                   text.endswith("<h1>Report on b &amp; c</h1>\none\ntwo\n</body></html>\n"), text)
 
@@ -197,8 +205,8 @@ class Reports(Case):
                 (None, "refused 31 Start pes 7", "PES packet 7 can't be read, and nothing after")):
             seen: Any = SimpleNamespace(halt=halt, last_frame=9, span_of=lambda _: None)
             told = fault_of(line)
-            self.must(f"{halt} {line}", pes_words(told, None, report, seen).startswith(
-                f"<p>{words}"), pes_words(told, None, report, seen))
+            said = in_page(pes_words(told, None, report, seen))
+            self.must(f"{halt} {line}", said.startswith(f"<p>{words}"), said)
 
     def test_end_of_what_is_known(self) -> None:
         """Where the file ends before the last subtitle does, or can't be followed."""

@@ -158,10 +158,12 @@ def judge(words: argparse.Namespace, called: str) -> int:
     typed = Typed(called, words.program)
     if words.is_resumed and words.out is None:
         raise Stop("--resume goes with -o, where the results of an earlier call are")
-    items = pairs_at(words.batch, words)
-    inputs, of_all = inputs_of(items, words.batch), words.out
-    if words.line is not None:  # others judge the other lines: nothing is written over all of them
-        items, of_all = [at_line(items, words.batch, words.line)], None
+    if words.line is None:
+        items, more, of_all = pairs_at(words.batch, words), list[str](), words.out
+    else:  # others judge the other lines: nothing is written over all of them
+        item, more = at_line(words.batch, words.line, words)
+        items, of_all = [item], None
+    inputs = inputs_of(items, words.batch, *more)
     collecting.refuse_names(words, inputs, of_all)
     with temporary_folder("subttx-qc-") as folder, \
             claimed_for_batch(of_all):

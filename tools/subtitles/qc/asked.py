@@ -4,6 +4,7 @@ from __future__ import annotations
 import argparse
 import contextlib
 import dataclasses
+import functools
 import os
 import stat
 from typing import Sequence
@@ -179,19 +180,24 @@ def option_line(asked: Asked) -> str:
     return f"option: {asked.option}, since {language}"
 
 
-def asked_of_line(line: Sequence[str], defaults: argparse.Namespace) -> Asked:
-    """The pair of a line of a list, with the options that hold for all where it has none."""
+@functools.lru_cache(maxsize=None)
+def line_parser() -> Words:
+    """What a line of a list is read by; it takes longer to make than to use."""
     parser = Words("")
     parser.add_argument("stl")
     parser.add_argument("recording")
     add_pair_options(parser)
+    return parser
+
+
+def asked_of_line(line: Sequence[str], defaults: argparse.Namespace) -> Asked:
+    """The pair of a line of a list, with the options that hold for all where it has none."""
     known = {name: getattr(defaults, name) for name in pair_options()}
     given = {word.partition("=")[0] for word in line}
     for one, other in (("origin", "start"), ("start", "origin")):
         if f"--{one}" in given:
             known[other] = None  # a line that tells its origin takes none of the call
-    parser.set_defaults(**known)
-    asked = asked_of(parser.parse_args(line))
+    asked = asked_of(line_parser().parse_args(line, argparse.Namespace(**known)))
     if asked.recording == "-":
         raise Stop("- is no recording of a list: give a file")
     return asked
