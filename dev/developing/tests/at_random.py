@@ -31,7 +31,7 @@ from subtitles.preview import report
 from subtitles.qc import beside, checks, faults
 from subtitles.qc.ending import Ending
 from .parts import MEANINGS
-from .results import wrong_by_schema
+from .results import wrong_by_schema, wrong_choices
 from .scenario import Scenario
 
 VECTORS = os.path.join(TOP, "dev", "vectors", "calls.tsv")
@@ -164,6 +164,9 @@ def called(words: list[str], program: str, more: Sequence[str] = ("-p", "PROGRAM
     for text in {text for name, text in files.items() if name.endswith(".json")}:
         wrong = wrong_by_schema(json.loads(text))
         assert not wrong, (words, wrong)
+    known = json.loads(files.get("one.json", "{}"))
+    unsaid = [*wrong_choices(known, (out + told).splitlines())] if "chosen" in known else []
+    assert not unsaid, (words, unsaid)
     return Said(words, status, [plain(line, program) for line in (out + told).splitlines()],
                 {name: plain(text, program) for name, text in files.items()},
                 files.get("one.json", ""))

@@ -122,7 +122,7 @@ class Objects(Case):
             found_row)
         self.must("none", row_of(unjudged("name", "why"), "name") == Row(
             "name", "name", "not judged", 2, "why", 0, {}, [], 0.0, ""))
-        none: dict[str, Any] = {"format": 4, "verdict": "not judged", "status": 2, "name": "a",
+        none: dict[str, Any] = {"format": 5, "verdict": "not judged", "status": 2, "name": "a",
                                 "reason": "why"}
         self.must("not judged", unjudged("a", "why") == none and
                   unjudged("a", "why", True) == {**none, "open": True})

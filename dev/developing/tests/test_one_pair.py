@@ -26,7 +26,7 @@ from subtitles.qc.warned import Warned
 from subtitles.reading.gaps import Place
 from .bench import Case, example
 from .judged import Heard
-from .parts import answer, asked_for, part_with
+from .parts import answer, asked_for, in_page, part_with
 from .test_tables_of_files import refused
 
 REFUSED = ["refused 72 Content frame 00:00:01:00 row 1 column 2", "refused 68 Parity frame "
@@ -331,32 +331,35 @@ class Overview(Case):
                              (-1, "origin 7, given, all 1 frame early")):
             verdict.parts[0].found = Found(0, 9, Clock(7, GIVEN, delay))
             self.must(words, overview.clock_of(verdict.parts[0]) == words)
-        table = overview.table(verdict, names)
+        table = in_page(overview.table(verdict, names))
         for number in (1, 2, 3):
             link = f'<a href="one.{number}.html">'
             self.must(f"part {number}", table.count(f"{link}part {number}</a>") == 1 and
                       table.count(link) == 2)
+        odd = in_page(overview.table(verdict, Names("50%25", self.folder, self.path("out"))))
+        self.must("a name with an escaped sign", 'href="50%2525.2.html"' in odd, odd)
         self.must("faults", '<td data-name="Faults">2</td>' in table and
                   table.count('<td data-name="Faults">0</td>') == 2, table)
         self.must("between", "between 00:00:00:09 and 00:00:02:00; between 00:00:03:24 and "
-                  "00:00:04:20." in overview.between(verdict.parts))
+                  "00:00:04:20." in in_page(overview.between(verdict.parts)))
         for part in verdict.parts:
             part.names.given = example("story.stl")
         verdict.gaps = [gap(True), gap(False)]
         verdict.warnings = [Warned("kind", "strange")]
-        box = overview.box(verdict, "the <line>")
+        box = in_page(overview.box(verdict, "the <line>"))
         self.must("box", box.startswith('<div class="verdict refused">') and "the &lt;line&gt;" in
                   box and box.count("3 TS packets lost") == 1 and "warning: strange" in box, box)
-        page = "".join(overview.overview(dataclasses.replace(verdict, date="2026-01-02T03:04:05Z"),
+        page = in_page(overview.overview(dataclasses.replace(verdict, date="2026-01-02T03:04:05Z"),
                                          program_at(self.bench.program), names,
                                          Typed("tools/qc", self.bench.program)))
         self.must("its date", "2026-01-02 03:04:05 UTC" in page)
-        scope = overview.scope(verdict)
+        scope = in_page(overview.scope(verdict))
         count = 3 * overview.subtitles_of(verdict.parts[0])
         self.must("scope", f"00:00:00:00 to 00:00:05:24, {count} subtitles" in scope, scope)
         verdict.asked = asked_for("piped.stl", "one.pes")  # what came through a pipe is kept
         verdict.asked.kept_stl = example("story.stl")
-        self.must("a pipe", "Programme" in scope and overview.scope(verdict) == scope, scope)
+        self.must("a pipe", "Programme" in scope and in_page(overview.scope(verdict)) == scope,
+                  scope)
 
     def test_pairs(self) -> None:
         """What is broken first, then what nobody judged, warnings, and what is accepted."""

@@ -9,7 +9,7 @@ from subtitles.preview.subtitles import Looked, looked_at
 from subtitles.preview.strips import runs_of
 from subtitles.qc.subtitle_file import SubtitleFile
 from .bench import Case
-from .parts import fault_of
+from .parts import fault_of, in_page
 from .test_report_faults import SUBTITLES
 
 class Drawn(unittest.TestCase):
@@ -75,14 +75,14 @@ class Blocks(Case):
         for number in range(10, 60):
             line = f"refused {number} X block {int(number > 14)}"
             head, _, value = fields.get(number, "").rpartition(" ")
-            self.must(line, made.field(fault_of(line)) == (
-                f"{head} <mark>{value}</mark>" if head else ""), made.field(fault_of(line)))
-        self.must("no block", made.field(fault_of("refused 14 Cct")) == "")
+            told = in_page(made.field(fault_of(line)))
+            self.must(line, told == (f"{head} <mark>{value}</mark>" if head else ""), told)
+        self.must("no block", in_page(made.field(fault_of("refused 14 Cct"))) == "")
 
     def test_marks(self) -> None:
         """The byte or the line that a fault names, in a text and in tables."""
         def marked(*lines: str) -> str:
-            return blocks.marked_text(b"a b\x8ac", [fault_of(line) for line in lines])
+            return in_page(blocks.marked_text(b"a b\x8ac", [fault_of(line) for line in lines]))
 
         for lines, words in (
                 ((), "a b<br/>c"), (("refused 50 X block 2 at 0",), "<mark>a</mark> b<br/>c"),
@@ -92,14 +92,14 @@ class Blocks(Case):
                  "<mark>a <mark>b</mark></mark><br/>c"), (("refused 21 X block 2",), "a b<br/>c")):
             self.must(f"{lines}", marked(*lines) == f'<span class="text">{words}</span>',
                       marked(*lines))
-        table = blocks.byte_table(bytes(range(0x41, 0x53)), 17)
+        table = in_page(blocks.byte_table(bytes(range(0x41, 0x53)), 17))
         self.must("bytes", table.count("<tr>") == 2 and table.count(' class="named"') == 1 and
                   '<td class="named">52<br/>R</td>' in table and '"row">16<' in table, table)
-        lined = blocks.line_table(b"ab\x8a\x8ac", 18, 1)
+        lined = in_page(blocks.line_table(b"ab\x8a\x8ac", 18, 1))
         self.must("lines", '<tr class="named"><th scope="row">line 1</th><td>row 19</td><td>0 bytes'
                   "</td><td>empty</td>" in lined and "<td>1 byte</td>" in lined, lined)
-        self.must("letters", [blocks.readable(byte) for byte in (0x20, 0x41, 0x7E, 0x7F, 0x1F)] == [
-            "\u2423", "A", "~", "<i>7F</i>", "<i>1F</i>"])
+        letters = [in_page(blocks.readable(byte)) for byte in (0x20, 0x41, 0x7E, 0x7F, 0x1F)]
+        self.must("letters", letters == ["\u2423", "A", "~", "<i>7F</i>", "<i>1F</i>"])
 
     def test_times(self) -> None:
         """Those that a fault is about are marked: of the subtitle, and of the one before."""
@@ -111,13 +111,13 @@ class Blocks(Case):
                 ("refused 56 X block 6", (f"<mark>{begin}</mark>", end)),
                 ("refused 57 X block 6", (f"<mark>{begin}</mark>", end)),
                 ("refused 20 X block 6", (begin, end)), ("refused 50 X block 6", (begin, end))):
-            self.must(line, blocks.times_of(one, [fault_of(line)]) == wanted)
+            self.must(line, (*map(in_page, blocks.times_of(one, [fault_of(line)])),) == wanted)
         wrong = one._replace(begin="99:00:00:00")
-        self.must("no time", blocks.times_of(wrong, [fault_of("refused 20 X block 6")])
-                  == ("<mark>99:00:00:00</mark>", end))
+        told = [*map(in_page, blocks.times_of(wrong, [fault_of("refused 20 X block 6")]))]
+        self.must("no time", told == ["<mark>99:00:00:00</mark>", end])
         first, last = "00:00:03:00", "00:00:03:24"
         for line, words in (("refused 56 X block 6", f"<mark>{first}</mark></td><td>{last}"),
                             ("refused 57 X block 6", f"{first}</td><td><mark>{last}")):
-            table = blocks.two_times(made, one, fault_of(line))
+            table = in_page(blocks.two_times(made, one, fault_of(line)))
             own = f"<mark>{begin}</mark></td><td>{end}"
             self.must(line, words in table and own in table, table)

@@ -6,8 +6,9 @@ import random
 import unittest
 
 from developing.pes import packet
-from subtitles.core.teletext import CODE_WORDS
+from subtitles.core.markup import markup
 from subtitles.core.times import FRAMES_OF_A_DAY
+from subtitles.core.teletext import CODE_WORDS
 from subtitles.preview import page, program as asking
 from subtitles.preview.packet_words import packet_lines
 from subtitles.preview.page import lost_places
@@ -16,6 +17,7 @@ from subtitles.preview.scope import BETWEEN, DELAY, ROW_0, Scope
 from subtitles.qc.made_with import MadeWith
 from subtitles.qc.sums import SummedFile
 from .bench import Case
+from .parts import in_page
 
 
 class Box(unittest.TestCase):
@@ -24,7 +26,7 @@ class Box(unittest.TestCase):
     def test_lost(self) -> None:
         """Five places are told at once, more are unfolded."""
         for count, is_unfolded in ((1, False), (5, False), (6, True)):
-            words = lost_places(["<x>"] * count)
+            words = in_page(lost_places(["<x>"] * count))
             self.assertEqual((words.count("<li>&lt;x&gt;</li>"), "<details>" in words),
                              (count, is_unfolded))
 
@@ -38,7 +40,7 @@ class Box(unittest.TestCase):
                  "00:00:01:00 to 00:00:02:00, 2 subtitles; part 1 of 3<", [DELAY, BETWEEN, ROW_0]),
                 (Scope([], None, 0, FRAMES_OF_A_DAY, 2, None, True, False), "24:00:00:00, 2 s",
                  [DELAY, ROW_0])):
-            box = one.box()
+            box = in_page(one.box())
             self.assertIn(wanted, box)
             self.assertEqual(one.not_checked(), checked)
             self.assertEqual(("x / y" in box, "a&lt;b" in box and "1,234 bytes" in box,
@@ -52,14 +54,16 @@ class Reports(Case):
         """What is made from files: each with its size and its sum, words by lines, the prover's."""
         file = SummedFile("a<b", 1234, "f" * 64)
         for proved, words in (("x & y", "x &amp; y</code>"), (None, "no file PROVED says")):
-            text = page.made_from([("STL", file), ("PES", file)], "a date", MadeWith(
-                "1.2.3", "", proved), [("One", "a\nb"), ("Two", "<")])
+            text = in_page(page.made_from([("STL", file), ("PES", file)], "a date", MadeWith(
+                "1.2.3", "", proved), [("One", "a\nb"), ("Two", "<")]))
             self.must(words, text.count("<td>1,234 bytes</td>") == 2 and words in text and
                       text.count("a&lt;b</td>") == 2 and text.count("f" * 64) == 2, text)
             self.must("words", "<dt>Date</dt><dd>a date</dd><dt>Version</dt><dd>1.2.3</dd><dt>One"
                       '</dt><dd><code class="long">a<br/>b</code></dd><dt>Two</dt><dd><code '
                       'class="long">&lt;</code></dd><dt>PROVED</dt>' in text, text)
-        text = page.document("a <line>", "b & c", ["one", "two"])
+        text = in_page(page.document("a <line>", "b & c", [markup("one"), markup("two")]))
+        wrong = page.document("a", "b", ["<b>"])  # type: ignore[list-item]
+        self.must("no text stands for markup", "\n&lt;b&gt;\n" in in_page(wrong))
         self.must("document", "<title>a &lt;line&gt; &#8211; b &amp; c</title>" in text and
                   text.endswith("<h1>Report on b &amp; c</h1>\none\ntwo\n</body></html>\n"), text)
 
@@ -103,9 +107,9 @@ class Packets(Case):
             data = packet(0, number, [0] * 8 if number == 0 else (), b"A" * (32 + 8 * (number > 0)))
             for at in range(2, 42):
                 wrong = data[:at] + bytes([data[at] ^ 0x80]) + data[at + 1:]
-                marks = marked_bytes(wrong).replace("<wbr/>", "")
+                marks = in_page(marked_bytes(wrong)).replace("<wbr/>", "")
                 is_marked = at < coded or has_text
                 with self.subTest(number=number, at=at):
                     self.assertEqual("<u>" in marks, is_marked)
                     self.assertEqual(marks.count("<u>"), int(is_marked))
-            self.assertNotIn("<u>", marked_bytes(data))
+            self.assertNotIn("<u>", in_page(marked_bytes(data)))

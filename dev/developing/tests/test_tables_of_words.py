@@ -194,11 +194,12 @@ class Words(Case):
                              f'<a b="{wanted}">{wanted}</a>')
         bold = markup("<b>{}</b>", 5)
         self.assertEqual((markup("{}{:,}{:.1f}", bold, 1000, 2.55).source, (bold + bold).source,
-                          joined([bold, bold], "<br/>").source, bool(bold), bool(markup(""))),
-                         ("<b>5</b>1,0002.5", "<b>5</b><b>5</b>", "<b>5</b><br/><b>5</b>", True,
+                          joined([bold, "<"], markup("<br/>")).source, bool(bold),
+                          bool(markup(""))),
+                         ("<b>5</b>1,0002.5", "<b>5</b><b>5</b>", "<b>5</b><br/>&lt;", True,
                           False))
         for wrong in (lambda: f"{bold}", lambda: str(bold), lambda: "".join([bold]),  # type: ignore
-                      lambda: joined(["<b>"])):  # type: ignore[list-item]
+                      lambda: bold + "<b>"):  # type: ignore[operator]
             self.assertRaises((TypeError, AttributeError), wrong)
 
     def test_templates(self) -> None:
@@ -208,7 +209,7 @@ class Words(Case):
                 calls = [node for node in ast.walk(ast.parse(file.read()))
                          if isinstance(node, ast.Call) and isinstance(node.func, ast.Name)]
             for call in calls:
-                at = {"markup": 0, "Markup": 0, "joined": 1}.get(call.func.id)  # type: ignore
+                at = {"markup": 0, "Markup": 0}.get(call.func.id)  # type: ignore
                 if at is not None and not path.endswith("markup.py") and "spans" not in path:
                     self.must(f"{path} line {call.lineno}", all(isinstance(
                         one, ast.Constant) for one in call.args[at:at + 1]))
