@@ -8,12 +8,14 @@ import signal
 import subprocess
 from typing import Iterable
 
+from subtitles.core.times import CLOCK
 from .bench import Case, example, packets
-from .channels import BEGIN, THREE, Running, three
+from .channels import BEGIN, SECOND, THREE, WITH_BLANK, Running, blank, make_programme, three
 from .muxed import in_frames, spaced
 from .test_channel_days import MEMORY
 
 STARTS, END = (3, 20, 37), 55  # seconds of a feed at which programmes begin, and at which it ends
+HOUR = 3600 * SECOND
 NULL = b"\x47\x1f\xff\x10" + b"\xff" * 184
 
 
@@ -49,6 +51,23 @@ class Feeds(Case):
                 lines = [line for line in one.lines() if not line.startswith("nothing of PID")]
                 self.must(one.log, lines == THREE, lines)
                 self.must(f"{one.log}: memory", one.most.kilobytes < MEMORY, one.most)
+
+    def test_jumps(self) -> None:
+        """Before each programme PTS jump by hours, back and forward, in a feed from a file, which
+        comes faster than it is judged: each programme is judged, as it came whole."""
+        names, data = [f"p{number}" for number in range(6)], b""
+        for number, name in enumerate(names):
+            begin = BEGIN + HOUR * (0, 3, -2)[number % 3]
+            made = make_programme(self, name, 1_000_000, f"Number {number} of day",
+                                  (begin + 10 * SECOND) % CLOCK)
+            pes = packets(blank(made, begin, 9) + made + blank(made, begin + 22 * SECOND, 9))
+            data += b"".join(in_frames(pes, begin, 31 * 25, 1))
+        self.write("list", "".join(f"{name}.stl\n" for name in names).encode())
+        call = self.judged("log", [], self.write("feed.ts", data))
+        said = [line for line in call.lines() if "  " in line]
+        self.must("each", said == [f"{name}  {WITH_BLANK}" for name in names], call.lines())
+        self.must("told", sum("an encoder begins anew: PTS " in line for line in call.lines()) ==
+                  len(names) - 1, call.lines())
 
     def test_of_pes_packets(self) -> None:
         """One that is missing and a gap are told, and each has its files."""

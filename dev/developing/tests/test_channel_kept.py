@@ -78,7 +78,10 @@ class Read(Folders):
         self.put(folder, 10, b"10")
         self.must("it goes on", segments.read() == b"10")
         self.put(folder, 11, b"x" * (PART + 1))
-        self.must("in pieces", [len(segments.read() or b"") for _ in range(2)] == [PART, 1])
+        self.must("in pieces", len(segments.read() or b"") == PART)
+        self.must("what is not read yet", segments.read_of(11).size == PART and
+                  b"".join(segments.before()) == b"10" + b"x" * PART)
+        self.must("the rest", len(segments.read() or b"") == 1)
 
     def segments(self, folder: str, behind: int, count: int = 100) -> Segments:
         """Segments of a second each, of which so many are read before something is told of them."""
@@ -97,8 +100,8 @@ class Read(Folders):
             folder = self.new(f"{behind}")
             segments = self.segments(folder, behind)
             for first, last in ((0, 99), (50, 99), (50, 60), (96, 99)):
-                paths = segments.between(SECOND * first, SECOND * first, SECOND * last) or []
-                found = [int(os.path.basename(path)[:-4]) for path in paths]
+                parts = segments.between(SECOND * first, SECOND * first, SECOND * last) or []
+                found = [int(os.path.basename(one.path)[:-4]) for one in parts]
                 self.must(f"{behind}: {first} to {last}", {*range(first, last + 1)} <= {*found}
                           and first - found[0] <= 4, found)
             segments.drop(SECOND * 50)
@@ -122,7 +125,7 @@ class Read(Folders):
         segments.read()
         segments.begin(Begin(SECOND * 9, 0, False))
         self.must("since then", segments.between(SECOND * 9, 0, SECOND * 9) ==
-                  [path_of(folder, 6)] and [*segments.before()] == [b"six"])
+                  [(path_of(folder, 6), 3)] and [*segments.before()] == [b"six"])
         segments.drop(0)
         self.must("gone", numbers_in(folder) == [6])
 

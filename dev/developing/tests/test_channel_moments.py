@@ -59,13 +59,13 @@ class Moments(Case):
     def end(self, call: Running, number: int) -> None:
         """Ends a call by a signal: no programme is judged any more, but for one that was judged
         just then."""
-        said, began = len(call.lines()), time.monotonic()
+        said, began = len(self.read(call.log).splitlines()), time.monotonic()
         status = call.end(number)
         if number in SIGNALS:
             self.took.append(time.monotonic() - began)
-            last = call.lines()[said:]
+            last = self.read(call.log).decode().splitlines()[said:]
             self.must(f"{number}: what is done then", status in (2, -number) and len(last) <= 2
-                      and (not last or last[-1].startswith("stopped at ")), last)
+                      and (not last or "stopped" in last[-1]), last)
 
     def judge_file(self, out: str, which: str = "", number: int = 0) -> bool:
         """Judges the file, until it ends or one of its processes is ended, at some time after some

@@ -4,7 +4,7 @@ from __future__ import annotations
 import json
 import re
 import shutil
-from typing import Any, Sequence
+from typing import Any, Iterator, NamedTuple, Sequence
 
 from developing.pes import pts_bytes
 from developing.stl import boxed, gsi_block, subtitle_blocks
@@ -18,8 +18,6 @@ FIRST = 900_000  # the frame of the first subtitle, at 10:00:00:00
 EACH, LASTS = 75, 50  # frames from one subtitle to the next one, and of each
 BEFORE, AFTER = 5, 20  # seconds of a feed before its first TCI, and after its last TCO
 OTHER_PID = 0x102
-NULL = b"\x47\x1f\xff\x10" + b"\xff" * 184
-MUCH = NULL * (17 * 2 ** 20 // len(NULL))  # more than what is looked through for a first TS packet
 
 
 class Feed:
@@ -74,6 +72,25 @@ def without(sent: Sequence[Sent], frame: int, count: int) -> list[Sent]:
     return [*sent[:own[first]], *sent[own[first + count]:]]
 
 
+def told_of(known: dict[str, Any]) -> list[Any]:
+    """What is the same however much was recorded behind a programme."""
+    return [*(known[name] for name in ("verdict", "line", "lead", "lost", "trusted")),
+            *((one["kind"], one["time"]) for one in known["warnings"])]
+
+
+class Stream(NamedTuple):
+    """A feed of a programme, the options of all and on its line of the list, its verdict, and what
+    is said of it meanwhile."""
+
+    name: str
+    programme: str
+    sent: Sequence[Sent]
+    words: Sequence[str]
+    line: str
+    verdict: str
+    said: Sequence[str]
+
+
 class Streams(Case):
     """Feeds of a programme."""
 
@@ -90,110 +107,67 @@ class Streams(Case):
         return done.status, verdicts(done.out.decode().splitlines()), [
             json.loads(self.read(f"out/{name}.json")) for name in names]
 
-    def pair(self, data: bytes, *more: str) -> tuple[int, dict[str, Any], bytes]:
-        """The status, the object and what is said of the same as a recording."""
+    def pair(self, data: bytes, *more: str, name: str) -> tuple[int, dict[str, Any]]:
+        """The status and the object of the same as a recording."""
         self.write("one.ts", data)
-        done = self.tool("qc", "one.stl", "one.ts", "--json", "one.json", "-p",
+        done = self.tool("qc", f"{name}.stl", "one.ts", "--json", "one.json", "-p",
                          self.bench.program, *more)
-        return done.status, json.loads(self.read("one.json")), done.out
+        return done.status, json.loads(self.read("one.json"))
 
-    def test_holes(self) -> None:
+    def streams(self) -> Iterator[Stream]:
         """Holes of the whole stream: 16 packets of the PID, or a multiple, leave its counter as it
-        was. A channel says what `qc` says of the recording, also behind 17 MiB of something else.
-        """
-        sent = Feed(self).stream()
-        for count, word, line in ((0, "accepted", ""), (16, "lost", "--pace=none"),
-                                  (16, "refused", ""), (17, "refused", ""), (32, "refused", ""),
-                                  (96, "refused", ""), (160, "refused", "")):
-            data = bytes_of(without(sent, 55, count))
-            status, lines, [known] = self.channel((MUCH if count in (0, 16) else b"") + data,
-                                                  line=line)
-            _, pair, _ = self.pair(data, *line.split())
-            self.must(f"{count}: verdict", (known["verdict"], known["status"], status) == (
-                word, int(word != "accepted"), int(word != "accepted")), known["line"])
-            self.must(f"{count}: as of the recording", [known[name] for name in (
-                "verdict", "line", "lost", "trusted")] == [pair[name] for name in (
-                    "verdict", "line", "lost", "trusted")], (known["lost"], pair["lost"]))
-            self.must(f"{count}: told", len(lines) == 1 + (count > 0) and len(known["lost"]) == (
-                count > 0), lines)
-            if count:
-                self.must(f"{count}: what", f"{count / 25:.2f} s are missing, by the PCR" in
-                          lines[0] or lines[0].startswith("1 TS packet lost"), lines)
-
-    def test_pace(self) -> None:
-        """A hole of 16 packets of the PID alone is 79 by the pace that is measured, and by one that
-        is asked for all or on a line of the list; by none it is accepted."""
-        sent = Feed(self).stream()
+        was. Holes of the PID alone are told by a pace, one that is measured or asked, for all or on
+        a line of the list. Five minutes. The page goes to another PID between two subtitles, and
+        within one."""
+        feed, long = Feed(self), Feed(self, "long", count=140)
+        sent = feed.stream()
+        yield Stream("whole", "one", sent, (), "", "accepted", [])
+        for count in (16, 17, 32, 96, 160):
+            for line, word in (("", "refused"), *[("--pace=none", "lost")] * (count == 16)):
+                yield Stream(f"{count} {line}", "one", without(sent, 55, count), (), line, word, [
+                    f"{count / 25:.2f} s are missing, by the PCR|1 TS packet lost"])
         own = {*[at for at, one in enumerate(sent) if one.pid == TELETEXT_PID][
             BEFORE * FRAMES_A_SECOND + 55:][:16]}
-        data = bytes_of([one for at, one in enumerate(sent) if at not in own])
-        for more, line, word, pace in (
-                ((), "", "refused", 2), ((), "--pace none", "accepted", None),
-                (("--pace", "none"), "--pace 9", "refused", 9),
-                (("--pace", "17"), "", "accepted", 17)):
-            status, lines, [known] = self.channel(data, *more, line=line)
-            self.must(f"{more} {line}", (known["verdict"], status, known["parts"][0]["pace"]) == (
-                word, int(word == "refused"), pace) and known["asked"]["pace"] == (
-                    None if pace == 2 else str(pace or "none")), known)
-            self.must(f"{more} {line}: told", (known["line"].startswith("refused 79 Silent frame "))
-                      == (word == "refused"), lines)
+        left = [one for at, one in enumerate(sent) if at not in own]
+        for words, line, word in (((), "", "refused"), ((), "--pace none", "accepted"),
+                                  (("--pace", "none"), "--pace 9", "refused"),
+                                  (("--pace", "17"), "", "accepted")):
+            yield Stream(f"pace {words} {line}", "one", left, words, line, word, [])
+        for count, what in ((7504, "TS packets of 300.16 s are missing"),
+                            (7500, "12 TS packets lost")):
+            yield Stream(f"{count}", "long", without(long.stream(), 260, count), (), "", "refused",
+                         [what, "nothing came for 00:05:0"])
+        for frame, gap, word in ((60, 0, "accepted"), (60, 9, "accepted"), (20, 0, "refused"),
+                                 (20, 25, "refused")):
+            yield Stream(f"moved {frame} {gap}", "one", feed.moved(EACH * 7 + frame, gap), (), "",
+                         word, [f"^the PMT moves page 888 from PID 0x101 to PID 0x102, before PTS "
+                                f"{feed.at(EACH * 7 + frame + gap)}$"])
 
-    def test_five_minutes(self) -> None:
-        """They are told, and no frame of them is trusted, whatever the counter says."""
-        feed = Feed(self, count=140)
-        sent, first, last = feed.stream(), "10:00:10:10", "10:05:1"
-        for count in (7504, 7500):
-            status, lines, [known] = self.channel(bytes_of(without(sent, 260, count)))
-            [lost] = known["lost"]
-            self.must(f"{count}: lost", status == 1 and lost["judged"] and
-                      lost["after"] == "10:00:10:09" and lost["before"].startswith(last), lost)
-            said = "\n".join(lines)
-            self.must(f"{count}: told", "nothing came for 00:05:0" in said and (
-                "TS packets of 300.16 s are missing" in said or "12 TS packets lost" in said), said)
-            self.must(f"{count}: causes", known["causes"][0]["words"].startswith("not received"),
-                      known["causes"][:1])
-            self.must(f"{count}: trusted", known["trusted"] and not any(
-                one["from"] < lost["before"] and one["to"] >= first for one in known["trusted"]),
-                known["trusted"])
-
-    def test_page_that_moves(self) -> None:
-        """To another PID, by the PMT: between two subtitles, and within one, which is whole on
-        neither; in a recording, a pipe and a feed. Both parts are judged by calls of their own."""
-        feed = Feed(self)
-        for frame, gap, word in (
-                (EACH * 7 + 60, 0, "accepted"), (EACH * 7 + 60, 9, "accepted"),
-                (EACH * 7 + 20, 0, "refused"), (EACH * 7 + 20, 25, "refused")):
-            data = bytes_of(feed.moved(frame, gap))
-            name = f"{frame} {gap}"
-            status, pair, out = self.pair(data)
-            calls = [line for line in out.decode().splitlines() if line.startswith("+ ")]
-            self.must(f"{name}: calls", len(calls) == 2 and all(
-                f"--pid 0x{pid:x} --pes " in call and " --from 10:00:" in call and " --to 10:00:"
-                in call for call, pid in zip(calls, (TELETEXT_PID, OTHER_PID))), calls)
-            self.must(f"{name}: verdict", (pair["verdict"], status) == (
-                word, int(word == "refused")) and not pair["lost"], pair["line"])
-            moved = [one["line"] for one in pair["warnings"] if one["kind"] == "pid"]
-            self.must(f"{name}: the change", len(moved) == 1 and moved[0].startswith(
-                "the PMT moves page 888 from PID 0x101 to PID 0x102 between 10:00:2"), moved)
-            self.must(f"{name}: trusted", word == "accepted" or [
-                one["from"] in moved[0] for one in pair["trusted"]] == [False, True] and
-                f"between {pair['trusted'][0]['to']} and " in moved[0], pair["trusted"])
-            piped = self.tool("qc", "one.stl", "-", "-o", "piped", "--keep", "-p",
-                              self.bench.program, data=data)
-            self.must(f"{name}: through a pipe", piped.status == status and
-                      piped.out.splitlines()[-1].decode() == pair["line"], piped)
-            kept = self.read("piped/one.recording.ts")
-            self.must(f"{name}: kept of the pipe", data.startswith(kept), len(kept))
-            status, lines, [known] = self.channel(data)
-            hint = "; page 888 moves to PID 0x102 then" * (word == "refused")
-            self.must(f"{name}: a feed", known["verdict"] == word and lines == [
-                f"the PMT moves page 888 from PID 0x101 to PID 0x102, before PTS "
-                f"{feed.at(frame + gap)}", f"one  {known['line']}{hint}{FITTED}"], lines)
-            self.must(f"{name}: as of the recording", [known[name] for name in (
-                "line", "lost", "trusted", "warnings")] == [pair[name] for name in (
-                    "line", "lost", "trusted", "warnings")], known["warnings"])
-            self.must(f"{name}: its PIDs", [part["pid"] for part in pair["parts"]] == [
-                TELETEXT_PID, OTHER_PID], pair["parts"])
+    def test_as_of_the_recording(self) -> None:
+        """A channel says of each what `qc` says of it as a recording, and what is missing; nothing
+        that is lost is trusted."""
+        for name, of, sent, words, line, word, said in self.streams():
+            data = bytes_of(sent)
+            status, lines, [known] = self.channel(data, *words, names=[of], line=line)
+            of_pair, pair = self.pair(data, *words, *line.split(), "--origin",
+                                      str(known["parts"][0]["origin"]), name=of)
+            self.must(f"{name}: verdict", (known["verdict"], status, of_pair) == (
+                word, int(word != "accepted"), status), known["line"])
+            self.must(f"{name}: as of the recording", told_of(known) == told_of(pair),
+                      (told_of(known), told_of(pair)))
+            self.must(f"{name}: told", len(lines) == 1 + len(said) and all(
+                any(re.search(what, one) for one in lines) for what in said), lines)
+            self.must(f"{name}: its line", lines[-1].startswith(
+                f"{of}  {known['lead'].splitlines()[0]}") and lines[-1].endswith(FITTED), lines)
+            self.must(f"{name}: trusted", not any(
+                one["from"] < lost["before"] and one["to"] > lost["after"]
+                for one in known["trusted"] for lost in known["lost"]), known["trusted"])
+            if name.startswith("moved"):
+                piped = self.tool("qc", "one.stl", "-", "-o", "piped", "--keep", "-p",
+                                  self.bench.program, data=data)
+                self.must(f"{name}: through a pipe", piped.status == status and data.startswith(
+                    self.read("piped/one.recording.ts")) and
+                    piped.out.splitlines()[-1].decode() == pair["line"], piped)
 
     def test_pids_that_both_send(self) -> None:
         """A page on two PIDs at once is on none: say which one. Each programme has its result."""

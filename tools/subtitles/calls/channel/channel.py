@@ -263,18 +263,18 @@ class Channel:
         name, heard = running.programme.name, self.hearing.of(running.asked)
         missing = running.missing(heard.start, self.now, why)
         needed = running.begin - TICKS * (running.asked.every + AROUND)
-        paths = self.segments.between(needed, running.since, running.until)
+        parts = self.segments.between(needed, running.since, running.until)
         folder = None
         if missing is not None:
             known = unjudged(name, missing, why == ENDED and self.now < running.end)
-        elif paths is None:
+        elif parts is None:
             known = unjudged(name, self.why_not_kept())
         else:
             is_moved = any(running.since <= one for one in heard.moves)
             asked = dataclasses.replace(running.asked,
                                         pid=None if is_moved else heard.pid or None)
             folder, known = self.results.judge(
-                lambda into: self.judge_in(running, asked, into), name, paths)
+                lambda into: self.judge_in(running, asked, into), name, parts)
         over = min(running.end, self.now)
         self.running = None
         hint = row_of(known, name).hint

@@ -5,7 +5,7 @@ from __future__ import annotations
 
 import contextlib
 import os
-from typing import BinaryIO, Iterator, NamedTuple
+from typing import BinaryIO, Iterable, Iterator, NamedTuple
 
 from .journal import Journal
 from .state import HEARD, Exchange
@@ -40,6 +40,22 @@ class Begin(NamedTuple):
     time: int
     pts: int
     is_exact: bool
+
+
+class Read(NamedTuple):
+    """What was read of a segment: its file, and how many bytes."""
+
+    path: str
+    size: int
+
+
+def bytes_of(several: Iterable[Read]) -> Iterator[bytes]:
+    """What was read, in parts."""
+    for path, size in several:
+        with open(path, "rb") as file:
+            while size and (data := file.read(min(PART, size))):
+                size -= len(data)
+                yield data
 
 
 class Segments:
@@ -104,13 +120,14 @@ class Segments:
 
     def before(self) -> Iterator[bytes]:
         """All that was read so far, since the last loss."""
-        for number in self.there():
-            left = None if number < self.at else self.file.tell() if self.file else 0
-            with contextlib.suppress(FileNotFoundError), \
-                    open(path_of(self.folder, number), "rb") as file:
-                while left != 0 and (data := file.read(PART if left is None else min(PART, left))):
-                    left = None if left is None else left - len(data)
-                    yield data
+        with contextlib.suppress(FileNotFoundError):
+            yield from bytes_of([self.read_of(number) for number in self.there()])
+
+    def read_of(self, number: int) -> Read:
+        """What was read of a segment: more may have come to it."""
+        size = size_in(self.folder, number) if number < self.at else \
+            self.file.tell() if self.file else 0
+        return Read(path_of(self.folder, number), size)
 
     def there(self) -> list[int]:
         """The segments that were read, since the last loss, as far as they are there."""
@@ -128,13 +145,13 @@ class Segments:
         is_whole = behind >= LEAST or numbers[at:at + 1] == [self.oldest]
         return at if is_whole else None
 
-    def between(self, time: int, earlier: int, last: int) -> list[str] | None:
-        """The files with all that came from one time to another, and from an earlier one on, where
-        that is there; `None` where some of the first is gone."""
+    def between(self, time: int, earlier: int, last: int) -> list[Read] | None:
+        """All that was read from one time to another, and from an earlier one on, where that is
+        there; `None` where some of the first is gone."""
         numbers = self.there()
         if self.first_at(time, numbers) is None:
             return None
-        return [path_of(self.folder, one) for one in numbers[self.first_at(earlier, numbers) or 0:]
+        return [self.read_of(one) for one in numbers[self.first_at(earlier, numbers) or 0:]
                 if one not in self.begins or self.begins[one].time <= last]
 
     def drop(self, before: int) -> None:
