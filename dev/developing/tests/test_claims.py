@@ -13,8 +13,6 @@ from .bench import Case
 class Claims(Case):
     """Claims of a folder."""
 
-    is_alone = True  # what locks a file is replaced, which threads share
-
     def test_calls_one_after_another(self) -> None:
         """A folder and the files of a pair belong to one call at a time; each may come after."""
         folder = self.path("claimed/here")
