@@ -65,7 +65,7 @@ class EarlierCalls(Case):
         self.must("no severity", not is_current(known, none, PROGRAM))
         names = {field.name for field in dataclasses.fields(asked)}
         self.must("all words", names == {*OTHERS, "stl", "recording", "severity", "passed_on",
-                                             "found_layout", "kept_stl"},
+                                             "found_layout", "kept_stl", "language"},
                   names)  # those that are passed on: test_options
 
     def test_object_of_another_program(self) -> None:
