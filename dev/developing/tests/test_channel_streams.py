@@ -117,8 +117,8 @@ class Streams(Case):
     def streams(self) -> Iterator[Stream]:
         """Holes of the whole stream: 16 packets of the PID, or a multiple, leave its counter as it
         was. Holes of the PID alone are told by a pace, one that is measured or asked, for all or on
-        a line of the list. Five minutes. The page goes to another PID between two subtitles, and
-        within one."""
+        a line of the list. Five minutes. A PID that is silent while the stream goes on. The page
+        goes to another PID between two subtitles, and within one."""
         feed, long = Feed(self), Feed(self, "long", count=140)
         sent = feed.stream()
         yield Stream("whole", "one", sent, (), "", "accepted", [])
@@ -137,6 +137,11 @@ class Streams(Case):
                             (7500, "12 TS packets lost")):
             yield Stream(f"{count}", "long", without(long.stream(), 260, count), (), "", "refused",
                          [what, "nothing came for 00:05:0"])
+        silent = Feed(self)
+        del silent.pes[400:800]  # sixteen seconds; how much comes at once says which PCR tells it
+        yield Stream("silent", "one", silent.stream(), (), "", "refused", [
+            r"^nothing of PID 0x101 for ([89]|1[0-6]) seconds of the stream, after PTS ",
+            f"^PID 0x101 goes on at PTS {silent.at(675)}$"])
         for frame, gap, word in ((60, 0, "accepted"), (60, 9, "accepted"), (20, 0, "refused"),
                                  (20, 25, "refused")):
             yield Stream(f"moved {frame} {gap}", "one", feed.moved(EACH * 7 + frame, gap), (), "",
@@ -175,7 +180,6 @@ class Streams(Case):
         maker_pes = [one for one in feed.pes]
         first, _ = stream_of(maker_pes, feed.begin, feed.end)
         second, _ = stream_of(maker_pes, feed.begin, feed.end, pid=OTHER_PID)
-        both = bytes_of([one for one in first] + [one for one in second if one.pid == OTHER_PID])
         data = bytes_of([one for pair in zip(first, second) for one in (
             pair[0], pair[1]) if one is pair[0] or one.pid == OTHER_PID])
         status, lines, [known] = self.channel(data)
@@ -185,22 +189,6 @@ class Streams(Case):
         for pid in ("0x101", "0x102"):
             status, lines, [known] = self.channel(data, "--pid", pid)
             self.must(pid, status == 0 and known["parts"][0]["pid"] == int(pid, 16), lines)
-        self.must("one after another", self.channel(both)[0] in (0, 2))
-
-    def test_silence(self) -> None:
-        """A PID that sends nothing while the stream goes on is told within ten seconds of it, and
-        that it goes on."""
-        feed = Feed(self, count=20)
-        del feed.pes[400:800]  # sixteen seconds
-        status, lines, _ = self.channel(bytes_of(feed.stream()))
-        # It is told by the PCR, of which there is a line each second. How much of the stream comes
-        # at once says which of them is the first to tell it, and whether the last PES packet is
-        # known by then, or one of the second before it.
-        silent = re.fullmatch(r"nothing of PID 0x101 for (\d+) seconds of the stream, after PTS "
-                              r"(\d+)", lines[0])
-        self.must("told", status == 1 and len(lines) == 3 and silent and 8 <= int(silent[1]) < 17
-                  and int(silent[2]) in {feed.at(frame) for frame in range(250, 275)}
-                  and lines[1] == f"PID 0x101 goes on at PTS {feed.at(675)}", lines)
 
 
 class Ends(Case):

@@ -5,8 +5,8 @@ import argparse
 from unittest import mock
 
 from developing.stl import boxed, gsi_block, subtitle_blocks
-from subtitles.calls.channel.awaited import BEFORE, NEAR, Awaited, Changes, Timed
-from subtitles.calls.channel.feed_clock import SECOND, FeedClock
+from subtitles.calls.channel.awaited import BEFORE, NEAR, Awaited, Changes
+from subtitles.calls.channel.feed_clock import SECOND
 from subtitles.core.times import CLOCK, EARLY, TICKS
 from subtitles.core.words import Stop, Words
 from subtitles.qc.asked import add_pair_options
@@ -163,16 +163,6 @@ class Tables(Case):
         self.must("times", (some.first, some.last, len(some.edges)) == (10, 90, 4), some.edges)
         with self.assertRaises(Stop):
             Awaited(self.write("none.stl", gsi_block(b"", 1, 1) + blocks[0]), "english", 0, 9)
-        length = EACH * 2 + LASTS
-        end = FIRST + length
-        for since, before, is_there in ((-1, 0, True), (0, 0, False), (-1, None, False),
-                                        (9, length, True), (9, length + 1, False)):
-            clock = FeedClock()
-            if before is not None:
-                clock.take(TICKS * (end - before))
-            midnight = Timed(stl, "english", 0, since).midnight(clock)
-            self.must(f"since {since}, {before}", midnight == (
-                TICKS * ((before or 0) - end) if is_there else None), midnight)
 
     def test_edges_within_some_frames(self) -> None:
         """Within N one edge may be N frames later than another, and no more."""

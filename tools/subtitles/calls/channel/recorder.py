@@ -13,7 +13,7 @@ from ...core.files import Input
 from ...core.pes import HEAD, START, begins_in
 from ...core.words import Stop
 from ..claim import locking
-from ..forked import beside
+from ..forked import beside, signals_held
 from ..single import heed_signals, ignore_signals
 from .segments import LEAST, PART, numbers_in, path_of, size_in
 from .state import ERROR, FILE, HEARD, Exchange
@@ -191,7 +191,7 @@ class Recorded:
             ignore_signals()  # who began it ends it
             return record(name, folder, alive)
 
-        with Input(name):
+        with Input(name), signals_held():
             self.pid = beside(does, alive)
         os.close(alive)
         nothing = os.open(os.devnull, os.O_RDONLY)
