@@ -4,6 +4,7 @@ from __future__ import annotations
 import ast
 import functools
 import gc
+import glob
 import itertools
 import json
 import os
@@ -81,16 +82,53 @@ def found(names: Sequence[str]) -> list[unittest.TestCase]:
     """All tests, or those that are of one of some words: in whose names it is, or which call the
     module of the tools that it names; each word has to be of one."""
     everything = list(flattened(unittest.TestLoader().discover(FOLDER, PATTERN, DEV)))
-    for name in names:
-        if not any(is_of(one, name) for one in everything):
+    of_names = [[*(one for one in everything if name in one.id()),
+                 *of_module(module_of(name), everything)] for name in names]
+    for name, several in zip(names, of_names):
+        if not several:
             raise Stop(f"no test is named {name}, and none calls a module of that name")
-    return [one for one in everything if not names or any(is_of(one, name) for name in names)]
+    wanted = {one for several in of_names for one in several}
+    return [one for one in everything if not names or one in wanted]
 
 
-def is_of(test: unittest.TestCase, name: str) -> bool:
-    """Whether a test is of a word."""
-    return name in test.id() or (is_module(name) and
-                                 module_of(name) in called_by(type(test).__module__))
+def of_module(module: str, tests: Several) -> list[unittest.TestCase]:
+    """The tests that are named after a module of the tools, or call it; where none does, those that
+    call a module that calls it, by what tests share too."""
+    named = f"developing.tests.test_{module.rpartition('.')[2]}"
+    asked, known = {module} & {*callers()}, set[str]()
+    while asked:
+        several = [one for one in tests for its in [type(one).__module__]
+                   if its == named or asked & (shared_by(its) if known else called_by(its))]
+        if several:
+            return several
+        known |= asked
+        asked = {other for one in asked for other in callers()[one]} - known
+    return []
+
+
+@functools.lru_cache(None)
+def callers() -> dict[str, set[str]]:
+    """The modules of the tools, each with those that take something of it."""
+    paths = {path[len(TOOLS) + 1:-3].replace(os.sep, "."): path for path in
+             glob.glob(os.path.join(TOOLS, "subtitles", "**", "*.py"), recursive=True)}
+    found: dict[str, set[str]] = {name: set() for name in paths}
+    for name, path in paths.items():
+        for other in taken_in(path, name) & found.keys():
+            found[other].add(name)
+    return found
+
+
+def taken_in(path: str, module: str) -> set[str]:
+    """The modules, or what they have, of which a file takes something."""
+    with open(path, encoding="utf-8") as file:
+        tree = ast.parse(file.read())
+    taken = set[str]()
+    for one in ast.walk(tree):
+        if isinstance(one, ast.ImportFrom):
+            own = module.split(".")[:-one.level] if one.level else []
+            base = ".".join([*own, *([one.module] if one.module else [])])
+            taken |= {base, *(f"{base}.{alias.name}" for alias in one.names)}
+    return taken
 
 
 def module_of(name: str) -> str:
@@ -100,24 +138,19 @@ def module_of(name: str) -> str:
 
 
 @functools.lru_cache(None)
-def is_module(name: str) -> bool:
-    """Whether a name is of a module, or a package, that the tools have."""
-    path = os.path.join(TOOLS, *module_of(name).split("."))
-    return os.path.exists(f"{path}.py") or os.path.isdir(path)
-
-
-@functools.lru_cache(None)
 def called_by(module: str) -> frozenset[str]:
     """The modules of the tools of which the module of a test takes something by itself."""
     path = getattr(sys.modules.get(module), "__file__", None)
-    if path is None:
-        return frozenset()
-    with open(path, encoding="utf-8") as file:
-        tree = ast.parse(file.read())
-    taken = [(one.module or "", alias.name) for one in ast.walk(tree)
-             if isinstance(one, ast.ImportFrom) for alias in one.names]
-    return frozenset(name for base, alias in taken for name in (base, f"{base}.{alias}")
-                     if base.startswith("subtitles"))
+    return frozenset(taken_in(path, module) & callers().keys() if path else ())
+
+
+@functools.lru_cache(None)
+def shared_by(module: str) -> frozenset[str]:
+    """The same, and those of which what it shares with other tests takes something."""
+    path = getattr(sys.modules.get(module), "__file__", None)
+    shared = [one for one in (taken_in(path, module) if path else ())
+              if one.startswith("developing.tests.") and ".test_" not in one]
+    return called_by(module).union(*map(called_by, shared))
 
 
 def has_fixture(kind: Type[unittest.TestCase]) -> bool:
