@@ -57,7 +57,7 @@ class First(runner.Counts):
         self.passed += error is None
         self.failed += error is not None
         if error is not None:
-            self.by = error[0].__name__
+            self.by = self.by or error[0].__name__
             self.stop()
 
 

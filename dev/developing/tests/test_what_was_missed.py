@@ -23,7 +23,8 @@ from subtitles.reading.timeline import Timeline, timeline_near
 from .bench import Case, example, example_bytes
 from .judged import in_pipe, judged, programme
 from .muxed import TELETEXT_PID
-from .parts import CLOSING, HEADER, PAGE, answer, asked_for, packets_told, part_with, row
+from .parts import (
+    CLOSING, HEADER, PAGE, answer, asked_for, in_page, packets_told, part_with, row)
 from .test_decisions import defaults
 from .test_feeds import ending_of
 from .test_recordings_judged import in_stream
@@ -158,7 +159,7 @@ class Values(Case):
         """No byte of a text is markup in the page that shows it."""
         for byte, wanted in ((ord("<"), "&lt;"), (ord("&"), "&amp;"), (ord(">"), "&gt;"),
                              (ord("A"), "A"), (0x0B, "<i>0B</i>")):
-            self.must(f"{byte:02X}", str(blocks.readable(byte)) == wanted, blocks.readable(byte))
+            self.must(f"{byte:02X}", in_page(blocks.readable(byte)) == wanted)
 
 
 class Channels(Case):
