@@ -250,11 +250,9 @@ class Repeats(unittest.TestCase):
                 ([0, 10, 20, 30, 50, 90], [], 20)]
         for frames, edges, every in of_frames:
             self.assertEqual(measured(frames, edges), every, (frames, edges))
-        summed: list[list[int]] = []  # of a day of sendings once, not for each of them
-        with mock.patch.object(repeat, "sum", side_effect=lambda some: summed.append(some)
-                               or sum(some), create=True):
+        with mock.patch.object(repeat, "sum", side_effect=sum, create=True) as summed:
             self.assertEqual(measured(range(1000), []), 1)
-        self.assertLess(len(summed), 3)
+        self.assertLess(summed.call_count, 3)  # not once for each sending
         self.assertEqual(FEWEST, 3)
         of_gaps: list[tuple[list[int], int]] = [([], 0), ([5], 0), ([5, 5], 0), ([9, 5, 30], 21)]
         for frames, gap in of_gaps:
