@@ -116,12 +116,14 @@ class Read(Folders):
             self.must("the last one", numbers_in(folder)[-1] == 99 and len(numbers_in(folder)) < 6)
 
     def test_behind_a_loss(self) -> None:
-        """What came before it is of no use, and goes."""
+        """What came before it is there while the loss is told; then it is of no use, and goes."""
         folder = self.new("one")
         segments = self.segments(folder, 0, 5)
         self.put(folder, 6, b"six")
         while segments.read() is not None:
             pass
+        self.must("before it", segments.between(0, 0, SECOND * 9) == [
+            (path_of(folder, number), LEAST // 4) for number in range(5)], segments.at)
         segments.read()
         segments.begin(Begin(SECOND * 9, 0, False))
         self.must("since then", segments.between(SECOND * 9, 0, SECOND * 9) ==

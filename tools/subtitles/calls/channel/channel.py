@@ -140,7 +140,7 @@ class Channel:
     def lose(self) -> None:
         """What comes next is behind a loss: it is heard anew."""
         self.take_all(self.hearing.end())
-        if self.segments.at > self.segments.known:
+        if self.segments.at >= self.segments.known:
             self.say(f"{LOST}: {self.why_lost()}")
         self.machine.lose()
         self.begin_anew(LOST)

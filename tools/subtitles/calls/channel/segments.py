@@ -72,6 +72,7 @@ class Segments:
         self.begins = {number: Begin(*rest) for number, *rest in self.index.entries(4)}
         self.known, self.count = max(self.begins, default=-1), len(self.begins)
         self.file: BinaryIO | None = None
+        self.is_lost = False  # something behind the segment that is read, which was told
         self.at = self.oldest = next(iter(numbers_in(folder)), -1)
 
     def begun(self) -> Begin | None:
@@ -82,8 +83,8 @@ class Segments:
         return None if number is None else self.begins[number]._replace(is_exact=False)
 
     def read(self) -> bytes | None:
-        """Some bytes that come next; nothing where there are none yet. `None` where something is
-        lost, and what comes next is behind that."""
+        """Some bytes that come next; nothing where there are none yet. `None`, once, where something
+        is lost: what came before it is there until more is read."""
         while True:
             data = self.read_on()
             following = None if data else self.following()
@@ -93,12 +94,13 @@ class Segments:
             if data:
                 return data
             is_lost = -1 < self.at != following - 1
+            if is_lost and not self.is_lost:
+                self.is_lost = True
+                return None
             if self.at < 0 or is_lost:
                 self.oldest = following
             self.close()
-            self.at = following
-            if is_lost:
-                return None
+            self.at, self.is_lost = following, False
 
     def read_on(self) -> bytes:
         """Some bytes of the segment that is read."""
