@@ -126,7 +126,7 @@ class Segments:
             yield from bytes_of([self.read_of(number) for number in self.there()])
 
     def read_of(self, number: int) -> Read:
-        """What was read of a segment: more may have come to it."""
+        """What was read of a segment: more may have come to it, where PTS may come again."""
         size = size_in(self.folder, number) if number < self.at else \
             self.file.tell() if self.file else 0
         return Read(path_of(self.folder, number), size)
