@@ -19,6 +19,18 @@ for one in pkgutil.walk_packages(subtitles.__path__, "subtitles."):
 """
 
 
+def compile_beside(folder: str) -> None:
+    """Puts the compiled form of what is in a folder beside it: copies of the folder have it too,
+    for calls in `plain_environment`."""
+    subprocess.run([sys.executable, "-m", "compileall", "-q", folder], check=False,
+                   env=plain_environment())
+
+
+def plain_environment() -> dict[str, str]:
+    """The environment without what says where the compiled form is."""
+    return {name: word for name, word in os.environ.items() if name not in (PREFIX, WRITES_NONE)}
+
+
 @contextlib.contextmanager
 def compiled() -> Iterator[None]:
     """While this holds, what is called takes the tools as they are compiled in a folder that goes
@@ -28,9 +40,8 @@ def compiled() -> Iterator[None]:
         return
     with tempfile.TemporaryDirectory() as folder:
         os.chmod(folder, 0o755)  # another user looks into it
-        env = {name: word for name, word in os.environ.items() if name != WRITES_NONE}
         subprocess.run([sys.executable, "-c", IMPORT_ALL], check=False,
-                       env={**env, PREFIX: folder, "PYTHONPATH": TOOLS})
+                       env={**plain_environment(), PREFIX: folder, "PYTHONPATH": TOOLS})
         os.environ[PREFIX] = folder
         try:
             yield

@@ -1,5 +1,5 @@
 """Which tests call a function, and whether one of them fails with a bug: in a copy of the
-repository, each run of tests in a process of its own.
+repository whose tests are loaded once, each run of some in a process that is forked from it.
 """
 from __future__ import annotations
 
@@ -10,7 +10,9 @@ import io
 import json
 import os
 import select
+import shutil
 import signal
+import subprocess
 import sys
 import tempfile
 import time
@@ -18,9 +20,13 @@ import unittest
 from types import CodeType, FunctionType
 from typing import Any, Callable, Sequence
 
-from .bugs import MODULE, Bug, codes
+from subtitles.core.built import TOP, read
+from subtitles.core.words import Stop
+from .bugs import codes
+from .edits import changed
 from .tests import bench, runner
 
+COPIED = ("tools", "dev")
 TOO_LONG = "too long"  # where a test did not end in its time
 CALLS = "SUBTTX_CALLS"  # in which a process finds the file that takes the functions it calls
 # What each process does that is watched: it writes down each function when it is first called.
@@ -38,6 +44,7 @@ def seen(frame, event, arg):
 threading.settrace(seen)
 sys.settrace(seen)
 """
+OF_FUNCTION = 1  # a flag of code that has variables of its own
 Answer = dict[str, Any]
 
 
@@ -50,7 +57,7 @@ class First(runner.Counts):
         self.passed += error is None
         self.failed += error is not None
         if error is not None:
-            self.by = error[0].__name__
+            self.by = self.by or error[0].__name__
             self.stop()
 
 
@@ -69,13 +76,20 @@ def plain(name: str) -> str:
     return ".".join(one for one in name.split(".") if not one.startswith("<"))
 
 
-def patched(path: str, text: str) -> bool:
-    """Gives the functions of a loaded module the code of another text of it; False where not each
-    can be given."""
-    with open(path, encoding="utf-8") as file:
-        old = list(codes(compile(file.read(), path, "exec")))
+def beside_functions(some: list[CodeType]) -> list[object]:
+    """What is done where a module, or a class in it, is loaded."""
+    return [(one.co_code, one.co_names, [repr(value) for value in one.co_consts if not isinstance(
+        value, CodeType)]) for one in some if not one.co_flags & OF_FUNCTION]
+
+
+def patched(path: str, before: str, text: str) -> bool:
+    """Gives the functions of a loaded module, whose text was another one before, the code of a
+    text; False where not each can be given, or more is another than they."""
+    old, others = (list(codes(compile(one, path, "exec"))) for one in (before, text))
+    if sys.version_info < (3, 11) or beside_functions(old) != beside_functions(others):
+        return False
     by_name: dict[str, list[CodeType]] = {}
-    for code in codes(compile(text, path, "exec")):
+    for code in others:
         by_name.setdefault(qualified(code), []).append(code)
     places = {(qualified(code), code.co_firstlineno): by_name[qualified(code)].pop(0)
               for code in old if by_name.get(qualified(code))}
@@ -112,30 +126,31 @@ class Copy:
             counts = First(False)
             with contextlib.redirect_stdout(io.StringIO()), \
                     contextlib.redirect_stderr(io.StringIO()):
-                unittest.TestSuite(list(self.units[name])).run(counts)
+                unittest.TestSuite(self.named(name)).run(counts)
             if counts.failed:
                 return {"passed": passed, "failed": name, "by": counts.by}
         return {"passed": len(names), "failed": "", "by": ""}
 
-    def with_bug(self, module: str, bug: Bug, names: Sequence[str], seconds: float) -> Answer:
-        """Runs tests on a module with a bug."""
-        path = os.path.join(self.top, module)
-        with open(path, encoding="utf-8") as file:
-            before = file.read()
+    def named(self, name: str) -> list[unittest.TestCase]:
+        """The tests of a unit, or those in whose names a name stands."""
+        found = self.units.get(name) or [one for unit in self.units.values() for one in unit
+                                         if name in runner.name_of(one)]
+        if not found:
+            raise Stop(f"no test is named {name}")
+        return list(found)
+
+    def with_texts(self, texts: dict[str, str], names: Sequence[str], seconds: float) -> Answer:
+        """Runs tests while files of the copy have other texts."""
+        before = {path: read(os.path.join(self.top, path)) or "" for path in texts}
 
         def planted() -> Answer:
-            is_loaded = bug.function != MODULE and patched(path, bug.text)
-            with open(path, "w", encoding="utf-8") as file:
-                file.write(bug.text)
-            if not is_loaded:
+            if not all([patched(os.path.join(self.top, path), before[path], text)
+                        for path, text in texts.items()]):
                 self.load_anew()
             return self.run(names)
 
-        try:
+        with changed(self.top, texts):
             return apart(planted, seconds)
-        finally:
-            with open(path, "w", encoding="utf-8") as file:
-                file.write(before)
 
     def watched(self, name: str, seconds: float) -> Answer:
         """Runs a test; what it calls, in how many seconds, and whether it passes."""
@@ -183,3 +198,57 @@ def apart(work: Callable[[], Answer], seconds: float) -> Answer:
     os.waitpid(child, 0)
     os.close(reading)
     return dict(json.loads(told)) if told else {"passed": 0, "failed": TOO_LONG, "by": "time"}
+
+
+class Worker:
+    """A copy of the repository in a folder, and a process that answers lines of what is asked of
+    it; what no bug is in is where it was."""
+
+    def __init__(self, folder: str, program: str) -> None:
+        os.chmod(folder, 0o755)  # other users look into it
+        for name in os.listdir(TOP):
+            here, there = os.path.join(TOP, name), os.path.join(folder, name)
+            if name in COPIED:
+                shutil.copytree(here, there, ignore=shutil.ignore_patterns("__pycache__"))
+            elif name != ".git":
+                os.symlink(here, there)
+        self.running = subprocess.Popen(
+            [sys.executable, "-m", __name__, folder, program], stdin=subprocess.PIPE,
+            cwd=os.path.join(folder, "dev"), stdout=subprocess.PIPE, text=True,
+            start_new_session=True)
+        self.names = self.ask({})["names"]
+
+    def ask(self, task: Answer) -> Answer:
+        """What is answered to a task."""
+        assert self.running.stdin and self.running.stdout
+        print(json.dumps(task), file=self.running.stdin, flush=True)
+        line = self.running.stdout.readline()
+        if not line:
+            raise Stop("a worker ended")
+        return dict(json.loads(line))
+
+    def end(self) -> None:
+        os.killpg(self.running.pid, signal.SIGKILL)
+        self.running.wait()
+
+
+def work(folder: str, program: str) -> None:
+    """What the process in a copy does: it watches a test, or runs some with other texts."""
+    sys.dont_write_bytecode = False  # what is loaded here stays as it is, but for bugs
+    copy = Copy(folder, program)
+    sys.dont_write_bytecode = True
+    out = os.fdopen(os.dup(1), "w")
+    os.dup2(2, 1)
+    for line in sys.stdin:
+        task = json.loads(line)
+        if "watch" in task:
+            answer = copy.watched(task["watch"], task["seconds"])
+        elif "texts" in task:
+            answer = copy.with_texts(task["texts"], task["names"], task["seconds"])
+        else:
+            answer = {"names": list(copy.units)}
+        print(json.dumps(answer), file=out, flush=True)
+
+
+if __name__ == "__main__":
+    work(*sys.argv[1:])

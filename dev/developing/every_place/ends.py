@@ -66,6 +66,8 @@ class Ends:
         if any(map(self.due.is_undecided, frames)):
             return None
         dues = [self.due.at(one) for one in frames]
+        if page in dues:
+            return None
         return next((at for at, code in enumerate(page)
                      if code != SPACE and all(due[at] != code for due in dues)), None)
 

@@ -97,8 +97,13 @@ class Held(NamedTuple):
 
     def first_difference(self, due: bytes) -> int | None:
         """The first cell with another code, or with text that was not sent again."""
-        return next((at for at, code in enumerate(self.page) if code != due[at]
-                     or due[at] != SPACE and at // COLUMNS + 1 not in self.came), None)
+        for row, place in enumerate(range(0, len(due), COLUMNS), 1):
+            own, its = self.page[place:place + COLUMNS], due[place:place + COLUMNS]
+            if own == its and (row in self.came or its == BLANK[:COLUMNS]):
+                continue
+            return next(place + at for at, code in enumerate(its)
+                        if code != own[at] or code != SPACE and row not in self.came)
+        return None
 
 
 def held_after(packets: Sequence[Packet], options: Options) -> Held:

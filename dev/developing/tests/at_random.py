@@ -22,6 +22,7 @@ import subprocess
 import sys
 import tempfile
 from typing import Any, Iterator, NamedTuple, Sequence
+from unittest import mock
 
 from subtitles.calls.main import main
 from subtitles.core.built import TOP
@@ -30,7 +31,7 @@ from subtitles.preview import report
 from subtitles.qc import beside, checks, faults
 from subtitles.qc.ending import Ending
 from .parts import MEANINGS
-from .results import wrong_by_schema
+from .results import wrong_by_schema, wrong_choices
 from .scenario import Scenario
 
 VECTORS = os.path.join(TOP, "dev", "vectors", "calls.tsv")
@@ -146,21 +147,26 @@ def in_folder() -> Iterator[None]:
 
 
 def called(words: list[str], program: str, more: Sequence[str] = ("-p", "PROGRAM")) -> Said:
-    """All that a call of qc says."""
-    setattr(checks, "subprocess", Here)
-    for module in (beside, faults, report):  # the manual's words may change
-        setattr(module, "meanings", lambda: MEANINGS)
-    # Not by the time.
-    setattr(Ending, "is_due", lambda self, packets: packets.count > 2 * self.count + 4)
-    status, out, told = in_process(lambda line: main("", "tools/qc", line),
-                                   ["tools/qc", *words, *(program if one == "PROGRAM" else one
-                                                          for one in more)])
+    """All that a call of qc says; not by the time, and with other words for the manual's."""
+    others: list[tuple[Any, str, object]] = [
+        (checks, "subprocess", Here),
+        (Ending, "is_due", lambda self, packets: packets.count > 2 * self.count + 4),
+        *((module, "meanings", lambda: MEANINGS) for module in (beside, faults, report))]
+    with contextlib.ExitStack() as stack:
+        for module, name, other in others:
+            stack.enter_context(mock.patch.object(module, name, other))
+        status, out, told = in_process(lambda line: main("", "tools/qc", line), [
+            "tools/qc", *words, *(program if one == "PROGRAM" else one for one in more)])
     files = {}
     for name in filter(os.path.exists, FILES):
         with open(name, encoding="utf-8") as file:
             files[name] = file.read()
-        wrong = wrong_by_schema(json.loads(files[name])) if name.endswith(".json") else []
-        assert not wrong, (words, name, wrong)
+    for text in {text for name, text in files.items() if name.endswith(".json")}:
+        wrong = wrong_by_schema(json.loads(text))
+        assert not wrong, (words, wrong)
+    known = json.loads(files.get("one.json", "{}"))
+    unsaid = [*wrong_choices(known, (out + told).splitlines())] if "chosen" in known else []
+    assert not unsaid, (words, unsaid)
     return Said(words, status, [plain(line, program) for line in (out + told).splitlines()],
                 {name: plain(text, program) for name, text in files.items()},
                 files.get("one.json", ""))
@@ -205,16 +211,24 @@ def table() -> Table:
     return found
 
 
+def rows_of(first: int, end: int, program: str) -> Iterator[str]:
+    """The rows of calls, and behind each EACH of them that of their results collected."""
+    results = []
+    for number in range(first, end):
+        said = said_of(number, program)
+        results.append(said.result)
+        yield row_of(str(number), said)
+        if number % EACH == EACH - 1:
+            yield row_of(f"to {number}", of_several(results, program))
+            results = []
+
+
 if __name__ == "__main__":
     PROGRAM, *NUMBERS = sys.argv[1:]
-    PROGRAM, RESULTS, NOTES = os.path.abspath(PROGRAM), [], table().notes
-    for NUMBER in range(*map(int, NUMBERS)) if len(NUMBERS) > 1 else [int(NUMBERS[0])]:
-        SAID = said_of(NUMBER, PROGRAM)
-        RESULTS.append(SAID.result)
-        if len(NUMBERS) == 1:
-            print("\n".join([*SAID.words, *SAID.lines, *SAID.files.values()]))
-        else:
-            print("\n".join([*NOTES.get(str(NUMBER), []), row_of(str(NUMBER), SAID)]), flush=True)
-        if NUMBER % EACH == EACH - 1:
-            print(row_of(f"to {NUMBER}", of_several(RESULTS, PROGRAM)), flush=True)
-            RESULTS = []
+    PROGRAM, NOTES = os.path.abspath(PROGRAM), table().notes
+    if len(NUMBERS) == 1:
+        SAID = said_of(int(NUMBERS[0]), PROGRAM)
+        print("\n".join([*SAID.words, *SAID.lines, *SAID.files.values()]))
+    else:
+        for ROW in rows_of(int(NUMBERS[0]), int(NUMBERS[1]), PROGRAM):
+            print("\n".join([*NOTES.get(ROW.partition("\t")[0], []), ROW]), flush=True)

@@ -7,19 +7,23 @@ developing.tests.test_clocks`.
 from __future__ import annotations
 
 import atexit
+import contextlib
+import functools
 import importlib.machinery
 import importlib.util
 import io
 import os
 import random
+import runpy
 import shutil
 import subprocess
 import sys
 import tempfile
-import threading
+import traceback
 import unittest
-from typing import Any, Callable, NamedTuple, Sequence, TypeVar
+from typing import Any, Callable, NamedTuple, NoReturn, Sequence
 
+from developing import DEV, TOOLS
 from developing.pes import pes_packets, pts_bytes, pts_in
 from developing.stl import gsi_block, subtitle_blocks
 from subtitles.core.built import TOP, built_program
@@ -27,7 +31,6 @@ from subtitles.core.times import CLOCK
 
 EXAMPLES = os.path.join(TOP, "examples")
 SECONDS = 300  # for one call, on a machine that does other things too
-Test = TypeVar("Test", bound=Callable[..., None])
 
 
 class Done(NamedTuple):
@@ -45,35 +48,30 @@ class Bench:
     def __init__(self) -> None:
         self.folder, self.is_timed, self.over = "", False, list[str]()
         self.chosen: str | None = None
-        self.lock = threading.Lock()
 
     @property
     def program(self) -> str:
         """The path of the program: the chosen one, or the one that ./subttx runs."""
-        with self.lock:
-            if self.chosen is None:
-                self.chosen = os.path.realpath(built_program(None))
+        if self.chosen is None:
+            self.chosen = os.path.realpath(built_program(None))
         return self.chosen
 
+    def make_top(self) -> str:
+        """The folder of those of all tests, which another user can look into."""
+        if not self.folder:
+            self.folder = tempfile.mkdtemp()
+            os.chmod(self.folder, 0o755)
+            atexit.register(shutil.rmtree, self.folder, ignore_errors=True)
+        return self.folder
+
     def make_folder(self, name: str) -> str:
-        """Makes the folder of a test, which another user can look into."""
-        with self.lock:
-            if not self.folder:
-                self.folder = tempfile.mkdtemp()
-                os.chmod(self.folder, 0o755)
-                atexit.register(shutil.rmtree, self.folder, ignore_errors=True)
-            made = os.path.join(self.folder, name)
-            os.mkdir(made)
+        """Makes the folder of a test."""
+        made = os.path.join(self.make_top(), name)
+        os.mkdir(made)
         return made
 
 
 BENCH = Bench()
-
-
-def alone(test: Test) -> Test:
-    """A test that is timed, and so runs while no other one does."""
-    setattr(test, "is_alone", True)
-    return test
 
 
 class Case(unittest.TestCase):
@@ -102,12 +100,10 @@ class Case(unittest.TestCase):
         return self.path(name)
 
     def write_program(self, name: str, text: str) -> str:
-        """Writes a program; answers its path. Another process writes it: a call that begins in
-        another thread meanwhile would hold it open, and then nobody could run it."""
-        done = self.call(["sh", "-c", 'cat >"$0" && chmod 755 "$0"', self.path(name)],
-                         text.encode())
-        assert done.status == 0, done
-        return self.path(name)
+        """Writes a program; answers its path."""
+        path = self.write(name, text.encode())
+        os.chmod(path, 0o755)
+        return path
 
     def read(self, name: str) -> bytes:
         """The bytes of a file of the test."""
@@ -116,10 +112,14 @@ class Case(unittest.TestCase):
 
     def call(self, command: Sequence[str], data: bytes | None = None,
              env: dict[str, str] | None = None, user: int | None = None) -> Done:
-        """Runs a command in the folder; what it prints, and its lines on standard error."""
+        """Runs a command in the folder; what it prints, and its lines on standard error. Of a tool
+        a process is forked that has all loaded, unless it is to have another environment."""
+        is_loaded = env is None and user is None and is_python(command[0])
+        sys.__stdout__.flush()
         done = subprocess.run(command, cwd=self.folder, check=False, stdout=subprocess.PIPE,
                               stderr=subprocess.PIPE, timeout=SECONDS, input=data or b"",
-                              env=env, user=user)
+                              env=env, user=user, preexec_fn=functools.partial(
+                                  become, command) if is_loaded else None)
         return Done(done.returncode, done.stdout, done.stderr.decode().splitlines())
 
     def tool(self, name: str, *words: str, data: bytes | None = None) -> Done:
@@ -148,6 +148,39 @@ def tool_path(name: str) -> str:
     """The file of a tool, of tools/ where it has one there, else of dev/."""
     path = os.path.join(TOP, "tools", name)
     return path if os.path.exists(path) else os.path.join(TOP, "dev", name)
+
+
+@functools.lru_cache(None)
+def is_python(path: str) -> bool:
+    """Whether a file is a tool of this repository, in Python."""
+    if os.path.dirname(path) not in (TOOLS, DEV):
+        return False
+    with open(path, "rb") as file:
+        return file.readline().endswith(b"python3\n")
+
+
+def become(command: Sequence[str]) -> NoReturn:
+    """Does in a process that was forked for it what a tool does."""
+    status: object = 1
+    try:
+        for name in os.listdir("/proc/self/fd"):
+            if int(name) > 2:
+                with contextlib.suppress(OSError):
+                    os.close(int(name))
+        sys.argv, sys.path[:0] = [*command], [os.path.dirname(command[0])]
+        for name in ("stdin", "stdout", "stderr"):
+            setattr(sys, name, getattr(sys, f"__{name}__"))
+        runpy.run_path(command[0], run_name="__main__")
+    except SystemExit as end:
+        status = end.code or 0
+    except BaseException:
+        traceback.print_exc()
+    finally:
+        with contextlib.suppress(OSError, ValueError):
+            sys.stdout.flush()
+        with contextlib.suppress(OSError, ValueError):
+            sys.stderr.flush()
+        os._exit(status if isinstance(status, int) else 1)
 
 
 def script(name: str) -> Any:

@@ -12,7 +12,7 @@ from subtitles.calls.channel.channel import Channel
 from subtitles.calls.channel.heard import Heard
 from subtitles.calls.channel.hearing import Hearing
 from subtitles.calls.channel.results import WORK
-from subtitles.calls.channel.segments import Begin
+from subtitles.calls.channel.segments import Begin, Read
 from subtitles.calls.objects import found_at, left_by_call, put
 from subtitles.core.teletext import Page
 from subtitles.core.times import CLOCK, FRAMES_A_SECOND, TICKS
@@ -72,8 +72,8 @@ class Judging:
     left = result("accepted", line="accepted 5 frames",
                   lead="accepted 5 frames")
 
-    def __init__(self, words: argparse.Namespace, paths: Sequence[str]) -> None:
-        self.words, self.paths, self.name = words, paths, str(words.name)
+    def __init__(self, words: argparse.Namespace) -> None:
+        self.words, self.name = words, str(words.name)
         self.made.append(self)
 
     def leave(self, folder: str) -> dict[str, Any]:
@@ -114,19 +114,19 @@ class Told(Channel):
         ended = self.results.ended()
         known = Begin(ended, (BEGIN + ended) % CLOCK, True) if ended else None
         self.hearing = Pages("none", words.pid, known, lambda: ())
-        self.segments.between = lambda *times: ["segment"]  # type: ignore[assignment]
+        self.segments.between = lambda *times: [Read("segment", 0)]  # type: ignore[assignment]
         self.segments.known = -2
         self.results.judge = self.judged  # type: ignore[assignment]
         self.go_on()
         self.hearing.turn_to([self.words.page])
 
-    def judged(self, call: Callable[[str], int], name: str, paths: Sequence[str]
+    def judged(self, call: Callable[[str], int], name: str, parts: Sequence[Read]
                ) -> tuple[str, dict[str, Any]]:
         """Stands for another process that judges."""
         folder = tempfile.mkdtemp(dir=self.folder, prefix=WORK)
         with mock.patch.object(single, "judge") as judge, mock.patch.object(tempfile, "tempdir"):
             call(folder)
-        return folder, Judging(judge.call_args.args[0], paths).leave(folder)
+        return folder, Judging(judge.call_args.args[0]).leave(folder)
 
     def say(self, line: str) -> None:
         self.said.append(line)
@@ -157,8 +157,6 @@ def texts_of(name: str) -> list[str]:
 
 class Programmes(Case):
     """Files of programmes, by their names."""
-
-    is_alone = True  # what a channel calls is replaced, which threads share
 
     def setUp(self) -> None:
         super().setUp()

@@ -8,6 +8,7 @@ from typing import Sequence
 from developing.pes import packet
 from subtitles.core.manual import Meaning
 from subtitles.core.teletext import Page
+from subtitles.core.markup import Value, joined
 from subtitles.core.told import Told, told_of
 from subtitles.core.words import Words
 from subtitles.qc.asked import Asked, add_pair_options, asked_with
@@ -77,3 +78,8 @@ def packets_told(case: Case, data: bytes, page: Page = PAGE) -> Packets:
 def timeline_of(case: Case, data: bytes, origin: int = 0, within: int = 0) -> Timeline:
     """What is held of PES packets."""
     return Timeline(packets_told(case, data), PAGE, origin, within)
+
+
+def in_page(*values: Value) -> str:
+    """What stands in a page of values that are put there one after another."""
+    return joined(values).source

@@ -8,7 +8,7 @@ import importlib
 import json
 import os
 import re
-from typing import Any, Iterator
+from typing import Any, Iterator, Sequence
 
 from subtitles.calls.result import FORMAT, LISTS
 from subtitles.core.built import TOP
@@ -108,6 +108,29 @@ def is_of_kind(value: Any, kind: str) -> bool:
     return isinstance(value, KINDS[kind]) and is_bool == (kind == "boolean")
 
 
+def wrong_choices(known: dict[str, Any], lines: Sequence[str]) -> Iterator[object]:
+    """What a result chose without a line that was printed, or took without a choice."""
+    printed = {line.removeprefix("qc: ").removeprefix("! ") for line in lines}
+    chosen = {(one["what"], one["value"]) for one in known["chosen"]}
+    own = {(one["what"], one["value"], one["part"]) for one in known["chosen"]}
+    yield from (one["line"] for one in known["chosen"] if one["line"] not in printed)
+    asked = known["asked"]
+    for part in known["parts"] if known["judged"] == "transmission" else ():
+        clock, number = part["clock"], part["part"]
+        if part["pid"] is not None and asked["pid"] is None:
+            yield from {("pid", f"0x{part['pid']:X}")} - chosen
+        origin = {("origin", f"{clock['origin']}", number)} if clock else set[Any]()
+        yield from origin - own if clock and clock["source"] == "recording" else origin & own
+        if part["pes"] is not None:
+            yield from {("pes", part["pes"], number)} - own
+        if part["pace"] is not None and asked["pace"] is None:
+            yield from {("pace", f"{part['pace']}", number)} - own
+    if asked["layout"] == "auto" and known["layout"]:
+        yield from {("layout", known["layout"]["text"])} - chosen
+    typed = {name for name in ("pid", "pace") if asked[name] is not None}
+    yield from (one["what"] for one in known["chosen"] if one["what"] in typed)
+
+
 @functools.lru_cache(maxsize=None)
 def second_reader() -> Any:
     """Another reader of schemas, where the machine has it: `None` where it has not."""
@@ -120,7 +143,10 @@ def second_reader() -> Any:
 
 
 def wrong_by_schema(value: Any) -> list[str]:
-    """All that is wrong in a result, by both readers."""
+    """All that is wrong in a result, by both readers; the other one, which takes its time, reads of
+    a long list some."""
     reader = second_reader()
-    others = [error.message for error in reader.iter_errors(value)] if reader else []
+    some = {**value, **{one.name: [*value[one.name][:100], *value[one.name][100::50]]
+                        for one in LISTS if one.name in value}}
+    others = [error.message for error in reader.iter_errors(some)] if reader else []
     return [*wrong_in(value, schema()), *others]

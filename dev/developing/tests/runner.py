@@ -3,19 +3,20 @@ from __future__ import annotations
 
 import ast
 import functools
-import contextlib
+import gc
+import glob
 import itertools
+import json
 import os
-import signal
+import select
 import sys
 import unittest
-from concurrent.futures import ThreadPoolExecutor
 from types import TracebackType
 from typing import Iterator, Sequence, Tuple, Type, Union
 
-from subtitles.calls.single import SIGNALS
 from subtitles.core.words import Stop
-from .. import DEV
+from .. import DEV, TOOLS
+from .bench import BENCH
 
 FOLDER = os.path.dirname(os.path.realpath(__file__))
 PATTERN = "test_*.py"
@@ -81,15 +82,53 @@ def found(names: Sequence[str]) -> list[unittest.TestCase]:
     """All tests, or those that are of one of some words: in whose names it is, or which call the
     module of the tools that it names; each word has to be of one."""
     everything = list(flattened(unittest.TestLoader().discover(FOLDER, PATTERN, DEV)))
-    for name in names:
-        if not any(is_of(one, name) for one in everything):
+    of_names = [[*(one for one in everything if name in one.id()),
+                 *of_module(module_of(name), everything)] for name in names]
+    for name, several in zip(names, of_names):
+        if not several:
             raise Stop(f"no test is named {name}, and none calls a module of that name")
-    return [one for one in everything if not names or any(is_of(one, name) for name in names)]
+    wanted = {one for several in of_names for one in several}
+    return [one for one in everything if not names or one in wanted]
 
 
-def is_of(test: unittest.TestCase, name: str) -> bool:
-    """Whether a test is of a word."""
-    return name in test.id() or module_of(name) in called_by(type(test).__module__)
+def of_module(module: str, tests: Several) -> list[unittest.TestCase]:
+    """The tests that are named after a module of the tools, or call it; where none does, those that
+    call a module that calls it, by what tests share too."""
+    named = f"developing.tests.test_{module.rpartition('.')[2]}"
+    asked, known = {module} & {*callers()}, set[str]()
+    while asked:
+        several = [one for one in tests for its in [type(one).__module__]
+                   if its == named or asked & (shared_by(its) if known else called_by(its))]
+        if several:
+            return several
+        known |= asked
+        asked = {other for one in asked for other in callers()[one]} - known
+    return []
+
+
+@functools.lru_cache(None)
+def callers() -> dict[str, set[str]]:
+    """The modules of the tools, each with those that take something of it."""
+    paths = {path[len(TOOLS) + 1:-3].replace(os.sep, "."): path for path in
+             glob.glob(os.path.join(TOOLS, "subtitles", "**", "*.py"), recursive=True)}
+    found: dict[str, set[str]] = {name: set() for name in paths}
+    for name, path in paths.items():
+        for other in taken_in(path, name) & found.keys():
+            found[other].add(name)
+    return found
+
+
+def taken_in(path: str, module: str) -> set[str]:
+    """The modules, or what they have, of which a file takes something."""
+    with open(path, encoding="utf-8") as file:
+        tree = ast.parse(file.read())
+    taken = set[str]()
+    for one in ast.walk(tree):
+        if isinstance(one, ast.ImportFrom):
+            own = module.split(".")[:-one.level] if one.level else []
+            base = ".".join([*own, *([one.module] if one.module else [])])
+            taken |= {base, *(f"{base}.{alias.name}" for alias in one.names)}
+    return taken
 
 
 def module_of(name: str) -> str:
@@ -102,27 +141,21 @@ def module_of(name: str) -> str:
 def called_by(module: str) -> frozenset[str]:
     """The modules of the tools of which the module of a test takes something by itself."""
     path = getattr(sys.modules.get(module), "__file__", None)
-    if path is None:
-        return frozenset()
-    with open(path, encoding="utf-8") as file:
-        tree = ast.parse(file.read())
-    taken = [(one.module or "", alias.name) for one in ast.walk(tree)
-             if isinstance(one, ast.ImportFrom) for alias in one.names]
-    return frozenset(name for base, alias in taken for name in (base, f"{base}.{alias}")
-                     if base.startswith("subtitles"))
+    return frozenset(taken_in(path, module) & callers().keys() if path else ())
+
+
+@functools.lru_cache(None)
+def shared_by(module: str) -> frozenset[str]:
+    """The same, and those of which what it shares with other tests takes something."""
+    path = getattr(sys.modules.get(module), "__file__", None)
+    shared = [one for one in (taken_in(path, module) if path else ())
+              if one.startswith("developing.tests.") and ".test_" not in one]
+    return called_by(module).union(*map(called_by, shared))
 
 
 def has_fixture(kind: Type[unittest.TestCase]) -> bool:
     """Whether the tests of a class share something that is made for them once."""
     return "setUpClass" in kind.__dict__
-
-
-def is_alone(several: Several) -> bool:
-    """Whether a test runs while no other one does: it is timed, or takes what is printed, which all
-    threads share."""
-    return any(getattr(one, "is_alone", False) or
-               getattr(getattr(one, one.id().rpartition(".")[2], None), "is_alone", False)
-               for one in several)
 
 
 def in_units(tests: Several) -> Iterator[Several]:
@@ -134,34 +167,51 @@ def in_units(tests: Several) -> Iterator[Several]:
             yield from ([one] for one in several)
 
 
-@contextlib.contextmanager
-def signals_kept() -> Iterator[None]:
-    """A call in this process takes no signal any more in its end: the next test does again."""
-    before = {one: signal.getsignal(one) for one in SIGNALS}
-    try:
-        yield
-    finally:
-        for one, taken in before.items():
-            signal.signal(one, taken)
+class Apart:
+    """Tests in a process of their own, forked from one that has all loaded: what they replace,
+    print and leave behind is theirs, and one that dies costs nothing else."""
+
+    def __init__(self, several: Several, is_verbose: bool) -> None:
+        self.name = name_of(several[0])
+        sys.stdout.flush()
+        self.said, said = os.pipe()
+        self.process = os.fork()
+        if not self.process:
+            try:
+                counts = Counts(is_verbose)
+                unittest.TestSuite(several).run(counts)
+                counts.over += BENCH.over
+                os.write(said, json.dumps((counts.passed, counts.failed, counts.over)).encode())
+            finally:
+                os._exit(0)
+        os.close(said)
+
+    def fileno(self) -> int:
+        """What can be waited for: it has ended once there is something to read, or nothing more."""
+        return self.said
+
+    def add_to(self, whole: Counts) -> None:
+        """Adds what came of them; that they ended before they said so is a failure."""
+        said = os.read(self.said, 1 << 16)
+        os.close(self.said)
+        _, status = os.waitpid(self.process, 0)
+        if not said:
+            print(f"FAILED: {self.name}: its process ended by {status}", flush=True)
+        passed, failed, over = json.loads(said or b"[0, 1, []]")
+        whole.passed, whole.failed = whole.passed + passed, whole.failed + failed
+        whole.over += over
 
 
 def run_all(tests: Several, at_once: int, is_verbose: bool) -> Counts:
-    """Runs tests, some at once; before them those that run alone."""
-
-    def run(several: Several) -> Counts:
-        counts = Counts(is_verbose)
-        unittest.TestSuite(several).run(counts)
-        return counts
-
-    units = list(in_units(tests))
-    done = []
-    for unit in filter(is_alone, units):
-        with signals_kept():
-            done.append(run(unit))
-    with ThreadPoolExecutor(at_once) as pool:
-        done += pool.map(run, [one for one in units if not is_alone(one)])
-    whole = Counts(is_verbose)
-    for one in done:
-        whole.passed, whole.failed = whole.passed + one.passed, whole.failed + one.failed
-        whole.over += one.over
+    """Runs tests, some at once."""
+    whole, running = Counts(is_verbose), list[Apart]()
+    waiting = list(in_units(tests))[::-1]
+    BENCH.make_top()
+    gc.freeze()  # what all of them have is neither looked at nor given back
+    while running or waiting:
+        while waiting and len(running) < at_once:
+            running.append(Apart(waiting.pop(), is_verbose))
+        for one in select.select(running, [], [])[0]:
+            running.remove(one)
+            one.add_to(whole)
     return whole

@@ -1,12 +1,9 @@
 """Calls of qc at random say what they said when somebody last looked at it: see `at_random`."""
 from __future__ import annotations
 
-import os
-import sys
 from typing import Callable
 
-from .. import DEV
-from .at_random import EACH, table
+from .at_random import EACH, rows_of, table
 from .bench import Case
 
 TABLE = table()
@@ -28,14 +25,10 @@ def rows_from(first: int) -> Callable[[Calls], None]:
 
     def test(self: Calls) -> None:
         wanted = TABLE.rows[first // EACH * (EACH + 1):][:EACH + 1]
-        done = self.call([sys.executable, "-m", "developing.tests.at_random", self.bench.program,
-                          str(first), str(first + EACH)], env={**os.environ, "PYTHONPATH":
-                          os.pathsep.join([DEV, *os.environ.get("PYTHONPATH", "").split(":")])})
-        self.must("all are said", done.status == 0, done.told)
-        said = [line for line in done.out.decode().splitlines() if not line.startswith("#")]
-        self.must("all rows", len(said) == len(wanted), said)
-        for row, found in zip(wanted, said):
-            self.must(row, row == found, found)
+        found = list(rows_of(first, first + EACH, self.bench.program))
+        self.must("all rows", len(found) == len(wanted), found)
+        for row, one in zip(wanted, found):
+            self.must(row, row == one, one)
 
     return test
 

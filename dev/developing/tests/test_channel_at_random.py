@@ -1,20 +1,15 @@
 """Channels at random: lists that are edited, signals, stalls, while thirty programmes are sent, and
-what each has to come to is known; and a day of a feed that is handed on fast."""
+what each has to come to is known."""
 from __future__ import annotations
 
 import os
 import random
-import subprocess
-import time
 
 from subtitles.calls.channel.channel import BEFORE_IT
 from subtitles.calls.channel.queue import AT_ONCE
-from subtitles.core.times import CLOCK, TICKS
-from .bench import Case, alone, packets, tool_path
+from subtitles.core.times import TICKS
+from .bench import Case
 from .listings import LAST, SECOND, Judging, Lines, Told, files_of, texts_of
-from .muxed import in_frames
-from .test_qc_channel import (
-    BEGIN, SOON, WITH_BLANK, blank, make_programme, memory_of, verdicts)
 
 SENT, FILES = 30, 90
 LENGTH = TICKS * LAST + 25 * SECOND  # of a programme, and what is sent behind it
@@ -110,8 +105,6 @@ def kind_of(line: str) -> tuple[str, str]:
 class Lists(Case):
     """Lists at random."""
 
-    is_alone = True  # what a channel calls is replaced, which threads share
-
     def test_each_programme_has_one_result(self) -> None:
         """In its order, whatever is written to the list meanwhile, and where signals end a channel
         with which another one goes on."""
@@ -138,8 +131,8 @@ class Lists(Case):
             if chance.random() < 0.3:
                 is_seen = self.edit(channel, truth, files, "" if is_seen else now) or is_seen
             if chance.random() < 0.2:
-                channel.stall(99)
-                channel.stall(0)
+                channel.stall.take(99)
+                channel.stall.take(0)
                 channel.give([lines.gap(chance.randrange(16))])
             if chance.random() < 0.1:
                 self.compare(channel, truth, f"{seed}, {number}")
@@ -191,60 +184,3 @@ class Lists(Case):
         self.must(name, found == truth.told, [pair for pair in zip(found, truth.told)
                                               if pair[0] != pair[1]][:2] or (
                                                   len(found), len(truth.told)))
-
-
-class Days(Case):
-    """A day of a feed."""
-
-    @alone
-    def test_holds_no_more_after_a_day(self) -> None:
-        """60 programmes in 24 hours of a transport stream of over 4 GB (with --speed; else six in
-        two and a half): memory, open files and what is kept of the feed stay."""
-        count, each, folder = 60 if self.bench.is_timed else 6, 1440, self.path("temporary")
-        os.mkdir(folder)
-        pes: list[bytes] = []
-        for number in range(count):
-            begin = BEGIN + SECOND * each * number
-            made = make_programme(self, f"p{number}", 1_000_000, f"Number {number} of day",
-                                  (begin + SECOND * 60) % CLOCK)
-            pes += packets(blank(made, begin, 59) + made
-                           + blank(made, begin + SECOND * 72, each - 73))
-        self.write("list", b"".join(b"p%d.stl\n" % number for number in range(count)))
-        words = [tool_path("qc"), "--channel", "list", "-", "--patience", "30", "-p",
-                 self.bench.program]
-        seen: list[tuple[int, ...]] = []
-        size, frames = 0, each * 25
-        with open(self.path("log"), "wb") as log, subprocess.Popen(
-                words, cwd=self.folder, stdin=subprocess.PIPE, stdout=log,
-                env=dict(os.environ, TMPDIR=folder)) as process:
-            assert process.stdin
-            for number, data in enumerate(in_frames(pes, BEGIN, frames * count, 1)):
-                process.stdin.write(data)
-                size += len(data)
-                programme, frame = divmod(number, frames)
-                if frame == frames // 2 and programme in (count // 3, count - 1):
-                    process.stdin.flush()
-                    seen.append(self.after(process, folder, b"p%d  " % programme))
-            process.stdin.close()
-        lines = verdicts(self.read("log").decode().splitlines())
-        self.must("all are accepted", lines == [
-            f"p{number}  {WITH_BLANK}" for number in range(count)], lines)
-        self.must("memory, files and open files", all(
-            later <= before * 1.1 for before, later in zip(*seen)), seen)
-        self.must("open files", seen[-1][2] <= 20, seen)
-        self.must("its size", size > 4e9 or not self.bench.is_timed, size)
-        if self.bench.is_timed:
-            print(f"a channel of a day, {size / 1e9:.1f} GB: memory, temporary files and open "
-                  f"files {seen}")
-
-    def after(self, process: subprocess.Popen[bytes], folder: str, wanted: bytes
-              ) -> tuple[int, ...]:
-        """The least memory, bytes in temporary files and open files of a process in two seconds,
-        once it has said something: more are open while a programme is being judged."""
-        end, looks = time.monotonic() + SOON, []
-        while wanted not in self.read("log") and time.monotonic() < end:
-            time.sleep(0.1)
-        for _ in range(20):
-            looks.append((*memory_of(process, folder), len(os.listdir(f"/proc/{process.pid}/fd"))))
-            time.sleep(0.1)
-        return tuple(min(each) for each in zip(*looks))

@@ -6,7 +6,6 @@ import json
 from subtitles.calls.channel.channel import BEFORE_IT
 from subtitles.calls.members import ASKED
 from subtitles.calls.objects import found, unjudged
-from subtitles.qc.clock import FITTED_SHORT
 from .listings import BEGIN, SECOND, Judging, Lines, Programmes, Told, texts_of
 from .parts import asked_for
 from .results import result
@@ -14,20 +13,6 @@ from .results import result
 
 class Edits(Programmes):
     """The list is looked at again and again."""
-
-    def test_list_at_the_end_of_the_feed(self) -> None:
-        """What was written to it at last, and a last line without an end, are looked at too."""
-        channel, lines = Told(self, self.listed("one")), Lines()
-        channel.queue.next_look = 1e12
-        channel.give(lines.sent(texts_of("one"), BEGIN, 9))
-        channel.give(lines.sent(texts_of("two"), BEGIN + 20 * SECOND))
-        with open(self.path("list"), "a", encoding="ascii") as file:
-            file.write(self.listed("two") + self.listed("three").rstrip())
-        channel.stop(BEFORE_IT)
-        self.must("begun", self.names() == ["one", "two"], self.names())
-        self.must("said", channel.said[1:] == [
-            f"{self.path('list')}: new: two, three", f"two  accepted 5 frames; {FITTED_SHORT}",
-            f"three  not judged: {BEFORE_IT}"], channel.said)
 
     def test_list_that_is_edited(self) -> None:
         """What is gone was never judged, and is told so; what is judged now or was stays; lines

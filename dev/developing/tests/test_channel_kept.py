@@ -13,7 +13,7 @@ from subtitles.calls.channel.journal import Journal
 from subtitles.calls.channel.recorder import AHEAD, NotWanted, Recorder
 from subtitles.calls.channel.segments import (
     LEAST, MANY, PART, Begin, Segments, numbers_in, path_of)
-from subtitles.calls.channel.state import ENDED, ERROR, FILE, HEARD, Exchange
+from subtitles.calls.channel.state import ERROR, FILE, HEARD, Exchange
 from subtitles.core.files import Input
 from .bench import Case
 from .listings import SECOND
@@ -24,8 +24,6 @@ PES = [pes_packet(SECOND * at, [HEADER, CLOSING]) for at in range(9)] + [MARK]
 
 class Folders(Case):
     """Folders with segments."""
-
-    is_alone = True  # what a recorder waits is replaced, which threads share
 
     def new(self, name: str) -> str:
         """A new folder."""
@@ -80,7 +78,10 @@ class Read(Folders):
         self.put(folder, 10, b"10")
         self.must("it goes on", segments.read() == b"10")
         self.put(folder, 11, b"x" * (PART + 1))
-        self.must("in pieces", [len(segments.read() or b"") for _ in range(2)] == [PART, 1])
+        self.must("in pieces", len(segments.read() or b"") == PART)
+        self.must("what is not read yet", segments.read_of(11).size == PART and
+                  b"".join(segments.before()) == b"10" + b"x" * PART)
+        self.must("the rest", len(segments.read() or b"") == 1)
 
     def segments(self, folder: str, behind: int, count: int = 100) -> Segments:
         """Segments of a second each, of which so many are read before something is told of them."""
@@ -99,8 +100,8 @@ class Read(Folders):
             folder = self.new(f"{behind}")
             segments = self.segments(folder, behind)
             for first, last in ((0, 99), (50, 99), (50, 60), (96, 99)):
-                paths = segments.between(SECOND * first, SECOND * first, SECOND * last) or []
-                found = [int(os.path.basename(path)[:-4]) for path in paths]
+                parts = segments.between(SECOND * first, SECOND * first, SECOND * last) or []
+                found = [int(os.path.basename(one.path)[:-4]) for one in parts]
                 self.must(f"{behind}: {first} to {last}", {*range(first, last + 1)} <= {*found}
                           and first - found[0] <= 4, found)
             segments.drop(SECOND * 50)
@@ -115,16 +116,18 @@ class Read(Folders):
             self.must("the last one", numbers_in(folder)[-1] == 99 and len(numbers_in(folder)) < 6)
 
     def test_behind_a_loss(self) -> None:
-        """What came before it is of no use, and goes."""
+        """What came before it is there while the loss is told; then it is of no use, and goes."""
         folder = self.new("one")
         segments = self.segments(folder, 0, 5)
         self.put(folder, 6, b"six")
         while segments.read() is not None:
             pass
+        self.must("before it", segments.between(0, 0, SECOND * 9) == [
+            (path_of(folder, number), LEAST // 4) for number in range(5)], segments.at)
         segments.read()
         segments.begin(Begin(SECOND * 9, 0, False))
         self.must("since then", segments.between(SECOND * 9, 0, SECOND * 9) ==
-                  [path_of(folder, 6)] and [*segments.before()] == [b"six"])
+                  [(path_of(folder, 6), 3)] and [*segments.before()] == [b"six"])
         segments.drop(0)
         self.must("gone", numbers_in(folder) == [6])
 
@@ -173,14 +176,15 @@ class Read(Folders):
     def test_state(self) -> None:
         """Numbers, at once; of a file that is gone none."""
         state = Exchange(self.new("one"))
-        self.must("none", [state[at] for at in (HEARD, ERROR, ENDED, FILE)] == [0] * 4)
-        state[ENDED] = 1
+        self.must("none, with room for all", os.path.getsize(state.path) == 48 and
+                  [state[at] for at in (HEARD, ERROR, FILE)] == [0] * 3)
+        state[ERROR] = 1
         state.put(FILE, 2, 3, 1 << 63, 5)
-        self.must("known", state[ENDED] == 1 and state.several(FILE, 4) == [2, 3, 1 << 63, 5]
+        self.must("known", state[ERROR] == 1 and state.several(FILE, 4) == [2, 3, 1 << 63, 5]
                   and state[HEARD] == 0)
         os.unlink(state.path)
         state[HEARD] = 7
-        self.must("anew", (state[HEARD], state[ENDED]) == (7, 0))
+        self.must("anew", (state[HEARD], state[ERROR]) == (7, 0))
         Exchange(self.path("none"))[HEARD] = 7
 
 
@@ -294,12 +298,11 @@ class Written(Folders):
         path = self.write("feed", b"G" * 1000)
         folder = self.new("one")
         with self.recorder(folder, path) as one:
-            self.must("its end", one.record() and one.state[ENDED] == 1)
+            self.must("its end", one.record())
         with self.recorder(folder, path) as one:
-            self.must("it begins", one.state[ENDED] == 0)
             one.number = one.state[HEARD] + AHEAD + 1
             with mock.patch.object(one, "wait", side_effect=NotWanted):
-                self.must("ahead", not one.record() and one.state[ENDED] == 0)
+                self.must("ahead", not one.record())
         with self.recorder(folder, path) as one, mock.patch.object(
                 one.source, "read", side_effect=OSError(errno.EIO, "x")):
             self.must("an error", one.record() and one.state[ERROR] == errno.EIO)

@@ -222,12 +222,15 @@ class Steps(Programmes):
                       == (BEGIN + SECOND * 90 - TICKS * FIRST) % CLOCK, channel.said)
 
     def test_end_of_the_feed(self) -> None:
-        """What is there is judged, and the others are open; a line that is none is not."""
-        lines = self.listed("one", "two") + "none.stl --pes 1-2\n" + self.listed("three")
-        channel, told = Told(self, lines, self.path("out")), Lines()
-        channel.give(told.sent(texts_of("one"), BEGIN))
+        """What is there is judged, and the others are open; a line that is none is not. What was
+        written to the list at last, and a last line without an end, are looked at too."""
+        channel, told = Told(self, self.listed("one"), self.path("out")), Lines()
+        channel.queue.next_look = 1e12
+        channel.give(told.sent(texts_of("one"), BEGIN, 9))
         channel.give(told.sent(texts_of("two"), BEGIN + 20 * SECOND))
         self.must("one is judged", self.names() == ["one"])
+        with open(self.path("list"), "a", encoding="ascii") as file:
+            file.write(self.listed("two") + "none.stl --pes 1-2\n" + self.listed("three").rstrip())
         channel.stop(BEFORE_IT)
         self.must("begun", self.names() == ["one", "two"], self.names())
         known = {name: json.loads(self.read(f"out/{name}.json"))
@@ -236,8 +239,9 @@ class Steps(Programmes):
                   and "--pes goes with" in known["line 3"]["reason"]
                   and "open" not in known["line 3"], known)
         self.must("verdicts", channel.verdicts.count("not judged") == 2)
-        self.must("in their order", [line.partition("  ")[0] for line in channel.said] ==
-                  ["one", "two", "line 3", "three"], channel.said)
+        self.must("in their order", [line.partition("  ")[0] for line in channel.said] == [
+            "one", f"{self.path('list')}: new: two, line 3, three", "two", "line 3", "three"],
+            channel.said)
 
     def test_not_whole(self) -> None:
         """Of a programme that the feed ends, or of which the beginning was missed, that is said;
@@ -262,24 +266,10 @@ class Steps(Programmes):
         for error, why in ((28, "No space left on device"), (0, "No such file or directory")):
             channel = Told(self, self.listed("one"))
             channel.segments.between = lambda *_: None  # type: ignore[assignment]
-            channel.state[ERROR] = error
+            channel.segments.state[ERROR] = error
             channel.give(Lines().sent(texts_of("one"), BEGIN, 20))
             self.must(why, not Judging.made and channel.said == [
                 f"one  not judged: the feed could not be kept: {why}"], channel.said)
-
-    def test_feed_that_stands_still(self) -> None:
-        """Told once, after as many seconds; that it goes on is told too, and then it may stand
-        still again."""
-        channel = Told(self, self.listed("one"))
-        for turn in range(2):
-            for still, count in ((9.4, 0), (10, 1), (11, 1), (99, 1)):
-                channel.stall(still)
-                self.must(f"turn {turn}, {still}", channel.said == [
-                    "nothing has come for 10 seconds"] * count, channel.said)
-            channel.stall(0)
-            self.must("goes on", channel.said.pop() == "the feed goes on")
-            channel.stall(0)
-            channel.said.clear()
 
     def test_forgets(self) -> None:
         """Changes, and what is told, that came more than patience and a margin ago."""

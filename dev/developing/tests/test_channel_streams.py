@@ -4,27 +4,20 @@ from __future__ import annotations
 import json
 import re
 import shutil
-import signal
-import subprocess
-import time
-from typing import Any, Sequence
+from typing import Any, Iterator, NamedTuple, Sequence
 
 from developing.pes import pts_bytes
 from developing.stl import boxed, gsi_block, subtitle_blocks
 from subtitles.core.times import CLOCK, FRAMES_A_SECOND, TICKS
-from .bench import Case, packets, tool_path
+from .bench import Case, packets
+from .channels import FITTED, SECOND, verdicts
 from .muxed import TELETEXT_PID, Sent, stream_of
-from .test_qc_channel import SOON, verdicts
 
-SECOND = TICKS * FRAMES_A_SECOND
 BEGIN = CLOCK - 20 * SECOND  # of a feed: PTS begin again within it
 FIRST = 900_000  # the frame of the first subtitle, at 10:00:00:00
 EACH, LASTS = 75, 50  # frames from one subtitle to the next one, and of each
 BEFORE, AFTER = 5, 20  # seconds of a feed before its first TCI, and after its last TCO
 OTHER_PID = 0x102
-NULL = b"\x47\x1f\xff\x10" + b"\xff" * 184
-MUCH = NULL * (17 * 2 ** 20 // len(NULL))  # more than what is looked through for a first TS packet
-FITTED = "; the clock was fitted to the recording"
 
 
 class Feed:
@@ -79,6 +72,25 @@ def without(sent: Sequence[Sent], frame: int, count: int) -> list[Sent]:
     return [*sent[:own[first]], *sent[own[first + count]:]]
 
 
+def told_of(known: dict[str, Any]) -> list[Any]:
+    """What is the same however much was recorded behind a programme."""
+    return [*(known[name] for name in ("verdict", "line", "lead", "lost", "trusted")),
+            *((one["kind"], one["time"]) for one in known["warnings"])]
+
+
+class Stream(NamedTuple):
+    """A feed of a programme, the options of all and on its line of the list, its verdict, and what
+    is said of it meanwhile."""
+
+    name: str
+    programme: str
+    sent: Sequence[Sent]
+    words: Sequence[str]
+    line: str
+    verdict: str
+    said: Sequence[str]
+
+
 class Streams(Case):
     """Feeds of a programme."""
 
@@ -95,110 +107,72 @@ class Streams(Case):
         return done.status, verdicts(done.out.decode().splitlines()), [
             json.loads(self.read(f"out/{name}.json")) for name in names]
 
-    def pair(self, data: bytes, *more: str) -> tuple[int, dict[str, Any], bytes]:
-        """The status, the object and what is said of the same as a recording."""
+    def pair(self, data: bytes, *more: str, name: str) -> tuple[int, dict[str, Any]]:
+        """The status and the object of the same as a recording."""
         self.write("one.ts", data)
-        done = self.tool("qc", "one.stl", "one.ts", "--json", "one.json", "-p",
+        done = self.tool("qc", f"{name}.stl", "one.ts", "--json", "one.json", "-p",
                          self.bench.program, *more)
-        return done.status, json.loads(self.read("one.json")), done.out
+        return done.status, json.loads(self.read("one.json"))
 
-    def test_holes(self) -> None:
+    def streams(self) -> Iterator[Stream]:
         """Holes of the whole stream: 16 packets of the PID, or a multiple, leave its counter as it
-        was. A channel says what `qc` says of the recording, also behind 17 MiB of something else.
-        """
-        sent = Feed(self).stream()
-        for count, word, line in ((0, "accepted", ""), (16, "lost", "--pace=none"),
-                                  (16, "refused", ""), (17, "refused", ""), (32, "refused", ""),
-                                  (96, "refused", ""), (160, "refused", "")):
-            data = bytes_of(without(sent, 55, count))
-            status, lines, [known] = self.channel((MUCH if count in (0, 16) else b"") + data,
-                                                  line=line)
-            _, pair, _ = self.pair(data, *line.split())
-            self.must(f"{count}: verdict", (known["verdict"], known["status"], status) == (
-                word, int(word != "accepted"), int(word != "accepted")), known["line"])
-            self.must(f"{count}: as of the recording", [known[name] for name in (
-                "verdict", "line", "lost", "trusted")] == [pair[name] for name in (
-                    "verdict", "line", "lost", "trusted")], (known["lost"], pair["lost"]))
-            self.must(f"{count}: told", len(lines) == 1 + (count > 0) and len(known["lost"]) == (
-                count > 0), lines)
-            if count:
-                self.must(f"{count}: what", f"{count / 25:.2f} s are missing, by the PCR" in
-                          lines[0] or lines[0].startswith("1 TS packet lost"), lines)
-
-    def test_pace(self) -> None:
-        """A hole of 16 packets of the PID alone is 79 by the pace that is measured, and by one that
-        is asked for all or on a line of the list; by none it is accepted."""
-        sent = Feed(self).stream()
+        was. Holes of the PID alone are told by a pace, one that is measured or asked, for all or on
+        a line of the list. Five minutes. A PID that is silent while the stream goes on. The page
+        goes to another PID between two subtitles, and within one."""
+        feed, long = Feed(self), Feed(self, "long", count=140)
+        sent = feed.stream()
+        yield Stream("whole", "one", sent, (), "", "accepted", [])
+        for count in (16, 17, 32, 96, 160):
+            for line, word in (("", "refused"), *[("--pace=none", "lost")] * (count == 16)):
+                yield Stream(f"{count} {line}", "one", without(sent, 55, count), (), line, word, [
+                    f"{count / 25:.2f} s are missing, by the PCR|1 TS packet lost"])
         own = {*[at for at, one in enumerate(sent) if one.pid == TELETEXT_PID][
             BEFORE * FRAMES_A_SECOND + 55:][:16]}
-        data = bytes_of([one for at, one in enumerate(sent) if at not in own])
-        for more, line, word, pace in (
-                ((), "", "refused", 2), ((), "--pace none", "accepted", None),
-                (("--pace", "none"), "--pace 9", "refused", 9),
-                (("--pace", "17"), "", "accepted", 17)):
-            status, lines, [known] = self.channel(data, *more, line=line)
-            self.must(f"{more} {line}", (known["verdict"], status, known["parts"][0]["pace"]) == (
-                word, int(word == "refused"), pace) and known["asked"]["pace"] == (
-                    None if pace == 2 else str(pace or "none")), known)
-            self.must(f"{more} {line}: told", (known["line"].startswith("refused 79 Silent frame "))
-                      == (word == "refused"), lines)
+        left = [one for at, one in enumerate(sent) if at not in own]
+        for words, line, word in (((), "", "refused"), ((), "--pace none", "accepted"),
+                                  (("--pace", "none"), "--pace 9", "refused"),
+                                  (("--pace", "17"), "", "accepted")):
+            yield Stream(f"pace {words} {line}", "one", left, words, line, word, [])
+        for count, what in ((7504, "TS packets of 300.16 s are missing"),
+                            (7500, "12 TS packets lost")):
+            yield Stream(f"{count}", "long", without(long.stream(), 260, count), (), "", "refused",
+                         [what, "nothing came for 00:05:0"])
+        silent = Feed(self)
+        del silent.pes[400:800]  # sixteen seconds; how much comes at once says which PCR tells it
+        yield Stream("silent", "one", silent.stream(), (), "", "refused", [
+            r"^nothing of PID 0x101 for ([89]|1[0-6]) seconds of the stream, after PTS ",
+            f"^PID 0x101 goes on at PTS {silent.at(675)}$"])
+        for frame, gap, word in ((60, 0, "accepted"), (60, 9, "accepted"), (20, 0, "refused"),
+                                 (20, 25, "refused")):
+            yield Stream(f"moved {frame} {gap}", "one", feed.moved(EACH * 7 + frame, gap), (), "",
+                         word, [f"^the PMT moves page 888 from PID 0x101 to PID 0x102, before PTS "
+                                f"{feed.at(EACH * 7 + frame + gap)}$"])
 
-    def test_five_minutes(self) -> None:
-        """They are told, and no frame of them is trusted, whatever the counter says."""
-        feed = Feed(self, count=140)
-        sent, first, last = feed.stream(), "10:00:10:10", "10:05:1"
-        for count in (7504, 7500):
-            status, lines, [known] = self.channel(bytes_of(without(sent, 260, count)))
-            [lost] = known["lost"]
-            self.must(f"{count}: lost", status == 1 and lost["judged"] and
-                      lost["after"] == "10:00:10:09" and lost["before"].startswith(last), lost)
-            said = "\n".join(lines)
-            self.must(f"{count}: told", "nothing came for 00:05:0" in said and (
-                "TS packets of 300.16 s are missing" in said or "12 TS packets lost" in said), said)
-            self.must(f"{count}: causes", known["causes"][0]["words"].startswith("not received"),
-                      known["causes"][:1])
-            self.must(f"{count}: trusted", known["trusted"] and not any(
-                one["from"] < lost["before"] and one["to"] >= first for one in known["trusted"]),
-                known["trusted"])
-
-    def test_page_that_moves(self) -> None:
-        """To another PID, by the PMT: between two subtitles, and within one, which is whole on
-        neither; in a recording, a pipe and a feed. Both parts are judged by calls of their own."""
-        feed = Feed(self)
-        for frame, gap, word in (
-                (EACH * 7 + 60, 0, "accepted"), (EACH * 7 + 60, 9, "accepted"),
-                (EACH * 7 + 20, 0, "refused"), (EACH * 7 + 20, 25, "refused")):
-            data = bytes_of(feed.moved(frame, gap))
-            name = f"{frame} {gap}"
-            status, pair, out = self.pair(data)
-            calls = [line for line in out.decode().splitlines() if line.startswith("+ ")]
-            self.must(f"{name}: calls", len(calls) == 2 and all(
-                f"--pid 0x{pid:x} --pes " in call and " --from 10:00:" in call and " --to 10:00:"
-                in call for call, pid in zip(calls, (TELETEXT_PID, OTHER_PID))), calls)
-            self.must(f"{name}: verdict", (pair["verdict"], status) == (
-                word, int(word == "refused")) and not pair["lost"], pair["line"])
-            moved = [one["line"] for one in pair["warnings"] if one["kind"] == "pid"]
-            self.must(f"{name}: the change", len(moved) == 1 and moved[0].startswith(
-                "the PMT moves page 888 from PID 0x101 to PID 0x102 between 10:00:2"), moved)
-            self.must(f"{name}: trusted", word == "accepted" or [
-                one["from"] in moved[0] for one in pair["trusted"]] == [False, True] and
-                f"between {pair['trusted'][0]['to']} and " in moved[0], pair["trusted"])
-            piped = self.tool("qc", "one.stl", "-", "-o", "piped", "--keep", "-p",
-                              self.bench.program, data=data)
-            self.must(f"{name}: through a pipe", piped.status == status and
-                      piped.out.splitlines()[-1].decode() == pair["line"], piped)
-            kept = self.read("piped/one.recording.ts")
-            self.must(f"{name}: kept of the pipe", data.startswith(kept), len(kept))
-            status, lines, [known] = self.channel(data)
-            hint = "; page 888 moves to PID 0x102 then" * (word == "refused")
-            self.must(f"{name}: a feed", known["verdict"] == word and lines == [
-                f"the PMT moves page 888 from PID 0x101 to PID 0x102, before PTS "
-                f"{feed.at(frame + gap)}", f"one  {known['line']}{hint}{FITTED}"], lines)
-            self.must(f"{name}: as of the recording", [known[name] for name in (
-                "line", "lost", "trusted", "warnings")] == [pair[name] for name in (
-                    "line", "lost", "trusted", "warnings")], known["warnings"])
-            self.must(f"{name}: its PIDs", [part["pid"] for part in pair["parts"]] == [
-                TELETEXT_PID, OTHER_PID], pair["parts"])
+    def test_as_of_the_recording(self) -> None:
+        """A channel says of each what `qc` says of it as a recording, and what is missing; nothing
+        that is lost is trusted."""
+        for name, of, sent, words, line, word, said in self.streams():
+            data = bytes_of(sent)
+            status, lines, [known] = self.channel(data, *words, names=[of], line=line)
+            of_pair, pair = self.pair(data, *words, *line.split(), "--origin",
+                                      str(known["parts"][0]["origin"]), name=of)
+            self.must(f"{name}: verdict", (known["verdict"], status, of_pair) == (
+                word, int(word != "accepted"), status), known["line"])
+            self.must(f"{name}: as of the recording", told_of(known) == told_of(pair),
+                      (told_of(known), told_of(pair)))
+            self.must(f"{name}: told", len(lines) == 1 + len(said) and all(
+                any(re.search(what, one) for one in lines) for what in said), lines)
+            self.must(f"{name}: its line", lines[-1].startswith(
+                f"{of}  {known['lead'].splitlines()[0]}") and lines[-1].endswith(FITTED), lines)
+            self.must(f"{name}: trusted", not any(
+                one["from"] < lost["before"] and one["to"] > lost["after"]
+                for one in known["trusted"] for lost in known["lost"]), known["trusted"])
+            if name.startswith("moved"):
+                piped = self.tool("qc", "one.stl", "-", "-o", "piped", "--keep", "-p",
+                                  self.bench.program, data=data)
+                self.must(f"{name}: through a pipe", piped.status == status and data.startswith(
+                    self.read("piped/one.recording.ts")) and
+                    piped.out.splitlines()[-1].decode() == pair["line"], piped)
 
     def test_pids_that_both_send(self) -> None:
         """A page on two PIDs at once is on none: say which one. Each programme has its result."""
@@ -206,7 +180,6 @@ class Streams(Case):
         maker_pes = [one for one in feed.pes]
         first, _ = stream_of(maker_pes, feed.begin, feed.end)
         second, _ = stream_of(maker_pes, feed.begin, feed.end, pid=OTHER_PID)
-        both = bytes_of([one for one in first] + [one for one in second if one.pid == OTHER_PID])
         data = bytes_of([one for pair in zip(first, second) for one in (
             pair[0], pair[1]) if one is pair[0] or one.pid == OTHER_PID])
         status, lines, [known] = self.channel(data)
@@ -216,49 +189,10 @@ class Streams(Case):
         for pid in ("0x101", "0x102"):
             status, lines, [known] = self.channel(data, "--pid", pid)
             self.must(pid, status == 0 and known["parts"][0]["pid"] == int(pid, 16), lines)
-        self.must("one after another", self.channel(both)[0] in (0, 2))
-
-    def test_silence(self) -> None:
-        """A PID that sends nothing while the stream goes on is told within ten seconds of it, and
-        that it goes on."""
-        feed = Feed(self, count=20)
-        del feed.pes[400:800]  # sixteen seconds
-        status, lines, _ = self.channel(bytes_of(feed.stream()))
-        # It is told by the PCR, of which there is a line each second. How much of the stream comes
-        # at once says which of them is the first to tell it, and whether the last PES packet is
-        # known by then, or one of the second before it.
-        silent = re.fullmatch(r"nothing of PID 0x101 for (\d+) seconds of the stream, after PTS "
-                              r"(\d+)", lines[0])
-        self.must("told", status == 1 and len(lines) == 3 and silent and 8 <= int(silent[1]) < 17
-                  and int(silent[2]) in {feed.at(frame) for frame in range(250, 275)}
-                  and lines[1] == f"PID 0x101 goes on at PTS {feed.at(675)}", lines)
 
 
 class Ends(Case):
     """Feeds that end, and channels that are ended, in mid-programme."""
-
-    def run_channel(self, data: bytes, *wanted: bytes) -> subprocess.Popen[bytes]:
-        """A channel to which bytes were handed, once they were heard, and it has said something."""
-        command = [tool_path("qc"), "--channel", "list", "-", "-o", "out", "--stall", "2", "-p",
-                   self.bench.program]
-        log = open(self.path("log"), "wb")
-        with log:
-            process = subprocess.Popen(command, cwd=self.folder, stdin=subprocess.PIPE, stdout=log,
-                                       stderr=log)
-        assert process.stdin
-        process.stdin.write(data)
-        process.stdin.flush()
-        end = time.monotonic() + SOON
-        for words in wanted:
-            while words not in self.read("log") and time.monotonic() < end:
-                time.sleep(0.1)
-        time.sleep(1)  # it goes on at once with what it has heard
-        return process
-
-    def lines(self) -> list[str]:
-        """What it said of programmes."""
-        return [line for line in verdicts(self.read("log").decode().splitlines())
-                if not line.startswith(("nothing", "the feed goes on", "PID 0x101 goes on"))]
 
     def test_feed_that_ends(self) -> None:
         """In mid-programme: it is not judged, and is waited for by the next call. Its last TCO is

@@ -6,15 +6,14 @@ import os
 import shutil
 import signal
 import subprocess
-import time
 from unittest import mock
 
 from subtitles.calls.channel import hook
 from subtitles.calls.channel.hook import failure_of, refuse_command
 from subtitles.core.words import Stop
-from .bench import Case, example, tool_path
+from .bench import Case, example
+from .channels import Running
 from .listings import BEGIN, SECOND, Lines, Programmes, Told, texts_of
-from .test_qc_channel import SOON
 
 
 class Machine(Programmes):
@@ -170,14 +169,10 @@ class Commands(Case):
     def test_hang_up_that_is_ignored(self) -> None:
         """As by nohup: it goes on; any other signal ends it."""
         self.write("list", b"none.stl\n")
-        words = ["sh", "-c", 'trap "" HUP; exec "$0" "$@"', tool_path("qc"), "--channel", "list",
-                 "-", "-o", "out", "-p", self.bench.program]
-        with subprocess.Popen(words, cwd=self.folder, stdin=subprocess.PIPE,
-                              stdout=subprocess.PIPE) as process:
-            assert process.stdout
-            self.must("it has begun", b"none  not judged" in process.stdout.readline())
-            process.send_signal(signal.SIGHUP)
-            time.sleep(0.5)
-            self.must("it goes on", process.poll() is None)
-            process.send_signal(signal.SIGINT)
-            self.must("it ends", process.wait(SOON) == 2)
+        call = Running(self, "--channel", "list", "-", "-o", "out", "-p", self.bench.program,
+                       stdin=subprocess.PIPE, before=("sh", "-c", 'trap "" HUP; exec "$0" "$@"'))
+        self.must("it has begun", call.says("none  not judged"), call.lines())
+        call.process.send_signal(signal.SIGHUP)
+        self.write("list", b"none.stl\nmore.stl\n")
+        self.must("it goes on", call.says("more  not judged"), call.lines())
+        self.must("it ends", call.end(signal.SIGINT) == 2)

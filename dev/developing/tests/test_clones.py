@@ -22,10 +22,16 @@ NEITHER, PASSED, FAILED = (b"\n%d passed, %d failed\n" % it for it in ((0, 0), (
 NEEDED = ["subttx", "crates.txt", "HANDLES", "tools", "dev", "crates"]
 
 
+KEPT = {"lib.rt", "parity.rt", "Lib.antt"}  # of the files of a crate's parts
+
+
 def left_out(folder: str, names: list[str]) -> set[str]:
-    """What a copy of the repository does without."""
-    del folder
-    return {"out", "must-fail", "release-edits", "__pycache__"} & set(names)
+    """What a copy of the repository does without: of each crate it has two or three sources."""
+    if os.path.basename(folder) in ("src", "specs", "proofs"):
+        return set(names) - KEPT
+    here = {"tests", "every_place"} if os.path.basename(folder) == "developing" else set()
+    return set(names) & (here | {"out", "must-fail", "release-edits", "__pycache__", "vectors",
+                                 "wrong-tools", "transcripts"})
 
 
 class Clone:

@@ -19,8 +19,6 @@ from .test_many_pairs import row
 class Collected(Case):
     """What is printed and written of many pairs."""
 
-    is_alone = True  # it takes what is printed
-
     ROWS = [row("one", "accepted", "accepted 5 frames"), row("second", "refused", "refused 72 "
             "Content frame 1; more", "a hint", 12), row("c", "not judged", "why\nmore"),
             row("d", "waived", "waived: refused 5 X", "", 3)]
@@ -62,7 +60,7 @@ class Collected(Case):
         self.end(json=self.path("all"), csv=self.path("lines"), junit=self.path("cases"))
         have = json.loads(self.read("all"))
         self.must("as it is written", self.read("all").startswith(
-            b'{\n "format": 4,\n "status": 2,\n "date": "'))
+            b'{\n "format": 5,\n "status": 2,\n "date": "'))
         self.must("objects", [one["verdict"] for one in have["pairs"]] ==
                   ["accepted", "refused", "not judged", "waived"] and have["status"] == 2, have)
         self.must("lines", len(self.read("lines").splitlines()) == 6)

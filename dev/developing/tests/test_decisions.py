@@ -81,8 +81,6 @@ class Objects(Case):
 class Folders(Case):
     """Files of a folder as pairs."""
 
-    is_alone = True  # it takes what is printed
-
     def test_pairs(self) -> None:
         """By name, whatever the case; where more than one is possible, of the very same name."""
         for files, wanted in (

@@ -65,7 +65,7 @@ class EarlierCalls(Case):
         self.must("no severity", not is_current(known, none, PROGRAM))
         names = {field.name for field in dataclasses.fields(asked)}
         self.must("all words", names == {*OTHERS, "stl", "recording", "severity", "passed_on",
-                                             "found_layout", "kept_stl"},
+                                             "found_layout", "kept_stl", "language"},
                   names)  # those that are passed on: test_options
 
     def test_object_of_another_program(self) -> None:
@@ -122,7 +122,7 @@ class Objects(Case):
             found_row)
         self.must("none", row_of(unjudged("name", "why"), "name") == Row(
             "name", "name", "not judged", 2, "why", 0, {}, [], 0.0, ""))
-        none: dict[str, Any] = {"format": 4, "verdict": "not judged", "status": 2, "name": "a",
+        none: dict[str, Any] = {"format": 5, "verdict": "not judged", "status": 2, "name": "a",
                                 "reason": "why"}
         self.must("not judged", unjudged("a", "why") == none and
                   unjudged("a", "why", True) == {**none, "open": True})
@@ -221,8 +221,6 @@ class Objects(Case):
 
 class Watched(Case):
     """A folder that is watched."""
-
-    is_alone = True  # it takes what is printed
 
     def words(self, **more: Any) -> argparse.Namespace:
         words = argparse.Namespace(**vars(defaults()))

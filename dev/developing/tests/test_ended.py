@@ -47,8 +47,6 @@ class Ended(NamedTuple):
 class Story(Case):
     """Calls of qc in this process, in a folder of their own."""
 
-    is_alone = True  # threads share what is printed, and the folder in which the process is
-
     def text(self, name: str) -> str:
         return self.read(name).decode()
 

@@ -201,7 +201,7 @@ class Taken(Case):
         codes = bytes([0x00, 0x07, 0x09, 0x0A, 0x0C, *range(0x10, 0x1B)])
         layout = Layout(strip=codes)
         self.must("many", len(items_in(layout)) > MOST_ITEMS)
-        sent = sent_of([One(codes + b"Hi", b"Hi")] * 100)
+        sent = sent_of([One(codes + b"Hi", b"Hi")] * 10)
         taken, gone = Evidence(sent, ENGLISH).supported(layout)
         self.must("few", len(items_in(taken)) <= MOST_ITEMS and len(gone) >= 4, taken)
 

@@ -20,7 +20,7 @@ from subtitles.calls.pairs import Item
 from subtitles.qc.asked import asked_of
 from subtitles.qc.made_with import program_at
 from subtitles.qc.typed import Typed
-from .bench import SECONDS, Case, alone
+from .bench import SECONDS, Case
 from .parts import asked_for
 from .results import result
 from .test_many_pairs import row
@@ -54,8 +54,6 @@ TOLD = ["WORDS", "OWN", "FILES"]  # in whose place the call has how it was calle
 
 class Judged(Case):
     """Calls for pairs, side by side."""
-
-    is_alone = True  # its calls are forked from what has no other thread
 
     def setUp(self) -> None:
         super().setUp()
@@ -264,7 +262,6 @@ class Judged(Case):
             self.must("kept", {name: one.verdict for name, one in rows.items()} ==
                       {"one": "refused", "four": "waived"}, rows)
 
-    @alone
     def test_progress(self) -> None:
         """How many of which verdict, and how long the others will take, by those of this call."""
         rows = {name: row(name, verdict) for name, verdict in (

@@ -5,6 +5,7 @@ import os
 import tempfile
 import unittest
 from typing import Any
+from unittest import mock
 
 from subtitles.core.words import Stop
 from .bench import script
@@ -214,9 +215,8 @@ class GraphTest(unittest.TestCase):
         text = graph.about(self.graph, self.one("outer"))
         self.assertIn("serves:\n    low/Reader::read  crates/low/src/reading.rt:11  one", text)
 
-
-class WordsTest(unittest.TestCase):
     def test_wrong_words(self) -> None:
         for words in ([], ["--promises", "nowhere"], ["no_such_name_at_all"]):
-            with self.assertRaises(Stop):
+            with mock.patch.object(graph, "Graph", return_value=self.graph), \
+                    self.assertRaises(Stop):
                 graph.main(words)

@@ -12,7 +12,7 @@ from subtitles.core.layout import (
 from subtitles.core.national import BY_WORD
 from subtitles.core.teletext import Page
 from subtitles.qc.evidence import Choice, choices_of
-from subtitles.qc.layouts import Sent, count_drawn, is_found, simplicity
+from subtitles.qc.layouts import Sent, is_found, missed, simplicity
 from .. import DEV
 from ..every_place.on_air import Packet, rows_in, span_of
 from ..every_place.reading import header_of, pieces_of, sending_in
@@ -178,7 +178,7 @@ class Searches(Case):
                  for one in pair]
         found = choices_of(turns, ENGLISH)[0]
         self.must("in turns", not found.is_clear and found.found == 120
-                  and found.drawn >= count_drawn(PLAIN, turns, ENGLISH), found)
+                  and found.drawn >= len(turns) - missed(PLAIN, turns, ENGLISH, len(turns)), found)
         self.must("nine in ten", Choice(PLAIN, 90, 100).is_clear
                   and not Choice(PLAIN, 89, 100).is_clear and not Choice(PLAIN, 9, 9).is_clear)
 

@@ -12,11 +12,12 @@ import time
 from typing import Any
 from unittest import mock
 
-from subtitles.calls import batch
+from subtitles.calls import batch, pairs
 from subtitles.calls.batch import Calls, all_rows, kept_rows
 from subtitles.calls.forked import qc
 from subtitles.calls.objects import Row, row_of
-from subtitles.calls.pairs import Item, no_file, pairs_at
+from subtitles.calls.pairs import Item, at_line, no_file, pairs_at
+from subtitles.core import outputs
 from subtitles.core.words import Stop
 from .bench import Case
 from .results import result
@@ -70,6 +71,32 @@ class Lists(Case):
             with self.assertRaises(Stop):
                 pairs_at(path, defaults())
 
+    def test_one_line(self) -> None:
+        """The pair of a line is as that of all: it has the name that those before it leave it. What
+        other lines name is looked at where a file is written over alone, and may be no list."""
+        lines = [f"one.stl one.ts --within {number}" for number in range(3)] + [
+            "", "# none", '"', "x.stl", "two.stl one.ts", "one.stl none.ts --origin 5"]
+        path = self.write("list", "\n".join(lines).encode())
+        whole = {item.name: item for item in pairs_at(path, defaults())}
+        for number, name in ((1, "one"), (2, "one~2"), (3, "one~3"), (6, "line 6"), (7, "line 7"),
+                             (8, "two"), (9, "one~4")):
+            item, words = at_line(path, number, defaults())
+            self.must(f"{number}", item == whole[name] and {
+                "one.stl", "one.ts", "x.stl", "two.stl", "none.ts", '"'} <= {*words}, (item, words))
+        for wrong in (4, 5, 10, 99):
+            self.assertRaisesRegex(Stop, "there is no pair", at_line, path, wrong, defaults())
+        self.assertRaisesRegex(Stop, "is no list", at_line, self.folder, 1, defaults())
+        with mock.patch.object(pairs, "no_file", side_effect=lambda path: None) as looked:
+            at_line(path, 8, defaults())
+        self.must("files of one pair", [call[0][0] for call in looked.call_args_list] == [
+            "two.stl", "one.ts"], looked.call_args_list)
+        with mock.patch.object(outputs, "identities", side_effect=outputs.identities) as looked:
+            inputs = outputs.Inputs(*words)
+            inputs.refuse(self.path("none"), True)
+            self.must("nothing is there", looked.call_count == 1, looked.call_args_list)
+            inputs.refuse(self.path("list"), True)
+            self.must("something is", looked.call_count == 2 + len(words), looked.call_count)
+
     def test_folder(self) -> None:
         """Names, what lacks its other half, what is more than one, in the order of the names."""
         for name in ("B.STL", "b.TS", "c.stl", "c.ts", "c.pes", "d.m2t", "e.stl", "e.txt", "F.pes",
@@ -94,7 +121,6 @@ class Lists(Case):
 class Batches(Case):
     """A whole call for many pairs, in which a test stands for the judging."""
 
-    is_alone = True  # it takes what is printed
     seen: Any = None  # how the judging was called
 
     def batch(self, judged: str, *, is_stopped: bool = False, **more: Any) \

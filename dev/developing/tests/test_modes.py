@@ -19,7 +19,7 @@ from subtitles.qc.asked import asked_of_line
 from subtitles.qc.options import (
     ALONE, BATCH, CHANNEL, CHANNEL_LINE, COLLECT, LINE, MODES, PAIR, RECORDER, WATCH, Mode)
 from subtitles.qc.typed import Typed
-from .bench import Case, alone
+from .bench import Case
 from .test_channel_tables import defaults
 
 CALLS: dict[Mode, list[str]] = {
@@ -94,7 +94,6 @@ class Modes(Case):
             with self.assertRaises(Stop):
                 mode_of(parser_of("").parse_args(words.split()))
 
-    @alone
     def test_what_is_called(self) -> None:
         """Each call by its own function, with what is taken where nothing is said, and 0 as it is.
         """

@@ -11,7 +11,7 @@ OWN: dict[str, dict[str, object]] = {
     "calls.batch": {"WAIT": 0.2}, "calls.index_page": {"MOST_CAUSES": 6},
     "calls.machine": {"MOST_BYTES": 67_108_864}, 
     "calls.objects": {"LINES": 100, "MOST_READ": 134_217_728, "MOST_DIGITS": 20},
-    "calls.result": {"FORMAT": 4, "MOST_LISTED": 20_000, "MOST_SUBTITLES": 100_000},
+    "calls.result": {"FORMAT": 5, "MOST_LISTED": 20_000, "MOST_SUBTITLES": 100_000},
     "calls.single": {"SUMMED": 100, "SIGNALS": (2, 15, 1)},
     "calls.watching": {"LOOK": 1.0, "DONE": ".done"},
     "calls.channel.awaited": {"IN_A_ROW": 5, "BEFORE": 12, "NEAR": 1800},

@@ -8,13 +8,11 @@ import io
 import json
 import os
 from typing import Any, Sequence
-from unittest import mock
 
 from subtitles.calls import index_page, overview
 from subtitles.calls.objects import Row, found
 from subtitles.calls.claim import clear
-from subtitles.calls.single import (
-    Files, Output, end, end_pair, judge_pair, name_of, now, refuse_outputs)
+from subtitles.calls.single import Files, Output, end, end_pair, name_of, now, refuse_outputs
 from subtitles.qc.asked import Asked
 from subtitles.qc.checking import Answer
 from subtitles.qc.clock import FITTED, GIVEN, RECORDING, Clock, Found
@@ -22,14 +20,13 @@ from subtitles.qc.made_with import program_at
 from subtitles.qc.names import Names
 from subtitles.qc.severity import Severity
 from subtitles.qc.typed import Typed
-from subtitles.qc.unclear import Unclear
 from subtitles.qc.part import Part
 from subtitles.qc.verdict import Gap, Verdict
 from subtitles.qc.warned import Warned
 from subtitles.reading.gaps import Place
 from .bench import Case, example
 from .judged import Heard
-from .parts import answer, asked_for, part_with
+from .parts import answer, asked_for, in_page, part_with
 from .test_tables_of_files import refused
 
 REFUSED = ["refused 72 Content frame 00:00:01:00 row 1 column 2", "refused 68 Parity frame "
@@ -139,8 +136,6 @@ class Ends(Case):
 
 class Writes(Case):
     """The files of a pair."""
-
-    is_alone = True  # it takes what is printed
 
     def setUp(self) -> None:
         super().setUp()
@@ -304,49 +299,6 @@ class Writes(Case):
         self.must("name", name_of(asked_for("a.stl", None)) == "a.stl" and
                   name_of(asked_for("a.stl", "b.ts")) == "a.stl b.ts")
 
-    def test_judged(self) -> None:
-        """Whatever ends judging early is why, and all is written."""
-        rows: list[tuple[BaseException, str, tuple[str, ...]]] = [
-            (Unclear("why", "a", "b"), "why", ("a", "b")), (ValueError("wrong"), "wrong", ()),
-            (KeyboardInterrupt(), "stopped at x", ())]
-        for raised, reason, to_type in rows:
-            verdict, raising = self.verdict(), raised
-
-            class Judging:
-                """A pair that ends so."""
-
-                def __init__(self, verdict: Verdict) -> None:
-                    self.verdict, self.speech = verdict, Heard()
-                    self.speech.commands.append("typed")
-
-                recording = None
-
-                def judge(self) -> None:
-                    raise raising
-
-                def stop(self, now: str) -> str:
-                    return "x"
-
-            pair: Any = Judging(verdict)
-            files = self.files(verdict, json=self.path("one.json"))
-            with mock.patch("subtitles.calls.single.ignore_signals"):  # this is a thread
-                judge_pair(pair, files)
-            self.must(f"{raised!r}", (verdict.to_type, verdict.is_stopped) ==
-                      (to_type, isinstance(raised, KeyboardInterrupt)) and verdict.reason and
-                      reason in verdict.reason, verdict.reason)
-            have = json.loads(self.read("one.json"))
-            self.must("object", reason in have["reason"] and have["commands"] == ["typed"] and
-                      0 <= have["seconds"] < 60, have)
-
-    def test_hints(self) -> None:
-        """Parts may have the same: each stands there once, in their order."""
-        verdict = self.verdict()
-        pair: Any = argparse.Namespace(verdict=verdict, judge=lambda: None, recording=None,
-                                       speech=argparse.Namespace(commands=[]))
-        with mock.patch("subtitles.calls.single.hints_of", return_value=["b", "a", "b"]):
-            judge_pair(pair, self.files(verdict))
-        self.must("once", verdict.hints == ["b", "a"], verdict.hints)
-
     def test_end_that_fails(self) -> None:
         """Where the verdict can't be said it is not judged, in the object too."""
         class Failing(Heard):
@@ -379,32 +331,35 @@ class Overview(Case):
                              (-1, "origin 7, given, all 1 frame early")):
             verdict.parts[0].found = Found(0, 9, Clock(7, GIVEN, delay))
             self.must(words, overview.clock_of(verdict.parts[0]) == words)
-        table = overview.table(verdict, names)
+        table = in_page(overview.table(verdict, names))
         for number in (1, 2, 3):
             link = f'<a href="one.{number}.html">'
             self.must(f"part {number}", table.count(f"{link}part {number}</a>") == 1 and
                       table.count(link) == 2)
+        odd = in_page(overview.table(verdict, Names("50%25", self.folder, self.path("out"))))
+        self.must("a name with an escaped sign", 'href="50%2525.2.html"' in odd, odd)
         self.must("faults", '<td data-name="Faults">2</td>' in table and
                   table.count('<td data-name="Faults">0</td>') == 2, table)
         self.must("between", "between 00:00:00:09 and 00:00:02:00; between 00:00:03:24 and "
-                  "00:00:04:20." in overview.between(verdict.parts))
+                  "00:00:04:20." in in_page(overview.between(verdict.parts)))
         for part in verdict.parts:
             part.names.given = example("story.stl")
         verdict.gaps = [gap(True), gap(False)]
         verdict.warnings = [Warned("kind", "strange")]
-        box = overview.box(verdict, "the <line>")
+        box = in_page(overview.box(verdict, "the <line>"))
         self.must("box", box.startswith('<div class="verdict refused">') and "the &lt;line&gt;" in
                   box and box.count("3 TS packets lost") == 1 and "warning: strange" in box, box)
-        page = "".join(overview.overview(dataclasses.replace(verdict, date="2026-01-02T03:04:05Z"),
+        page = in_page(overview.overview(dataclasses.replace(verdict, date="2026-01-02T03:04:05Z"),
                                          program_at(self.bench.program), names,
                                          Typed("tools/qc", self.bench.program)))
         self.must("its date", "2026-01-02 03:04:05 UTC" in page)
-        scope = overview.scope(verdict)
+        scope = in_page(overview.scope(verdict))
         count = 3 * overview.subtitles_of(verdict.parts[0])
         self.must("scope", f"00:00:00:00 to 00:00:05:24, {count} subtitles" in scope, scope)
         verdict.asked = asked_for("piped.stl", "one.pes")  # what came through a pipe is kept
         verdict.asked.kept_stl = example("story.stl")
-        self.must("a pipe", "Programme" in scope and overview.scope(verdict) == scope, scope)
+        self.must("a pipe", "Programme" in scope and in_page(overview.scope(verdict)) == scope,
+                  scope)
 
     def test_pairs(self) -> None:
         """What is broken first, then what nobody judged, warnings, and what is accepted."""

@@ -27,7 +27,7 @@ from subtitles.qc.clock import GIVEN
 from subtitles.qc.sums import SummedFile
 from subtitles.qc.verdict import Gap
 from subtitles.reading.gaps import Place
-from .bench import Case, alone
+from .bench import Case
 from .parts import asked_for, part_with
 from .results import ASKED as PLAIN, FAULT, result
 
@@ -133,8 +133,6 @@ class Testcases(unittest.TestCase):
 class Statuses(Case):
     """The status of many pairs."""
 
-    is_alone = True  # it takes what is printed
-
     ROW = Row("one", "one.stl", "accepted", 0, "accepted", 0, {}, [], 0.0, "")
 
     def end(self, outputs: dict[str, str], is_stopped: bool = False) -> int:
@@ -166,7 +164,6 @@ class Statuses(Case):
 class Members(unittest.TestCase):
     """Members of an object."""
 
-    @alone
     def test_times(self) -> None:
         """The date, and when a file was written to, are in UTC wherever the machine stands."""
         self.addCleanup(time.tzset)

@@ -7,8 +7,8 @@ from typing import NamedTuple, Sequence
 from developing.pes import pes_packet
 from subtitles.core.times import CLOCK, TICKS
 from subtitles.reading.pace import (
-    BY_EVERY, FEW, IRREGULAR, LEAST, PAUSED, REGULAR, TOO_FEW, Pace, Pauses, each_of, pace_of,
-    pauses_of, rows_of)
+    BY_EVERY, FEW, IRREGULAR, LEAST, PAUSED, REGULAR, TOO_FEW, Pauses, each_of, pace_of, pauses_of,
+    rows_of)
 from subtitles.reading.packets import Packets, Run
 from .bench import Case
 from .judged import Judged, Sent, in_pipe, joined, judged, programme, sendings
@@ -169,8 +169,8 @@ class Told(Case):
             pace = pace_of(row.rows, row.each, row.every, row.pauses, row.is_stream)
             self.must(row.name, (pace.kind, pace.frames, pace.closer) == (
                 row.kind, row.frames, row.closer), pace)
-        self.must("words", pace_of([holed(LONG, (9, 20))], 2, 250) == Pace(REGULAR, 1, 3) and
-                  pace_of([holed(LONG, (9, 300))], 1, 999, [(0, 9)]) == Pace(PAUSED, 301, 3))
+        self.must("words", pace_of([holed(LONG, (9, 20))], 2, 250)[:3] == (REGULAR, 1, 3) and
+                  pace_of([holed(LONG, (9, 300))], 1, 999, [(0, 9)])[:3] == (PAUSED, 301, 3))
         self.must("few", FEW == 3 and LEAST == 100)
 
     def test_rows(self) -> None:

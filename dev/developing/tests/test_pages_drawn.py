@@ -9,6 +9,7 @@ from subtitles.preview.drawing import (
     LOW_ROWS, CellStyle, cut_of, differences, frames_of, is_boxed, picture, row_drawing,
     spans_of, text_of_code)
 from subtitles.reading.receiver import BLANK_PAGE, HIT, OLD, Rows
+from .parts import in_page
 
 SUBTITLE_HEADER, PLAIN_HEADER = bytes([8, 8, 0, 8, 0, 8, 1, 0]), bytes([8, 8, 0, 8, 0, 0, 1, 0])
 
@@ -90,7 +91,7 @@ class Rowed(unittest.TestCase):
         """Rows in use, none that is below one of double height; letters in boxes and outside, frames
         and the place."""
         rows = page(r20=b"\x0b\x0b\x0dtall", r21=b"\x0b\x0bcovered", r22=b"\x0b\x0b\1seen <")
-        drawn = picture(rows, SUBTITLE_HEADER, (19, 23), [(22, 3), (22, 4)], (20, 5))
+        drawn = in_page(picture(rows, SUBTITLE_HEADER, (19, 23), [(22, 3), (22, 4)], (20, 5)))
         self.assertEqual(("tall" in drawn, "covered" in drawn, "seen &lt;</text>" in drawn),
                          (True, False, True))
         for part, count in (('class="n"', 2), ('<rect class="p0" x="12" width="468" height="30"/>',
@@ -101,10 +102,11 @@ class Rowed(unittest.TestCase):
                             ("M66 279l-6 -9h12z", 1)):
             self.assertEqual(drawn.count(part), count, part)
         for header, count in ((PLAIN_HEADER, 3), (SUBTITLE_HEADER, 1)):
-            self.assertEqual(picture(rows, header, (18, 20)).count('class="n"'), count)
+            self.assertEqual(in_page(picture(rows, header, (18, 20))).count('class="n"'), count)
         for last, is_there in ((21, False), (22, True)):
-            self.assertEqual("seen" in picture(rows, PLAIN_HEADER, (18, last)), is_there, last)
-        marked = row_drawing(bytes([OLD] * 3 + [0x41, HIT, HIT]).ljust(40), 20, 0, True)[0]
+            drawn = in_page(picture(rows, PLAIN_HEADER, (18, last)))
+            self.assertEqual("seen" in drawn, is_there, last)
+        marked = in_page(row_drawing(bytes([OLD] * 3 + [0x41, HIT, HIT]).ljust(40), 20, 0, True)[0])
         self.assertIn('<rect class="old" x="1" y="1" width="34" height="13"/>', marked)
         self.assertIn('<rect class="hit" x="49" y="1" width="22" height="13"/>', marked)
         self.assertEqual([is_boxed(bytes([8, 8, 0, 0, 0, bits, 1, 0])) for bits in (0, 4, 8, 12)],
@@ -117,10 +119,11 @@ class Rowed(unittest.TestCase):
             ([(5, 1), (6, 1)], [], 1), ([(5, 1), (7, 1)], [], 2), ([(5, 1), (7, 1)], [5], 1),
             ([(5, 1), (6, 1), (6, 2)], [], 2)]
         for cells, tall, count in rows:
-            drawn = frames_of(cells, set(tall))
+            drawn = in_page(frames_of(cells, set(tall)))
             self.assertEqual(drawn.count('class="d1"'), count, cells)
             self.assertEqual(drawn.count('class="d2"'), count, cells)
-        self.assertIn('x="12" y="60" width="12" height="30"', frames_of([(6, 1), (5, 1)], set()))
+        self.assertIn('x="12" y="60" width="12" height="30"',
+                      in_page(frames_of([(6, 1), (5, 1)], set())))
 
     def test_cut(self) -> None:
         """The rows in use of all pages, one more on each side, and that of the place."""
@@ -146,9 +149,10 @@ class Rowed(unittest.TestCase):
                   0x18: "conceal", 0x1C: "black background", 0x1D: "new background"}
         for code in range(32):
             words = f"code {code:02X}" + (f" ({names[code]})" if code in names else "")
-            self.assertEqual([text_of_code(one, 0) for one in (code, code + 0x80)], [words] * 2)
+            self.assertEqual([in_page(text_of_code(one, 0)) for one in (code, code + 0x80)],
+                             [words] * 2)
         for byte, words in ((0x41, "<code>A</code>"), (0x20, "a space"), (OLD,
                             "nothing that was sent"), (HIT, "a space for a byte of even parity"),
                             (0x3C, "<code>&lt;</code>")):
-            self.assertEqual(text_of_code(byte, 0), words)
-        self.assertEqual(text_of_code(0x5B, 4), "<code>\u00c4</code>")
+            self.assertEqual(in_page(text_of_code(byte, 0)), words)
+        self.assertEqual(in_page(text_of_code(0x5B, 4)), "<code>\u00c4</code>")

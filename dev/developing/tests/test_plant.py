@@ -62,10 +62,12 @@ class Bugs(Case):
         one = module.A()
         for changed in (text.replace("1", "2"), text):
             is_changed = changed != text
-            self.must("each is given", patched(path, changed))
+            self.must("each is given", patched(path, text, changed))
             self.must(f"{is_changed}", (one.b(), module.c(), module.e()) == (
                 (2, [2, 2], 2) if is_changed else (1, [1], 1)))
-        self.must("one is gone", not patched(path, text.replace("def c", "def g")))
+        for old, new in (("class A:\n", "class A:\n    g = 5\n"), ("def c()", "def c(h=3)")):
+            self.must(new, not patched(path, text, text.replace(old, new)))
+        self.must("one is gone", not patched(path, text, text.replace("def c", "def g")))
 
     def test_apart(self) -> None:
         """What is answered, what ends in an error, and what does not end in its time."""

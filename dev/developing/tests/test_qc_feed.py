@@ -14,7 +14,7 @@ from developing.pes import pts_in
 from developing.stl import boxed, gsi_block, subtitle_blocks
 from subtitles.core.times import TICKS
 from subtitles.core.words import counted
-from .bench import Case, alone, example, example_bytes, moved, packets, tool_path
+from .bench import Case, example, example_bytes, moved, packets, tool_path
 from .muxed import PRIVATE, TELETEXT_PID, Maker, teletext_descriptor
 from .test_qc import STORY, qc, stream
 
@@ -195,7 +195,6 @@ class Feeds(Case):
                   (status, running.lines, running.told))
         running.close()
 
-    @alone
     def test_is_stopped_by_signals(self) -> None:
         """That is written, and no temporary folder is left."""
         stl, pes = subtitles(self, 3)

@@ -3,16 +3,11 @@ from __future__ import annotations
 
 import tempfile
 import unittest
-from types import SimpleNamespace
-from typing import Any, Sequence
 
 from subtitles.core.programme import SubtitleList, Subtitle
 from subtitles.core.times import time_of
 from subtitles.preview.fault_list import FaultList
 from subtitles.preview.faults import Entry, Faults
-from subtitles.preview.reasons import Reasons
-from subtitles.preview.report import mark_unheard
-from subtitles.qc.causes import Cause
 from subtitles.qc.checking import Answer
 from subtitles.qc.counted import End
 from .parts import fault_of
@@ -71,24 +66,6 @@ class Told(unittest.TestCase):
                 numbers = [number for number, _ in wanted]
                 self.assertEqual(made.first_entries, {number: numbers.index(number) + 1
                                                       for number in numbers})
-
-    def test_marks(self) -> None:
-        """The frames of faults that name a PES packet: those that fall, those around what was
-        passed over, and the last one that was heard, where one of the faults ended that."""
-        order = "refused 62 Order pes 42"
-        rows: list[tuple[list[str], int | None, bool]] = [
-            ([], 20, False), ([order], 20, True), ([order], None, False), ([order], 0, True),
-            (["refused 62 Order pes 41"], 20, False),
-            (["refused 68 Parity frame @30", order, "refused 62 Order pes 43"], 20, True)]
-        for lines, last, is_marked in rows:
-            made = faults(*lines)
-            before = list(made.spans)
-            seen: Any = SimpleNamespace(falls=[60, 62], doubted=lambda: iter([(5, 7), (90, 95)]),
-                                        last_frame=last, stop=42)
-            mark_unheard(made, seen)
-            wanted = [*before, (60, 60), (62, 62), (5, 7), (90, 95),
-                      *[(last or 0, last or 0)] * is_marked]
-            self.assertEqual(list(made.spans), sorted(wanted), lines)
 
     def test_first_and_last(self) -> None:
         """The first line of each number, the first and the last of all, and of faults the last."""
@@ -155,51 +132,6 @@ class Told(unittest.TestCase):
                          ({50: 1, 51: 10_001}, "refused 50 X block 9999 at 1"))
 
 
-class Why(unittest.TestCase):
-    """Why the content is refused."""
-
-    def reasons(self, causes: Sequence[Cause], drawn: Sequence[int] = (1,)) -> Reasons:
-        made = Reasons.__new__(Reasons)
-        known: Any = SimpleNamespace(
-            of=lambda number, frame: next((one for one in causes if one.known == frame), None),
-            programme=SimpleNamespace(subtitles=SUBTITLES), all=lambda: list(causes),
-            named={one.known: one for one in causes})
-        made.causes, made.drawn = known, drawn
-        wording: Any = SimpleNamespace(
-            said=lambda cause, has_text=True: f"{cause.name} & {cause.frames}",
-            values=lambda cause: {"text": "due", "sent": cause.words or None})
-        made.wording = wording
-        return made
-
-    def test_words(self) -> None:
-        """Of the subtitle that is due the cause alone, of another one its name before it, with a
-        link where it has a picture."""
-        reasons = self.reasons([Cause(0, "late", 3, None, None, "", 30),
-                                Cause(1, "early", 2, None, None, "", 80)])
-        for frame, due, words in (
-                (30, 1, "late &amp; 3"), (80, 2, "early &amp; 2"), (31, 1, ""),
-                (30, 2, '<a href="#s1">subtitle 1</a>, 00:00:01:00: late &amp; 3'),
-                (30, None, '<a href="#s1">subtitle 1</a>, 00:00:01:00: late &amp; 3'),
-                (80, 1, "subtitle 2 (SN 7), 00:00:03:00: early &amp; 2"),
-                (80, 3, "subtitle 2 (SN 7), 00:00:03:00: early &amp; 2")):
-            with self.subTest(frame=frame, due=due):
-                self.assertEqual(reasons.words(72, frame, due), words)
-
-    def test_list(self) -> None:
-        """A row for each, what was sent in words, and how many are left out."""
-        for sent, words in (("", "nothing"), ("due", "the same"), ("other", "other")):
-            row = self.reasons([]).row(Cause(2, "late", 3, None, None, sent, 100))
-            self.assertIn(f'<td data-name="Sent">{words}</td>', row)
-            self.assertIn('<th scope="row">subtitle 3, 00:00:04:00</th>', row)
-        for count, left in ((1000, None), (1001, "1 more subtitle"),
-                            (1002, "2 more subtitles")):
-            causes = [Cause(0, "late", 3, None, None, "", number) for number in range(count)]
-            words = Reasons.section(self.reasons(causes)) if count else ""
-            self.assertEqual(words.count("<th scope=\"row\">"), 1000)
-            self.assertEqual("Left out here" in words, left is not None)
-            self.assertIn(f"{left}." if left else "", words)
-
-
 class Lists(unittest.TestCase):
     """The list of faults, and places."""
 
@@ -216,27 +148,3 @@ class Lists(unittest.TestCase):
             entry.count = count
             entry.end = End(None if until is None else time_of(until), until_pes)
             self.assertEqual(FaultList.span_words(entry), words)
-
-    def test_list(self) -> None:
-        """How many entries are left out, how many have pictures, and the ways between them."""
-        for count, listed, words in ((1, 1, None), (3, 2, "1 more entry</b>"),
-                                     (1002, 1000, "2 more entries</b>")):
-            made = FaultList.__new__(FaultList)
-            made.entries = [Entry(number, fault_of("refused 74 End")) for number in range(1, listed + 1)]
-            found: Any = SimpleNamespace(faults=SimpleNamespace(count=count, entry_count=count))
-            made.report = found
-            looks: Any = SimpleNamespace(entries=SimpleNamespace(frame_of=lambda entry: None))
-            made.looks = looks
-            vars(made)["section"] = lambda entry: "one "
-            self.assertEqual(made.others(), "one " * (min(listed, 100) - 1))
-            said = made.listed()
-            self.assertEqual("left out here" in said, words is not None)
-            self.assertIn(words or "", said)
-            self.assertEqual("first 100 entries" in said, listed > 100)
-            self.assertNotIn("are one entry", said)
-            self.assertEqual(said.count('<a href="#f'), min(listed, 100) - 1)
-            for index in (1, 2, 100, 101):
-                if index <= listed:
-                    steps = made.steps(made.entries[index - 1])
-                    self.assertEqual(("previous" in steps, "next" in steps), (
-                        1 < index <= 101, index < min(listed, 100)), index)

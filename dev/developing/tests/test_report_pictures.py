@@ -2,37 +2,18 @@
 from __future__ import annotations
 
 import unittest
-from types import SimpleNamespace
-from typing import Any, Sequence
 
 from developing.stl import gsi_block, tti_block
-from subtitles.core.programme import SubtitleList, Subtitle
-from subtitles.core.spans import Spans
 from subtitles.preview import blocks
-from subtitles.preview.figures import DIFFERENT, NOT_KNOWN, NOTHING, SAME, Figures
-from subtitles.preview.subtitles import Entries, Looked, looked_at
-from subtitles.preview.strips import Strip, Strips, runs_of
+from subtitles.preview.subtitles import Looked, looked_at
+from subtitles.preview.strips import runs_of
 from subtitles.qc.subtitle_file import SubtitleFile
-from subtitles.reading.receiver import TUNED, State
 from .bench import Case
-from .parts import fault_of, part_with
-from .test_report_faults import SUBTITLES, at, faults
-
-COUNT = 60
-MANY = [Subtitle(number + 1, number + 1, 100 * number, 100 * number + 50, 20, 2, b"x")
-        for number in range(COUNT)]
-
+from .parts import fault_of, in_page
+from .test_report_faults import SUBTITLES
 
 class Drawn(unittest.TestCase):
     """What is drawn of time."""
-
-    def line(self, subtitles: Sequence[Subtitle] = SUBTITLES, sendings: Sequence[int] = (),
-             odd: Sequence[int] = (), end: int | None = None, broken: int | None = None,
-             lines: Sequence[str] = ()) -> Strips:
-        entry = SimpleNamespace(index=5)
-        entries: Any = SimpleNamespace(drawn={1: ""}, odd=set(odd), unknown=set[int](),
-                                       entry_in=lambda begin, end: entry)
-        return Strips(list(subtitles), sendings, entries, faults(*lines), broken, "flag", end)
 
     def test_runs(self) -> None:
         rows: list[tuple[list[int], list[tuple[int, int]]]] = [
@@ -41,185 +22,9 @@ class Drawn(unittest.TestCase):
         for frames, wanted in rows:
             self.assertEqual(list(runs_of(frames)), wanted)
 
-    def test_units(self) -> None:
-        """The shortest of which there are no more than 24 in use."""
-        for count, step, called in ((1, 250, "ten seconds"), (24, 250, "ten seconds"),
-                                    (25, 250, "a minute"), (24, 1500, "ten seconds"),
-                                    (25, 1000, "a minute"),
-                                    (25, 1500, "ten minutes"), (300, 1500, "an hour")):
-            some = [Subtitle(number + 1, 1, step * number, step * number + 9, 20, 2, b"")
-                    for number in range(count)]
-            with self.subTest(count=count, step=step):
-                self.assertEqual(self.line(some).called, called)
-        line = self.line([SUBTITLES[0]], [0, 249, 750, 751, 1000],
-                         lines=("refused 68 P frame @300",))
-        self.assertEqual(line.used(250), {0, 1, 3, 4})
-        long = [SUBTITLES[0], Subtitle(2, 2, 249, 1001, 20, 2, b"")]
-        self.assertEqual(self.line(long).used(250), {0, 1, 2, 3, 4})
-        self.assertEqual(self.line([Subtitle(1, 1, 0, 250, 20, 2, b"")]).used(250), {0})
-        overview = line.overview()
-        self.assertEqual((overview.count('class="strip"'), overview.count("nothing from")), (4, 1))
-        self.assertIn(f"nothing from {at(500)} to {at(750)}", overview)
-
-    def test_close(self) -> None:
-        """On up to 300 strips of minutes what is nearer than 3 units is a block, on more than 8."""
-        for count, close in ((1, 3), (300, 3), (301, 8)):
-            some = [Subtitle(number + 1, 1, 1500 * number, 1500 * number + 9, 20, 2, b"")
-                    for number in range(count)]
-            self.assertEqual(self.line(some).close, close)
-
-    def test_bars(self) -> None:
-        """Of each subtitle that is due in the strip; links where it has a picture, its look; of
-        more than so many those without pictures are one path."""
-        drawn = Strip(self.line(odd=[2]), 0, (250, 25, 50)).drawn(())
-        self.assertEqual(drawn.count('aria-label="subtitle'), 1)
-        self.assertIn('<rect class="odd" x="300.0" y="2" width="100.0" height="20"', drawn)
-        self.assertIn('<rect class="bar" x="100.0" y="5" width="100.0" height="14"', drawn)
-        for begin, count in ((0, 3), (50, 2), (49, 3), (100, 1), (125, 0)):
-            found = "".join(Strip(self.line(), begin, (250, 25, 50)).bars([]))
-            self.assertEqual(found.count("<rect"), count, begin)
-        self.assertEqual("".join(Strip(self.line(), 0, (75, 25, 50)).bars([])).count("<rect"), 1)
-        many = [Subtitle(one + 1, 1, 9 * one, 9 * one + 5, 20, 2, b"") for one in range(5001)]
-        found = "".join(Strip(self.line(many), 0, (250, 25, 50)).bars([]))
-        self.assertEqual((found.count("<rect"), found.count("<path")), (1, 1))
-
-    def test_ends(self) -> None:
-        """What is not heard is hatched, up to the end of the strip; the first fault is flagged."""
-        for end, is_hatched, words in ((None, False, False), (100, True, True), (250, False, False),
-                                       (249, True, True), (0, True, True)):
-            told: list[str] = []
-            lines = list(Strip(self.line(end=end), 0, (250, 25, 50)).hatching(told))
-            self.assertEqual((bool(lines), bool(told)), (is_hatched, words), end)
-            if end:
-                self.assertEqual("00:00:03:24" in "".join(told), end == 100, told)
-        told = []
-        list(Strip(self.line(end=100), 250, (250, 25, 50)).hatching(told))
-        self.assertEqual(told, [])
-        for broken, is_here in ((249, False), (250, True), (499, True), (500, False),
-                                (None, False)):
-            drawn = Strip(self.line(broken=broken), 250, (250, 25, 50)).drawn(())
-            self.assertEqual("flag" in drawn, is_here, broken)
-
-    def test_sendings_and_faults(self) -> None:
-        """Those that are close are one block; marks as long as a fault stands."""
-        for frames, ticks, blocks in (([10], 1, 0), ([10, 20], 2, 0), ([10, 11, 12], 3, 0)):
-            found = "".join(Strip(self.line(sendings=frames), 0, (250, 25, 50)).sendings())
-            self.assertEqual((found.count("v8") - found.count("v8H"), found.count("v8H")),
-                             (ticks, blocks), frames)
-        found = "".join(Strip(self.line(sendings=[10, 11, 12]), 0, (1500, 25, 50)).sendings())
-        self.assertEqual((found.count("v8H"), found.count('class="tick"')), (1, 0))
-        lines = ("refused 73 Gap frame @30", "ended 73 Gap frame @54", "refused 68 P frame @200",
-                 "refused 73 Gap frame @240", "ended 73 Gap frame @260")
-        strip = Strip(self.line(lines=lines), 0, (250, 25, 50))
-        found = "".join(strip.faults())
-        self.assertEqual(found.count('class="bad"'), 3)
-        self.assertIn('x="120" y="40" width="100"', found)
-        self.assertIn('x="960" y="40" width="40"', found)
-        self.assertIn('href="#e5"', found)
-        trusted = self.line(lines=("trusted frames @25 @49", "trusted frames @300 @310"))
-        found = "".join(Strip(trusted, 0, (250, 25, 50)).trusted())
-        self.assertEqual(found.count("<rect"), 1)
-        self.assertIn('x="100" y="45" width="100"', found)
-
-
-class Looks(unittest.TestCase):
-    """What is held beside what is due."""
-
-    SAME = (b" " * 40,) * 19 + (b"\x0b\x0bsame".ljust(40),) + (b" " * 40,) * 4
-    OTHER = SAME[:19] + (b"\x0b\x0bsome".ljust(40),) + SAME[20:]
-    HEADER = bytes([8, 8, 0, 8, 0, 8, 1, 0])
-
-    def figures(self, state: State | None, is_complete: bool = False, is_after: bool = False,
-                due: State | None = None) -> Figures:
-        own = due or State(True, False, self.HEADER, self.SAME, None)
-        heard: Any = [SimpleNamespace(state_at=lambda frame, one=one: one,
-                                      is_after=lambda frame: is_after) for one in (own, state)]
-        return Figures(heard[0], heard[1], self.HEADER, "888", is_complete)
-
-    def test_kinds(self) -> None:
-        """As due, another page, none yet, or not known; with complete pages by the screen too."""
-        for state, is_complete, is_after, kind in (
-                (None, False, False, NOT_KNOWN), (TUNED, False, False, NOTHING),
-                (State(True, True, self.HEADER, self.SAME, None), False, False, SAME),
-                (State(True, True, self.HEADER, self.SAME, None), False, True, NOT_KNOWN),
-                (State(True, True, self.HEADER, self.OTHER, None), False, False, DIFFERENT),
-                (State(True, True, self.HEADER, self.SAME, None), True, False, NOTHING),
-                (State(True, True, self.HEADER, self.SAME, (self.SAME, self.HEADER)), True, False,
-                 SAME),
-                (State(True, True, self.HEADER, self.SAME, (self.OTHER, self.HEADER)), True, False,
-                 DIFFERENT),
-                (State(True, True, self.HEADER, self.SAME, (self.OTHER, self.HEADER)), False, False,
-                 SAME),
-                (State(True, True, self.HEADER, self.OTHER, (self.SAME, self.HEADER)), True, False,
-                 DIFFERENT)):
-            with self.subTest(kind=kind, is_complete=is_complete):
-                self.assertEqual(self.figures(state, is_complete, is_after).kind_at(5), kind)
-
-
-    def test_folds_away(self) -> None:
-        """Below a picture what its rows are as ASCII, and what its header says; beside the caption
-        only what is seen in it."""
-        drawn = self.figures(State(True, False, self.HEADER, self.OTHER, None)).at(5)
-        self.assertIn("<br/><small><b>1 cell differs</b></small></figcaption>", drawn)
-        self.assertIn("<details><summary>codes as ASCII</summary><small>not open; C4 C6 C7, English"
-                      "</small><pre>row 20 |..some", drawn)
-        hit = self.OTHER[:20] + (bytes([0xA0]) * 40,) + self.OTHER[21:]
-        self.assertIn("<b>1 cell differs</b>, dashed: even parity</small>",
-                      self.figures(State(True, False, self.HEADER, hit, None)).at(5))
-        self.assertNotIn("<details>", self.figures(None).at(5).partition('class="held"')[2])
-
 
 class Pictured(unittest.TestCase):
     """The subtitles that have pictures."""
-
-    def entries(self, kinds: dict[int, str], lines: Sequence[str] = (),
-                subtitles: Sequence[Subtitle] = MANY) -> Entries:
-        """Subtitles, some not as due by their numbers."""
-        looked = [looked_at(one, 0, 0) for one in subtitles]
-        by_frame = {look.frame: kinds.get(one.index, SAME)
-                    for one, look in zip(subtitles, looked)}
-        figures: Any = SimpleNamespace(kind_at=by_frame.__getitem__,
-                                       at=lambda frame: f"<pictures {frame}>")
-        held: Any = SimpleNamespace(last_before=lambda pes: 10 * pes,
-                                    sendings_between=lambda first, end: len(range(first, end, 25)))
-        made = faults(*lines)
-        made.programme = SubtitleList(subtitles)
-        return Entries(figures, held, list(subtitles), looked, made)
-
-    def test_drawn(self) -> None:
-        """Those that are not as due, the first 500 of them; in order, and counted by kind."""
-        made = self.entries({50: DIFFERENT, 7: NOTHING, 9: NOT_KNOWN})
-        self.assertEqual((list(made.drawn), made.odd, made.unknown), ([7, 50], {7, 50}, {9}))
-        self.assertEqual([number in made.listed(MANY[:20]) for number in ("s7", "s50", "s9", "s1")],
-                         [True, False, False, False])
-        self.assertEqual(made.counted(MANY), "57 as due, 1 another page than the one that is due, "
-                         "1 no page yet, 1 not known, since the PES file ends, or can't be "
-                         "followed, before")
-        many = [Subtitle(number + 1, 1, 100 * number, 100 * number + 50, 20, 2, b"")
-                for number in range(503)]
-        made = self.entries({number: DIFFERENT for number in range(2, 504)}, subtitles=many)
-        self.assertEqual((sorted(made.drawn), len(made.odd)), (list(range(2, 502)), 502))
-
-    def test_words(self) -> None:
-        """When it is due, how often it is sent, and the first fault in its time."""
-        made = self.entries({2: DIFFERENT, 3: DIFFERENT}, [
-            "refused 68 Parity frame @149", "refused 69 Row frame @320", "refused 38 Unit pes 42"])
-        self.assertEqual(made.entry_frames, [149, 320, 420])
-        self.assertIn('<a class="bad" href="#e1"><b>fault 1</b></a>', made.drawn[2])
-        self.assertNotIn("fault", made.drawn[3])
-        self.assertIn("Subtitle 2 <code>00:00:04:00</code> to <code>00:00:06:00</code>",
-                      made.drawn[2])
-        self.assertIn("row 20, justification 2; sent 2 times while it is due, whole after 0 frames",
-                      made.drawn[2])
-        for begin, end, index in ((0, 149, None), (0, 150, 1), (149, 150, 1), (150, 320, None),
-                                  (150, 321, 2), (400, 999, 3), (421, 999, None)):
-            found = made.entry_in(begin, end)
-            self.assertEqual(found and found.index, index, (begin, end))
-        two = self.entries({2: DIFFERENT}, ["refused 68 Parity frame @149",
-                                            "refused 69 Row frame @149"])
-        self.assertIn('href="#e1"><b>fault 1</b>', two.drawn[2])
-        made.faults.spans = Spans([(520, 530)])
-        self.assertEqual(made.faults_in(MANY[5]), ' <b class="bad">faults while it is due</b>')
 
     def test_looked_at(self) -> None:
         """A subtitle's pictures are of the frame at which it is whole, or the first that is late.
@@ -270,29 +75,14 @@ class Blocks(Case):
         for number in range(10, 60):
             line = f"refused {number} X block {int(number > 14)}"
             head, _, value = fields.get(number, "").rpartition(" ")
-            self.must(line, made.field(fault_of(line)) == (
-                f"{head} <mark>{value}</mark>" if head else ""), made.field(fault_of(line)))
-        self.must("no block", made.field(fault_of("refused 14 Cct")) == "")
-
-    def test_ends(self) -> None:
-        """What ends reading a file; and after which faults a subtitle is as if it were not there."""
-        ends, gone = {10, 11, 12, 13, 14, 15, 17, 22, 23, 24, 25}, {16, 18, 19, 20, 21}
-        for number in (*range(10, 26), *range(50, 58)):
-            line = f"refused {number} Name block 2"
-            report: Any = SimpleNamespace(part=SimpleNamespace(answer=SimpleNamespace(
-                last_told=line)))
-            said = blocks.end_of_reading(report, self.blocks())
-            self.must(line, said == (
-                f"<b>Reading ended at block 2</b>, with {number} Name: nothing is known of what "
-                "comes after it." if number in ends else
-                "The file was read to its end, 6 blocks."), said)
-            before = self.blocks(line).before(3)
-            self.must(f"{line}: before", (before is None) == (number in gone), before)
+            told = in_page(made.field(fault_of(line)))
+            self.must(line, told == (f"{head} <mark>{value}</mark>" if head else ""), told)
+        self.must("no block", in_page(made.field(fault_of("refused 14 Cct"))) == "")
 
     def test_marks(self) -> None:
         """The byte or the line that a fault names, in a text and in tables."""
         def marked(*lines: str) -> str:
-            return blocks.marked_text(b"a b\x8ac", [fault_of(line) for line in lines])
+            return in_page(blocks.marked_text(b"a b\x8ac", [fault_of(line) for line in lines]))
 
         for lines, words in (
                 ((), "a b<br/>c"), (("refused 50 X block 2 at 0",), "<mark>a</mark> b<br/>c"),
@@ -302,14 +92,14 @@ class Blocks(Case):
                  "<mark>a <mark>b</mark></mark><br/>c"), (("refused 21 X block 2",), "a b<br/>c")):
             self.must(f"{lines}", marked(*lines) == f'<span class="text">{words}</span>',
                       marked(*lines))
-        table = blocks.byte_table(bytes(range(0x41, 0x53)), 17)
+        table = in_page(blocks.byte_table(bytes(range(0x41, 0x53)), 17))
         self.must("bytes", table.count("<tr>") == 2 and table.count(' class="named"') == 1 and
                   '<td class="named">52<br/>R</td>' in table and '"row">16<' in table, table)
-        lined = blocks.line_table(b"ab\x8a\x8ac", 18, 1)
+        lined = in_page(blocks.line_table(b"ab\x8a\x8ac", 18, 1))
         self.must("lines", '<tr class="named"><th scope="row">line 1</th><td>row 19</td><td>0 bytes'
                   "</td><td>empty</td>" in lined and "<td>1 byte</td>" in lined, lined)
-        self.must("letters", [blocks.readable(byte) for byte in (0x20, 0x41, 0x7E, 0x7F, 0x1F)] == [
-            "\u2423", "A", "~", "<i>7F</i>", "<i>1F</i>"])
+        letters = [in_page(blocks.readable(byte)) for byte in (0x20, 0x41, 0x7E, 0x7F, 0x1F)]
+        self.must("letters", letters == ["\u2423", "A", "~", "<i>7F</i>", "<i>1F</i>"])
 
     def test_times(self) -> None:
         """Those that a fault is about are marked: of the subtitle, and of the one before."""
@@ -321,42 +111,13 @@ class Blocks(Case):
                 ("refused 56 X block 6", (f"<mark>{begin}</mark>", end)),
                 ("refused 57 X block 6", (f"<mark>{begin}</mark>", end)),
                 ("refused 20 X block 6", (begin, end)), ("refused 50 X block 6", (begin, end))):
-            self.must(line, blocks.times_of(one, [fault_of(line)]) == wanted)
+            self.must(line, (*map(in_page, blocks.times_of(one, [fault_of(line)])),) == wanted)
         wrong = one._replace(begin="99:00:00:00")
-        self.must("no time", blocks.times_of(wrong, [fault_of("refused 20 X block 6")])
-                  == ("<mark>99:00:00:00</mark>", end))
+        told = [*map(in_page, blocks.times_of(wrong, [fault_of("refused 20 X block 6")]))]
+        self.must("no time", told == ["<mark>99:00:00:00</mark>", end])
         first, last = "00:00:03:00", "00:00:03:24"
         for line, words in (("refused 56 X block 6", f"<mark>{first}</mark></td><td>{last}"),
                             ("refused 57 X block 6", f"{first}</td><td><mark>{last}")):
-            table = blocks.two_times(made, one, fault_of(line))
+            table = in_page(blocks.two_times(made, one, fault_of(line)))
             own = f"<mark>{begin}</mark></td><td>{end}"
             self.must(line, words in table and own in table, table)
-
-    def test_printed(self) -> None:
-        """What show prints, without its middle where it is long."""
-        for count, left in ((3, 0), (200, 0), (220, 0), (221, 1), (500, 280)):
-            lines = [f"line {at}" for at in range(count)]
-            report: Any = SimpleNamespace(
-                part=part_with(1, 2, 0), asked=SimpleNamespace(is_open=False),
-                program=SimpleNamespace(show=lambda path: lines))
-            said = blocks.printed(report)
-            words = f"Lines 201 to {200 + left}, {left} of them" if left else ""
-            self.must(f"{count}", words in said and ("left out" in said) == (left > 0) and
-                      said.count("line ") == count - left, said[-200:])
-        report.asked.is_open = True
-        self.must("of open subtitles, which it shows not", blocks.printed(report) == "")
-
-    def test_list(self) -> None:
-        """An item for each block; what is left out; where reading ended."""
-        lines = ["refused 50 X block 2 at 1", "refused 51 X block 2 at 2", "refused 56 X block 6"]
-        for more, last, words in (
-                (0, lines[-1], "read to its end, 6 blocks"),
-                (1, "refused 15 Ebn block 6", "ended at block 6</b>, with 15 Ebn")):
-            faults = SimpleNamespace(of_blocks=[*map(fault_of, lines)], counts={50: 1, 51: 1, 56: 1 + more, 78: 9})
-            report: Any = SimpleNamespace(faults=faults, is_beside=False, part=SimpleNamespace(
-                answer=SimpleNamespace(last_told=last)))
-            said = blocks.refused_blocks(report, self.blocks())
-            self.must(words, words in said and said.count("<li") == 2 and
-                      ("1 more fault</b>" in said) == bool(more), said)
-            self.must("after", "after 00:00:03:00 to 00:00:03:24, SN 7" in said and
-                      said.count(" after 00") == 1, said)

@@ -14,7 +14,6 @@ import re
 import subprocess
 import sys
 import tempfile
-import threading
 import unittest
 import xml.etree.ElementTree as tree
 from typing import Callable, Iterator
@@ -172,8 +171,8 @@ class Made:
         return words + ["--no-complete"] * (chance.random() < 0.75)
 
 
-class Here(threading.local):
-    """Whether this thread makes a row: other tests run in threads beside it."""
+class Here:
+    """Whether a row is made."""
 
     is_row = False
 

@@ -83,8 +83,6 @@ def places_in(value: Any) -> Iterator[tuple[Any, Any]]:
 class Written(Case):
     """The schema, and what is written."""
 
-    is_alone = True  # it changes the table
-
     def test_schema_is_made(self) -> None:
         """It is what dev/make-pages makes of the table, and is a schema."""
         self.must("made", read(os.path.join(TOP, SCHEMA)) == laid_out(schema()) + "\n", "dev/make-pages")
@@ -163,8 +161,6 @@ class Written(Case):
 
 class ReadBack(Case):
     """Results that strangers wrote."""
-
-    is_alone = True  # it takes what is printed
 
     def test_table_and_schema_agree(self) -> None:
         """Of changed results both say the same; so does a second reader, where there is one."""

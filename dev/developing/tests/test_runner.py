@@ -3,6 +3,7 @@ from __future__ import annotations
 
 import unittest
 
+from .. import DEV
 from . import runner
 from .bench import Case
 
@@ -17,6 +18,21 @@ class Found(Case):
                 ("qc.evidence", "subtitles.qc.evidence"), ("evidence", "subtitles.evidence"),
                 ("subtitles.qc.evidence", "subtitles.qc.evidence")):
             self.must(name, runner.module_of(name) == wanted, runner.module_of(name))
+
+    def test_each_module(self) -> None:
+        """Of each module of the tools there are tests: named after it, or that call it, or else a
+        module that calls it."""
+        everything = [*runner.flattened(unittest.TestLoader().discover(
+            runner.FOLDER, runner.PATTERN, DEV))]
+        for module in runner.callers():
+            if not module.endswith("__init__"):
+                self.must(module, runner.of_module(module, everything))
+        self.must("no module", not runner.of_module("subtitles.none", everything))
+        for module, test, most in (("qc.paced", "test_paced", 1), ("qc.judging", "test_clocks", 40),
+                                   ("qc.source", "test_feeds", 9), ("qc.sendings", "test_reasons", 30)):
+            kinds = {type(one).__module__.rpartition(".")[2] for one in
+                     runner.of_module(f"subtitles.{module}", everything)}
+            self.must(module, test in kinds and len(kinds) <= most, kinds)
 
     def test_called(self) -> None:
         """By the module of the test, whatever it is named; also where a package is asked for it."""

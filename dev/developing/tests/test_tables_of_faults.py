@@ -21,14 +21,13 @@ from subtitles.qc.cells import place_of
 from subtitles.qc.due_pages import DuePages, asked_of
 from subtitles.qc.hints import gap_words, hints_of
 from subtitles.qc.made_with import proved_line
-from subtitles.qc.pair import Pair
 from subtitles.qc.progress import CLEAR, Progress
 from subtitles.qc.sentence import Facts, of_causes, what_is_wrong
 from subtitles.qc.speech import Speech
 from subtitles.qc.unclear import Unclear
 from subtitles.qc.why import tell
 from subtitles.reading.receiver import BLANK_PAGE, OLD
-from .bench import Case, alone
+from .bench import Case
 from .judged import Heard
 from .parts import (
     CLOSING, HEADER, answer, asked_for, packets_told, part_with, row, timeline_of)
@@ -245,7 +244,6 @@ class Words(Case):
         verdict.parts = parts[1:2]
         self.must("none", not list(hints_of(verdict)))
 
-    @alone
     def test_lists(self) -> None:
         """The first forty lines, how many more there are, and the last; and of causes."""
         for count in (0, 1, 40, 41, 42, 50):
@@ -275,29 +273,6 @@ class Words(Case):
                 self.must(f"{count} causes", heard.lines == [
                     *(f"cause {at}" for at in range(min(count, 40))),
                     *[f".. {count - 40} more causes"] * (count > 40)], heard.lines)
-
-    def test_stopped(self) -> None:
-        """What a signal leaves of the first part, and of the second; a part that is over is there
-        once."""
-        for begun, parts, wanted in ((None, 0, "now"), (1, 1, "now"), (2, 2, "now"),
-                                     (1, 0, "now, when check had reported all up to 00:00:05:00"),
-                                     (2, 1, "now, when check had reported all up to 00:00:05:00"),
-                                     (3, 2, "now, when check had reported nothing yet")):
-            verdict = verdict_of([part_with(0, 9, 0, number=at + 1) for at in range(parts)])
-            made: Any = SimpleNamespace(verdict=verdict, begun=None)
-            if begun:
-                made.begun = verdict.parts[begun - 1] if begun <= parts else part_with(
-                    0, 9, 0, self.begun(begun != 3), begun)
-            self.must(f"{begun} {parts}", Pair.stop(made, "now") == wanted and [
-                one.number for one in verdict.parts] == [*range(1, max(parts, begun or 0) + 1)],
-                verdict.parts)
-
-    def begun(self, has_lines: bool) -> Any:
-        """An answer that has not ended."""
-        made = answer()
-        made.status, made.last = None, "trusted frames 00:00:04:00 00:00:05:00" * has_lines
-        return made
-
 
 class Calls(Case):
     """Calls of the program that are heard while they go on, and others."""
@@ -336,7 +311,6 @@ class Made(Case):
             self.must(f"{name} {text}", proved_line(self.path("top/bin/subttx"), "5") == wanted)
             os.unlink(path)
 
-    @alone
     def test_progress(self) -> None:
         """Each fifth of a second, on a terminal alone, up to its width; taken away once."""
         for is_terminal, times, shown in ((True, (0.0, 0.1, 0.2, 0.5), 3), (False, (0.0, 9.0), 0)):

@@ -16,7 +16,7 @@ from subtitles.core.gsi import titles_in
 from subtitles.core.letters import letters_of
 from subtitles.core.programme import SubtitleList, Subtitle
 from subtitles.core.words import Stop
-from .bench import Case, alone
+from .bench import Case
 
 GSI = 1024
 
@@ -79,21 +79,6 @@ class Blocks(unittest.TestCase):
             told = refused(lambda: list(stl.subtitles_in(data)), Damaged)
             self.assertTrue(told.startswith(words) and bool(told) == bool(words), told)
 
-    def test_frames_of_all(self) -> None:
-        """Those that come before they go, each a time of the day."""
-        def stored(begin: bytes, end: bytes) -> stl.StoredSubtitle:
-            return stl.StoredSubtitle(1, begin, end, 20, 2, b"")
-
-        one, two, none = b"\0\0\0\1", b"\0\0\1\0", b"\x18\0\0\0"
-        of_times: list[tuple[bytes, bytes, list[tuple[int, int]]]] = [
-            (one, two, [(1, 25)]), (one, one, []), (two, one, []), (none, two, []),
-            (one, none, []), (b"\0\0\0\0", one, [(0, 1)])]
-        for begin, end, wanted in of_times:
-            self.assertEqual(list(stl.frames_of_all([stored(begin, end)])), wanted)
-            self.assertEqual(len(list(stl.frames_of_all([stored(begin, end), stored(one, two)]))),
-                             len(wanted) + 1)
-
-    @alone
     def test_readable(self) -> None:
         """Damage behind a subtitle is told, and before the first ends it."""
         good = gsi_block(b"", 0, 0)

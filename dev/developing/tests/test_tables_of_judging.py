@@ -14,6 +14,7 @@ from developing.stl import gsi_block, subtitle_blocks, tti_block
 from subtitles.core.times import CLOCK, TICKS
 from subtitles.qc.causes import (
     ATTRIBUTE, EARLY, LATE, NEVER, NOT_ERASED, OTHER, PLACE, TEXT, UNKNOWN, Cause)
+from subtitles.qc.chosen import Chosen
 from subtitles.qc.clock import GIVEN, RECORDING, Clock, Found
 from subtitles.qc.clocks import found_in
 from subtitles.qc.off_frame import most_off, off_words
@@ -101,8 +102,9 @@ class Within(unittest.TestCase):
         self.assertIsNone(same_part([], 1, 1, three[0]))
         whole = Found(3, 9, Clock(7, GIVEN))
         self.assertEqual(found_in(Origin(1, [OfPart(5)]), whole), [])
-        self.assertEqual(found_in(Origin(0, [OfPart(5, (1, 2))]), whole),
-                         [Found(3, 9, Clock(5, RECORDING), (1, 2))])
+        told = Chosen("origin", "5", "origin: 3 of 4", 3, 4)
+        self.assertEqual(found_in(Origin(0, [OfPart(5, (1, 2), None, 3, 4, "3 of 4")]), whole),
+                         [Found(3, 9, Clock(5, RECORDING, evidence=told), (1, 2))])
 
     def test_words(self) -> None:
         self.assertEqual(line_of(3), "within 3 it is accepted: --within 3")

@@ -5,6 +5,7 @@ import os
 import random
 import re
 import unittest
+from unittest import mock
 
 from developing.pes import pes_packet
 from developing.stl import gsi_block, tti_block
@@ -18,6 +19,7 @@ from subtitles.qc.option_advice import OptionAdvice
 from subtitles.qc.recording import is_recording
 from subtitles.qc.subtitle_file import SubtitleFile
 from subtitles.qc.typed import Typed, line_of
+from subtitles.reading import repeat
 from subtitles.reading.receiver import BLANK_PAGE
 from subtitles.reading.repeat import FEWEST, NEAR, are_usual, longest_gap, measured
 from .bench import Case
@@ -248,6 +250,9 @@ class Repeats(unittest.TestCase):
                 ([0, 10, 20, 30, 50, 90], [], 20)]
         for frames, edges, every in of_frames:
             self.assertEqual(measured(frames, edges), every, (frames, edges))
+        with mock.patch.object(repeat, "sum", side_effect=sum, create=True) as summed:
+            self.assertEqual(measured(range(1000), []), 1)
+        self.assertLess(summed.call_count, 3)  # not once for each sending
         self.assertEqual(FEWEST, 3)
         of_gaps: list[tuple[list[int], int]] = [([], 0), ([5], 0), ([5, 5], 0), ([9, 5, 30], 21)]
         for frames, gap in of_gaps:

@@ -23,7 +23,7 @@ from subtitles.core.markup import joined, markup
 from subtitles.core.outputs import (
     Inputs, is_replaced, result_file, temporary_folder, whole_file)
 from subtitles.core.words import Stop
-from .bench import Case, alone
+from .bench import Case
 from .test_hints import TOOLS, modules
 from .test_tables_of_files import refused
 
@@ -194,11 +194,12 @@ class Words(Case):
                              f'<a b="{wanted}">{wanted}</a>')
         bold = markup("<b>{}</b>", 5)
         self.assertEqual((markup("{}{:,}{:.1f}", bold, 1000, 2.55).source, (bold + bold).source,
-                          joined([bold, bold], "<br/>").source, bool(bold), bool(markup(""))),
-                         ("<b>5</b>1,0002.5", "<b>5</b><b>5</b>", "<b>5</b><br/><b>5</b>", True,
+                          joined([bold, "<"], markup("<br/>")).source, bool(bold),
+                          bool(markup(""))),
+                         ("<b>5</b>1,0002.5", "<b>5</b><b>5</b>", "<b>5</b><br/>&lt;", True,
                           False))
         for wrong in (lambda: f"{bold}", lambda: str(bold), lambda: "".join([bold]),  # type: ignore
-                      lambda: joined(["<b>"])):  # type: ignore[list-item]
+                      lambda: bold + "<b>"):  # type: ignore[operator]
             self.assertRaises((TypeError, AttributeError), wrong)
 
     def test_templates(self) -> None:
@@ -208,7 +209,7 @@ class Words(Case):
                 calls = [node for node in ast.walk(ast.parse(file.read()))
                          if isinstance(node, ast.Call) and isinstance(node.func, ast.Name)]
             for call in calls:
-                at = {"markup": 0, "Markup": 0, "joined": 1}.get(call.func.id)  # type: ignore
+                at = {"markup": 0, "Markup": 0}.get(call.func.id)  # type: ignore
                 if at is not None and not path.endswith("markup.py") and "spans" not in path:
                     self.must(f"{path} line {call.lineno}", all(isinstance(
                         one, ast.Constant) for one in call.args[at:at + 1]))
@@ -300,7 +301,6 @@ class Words(Case):
 class Signals(Case):
     """A signal while a file is written."""
 
-    @alone
     def test_as_the_file_takes_its_name(self) -> None:
         """Just before that the file stays as it was, just behind it the new one stands; either way
         it is the signal that is told."""
@@ -325,7 +325,6 @@ class Signals(Case):
                       os.listdir(self.folder))
 
 
-    @alone
     def test_of_a_folder(self) -> None:
         """Once it is made, among what is done in it, and while it goes: it is gone."""
         for place in ("os.mkdir", "shutil.rmtree", ""):

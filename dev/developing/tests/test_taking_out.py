@@ -15,7 +15,7 @@ from developing.pes import MARK, pes_packet
 from subtitles.core.times import CLOCK, TICKS, frame_of
 from subtitles.reading.cutting import cut_of
 from ..every_place.recordings import carried
-from .bench import Case, Done, alone, example, example_bytes, moved, packets, tool_path
+from .bench import Case, Done, example, example_bytes, moved, packets, tool_path
 from .muxed import spaced
 from .parts import CLOSING, HEADER, packets_told, row
 
@@ -267,15 +267,14 @@ class Streams(Case):
             self.must(f"{name}: before it", b"".join(one[4:] for one in own) ==
                       b"".join(packets(data)[:count]))
 
-    @alone
     def test_is_fast(self) -> None:
         """A stream of a tenth of Teletext is read and listed, and one of nothing else is made."""
         least = FAST if self.bench.is_timed else ANYWHERE
         own = sent(STORY)
         video = bytes([0x47, 2, 0, 0x10]) + bytes(range(PAYLOAD))
         mixed = b"".join(one[:3] + bytes([0x10 | at & 15]) + one[4:] + 9 * video
-                         for at, one in enumerate(own * (60_000 // len(own))))
-        pes = self.write("long.pes", example_bytes("story.pes") * 40_000)
+                         for at, one in enumerate(own * (15_000 // len(own))))
+        pes = self.write("long.pes", example_bytes("story.pes") * 10_000)
         path = self.write("mixed.ts", mixed)
         program = ["-p", self.bench.program]
         for name, *words in (("a tenth of it", "ts2pes", path, PID, *program),
@@ -287,9 +286,9 @@ class Streams(Case):
             print(f"{name}: {speed:.0f} MB of transport stream a second of the processor")
             self.must(name, speed >= least, speed)
             self.must(f"{name}: its bytes", {
-                "a tenth of it": done.out == b"".join(STORY) * 10_000,
+                "a tenth of it": done.out == b"".join(STORY) * 2_500,
                 "a list of it": done.out.startswith(b"PID 0x101: announced nothing; subtitle page"),
-                "pes2ts": done.out[2::188].count(1) == 240_000}[name])
+                "pes2ts": done.out[2::188].count(1) == 60_000}[name])
 
 
 def sent(pes: Sequence[bytes]) -> list[bytes]:

@@ -1,11 +1,16 @@
 """What each of several mistakes would have said, that no test told once: a row for each."""
 from __future__ import annotations
 
+import dataclasses
 import os
 from types import SimpleNamespace
 from typing import Any
 
 from developing.pes import pes_packet
+from subtitles.calls.channel.lacking import Losses
+from subtitles.calls.channel.planned import Planned
+from subtitles.calls.channel.queue import Queue
+from subtitles.calls.channel.running import OnAir
 from subtitles.core.spans import Span
 from subtitles.core.times import CLOCK, NO_FRAME, TICKS
 from subtitles.preview import blocks
@@ -18,7 +23,9 @@ from subtitles.reading.timeline import Timeline, timeline_near
 from .bench import Case, example, example_bytes
 from .judged import in_pipe, judged, programme
 from .muxed import TELETEXT_PID
-from .parts import CLOSING, HEADER, PAGE, answer, packets_told, part_with, row
+from .parts import (
+    CLOSING, HEADER, PAGE, answer, asked_for, in_page, packets_told, part_with, row)
+from .test_decisions import defaults
 from .test_feeds import ending_of
 from .test_recordings_judged import in_stream
 
@@ -152,4 +159,45 @@ class Values(Case):
         """No byte of a text is markup in the page that shows it."""
         for byte, wanted in ((ord("<"), "&lt;"), (ord("&"), "&amp;"), (ord(">"), "&gt;"),
                              (ord("A"), "A"), (0x0B, "<i>0B</i>")):
-            self.must(f"{byte:02X}", str(blocks.readable(byte)) == wanted, blocks.readable(byte))
+            self.must(f"{byte:02X}", in_page(blocks.readable(byte)) == wanted)
+
+
+class Channels(Case):
+    """What a channel does not forget."""
+
+    def test_lines_that_change(self) -> None:
+        """What is waited for by a line of the list that is another one then is waited for anew."""
+        stl = programme(self, [(10, 60)])
+        for more, is_other in (("", False), (" --within 3", True)):
+            path = self.write("list", f"{stl}\n".encode())
+            queue = Queue(Planned(path, defaults()), 100)
+            queue.fill(0)
+            before = queue.waiting[0].awaited
+            self.write("list", f"{stl}{more}\n".encode())
+            for _ in range(2):  # half a list is not taken at its word
+                queue.next_look = 0.0
+                queue.fill(0)
+            self.must(f"{more}", before and (queue.waiting[0].awaited is not before) == is_other)
+
+    def test_sent_before_a_programme(self) -> None:
+        """What is sent may be of it from two minutes before its first TCI on, or from as many
+        frames before it as the repeat bound."""
+        for every, wanted in ((25, 3000), (3000, 3000), (3001, 3001)):
+            asked = asked_for(STORY, None, "--every", str(every), "--origin", "0")
+            item: Any = None
+            one = OnAir(item, asked, 9, 10_000, 20_000, ending_of("--origin", "0"))
+            self.must(f"{every}", one.begin - one.since == TICKS * wanted)
+
+    def test_a_loss_that_is_told_once(self) -> None:
+        """What a counter and the PCR tell is told once, whichever comes first, also before the PES
+        packet that comes behind it."""
+        counter, clock = Place(10, None, 3), Place(10, 20, missing=9)
+        for is_heard in (False, True):
+            losses = Losses([])
+            losses.waiting.append(dataclasses.replace(counter))
+            if is_heard:
+                losses.hear(20)
+            losses.take_hole(clock)
+            losses.hear(20)
+            self.must(f"{is_heard}", losses.said == ["3 TS packets lost, before PTS 20"],
+                      losses.said)

@@ -4,6 +4,8 @@ from __future__ import annotations
 import argparse
 import collections
 import contextlib
+import dataclasses
+import itertools
 import os
 import time
 from typing import Any, Iterable, Iterator, NamedTuple
@@ -12,6 +14,7 @@ from ..core.outputs import NOTHING, Inputs, temporary_folder
 from ..core.words import Stop, counted, line_of, tell
 from ..qc.asked import Asked
 from ..qc.made_with import program_at
+from ..qc.options import AUTO
 from ..qc.options import words_of as options_of
 from ..qc.progress import Progress
 from ..qc.status import ACCEPTED, NOT_JUDGED, WAIVED
@@ -138,8 +141,10 @@ class Calls:
 
 
 def words_of(asked: Asked) -> list[str]:
-    """A pair as the words of a call."""
-    return [*(word for words in options_of(asked) for word in words), "--", asked.stl,
+    """A pair as the words of a call, which looks for itself what the subtitle file names."""
+    option = asked.option if asked.language is None else AUTO
+    words = options_of(dataclasses.replace(asked, option=option))
+    return [*itertools.chain(*words), "--", asked.stl,
             *([asked.recording] if asked.recording else [])]
 
 
@@ -153,10 +158,12 @@ def judge(words: argparse.Namespace, called: str) -> int:
     typed = Typed(called, words.program)
     if words.is_resumed and words.out is None:
         raise Stop("--resume goes with -o, where the results of an earlier call are")
-    items = pairs_at(words.batch, words)
-    inputs, of_all = inputs_of(items, words.batch), words.out
-    if words.line is not None:  # others judge the other lines: nothing is written over all of them
-        items, of_all = [at_line(items, words.batch, words.line)], None
+    if words.line is None:
+        items, more, of_all = pairs_at(words.batch, words), list[str](), words.out
+    else:  # others judge the other lines: nothing is written over all of them
+        item, more = at_line(words.batch, words.line, words)
+        items, of_all = [item], None
+    inputs = inputs_of(items, words.batch, *more)
     collecting.refuse_names(words, inputs, of_all)
     with temporary_folder("subttx-qc-") as folder, \
             claimed_for_batch(of_all):

@@ -11,14 +11,13 @@ import gc
 import os
 import select
 import signal
-import tempfile
 from typing import Callable, Collection, Iterator, NoReturn, Sequence
 
 from ..core.built import TOP
 from ..core.words import Stop, ended
 from ..preview import page, program, report
 from .main import main
-from .single import SIGNALS
+from .single import SIGNALS, heed_signals
 
 LOADED = page, program, report  # which one pair loads only where it draws a report
 INPUT, OUTPUT, ERRORS = range(3)
@@ -35,7 +34,8 @@ class Forked:
     there; its lines on standard error are known once it has ended."""
 
     def __init__(self, does: Callable[[], int]) -> None:
-        self.told = tempfile.TemporaryFile(buffering=0)
+        # In memory: the disk may be full.
+        self.told = open(os.memfd_create("told"), "w+b", buffering=0)
         # Open there as long as it goes on: what it calls does not get it.
         self.alive, alive = os.pipe()
         with signals_held():
@@ -88,9 +88,7 @@ def become(does: Callable[[], int], told: int, alive: int) -> NoReturn:
             gc.freeze()  # what the parent has is neither looked at nor given back
             os.setsid()
             take_files(told, alive)
-            for one in SIGNALS:
-                if signal.getsignal(one) != signal.SIG_IGN:
-                    signal.signal(one, signal.default_int_handler)
+            heed_signals()
             signal.pthread_sigmask(signal.SIG_UNBLOCK, SIGNALS)
             status = does()
         finally:
@@ -106,10 +104,30 @@ def take_files(told: int, alive: int) -> None:
     nothing = os.open(os.devnull, os.O_RDWR)
     for file, place in ((nothing, INPUT), (nothing, OUTPUT), (told, ERRORS)):
         os.dup2(file, place)
+    close_all_but(alive)
+
+
+def close_all_but(kept: int) -> None:
+    """Closes what a process has open that was forked, locks among it, which would stay; but for
+    what each call has, and one more."""
     for name in os.listdir(FILES):
-        if int(name) > ERRORS and int(name) != alive:
-            with contextlib.suppress(OSError):
+        with contextlib.suppress(OSError):
+            if int(name) > ERRORS and int(name) != kept:
                 os.close(int(name))
+
+
+def beside(does: Callable[[], bool], kept: int) -> int:
+    """The id of a process that does something beside this one, with one of its files; its status
+    is 0 where that went well."""
+    pid = os.fork()
+    if pid:
+        return pid
+    status = 1
+    try:
+        close_all_but(kept)
+        status = 0 if does() else 1
+    finally:
+        os._exit(status)
 
 
 def ended_of(calls: Collection[Forked], seconds: float) -> list[Forked]:

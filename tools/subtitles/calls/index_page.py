@@ -5,7 +5,7 @@ import os
 from typing import Sequence
 from urllib.parse import quote
 
-from ..core.markup import HEAD, Markup, joined, markup
+from ..core.markup import BREAK, HEAD, Markup, joined, markup
 from ..core.words import counted
 from ..qc.status import ACCEPTED, NOT_JUDGED
 from .objects import ENDING, Row
@@ -70,13 +70,13 @@ def line_of(folder: str, row: Row) -> Markup:
     told += [markup("&hellip;")] if len(causes) > MOST_CAUSES else []
     faults = markup("{}", counted(row.faults, "fault") if row.is_judged else "")
     if told:
-        faults += markup("<br/><small>{}</small>", joined(told, "<br/>"))
+        faults += markup("<br/><small>{}</small>", joined(told, BREAK))
     why = [] if row.verdict == ACCEPTED else [
         *row.line.splitlines()[:3], *filter(None, [row.hint, row.counts])]
     return markup(
         '<tr class="{}"><td class="verdict">{}</td><td>{}<br/><small>{}</small></td><td>{}</td>'
         "<td>{}</td><td>{}</td></tr>", row.verdict.replace(" ", "-"), row.verdict, row.name,
-        row.title, faults, joined((markup("{}", one) for one in why), "<br/>"),
+        row.title, faults, joined(why, BREAK),
         links(folder, row.name))
 
 

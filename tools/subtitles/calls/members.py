@@ -10,6 +10,7 @@ from ..core.shapes import Flag, Listed, Maybe, Member, OneOf, Record, Text, Inte
 from ..core.times import FRAMES_OF_A_DAY
 from ..core.words import MOST_EVERY, PACKET_SIZES
 from ..qc.causes import NAMES
+from ..qc.chosen import CHOICES
 from ..qc.clock import SOURCES
 from ..qc.options import members as option_members
 from ..qc.part import Part
@@ -237,6 +238,18 @@ LAYOUT = Record(
            "On what each item rests; of strip each code is one."),
     Member("left", Listed(LAYOUT_LEFT, MOST_ITEMS), "Items that are not taken, and would draw more: "
            "too few subtitles show them, or they take from a page what a viewer sees."))
+
+CHOSEN = Record(
+    "chosen", "",
+    Member("part", Maybe(PART), "The part that it is of; null where it is of all."),
+    Member("what", OneOf(*CHOICES), "The option that would say it."),
+    Member("value", Maybe(Text()), "The value that is taken, as the option has it; empty for the "
+           "layout without an option; null where none is asked for."),
+    Member("agree", Maybe(COUNT), "How many agree: of pid PES packets with a header of the page, of "
+           "origin cues, of pes PES packets in the time of the subtitles, of layout subtitles that "
+           "it draws as they were sent, of pace places where a loss takes longer; else null."),
+    Member("among", Maybe(COUNT), "Of how many."),
+    Member("line", Text(), "The evidence as it was printed."))
 
 PROGRAM = Record(
     "program", "",

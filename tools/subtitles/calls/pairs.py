@@ -4,10 +4,10 @@ from __future__ import annotations
 import argparse
 import collections
 import os
-from typing import Iterable, NamedTuple, Sequence
+from typing import Iterable, Iterator, NamedTuple, Sequence
 
 from ..core.files import kind_of
-from ..core.lists import lines_in, list_at
+from ..core.lists import Line, lines_in, list_at
 from ..core.words import Stop
 from ..qc.asked import Asked, asked_of_line, asked_with
 from ..qc.names import NamesOfList, pair_name
@@ -25,12 +25,12 @@ class Item(NamedTuple):
     asked: Asked | None
     reason: str | None
     files: Sequence[str | None] = ()
-    line: int = 0  # of a list
 
 
 def pairs_at(path: str, defaults: argparse.Namespace) -> list[Item]:
     """The pairs of a folder or a list, each with a name of its own."""
-    items = of_folder(path, defaults) if os.path.isdir(path) else of_list(path, defaults)
+    items = of_folder(path, defaults) if os.path.isdir(path) else [
+        *map(with_files, of_list(path, lines_in(list_at(path, may_be_pipe=True)), defaults))]
     if not items:
         raise Stop(f"{path} has no pair")
     return items
@@ -68,9 +68,11 @@ def item_of(name: str, stl: str, recording: str, defaults: argparse.Namespace) -
 
 def with_files(item: Item) -> Item:
     """An item as it is, where both of its names are those of files."""
-    assert item.asked and item.asked.recording
-    reason = no_file(item.asked.stl) or no_file(item.asked.recording)
     asked = item.asked
+    if asked is None:
+        return item
+    assert asked.recording
+    reason = no_file(asked.stl) or no_file(asked.recording)
     return item._replace(asked=None if reason else asked, reason=reason,
                          files=(asked.stl, asked.recording, asked.severity))
 
@@ -104,26 +106,29 @@ def sorted_out(files: list[str]) -> tuple[list[str], list[str]]:
             [file for file, is_one in zip(files, is_subtitles) if not is_one])
 
 
-def of_list(path: str, defaults: argparse.Namespace) -> list[Item]:
-    """The lines of a list: a subtitle file, a recording, and options of their own."""
-    items, names = [], NamesOfList()
-    for line in lines_in(list_at(path, may_be_pipe=True)):
+def of_list(path: str, lines: Iterable[Line], defaults: argparse.Namespace) -> Iterator[Item]:
+    """The lines of a list: a subtitle file, a recording, and options of their own. Nobody has
+    looked at the files yet."""
+    names = NamesOfList()
+    for line in lines:
         try:
             if line.fault:
                 raise Stop(line.fault)
             asked = asked_of_line(line.words, defaults)
         except (Stop, ValueError) as reason:
-            items.append(Item(names.line(line.number), None,
-                              f"{path}, line {line.number}: {reason}", line=line.number))
+            yield Item(names.line(line.number), None, f"{path}, line {line.number}: {reason}")
             continue
-        items.append(with_files(Item(names.pair(asked.stl), asked, None, line=line.number)))
-    return items
+        yield Item(names.pair(asked.stl), asked, None)
 
 
-def at_line(items: Sequence[Item], path: str, line: int) -> Item:
-    """The pair of a line of a list, or why it is none."""
-    for item in items:
-        if item.line == line:
-            return item
-    raise Stop(f"{path} is no list: --line goes with a LIST" if not items[0].line else
-               f"{path}, line {line}: there is no pair")
+def at_line(path: str, number: int, defaults: argparse.Namespace) -> tuple[Item, list[str]]:
+    """The pair of a line of a list, or why it is none, and the words of all lines, any of which may
+    name an input. Those before it tell its name; of no other one the files are looked at."""
+    if os.path.isdir(path):
+        raise Stop(f"{path} is no list: --line goes with a LIST")
+    lines = lines_in(list_at(path, may_be_pipe=True))
+    before = [line for line in lines if line.number <= number]
+    if not before or before[-1].number < number:
+        raise Stop(f"{path}, line {number}: there is no pair")
+    *_, item = of_list(path, before, defaults)
+    return with_files(item), [word for line in lines for word in line.words]

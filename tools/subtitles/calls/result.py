@@ -21,10 +21,10 @@ from ..qc.status import NOT_JUDGED, STATUSES
 from ..qc.values import COUNT
 from ..qc.verdict import Verdict
 from .members import (
-    ASKED, COUNTS, DATE, FAULT, FILE, FOUND_FILE, GAP, JUDGED_PART, LAYOUT, LISTED_CAUSE,
+    ASKED, CHOSEN, COUNTS, DATE, FAULT, FILE, FOUND_FILE, GAP, JUDGED_PART, LAYOUT, LISTED_CAUSE,
     PROGRAM, SPREAD, STATUS, TRUSTED, WARNING, WHOLE, WORD, PartOf)
 
-FORMAT = 4
+FORMAT = 5
 MOST_LISTED = 20_000  # items of a list
 MOST_SUBTITLES = 100_000  # a subtitle file has 99,999 blocks at most
 MOST_SECONDS = 10 ** 9
@@ -105,6 +105,8 @@ LISTS = (
            "says nothing of it, but with asked.strict.", lambda known: known.verdict.warnings),
     Member("commands", Listed(Text(), MOST_LISTED), "The steps as they can be typed.",
            lambda known: known.verdict.commands),
+    Member("chosen", Listed(CHOSEN, MOST_LISTED), "What qc chose by itself, and by which evidence, "
+           "in the order in which it did.", lambda known: known.verdict.chosen),
     Member("trusted", Listed(TRUSTED, MOST_LISTED), "Frames that may stay on air as they are, both "
            "included; where asked.within is 1 or more, with what is promised within so many frames.",
            trusted_of),

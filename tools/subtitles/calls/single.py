@@ -114,11 +114,11 @@ def draw(pair: Pair, part: Part, gaps: Sequence[Gap], count: int) -> None:
         ("STL", verdict.stl), ("PES", part.judged), ("Recording", verdict.recording)) if file]
     subject = report.Subject(verdict, part, count, program, pair.speech.commands, files)
     try:
-        text = page.report_page(report.Report(subject))
+        made = page.report_page(report.Report(subject))
     except asking.NoReport as reason:
         raise Unclear(f"no report was made: {reason}") from None
     with result_file(part.names.report) as file:
-        file.write(text.encode("utf-8", "replace"))
+        file.write(made.page())
 
 
 def judge_pair(pair: Pair, files: Files) -> None:
@@ -135,7 +135,7 @@ def judge_pair(pair: Pair, files: Files) -> None:
         ignore_signals()  # what is known is written now
         verdict.is_stopped = True
         verdict.reason = f"stopped at {pair.stop(now())}"
-    verdict.commands = pair.speech.commands
+    verdict.commands, verdict.chosen = pair.speech.commands, pair.speech.chosen
     verdict.seconds = round(time.monotonic() - began, 3)
     try:
         files.write(pair.recording)
@@ -160,6 +160,13 @@ def end_pair(verdict: Verdict, speech: Speech, files: Files) -> None:
         with contextlib.suppress(OSError):
             tell(verdict.failed[-1])
         silence()
+
+
+def heed_signals(handler: Callable[..., object] = signal.default_int_handler) -> None:
+    """Lets signals end this call, but those that are ignored: nohup lets a hang-up pass."""
+    for one in SIGNALS:
+        if signal.getsignal(one) != signal.SIG_IGN:
+            signal.signal(one, handler)
 
 
 def ignore_signals() -> None:
@@ -278,7 +285,7 @@ class Files:
         program = program_at(self.typed.program_path)
 
         def page() -> Iterator[bytes]:
-            return map(str.encode, overview(verdict, program, names, self.typed))
+            return iter([overview(verdict, program, names, self.typed).page()])
 
         def members() -> Iterator[bytes]:
             return map(as_bytes, machine.object_of(verdict, program))

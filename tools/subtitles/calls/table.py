@@ -7,8 +7,8 @@ import itertools
 from typing import Any, Iterable, Iterator, Sequence
 
 from ..core.words import shown
-from ..qc.faults import Cell, Fault
 from ..qc.part import Part
+from ..qc.values import Members
 from ..qc.verdict import Verdict
 
 OF_FAULT = ["part", "number", "name", "severity", "file", "block", "subtitle", "begin", "end",
@@ -26,11 +26,12 @@ COLUMNS = ["stl", "recording", *OF_FAULT, *OF_PAIR, *OF_CAUSE, *PLACES, "sentenc
 Known = dict[str, object]  # the columns that there is something to say of
 
 
-def cell_words(cell: Cell | None) -> str:
+def cell_words(cell: Members | None) -> str:
     """A cell as its code, and its character where it has one."""
     if cell is None:
         return ""
-    return f"{cell['code']} {cell['character']}" if cell["character"] else cell["code"]
+    code: str = cell["code"]
+    return f"{code} {cell['character']}" if cell["character"] else code
 
 
 def of_pair(verdict: Verdict) -> Known:
@@ -75,12 +76,12 @@ def of_object(known: dict[str, Any]) -> Known:
             **of_counts(known["subtitle_counts"]), **of_part(known["parts"], None)}
 
 
-def of_fault(verdict: Verdict, fault: Fault) -> Known:
+def of_fault(verdict: Verdict, fault: Members) -> Known:
     """The columns of a fault."""
     return with_fault(of_pair(verdict), [*map(words_of, verdict.parts)], fault)
 
 
-def with_fault(pair: Known, parts: Sequence[dict[str, Any]], fault: Fault) -> Known:
+def with_fault(pair: Known, parts: Sequence[dict[str, Any]], fault: Members) -> Known:
     """The columns of a fault of a pair with these parts."""
     subtitle, cause = fault["subtitle"], fault["cause"]
     known: Known = {

@@ -4,7 +4,6 @@ from __future__ import annotations
 import argparse
 import collections
 import os
-import signal
 import time
 from typing import NamedTuple
 
@@ -15,9 +14,9 @@ from ..qc.typed import Typed
 from . import collecting
 from .batch import Calls, inputs_of, judged_next
 from .claim import refuse_files_of_all
-from .objects import ENDING, Row, found, is_current, object_at, objects_in, row_of
+from .objects import Row, found, in_order, is_current, object_at, rows_in
 from .pairs import Item, of_folder
-from .single import SIGNALS, ignore_signals
+from .single import heed_signals, ignore_signals
 
 LOOK = 1.0  # seconds between two looks: no notice comes of what another machine writes
 DONE = ".done"  # after the name of a pair: both of its files are whole
@@ -40,11 +39,7 @@ class Watch:
         self.seen: dict[str, Sighting] = {}
         self.tried: dict[str, object] = {}  # what was found of pairs that were judged here
         self.named: dict[str, str] = {}  # what is no pair, and the reason that was told
-        self.rows: dict[str, Row] = {}
-        for path, known in objects_in(self.out):
-            name = os.path.basename(path).removesuffix(ENDING)
-            if known is not None:
-                self.rows[name] = row_of(known, name)
+        self.rows = rows_in(self.out)
 
     def due(self, busy: set[str], now: float) -> list[Item]:
         """The pairs that are whole and not yet judged as they are; tells what is no pair."""
@@ -94,7 +89,7 @@ class Watch:
         when = time.strftime("%Y-%m-%d %H:%M:%S")
         say(f"{when}  {row.name}  {row.verdict}{': ' if line else ''}{line}")
         try:
-            collecting.write_index(self.out, [self.rows[name] for name in sorted(self.rows)])
+            collecting.write_index(self.out, in_order(self.rows))
         except OSError as reason:
             tell(line_of(reason))
 
@@ -116,9 +111,7 @@ def watch(words: argparse.Namespace, called: str) -> int:
     have no result, and are judged after a new start."""
     refuse_folders(words)
     watching = Watch(words, Typed(called, words.program))
-    for one in SIGNALS:
-        if signal.getsignal(one) != signal.SIG_IGN:  # nohup lets a hang-up pass
-            signal.signal(one, signal.default_int_handler)
+    heed_signals()
     calls, waiting, next_look = watching.calls, collections.deque[Item](), 0.0
     try:
         while True:

@@ -12,6 +12,7 @@ from .national import NationalOption, cells_in
 
 COLUMNS, LAST_ROW, JUSTIFIED = 40, 23, range(1, 4)
 SPACE, START_BOX, END_BOX, DOUBLE, WHITE = 0x20, 0x0B, 0x0A, 0x0D, 0x07
+CODES = bytes(range(SPACE))
 COLOURS, DRAWN_CODES = range(0x01, 0x08), range(0x01, 0x0E)
 MOST_BEFORE, MOST_AFTER, MOST_SHIFT = 6, 4, 22
 NEW_LINE, NO_CELL, CONTROLS = 0x8A, range(0x80, 0x86), (*range(0x20), *range(0x80, 0xA0))
@@ -170,7 +171,7 @@ def lines_of(text: bytes, option: NationalOption, strip: bytes = b"") -> list[by
 
 def leading(cells: bytes) -> int:
     """How many codes stand at the beginning of a line's cells."""
-    return next((at for at, cell in enumerate(cells) if cell >= SPACE), len(cells))
+    return len(cells) - len(cells.lstrip(CODES))
 
 
 def prepared(cells: bytes, layout: Layout) -> bytes:
@@ -181,7 +182,8 @@ def prepared(cells: bytes, layout: Layout) -> bytes:
         cells = cells.strip(b" ")
         if not cells:
             return cells
-    codes, rest = cells[:leading(cells)], cells[leading(cells):]
+    rest = cells.lstrip(CODES)
+    codes = cells[:len(cells) - len(rest)]
     if layout.white and not any(code in COLOURS for code in codes):
         codes += bytes([WHITE])
     line = layout.before + codes + layout.behind + rest
@@ -191,9 +193,7 @@ def prepared(cells: bytes, layout: Layout) -> bytes:
 
 def start_of(cells: bytes, justify: int, layout: Layout) -> int:
     """The column at which a line of 1 to 40 cells would start on a row without ends."""
-    count, before = len(cells), leading(cells)
-    behind = 0 if before == count else leading(cells[::-1])
-    skipped, width = (before, count - before - behind) if layout.text else (0, count)
+    skipped, width = (leading(cells), len(cells.strip(CODES))) if layout.text else (0, len(cells))
     justify = justify or layout.free
     if justify == 1:
         return layout.left - skipped

@@ -1,13 +1,12 @@
 """What the manual says that a refusal means, and what to do: read from its tables."""
 from __future__ import annotations
 
-import html
 import os
 import re
 from typing import NamedTuple
 
 from .built import TOP
-from .markup import escape
+from .markup import Markup, joined, markup
 
 CHAPTER = os.path.join(TOP, "docs", "manual", "refusals.md")
 
@@ -41,19 +40,15 @@ def plain(text: str) -> str:
     return re.sub(r"\[([^]]*)\]\([^)]*\)", r"\1", text).replace("`", "")
 
 
-def shown(text: str) -> str:
-    """Any text as XML: marks escaped, and what XML can't hold by its number."""
-    return escape(text)
+def marked_up(text: str) -> Markup:
+    """A cell of the manual as markup: code in backticks, and links as their words."""
+    pieces = re.sub(r"\[([^]]*)\]\([^)]*\)", r"\1", text).split("`")
+    return joined(markup("<code>{}</code>", one) if at % 2 else one
+                  for at, one in enumerate(pieces))
 
 
-def marked_up(text: str) -> str:
-    """A cell of the manual as HTML: code in backticks, and links as their words."""
-    text = re.sub(r"\[([^]]*)\]\([^)]*\)", r"\1", text)
-    return re.sub(r"`([^`]*)`", r"<code>\1</code>", html.escape(text))
-
-
-def number_link(line: str) -> str:
+def number_link(line: str) -> Markup:
     """A line `refused NUMBER Name place` without its word; number and name lead to what it means.
     """
     _, number, name, *place = line.split(" ")
-    return " ".join([f'<a href="#n{number}">{number} {name}</a>', *map(shown, place)])
+    return joined([markup('<a href="#n{}">{} {}</a>', number, number, name), *place], " ")

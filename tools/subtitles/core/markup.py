@@ -29,6 +29,13 @@ class Markup:
     def __add__(self, other: Markup) -> Markup:
         return Markup(self.source + other.source)
 
+    def __mul__(self, times: int) -> Markup:
+        return Markup(self.source * times)
+
+    def capital(self) -> Markup:
+        """The same with a capital letter in front."""
+        return Markup(self.source[:1].upper() + self.source[1:])
+
     def page(self) -> bytes:
         """The bytes of a page."""
         return self.source.encode("utf-8", "replace")
@@ -45,16 +52,28 @@ def escape(text: str) -> str:
 def markup(template: str, *values: Value) -> Markup:
     """Markup by a template, which is a literal, as a test sees to: in its places `{}` stand markup
     as it is, numbers, and text escaped. A place within a tag stands in quotes."""
-    return Markup(template.format(*(
-        one.source if isinstance(one, Markup) else escape(one) if isinstance(one, str) else one
-        for one in values)))
+    return Markup(template.format(*map(put, values)))
 
 
-def joined(parts: Iterable[Markup], between: str = "") -> Markup:
-    """Markup one after another; what stands between is a literal."""
-    return Markup(between.join(one.source for one in parts))
+def put(value: Value) -> str | int | float:
+    """A value as it is put into markup."""
+    if isinstance(value, Markup):
+        return value.source
+    return escape(value) if isinstance(value, str) else value
 
 
+def joined(parts: Iterable[Value], between: Value = "") -> Markup:
+    """Values one after another, with something between them."""
+    return Markup(str(put(between)).join(str(put(one)) for one in parts))
+
+
+def own_style(path: str) -> Markup:
+    """The style of a page, from a file of these tools."""
+    with open(path, encoding="utf-8") as file:
+        return Markup(file.read())
+
+
+NO_MARKUP, BREAK = markup(""), markup("<br/>")
 HEAD = markup('<!DOCTYPE html>\n<html xmlns="http://www.w3.org/1999/xhtml" lang="en"><head>'
               '<meta charset="UTF-8"/><meta http-equiv="Content-Security-Policy" content="{}"/>'
               '<meta name="viewport" content="width=device-width, initial-scale=1"/>', POLICY)

@@ -4,6 +4,7 @@ from __future__ import annotations
 
 import contextlib
 import errno
+import functools
 import os
 import shutil
 import stat
@@ -24,12 +25,16 @@ class IsInput(Stop):
 
 class Inputs:
     """Files that are read, by device and inode, so by any of their names: they stay as they are,
-    and so do links by which they were named."""
+    and so do links by which they were named. There may be thousands on a disk far away: they are
+    looked at once something stands where one is written."""
 
     def __init__(self, *names: str | None) -> None:
-        self.known: dict[tuple[int, int], str] = {}
-        for name in names:
-            self.known.update(dict.fromkeys(identities(name, True), name) if name else {})
+        self.names = [name for name in names if name]
+
+    @functools.cached_property
+    def known(self) -> dict[tuple[int, int], str]:
+        """Them by what they are."""
+        return {one: name for name in self.names for one in identities(name, True)}
 
     def refuse(self, path: str, is_followed: bool) -> None:
         """Refuses to write to a file, or to take its name away; where it is a link that is

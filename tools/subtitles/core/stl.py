@@ -1,7 +1,7 @@
 """Blocks of subtitle files: a GSI block, then TTI blocks (EBU Tech 3264)."""
 from __future__ import annotations
 
-from typing import Iterable, Iterator, NamedTuple
+from typing import Iterator, NamedTuple
 
 from .files import Damaged, first_bytes
 from .national import BY_WORD, codes_of
@@ -61,14 +61,6 @@ def subtitles_in(data: bytes) -> Iterator[StoredSubtitle]:
 def times_of(subtitle: StoredSubtitle) -> tuple[int | None, int | None]:
     """The frames of the day of a subtitle's TCI and TCO, `None` for what is no time of the day."""
     return frame_of_code(subtitle.begin), frame_of_code(subtitle.end)
-
-
-def frames_of_all(subtitles: Iterable[StoredSubtitle]) -> Iterator[tuple[int, int]]:
-    """The frames of the TCI and TCO of those subtitles that come and go within a day."""
-    for one in subtitles:
-        begin, end = times_of(one)
-        if begin is not None and end is not None and begin < end:
-            yield begin, end
 
 
 def stl_bytes(path: str) -> bytes:

@@ -4,7 +4,8 @@ from __future__ import annotations
 import itertools
 from typing import TYPE_CHECKING, Iterable
 
-from ..core.manual import number_link, shown
+from ..core.manual import number_link
+from ..core.markup import BREAK, NO_MARKUP, Markup, Value, joined, markup
 from ..core.stl import GSI, LAST, TTI, USER_DATA
 from ..core.times import frame_of
 from ..core.told import STL_FAULTS, Told, told_of
@@ -15,7 +16,7 @@ from .counts import heads
 if TYPE_CHECKING:
     from .report import Report
 
-NAMED = ' class="named"'
+NAMED = markup(' class="named"')
 ORDER_FAULTS = 56, 57
 BYTE_FAULTS, ROW_FAULTS = (50, 51), range(50, 56)
 OF_FIRST_BLOCK = (16, 18, 19, 20, 21)  # after these the list goes on, as if it were not there
@@ -69,17 +70,17 @@ class Blocks:
                 return self.subtitle(number)
         return None
 
-    def field(self, fault: Told) -> str:
+    def field(self, fault: Told) -> Markup:
         """The field that a fault is about, with its bytes marked; nothing for another fault."""
         if fault.number not in FIELDS or fault.block is None:
-            return ""
+            return NO_MARKUP
         name, place = FIELDS[fault.number]
         data = self.file.block(fault.block) if fault.block else self.file.data[:GSI]
-        words = data[place].hex() if fault.block else "".join(map(readable, data[place]))
-        return f"{name} {mark(words.upper() if fault.block else words)}"
+        return markup("{} {}", name, mark(data[place].hex().upper() if fault.block else
+                                          joined(map(readable, data[place]))))
 
 
-def block_place(report: Report, blocks: Blocks) -> str:
+def block_place(report: Report, blocks: Blocks) -> Markup:
     """The broken place, which `check` names."""
     first = report.first
     assert first and first.block is not None
@@ -88,42 +89,42 @@ def block_place(report: Report, blocks: Blocks) -> str:
         if first.block else "The GSI block, block 0, is the first 1024 bytes of the file."
     why = DRAWN_BESIDE if report.is_beside else \
         "No page is drawn: what is due is known from a whole subtitle file alone."
-    parts = [f'<section id="place"><h2>The broken place</h2><p>{named} {why}</p>']
+    parts = [markup('<section id="place"><h2>The broken place</h2><p>{} {}</p>', named, why)]
     subtitle = blocks.subtitle(first.block)
     if subtitle:
         parts.append(refused_subtitle(blocks, subtitle, first))
     elif blocks.field(first):
-        parts.append(f'<p class="text">{blocks.field(first)}</p>')
-    return "".join(parts) + "</section>"
+        parts.append(markup('<p class="text">{}</p>', blocks.field(first)))
+    return joined([*parts, markup("</section>")])
 
 
-def refused_subtitle(blocks: Blocks, subtitle: NamedSubtitle, fault: Told) -> str:
+def refused_subtitle(blocks: Blocks, subtitle: NamedSubtitle, fault: Told) -> Markup:
     """The first refused subtitle, in tables."""
     assert fault.block is not None
     text = blocks.text(fault.block)
-    parts = [f"<h3>{name_of(subtitle, fault.block)}</h3>"]
+    parts = [markup("<h3>{}</h3>", name_of(subtitle, fault.block))]
     if fault.number in ORDER_FAULTS:
         parts.append(two_times(blocks, subtitle, fault))
     else:
-        parts.append(f"<p>{' to '.join(times_of(subtitle, [fault]))}</p>")
+        parts.append(markup("<p>{}</p>", joined(times_of(subtitle, [fault]), " to ")))
     if fault.number in BYTE_FAULTS:
-        return "".join(parts) + byte_table(text, fault.at)
+        return joined([*parts, byte_table(text, fault.at)])
     if fault.number in ROW_FAULTS:
-        return "".join(parts) + line_table(text, blocks.row(fault.block), fault.at)
+        return joined([*parts, line_table(text, blocks.row(fault.block), fault.at)])
     if blocks.field(fault):
-        parts.append(f'<p class="text">{blocks.field(fault)}</p>')
-    return "".join(parts) + f"<p>{marked_text(text, [])}</p>"
+        parts.append(markup('<p class="text">{}</p>', blocks.field(fault)))
+    return joined([*parts, markup("<p>{}</p>", marked_text(text, []))])
 
 
 def name_of(subtitle: NamedSubtitle, block: int) -> str:
     return f"SN {subtitle.number}, block {block}"
 
 
-def mark(text: str) -> str:
-    return f"<mark>{text}</mark>"
+def mark(text: Value) -> Markup:
+    return markup("<mark>{}</mark>", text)
 
 
-def times_of(subtitle: NamedSubtitle, faults: list[Told]) -> tuple[str, str]:
+def times_of(subtitle: NamedSubtitle, faults: list[Told]) -> tuple[Value, Value]:
     """TCI and TCO of a subtitle, marked where a fault is about them."""
     numbers = {one.number for one in faults}
     is_begin, is_end = (20 in numbers and frame_of(time) is None or 21 in numbers
@@ -133,7 +134,7 @@ def times_of(subtitle: NamedSubtitle, faults: list[Told]) -> tuple[str, str]:
             mark(subtitle.end) if is_end else subtitle.end)
 
 
-def refused_blocks(report: Report, blocks: Blocks) -> str:
+def refused_blocks(report: Report, blocks: Blocks) -> Markup:
     """All that is told of the subtitle file, subtitle by subtitle."""
     faults = report.faults
     items = []
@@ -142,71 +143,73 @@ def refused_blocks(report: Report, blocks: Blocks) -> str:
         items.append(refused_item(blocks, index, block, list(several)))
     count = sum(count for number, count in faults.counts.items() if number in STL_FAULTS)
     more = count - len(faults.of_blocks)
-    left = f"<p><b>{more:,} more fault{'s' * (more != 1)}</b> from <code>check --all</code> " \
-        f"{'are' if more != 1 else 'is'} left out here.</p>" if more else ""
-    read = "" if report.is_beside else \
-        f"{end_of_reading(report, blocks)} No PES file is read before all of them are repaired."
-    return f'<p>{read}</p><ol class="faults">{"".join(items)}</ol>{left}'
+    left = markup("<p><b>{:,} more fault{}</b> from <code>check --all</code> {} left out here."
+                  "</p>", more, "s" * (more != 1), "are" if more != 1 else "is") * (more > 0)
+    read = NO_MARKUP if report.is_beside else markup(
+        "{} No PES file is read before all of them are repaired.", end_of_reading(report, blocks))
+    return markup('<p>{}</p><ol class="faults">{}</ol>{}', read, joined(items), left)
 
 
-def end_of_reading(report: Report, blocks: Blocks) -> str:
+def end_of_reading(report: Report, blocks: Blocks) -> Value:
     """Where reading ended."""
     last = told_of(report.part.answer.last_told)
     if last is None or last.number not in ENDS:
         return f"The file was read to its end, {counted(blocks.count, 'block')}."
-    return (f"<b>Reading ended at block {last.block}</b>, with {last.number} {last.name}: nothing "
-            "is known of what comes after it.")
+    return markup("<b>Reading ended at block {}</b>, with {} {}: nothing is known of what comes "
+                  "after it.", last.block or 0, last.number, last.name)
 
 
-def refused_item(blocks: Blocks, index: int, block: int | None, faults: list[Told]) -> str:
+def refused_item(blocks: Blocks, index: int, block: int | None, faults: list[Told]) -> Markup:
     """A block with what is told of it, and its subtitle with its text."""
-    lines = [f"<code>{number_link(one.line)}</code> {blocks.field(one)}" for one in faults]
+    lines = [markup("<code>{}</code> {}", number_link(one.line), blocks.field(one))
+             for one in faults]
     subtitle = blocks.subtitle(block)
     if not subtitle or block is None:
-        return f'<li id="e{index}">{"<br/>".join(lines)}</li>'
-    words = f"<b>{name_of(subtitle, block)}</b> {' to '.join(times_of(subtitle, faults))}"
+        return markup('<li id="e{}">{}</li>', index, joined(lines, BREAK))
+    words = markup("<b>{}</b> {}", name_of(subtitle, block),
+                   joined(times_of(subtitle, faults), " to "))
     before = blocks.before(block)
     if before and any(one.number in ORDER_FAULTS for one in faults):
-        words += f" after {before.begin} to {before.end}, SN {before.number}"
+        words += markup(" after {} to {}, SN {}", before.begin, before.end, before.number)
     text = marked_text(blocks.text(block), faults)
-    return f'<li id="e{index}">{"<br/>".join([words, *lines, text])}</li>'
+    return markup('<li id="e{}">{}</li>', index, joined([words, *lines, text], BREAK))
 
 
-def marked_text(text: bytes, faults: list[Told]) -> str:
+def marked_text(text: bytes, faults: list[Told]) -> Markup:
     """The lines of a text with the byte or the line marked that a fault names."""
     marked = {(one.number in BYTE_FAULTS, one.at) for one in faults if one.number in ROW_FAULTS}
     lines, begin = [], 0
     for number, line in enumerate(text.split(b"\x8a")):
         letters = [" " if byte == 0x20 else readable(byte) for byte in line]
-        words = "".join(mark(letter) if (True, at) in marked else letter
-                        for at, letter in enumerate(letters, begin))
+        words = joined(mark(letter) if (True, at) in marked else letter
+                       for at, letter in enumerate(letters, begin))
         lines.append(mark(words) if (False, number) in marked else words)
         begin += len(line) + 1
-    return f'<span class="text">{"<br/>".join(lines)}</span>'
+    return markup('<span class="text">{}</span>', joined(lines, BREAK))
 
 
-def printed(report: Report) -> str:
+def printed(report: Report) -> Markup:
     """What `show` prints, the middle of it left out where it is long."""
     if report.asked.is_open:
-        return ""  # it shows no open subtitles
+        return NO_MARKUP  # it shows no open subtitles
     lines = report.program.show(report.part.names.given)
     last = lines[FIRST_LINES:][-LAST_LINES:]
     left = len(lines[FIRST_LINES:]) - len(last)
-    parts = ["<details><summary>What <code>show</code> prints</summary>",
+    parts = [markup("<details><summary>What <code>show</code> prints</summary>"),
              listed(lines[:FIRST_LINES])]
     if left:
-        parts.append(f"<p>Lines {FIRST_LINES + 1} to {FIRST_LINES + left}, {left} of them, are "
-                     "left out here.</p>")
+        parts.append(markup("<p>Lines {} to {}, {} of them, are left out here.</p>",
+                            FIRST_LINES + 1, FIRST_LINES + left, left))
     if last:
         parts.append(listed(last))
-    return "".join(parts) + "</details>"
+    return joined([*parts, markup("</details>")])
 
 
-def listed(lines: list[str]) -> str:
-    return f'<pre class="lines">{shown(chr(10).join(lines))}</pre>'
+def listed(lines: list[str]) -> Markup:
+    return markup('<pre class="lines">{}</pre>', chr(10).join(lines))
 
 
-def two_times(blocks: Blocks, subtitle: NamedSubtitle, fault: Told) -> str:
+def two_times(blocks: Blocks, subtitle: NamedSubtitle, fault: Told) -> Markup:
     """The times of a subtitle and the one before; those that the refusal is about are marked."""
     rows = [(subtitle.number, *times_of(subtitle, [fault]))]
     before = blocks.before(fault.block or 0)
@@ -214,37 +217,38 @@ def two_times(blocks: Blocks, subtitle: NamedSubtitle, fault: Told) -> str:
         is_begin = fault.number == 56
         rows.insert(0, (before.number, mark(before.begin) if is_begin else before.begin,
                         before.end if is_begin else mark(before.end)))
-    told = "".join(f"<tr><td>{number}</td><td>{begin}</td><td>{end}</td></tr>"
-                   for number, begin, end in rows)
-    return f'<table><tr>{heads("SN", "TCI", "TCO")}</tr>{told}</table>'
+    told = joined(markup("<tr><td>{}</td><td>{}</td><td>{}</td></tr>", number, begin, end)
+                  for number, begin, end in rows)
+    return markup("<table><tr>{}</tr>{}</table>", heads("SN", "TCI", "TCO"), told)
 
 
-def readable(byte: int) -> str:
+def readable(byte: int) -> Value:
     """A text byte for people: its ASCII character, else its code."""
     if byte == 0x20:
         return "\u2423"
-    return shown(chr(byte)) if 0x20 < byte <= 0x7E else f"<i>{byte:02X}</i>"
+    return chr(byte) if 0x20 < byte <= 0x7E else markup("<i>{:02X}</i>", byte)
 
 
-def byte_table(text: bytes, place: int | None) -> str:
+def byte_table(text: bytes, place: int | None) -> Markup:
     """The text in rows of sixteen bytes with the byte at the place marked."""
     rows = []
     for begin in range(0, len(text), 16):
-        cells = "".join(
-            f"<td{NAMED if at == place else ''}>{byte:02x}<br/>{readable(byte)}</td>"
+        cells = joined(
+            markup("<td{}>{:02x}<br/>{}</td>", NAMED * (at == place), byte, readable(byte))
             for at, byte in enumerate(text[begin:begin + 16], begin))
-        rows.append(f'<tr><th scope="row">{begin}</th>{cells}</tr>')
-    return (f'<p>The bytes of its text; <b>byte {place}</b>, counted from 0, is framed.</p>'
-            f'<table class="bytes">{"".join(rows)}</table>')
+        rows.append(markup('<tr><th scope="row">{}</th>{}</tr>', begin, cells))
+    return markup("<p>The bytes of its text; <b>byte {}</b>, counted from 0, is framed.</p>"
+                  '<table class="bytes">{}</table>', str(place), joined(rows))
 
 
-def line_table(text: bytes, row: int, place: int | None) -> str:
+def line_table(text: bytes, row: int, place: int | None) -> Markup:
     """The lines of the text, the first in its row, with the one at the place marked."""
     rows = []
     for number, line in enumerate(text.split(b"\x8a")):
-        words = "".join(map(readable, line)) or "empty"
-        named = NAMED if number == place else ""
-        rows.append(f'<tr{named}><th scope="row">line {number}</th><td>row {row + number}'
-                    f"</td><td>{counted(len(line), 'byte')}</td><td>{words}</td></tr>")
-    return (f"<p>The lines of its text; <b>line {place}</b>, counted from 0, is framed.</p>"
-            f'<table class="textlines">{"".join(rows)}</table>')
+        words = joined(map(readable, line)) or markup("empty")
+        named = NAMED * (number == place)
+        rows.append(markup('<tr{}><th scope="row">line {}</th><td>row {}</td><td>{}</td><td>{}'
+                           "</td></tr>", named, number, row + number, counted(len(line), "byte"),
+                           words))
+    return markup("<p>The lines of its text; <b>line {}</b>, counted from 0, is framed.</p>"
+                  '<table class="textlines">{}</table>', str(place), joined(rows))

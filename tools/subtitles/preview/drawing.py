@@ -6,13 +6,13 @@ from __future__ import annotations
 
 import codecs
 import functools
-import html
 import itertools
 import operator
 import re
 from typing import Any, Callable, Iterable, Iterator, NamedTuple, TypeVar
 
 from ..core.characters import letters
+from ..core.markup import NO_MARKUP, Markup, Value, joined, markup
 from ..core.teletext import NEWSFLASH, SUBTITLE, has_bit
 from ..reading.receiver import HIT, OLD, Rows, national_option
 
@@ -20,7 +20,7 @@ WIDTH, HEIGHT = 12, 15
 SPACE = 0x20
 BLANK_ROW = b" " * 40
 LOW_ROWS = 21, 23  # of a picture of a blank page
-HIDDEN = 'aria-hidden="true"'  # of a picture: its rows stand beside it as text
+HIDDEN = markup('aria-hidden="true"')  # of a picture: its rows stand beside it as text
 NUMBERS = 22  # the room for row numbers
 
 Look = tuple[int, bool, bool, bool]  # the ink of letters, flash, boxed, double height
@@ -108,42 +108,42 @@ def grouped(spans: Iterable[CellStyle], key: Callable[[CellStyle], Key]) \
         column += len(letters_)
 
 
-def text_of(look: Look, column: int, letters_: str) -> str:
+def text_of(look: Look, column: int, letters_: str) -> Markup:
     """The letters of neighbours with one look; nothing where they are spaces."""
     column += len(letters_) - len(letters_.lstrip(" "))
     letters_ = letters_.strip(" ")
     if not letters_:
-        return ""
+        return NO_MARKUP
     ink, flash, boxed, double = look
     names = [f"i{ink}"] + ["f"] * flash + ["u"] * (not boxed)
-    grown = ' transform="scale(1 2)"' if double else ""
-    return (f'<text class="{" ".join(names)}" x="{column * WIDTH}" y="11.8"{grown} textLength='
-            f'"{len(letters_) * WIDTH}" lengthAdjust="spacingAndGlyphs">'
-            f"{html.escape(letters_, quote=False)}</text>")
+    grown = markup(' transform="scale(1 2)"') * double
+    return markup('<text class="{}" x="{}" y="11.8"{} textLength="{}" '
+                  'lengthAdjust="spacingAndGlyphs">{}</text>', " ".join(names), column * WIDTH,
+                  grown, len(letters_) * WIDTH, letters_)
 
 
 @functools.lru_cache(maxsize=4096)
-def row_drawing(row: bytes, number: int, option: int, is_boxed_page: bool) -> tuple[str, bool]:
+def row_drawing(row: bytes, number: int, option: int, is_boxed_page: bool) -> tuple[Markup, bool]:
     """A row as SVG, and whether it hides the row below: where a cell of it has double height."""
     spans = spans_of(row, number, option, is_boxed_page)
     is_tall = any(one.double for one in spans)
     height = HEIGHT * (2 if is_tall else 1)
-    parts = [f'<g transform="translate(0 {(number - 1) * HEIGHT})">']
+    parts = [markup('<g transform="translate(0 {})">', (number - 1) * HEIGHT)]
     for (paper, boxed), column, letters_ in grouped(spans, ground_of):
         if boxed:
-            parts.append(f'<rect class="p{paper}" x="{column * WIDTH}" '
-                         f'width="{len(letters_) * WIDTH}" height="{height}"/>')
+            parts.append(markup('<rect class="p{}" x="{}" width="{}" height="{}"/>', paper,
+                                column * WIDTH, len(letters_) * WIDTH, height))
     for look, column, letters_ in grouped(spans, look_of):
         parts.append(text_of(look, column, letters_))
     for found in MARKED.finditer(row):
         name, (begin, end) = "hit" if found[0][0] == HIT else "old", found.span()
-        parts.append(f'<rect class="{name}" x="{begin * WIDTH + 1}" y="1" '
-                     f'width="{(end - begin) * WIDTH - 2}" height="13"/>')
-    parts.append(f'<text class="n" x="-4" y="11">{number}</text></g>')
-    return "".join(parts), is_tall
+        parts.append(markup('<rect class="{}" x="{}" y="1" width="{}" height="13"/>', name,
+                            begin * WIDTH + 1, (end - begin) * WIDTH - 2))
+    parts.append(markup('<text class="n" x="-4" y="11">{}</text></g>', number))
+    return joined(parts), is_tall
 
 
-def frames_of(different: Iterable[Place], tall: set[int]) -> str:
+def frames_of(different: Iterable[Place], tall: set[int]) -> Markup:
     """Frames around cells that differ: one for neighbours in a row, and in rows that are alike."""
     boxes: dict[tuple[int, int, int], int] = {}
     for row, group in itertools.groupby(sorted(different), lambda cell: cell[0]):
@@ -153,25 +153,26 @@ def frames_of(different: Iterable[Place], tall: set[int]) -> str:
             end = row + 1 + (row in tall)
             first = boxes.pop((run[0], len(run), row), row)
             boxes[run[0], len(run), end] = first
-    return "".join(frame(column, width, first, end)
-                   for (column, width, end), first in boxes.items())
+    return joined(frame(column, width, first, end)
+                  for (column, width, end), first in boxes.items())
 
 
-def frame(column: int, width: int, first: int, end: int, more: int = 0) -> str:
+def frame(column: int, width: int, first: int, end: int, more: int = 0) -> Markup:
     """A frame around cells of the rows from `first` to the one before `end`."""
-    place = (f'x="{column * WIDTH - more}" y="{(first - 1) * HEIGHT - more}" '
-             f'width="{width * WIDTH + 2 * more}" height="{(end - first) * HEIGHT + 2 * more}"')
-    return f'<rect class="d1" {place}/><rect class="d2" {place}/>'
+    place = markup('x="{}" y="{}" width="{}" height="{}"', column * WIDTH - more,
+                   (first - 1) * HEIGHT - more, width * WIDTH + 2 * more,
+                   (end - first) * HEIGHT + 2 * more)
+    return markup('<rect class="d1" {}/><rect class="d2" {}/>', place, place)
 
 
-def pointer(row: int, column: int, tall: set[int], cut: Cut) -> str:
+def pointer(row: int, column: int, tall: set[int], cut: Cut) -> Markup:
     """A wider frame around the cell that the refusal names, and points to it on each edge."""
     end = row + 1 + (row in tall)
     x, y = column * WIDTH + WIDTH // 2, (row + end - 2) * HEIGHT / 2
     top, bottom = (cut[0] - 1) * HEIGHT, cut[1] * HEIGHT
     points = (f"M{x} {top + 9}l-6 -9h12zM{x} {bottom - 9}l-6 9h12z"
               f"M14 {y:g}l-14 -7v14zM466 {y:g}l14 -7v14z")
-    return f'{frame(column, 1, row, end, 4)}<path class="point" d="{points}"/>'
+    return markup('{}<path class="point" d="{}"/>', frame(column, 1, row, end, 4), points)
 
 
 def is_boxed(header: bytes) -> bool:
@@ -188,15 +189,16 @@ def cut_of(pages: Iterable[Rows], row: int | None = None) -> Cut:
     return max(1, min(used) - 1), min(24, max(used) + 1)
 
 
-def opened(kind: str, cut: Cut) -> str:
+def opened(kind: str, cut: Cut) -> Markup:
     """The begin of a picture of these rows, with its ground, and room for row numbers."""
     top, height = (cut[0] - 1) * HEIGHT, (cut[1] - cut[0] + 1) * HEIGHT
-    return (f'<svg class="{kind}" viewBox="{-NUMBERS} {top - 1} {482 + NUMBERS} {height + 2}" {HIDDEN} '
-            f'xml:space="preserve"><rect class="v" y="{top}" width="480" height="{height}"/>')
+    return markup('<svg class="{}" viewBox="{} {} {} {}" {} xml:space="preserve"><rect class="v" '
+                  'y="{}" width="480" height="{}"/>', kind, -NUMBERS, top - 1, 482 + NUMBERS,
+                  height + 2, HIDDEN, top, height)
 
 
 def picture(rows: Rows, header: bytes, cut: Cut, different: Iterable[Place] = (),
-            place: Place | None = None) -> str:
+            place: Place | None = None) -> Markup:
     """A page as SVG: some of its rows, cells that differ framed, and the place marked."""
     parts = [opened("page", cut)]
     tall: set[int] = set()
@@ -209,15 +211,15 @@ def picture(rows: Rows, header: bytes, cut: Cut, different: Iterable[Place] = ()
     parts.append(frames_of(different, tall))
     if place:
         parts.append(pointer(*place, tall, cut))
-    parts.append("</svg>")
-    return "".join(parts)
+    parts.append(markup("</svg>"))
+    return joined(parts)
 
 
-def empty_picture(words: str, cut: Cut) -> str:
+def empty_picture(words: str, cut: Cut) -> Markup:
     """The place of a picture where there is no page, with the reason."""
     middle = (cut[0] + cut[1] - 1) * HEIGHT // 2 + 7
-    return (f'{opened("page none", cut)}<text class="w" x="240" y="{middle}">'
-            f"{html.escape(words)}</text></svg>")
+    return markup('{}<text class="w" x="240" y="{}">{}</text></svg>', opened("page none", cut),
+                  middle, words)
 
 
 # Spacing attributes by their names; what is not among them is told by its code alone.
@@ -228,7 +230,7 @@ ATTRIBUTES = {0x08: "flash", 0x09: "steady", 0x0A: "end box", 0x0B: "start box",
                                 "white")))}
 
 
-def text_of_code(byte: int, option: int) -> str:
+def text_of_code(byte: int, option: int) -> Value:
     """What a cell holds, in words: its letter, or the name of its spacing attribute."""
     code = byte & 0x7F
     if byte == OLD:
@@ -238,7 +240,7 @@ def text_of_code(byte: int, option: int) -> str:
     if code < SPACE:
         name = ATTRIBUTES.get(code)
         return f"code {code:02X}" + (f" ({name})" if name else "")
-    return f"<code>{html.escape(letters(option)[code])}</code>"
+    return markup("<code>{}</code>", letters(option)[code])
 
 
 def differences(due: Rows, held: Rows) -> list[Place]:

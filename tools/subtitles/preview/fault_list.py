@@ -4,6 +4,7 @@ from __future__ import annotations
 from typing import TYPE_CHECKING
 
 from ..core.manual import number_link
+from ..core.markup import BREAK, NO_MARKUP, Markup, Value, joined, markup
 from ..core.times import frame_of, time_of
 from ..core.told import CONTENT, UNDECIDED, WITH_CAUSE, Told
 from ..reading.receiver import national_option
@@ -36,36 +37,36 @@ class FaultList:
 
     # Words
 
-    def subtitle_words(self, frame: int) -> str:
+    def subtitle_words(self, frame: int) -> Value:
         """The subtitle that is due at a frame, as a link."""
         one = self.report.programme.subtitle(frame)
         if one is None:
             return "no subtitle is due"
         if one.index in self.looks.entries.drawn:
-            return f'<a href="#s{one.index}">{one.name}</a>'
+            return markup('<a href="#s{}">{}</a>', one.index, one.name)
         return one.name
 
-    def cell_words(self, fault: Told) -> str:
+    def cell_words(self, fault: Told) -> Markup:
         """What is due and what is held in the cell that a fault names."""
         assert fault.frame is not None and fault.row is not None and fault.column is not None
         state = self.held.state_at(fault.frame)
         rows, header = self.figures.due_at(fault.frame)
         due = text_of_code(rows[fault.row - 1][fault.column], national_option(header))
         if state is None:
-            return f"should be {due}; {NOT_READ}"
+            return markup("should be {}; {}", due, NOT_READ)
         if state.header is None:
-            return f"should be {due}; no header was heard yet"
+            return markup("should be {}; no header was heard yet", due)
         was = text_of_code(state.rows[fault.row - 1][fault.column], national_option(state.header))
-        return f"should be {due}, was {was}"
+        return markup("should be {}, was {}", due, was)
 
-    def details(self, entry: Entry) -> str:
+    def details(self, entry: Entry) -> Markup:
         """What is known of the first fault of an entry, beside its line."""
         fault = entry.first
-        words: list[str] = []
+        words: list[Value] = []
         if fault.frame is None:
-            return ""
+            return NO_MARKUP
         if fault.number == UNDECIDED:
-            return NOT_DECIDED
+            return markup("{}", NOT_DECIDED)
         reasons = self.report.reasons
         if fault.number in WITH_CAUSE and reasons:
             due = self.report.programme.subtitle(fault.frame)
@@ -74,39 +75,39 @@ class FaultList:
         if fault.number == CONTENT:
             words.append(self.cell_words(fault))
         words.append(self.subtitle_words(fault.frame))
-        return "; ".join(words)
+        return joined(words, "; ")
 
     # The list
 
-    def listed(self) -> str:
+    def listed(self) -> Markup:
         """The list, as far as it goes, and how much more there is."""
         faults = self.report.faults
-        parts = ["<p>Faults of one number that follow one another within one subtitle are one "
-                 "entry.</p>" if faults.count > faults.entry_count else "",
-                 f'<ol class="faults">{"".join(map(self.item, self.entries))}</ol>']
+        parts = [markup("<p>Faults of one number that follow one another within one subtitle are "
+                        "one entry.</p>") * (faults.count > faults.entry_count),
+                 markup('<ol class="faults">{}</ol>', joined(map(self.item, self.entries)))]
         more = faults.entry_count - len(self.entries)
         if more:
-            words = f"{more:,} more entries</b> from <code>check --all</code> are" if more != 1 \
-                else "1 more entry</b> from <code>check --all</code> is"
-            parts.append(f"<p><b>{words} left out here.</p>")
+            count, are = (f"{more:,} more entries", "are") if more != 1 else ("1 more entry", "is")
+            parts.append(markup("<p><b>{}</b> from <code>check --all</code> {} left out here.</p>",
+                                count, are))
         if len(self.entries) > MOST_PICTURED:
-            parts.append(f"<p>The first {MOST_PICTURED} entries have pictures below.</p>")
-        return "".join(parts)
+            parts.append(markup("<p>The first {} entries have pictures below.</p>", MOST_PICTURED))
+        return joined(parts)
 
-    def item(self, entry: Entry) -> str:
+    def item(self, entry: Entry) -> Markup:
         fault, frame = entry.first, self.looks.entries.frame_of(entry)
-        when = place_words(fault)
+        when: Value = place_words(fault)
         if entry.index <= MOST_PICTURED:
-            when = f'<a href="#{section_name(entry)}">{when}</a>'
-        words = [f"<b>{when}</b> <code>{number_link(fault.line)}</code>"]
+            when = markup('<a href="#{}">{}</a>', section_name(entry), when)
+        words = [markup("<b>{}</b> <code>{}</code>", when, number_link(fault.line))]
         span = self.span_words(entry)
-        details = NOT_READ
+        details: Value = NOT_READ
         if fault.pes is not None:
             details = between_words(self.held, fault.pes)
         elif self.is_shown(frame) or fault.frame is None:
             details = self.details(entry)
-        words += [f"<small>{one}</small>" for one in (span, details) if one]
-        return f'<li id="e{entry.index}">{"<br/>".join(words)}</li>'
+        words += [markup("<small>{}</small>", one) for one in (span, details) if one]
+        return markup('<li id="e{}">{}</li>', entry.index, joined(words, BREAK))
 
     @staticmethod
     def span_words(entry: Entry) -> str:
@@ -125,37 +126,37 @@ class FaultList:
 
     # The sections
 
-    def section(self, entry: Entry) -> str:
+    def section(self, entry: Entry) -> Markup:
         """The pictures of an entry, and its Teletext packets: all for the first, else the named."""
         fault, frame = entry.first, self.looks.entries.frame_of(entry)
-        title = "The broken place" if entry.index == 1 else \
-            f"Fault {entry.index}: <code>{number_link(fault.line)}</code>"
-        parts = [f'<section class="fault" id="{section_name(entry)}"><h2>{title}</h2>'
-                 f"{self.steps(entry)}"]
+        title: Value = "The broken place" if entry.index == 1 else \
+            markup("Fault {}: <code>{}</code>", entry.index, number_link(fault.line))
+        parts = [markup('<section class="fault" id="{}"><h2>{}</h2>{}', section_name(entry), title,
+                        self.steps(entry))]
         details = self.details(entry)
         if details and self.is_shown(frame):
-            parts.append(f'<p class="details">{details[0].upper()}{details[1:]}.</p>')
+            parts.append(markup('<p class="details">{}.</p>', details.capital()))
         span = self.span_words(entry)
         if span:
-            parts.append(f"<p>{span[0].upper()}{span[1:]}.</p>")
+            parts.append(markup("<p>{}{}.</p>", span[0].upper(), span[1:]))
         if fault.pes is not None:
             parts.append(pes_words(fault, entry.end.pes, self.report, self.held))
         parts.append(self.seen(entry, frame))
-        return "".join(parts) + "</section>"
+        return joined([*parts, markup("</section>")])
 
-    def seen(self, entry: Entry, frame: int | None) -> str:
+    def seen(self, entry: Entry, frame: int | None) -> Markup:
         """What there is to see of an entry."""
         fault = entry.first
         if frame is None and fault.pes is None or fault.number == UNDECIDED:
-            return ""
+            return NO_MARKUP
         if frame is None and self.held.halt is None:
-            return "<p>There is no frame to look at: no PES packet comes before it.</p>"
+            return markup("<p>There is no frame to look at: no PES packet comes before it.</p>")
         if frame is None or not self.is_shown(frame):
-            return f"<p>No pictures: {NOT_READ}.</p>"
+            return markup("<p>No pictures: {}.</p>", NOT_READ)
         parts = []
         if fault.pes is not None:
-            parts.append(f"<p>Pictures at the last frame before that PES packet, {time_of(frame)}."
-                         "</p>")
+            parts.append(markup("<p>Pictures at the last frame before that PES packet, {}.</p>",
+                                time_of(frame)))
         else:
             parts.append(around(self.held, frame, self.report.page))
         place = None
@@ -165,37 +166,37 @@ class FaultList:
         if other is entry or place:
             parts.append(self.figures.at(frame, place))
         else:
-            parts.append(f'<p>Pictures of that frame: <a href="#{section_name(other)}">fault '
-                         f"{other.index}</a>.</p>")
+            parts.append(markup('<p>Pictures of that frame: <a href="#{}">fault {}</a>.</p>',
+                                section_name(other), other.index))
         parts.append(self.packets(entry, frame))
-        return "".join(parts)
+        return joined(parts)
 
-    def packets(self, entry: Entry, frame: int) -> str:
+    def packets(self, entry: Entry, frame: int) -> Markup:
         known = [one.first for one in self.held.held.members(frame)]
         if not known:
-            return f"<p>No PES packet has frame {time_of(frame)}.</p>" if entry.index == 1 else ""
+            return markup("<p>No PES packet has frame {}.</p>", time_of(frame)) * (entry.index == 1)
         if entry.index > 1 and entry.first.packet is None:
-            return ""
+            return NO_MARKUP
         return units_table(self.program, known, frame, entry.first.packet, entry.index == 1)
 
-    def steps(self, entry: Entry) -> str:
+    def steps(self, entry: Entry) -> Markup:
         """Links to the entries before and after, and to the list."""
         links = []
-        for other, words in ((entry.index - 1, "&#9664; previous fault"),
-                             (entry.index + 1, "next fault &#9654;")):
+        for other, words in ((entry.index - 1, markup("&#9664; previous fault")),
+                             (entry.index + 1, markup("next fault &#9654;"))):
             if 1 <= other <= min(len(self.entries), MOST_PICTURED):
                 name = section_name(self.entries[other - 1])
-                links.append(f'<a href="#{name}">{words}</a>')
-        links.append(f'<a href="#e{entry.index}">in the list</a>')
-        return f'<p class="steps">{" ".join(links)}</p>'
+                links.append(markup('<a href="#{}">{}</a>', name, words))
+        links.append(markup('<a href="#e{}">in the list</a>', entry.index))
+        return markup('<p class="steps">{}</p>', joined(links, " "))
 
-    def place(self) -> str:
+    def place(self) -> Markup:
         """The first fault, which `check` names."""
-        return self.section(self.entries[0]) if self.entries else ""
+        return self.section(self.entries[0]) if self.entries else NO_MARKUP
 
-    def others(self) -> str:
+    def others(self) -> Markup:
         """The sections of the faults after the first one."""
-        return "".join(map(self.section, self.entries[1:MOST_PICTURED]))
+        return joined(map(self.section, self.entries[1:MOST_PICTURED]))
 
 
 def section_name(entry: Entry) -> str:

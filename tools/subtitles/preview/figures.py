@@ -1,10 +1,10 @@
 """The pictures at a frame: the page that is due, the page that a receiver holds, and its screen."""
 from __future__ import annotations
 
-import html
 from typing import TYPE_CHECKING
 
 from ..core.characters import option_name
+from ..core.markup import NO_MARKUP, Markup, Value, joined, markup
 from ..core.times import time_of
 from ..reading.receiver import (
     BLANK_PAGE, HIT, OLD, Rows, State, control_bits, lines_of, national_option)
@@ -52,7 +52,7 @@ class Figures:
             return DIFFERENT
         return SAME
 
-    def at(self, frame: int, place: Place | None = None) -> str:
+    def at(self, frame: int, place: Place | None = None) -> Markup:
         """The figures at the end of a frame, with the cell that is refused marked."""
         time, state = time_of(frame), self.held.state_at(frame)
         due, header = self.due_at(frame)
@@ -78,10 +78,10 @@ class Figures:
         if self.is_complete:
             parts.append(self.screen_figure(time, due, state, cut, place))
         names = "pictures three" if self.is_complete else "pictures"
-        return f'<div class="{names}">{"".join(parts)}</div>'
+        return markup('<div class="{}">{}</div>', names, joined(parts))
 
     def screen_figure(self, time: str, due: Rows, state: State | None, cut: Cut,
-                      place: Place | None) -> str:
+                      place: Place | None) -> Markup:
         caption, told = f"On its screen at the end of {time}", "complete pages alone"
         if state is None:
             return figure("screen", caption, NOT_READ, empty_picture("not known", cut), [])
@@ -92,14 +92,13 @@ class Figures:
 
 
 def page_figure(kind: str, caption: str, told: str, due: Rows, page: tuple[Rows, bytes], cut: Cut,
-                place: Place | None) -> str:
+                place: Place | None) -> Markup:
     """The figure of a page that a receiver has, with the cells framed that are not as due."""
     rows, header = page
     different = differences(due, rows)
     count = len(different)
-    cells = f"<b>{count} cells differ</b>" if count > 1 else \
-        "<b>1 cell differs</b>" if count else "no cell differs"
-    words = ", ".join([cells, *marks_words(header, rows)])
+    cells = markup("<b>{}</b>", "1 cell differs" if count == 1 else f"{count} cells differ")
+    words = joined([cells if count else "no cell differs", *marks_words(header, rows)], ", ")
     return figure(kind, caption, words, picture(rows, header, cut, different, place),
                   lines_of(rows), f"{told}; {header_words(header)}")
 
@@ -121,12 +120,11 @@ def header_words(header: bytes) -> str:
                       option_name(national_option(header))])
 
 
-def figure(kind: str, caption: str, words: str, drawn: str, lines: list[str],
-           folded: str = "") -> str:
+def figure(kind: str, caption: str, words: Value, drawn: Markup, lines: list[str],
+           folded: str = "") -> Markup:
     """A picture with its caption; folded away, its rows as `listen` prints them and some words."""
-    rows = html.escape("\n".join(lines), quote=False)
-    more = f"<small>{folded}</small>" if folded else ""
-    below = (f"<details><summary>codes as ASCII</summary>{more}<pre>{rows}</pre></details>"
-             if lines else "")
-    return (f'<figure class="{kind}"><figcaption>{caption}<br/><small>{words}</small></figcaption>'
-            f"{drawn}{below}</figure>")
+    more = markup("<small>{}</small>", folded) if folded else NO_MARKUP
+    below = markup("<details><summary>codes as ASCII</summary>{}<pre>{}</pre></details>", more,
+                   "\n".join(lines)) if lines else NO_MARKUP
+    return markup('<figure class="{}"><figcaption>{}<br/><small>{}</small></figcaption>{}{}'
+                  "</figure>", kind, caption, words, drawn, below)

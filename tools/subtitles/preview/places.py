@@ -4,7 +4,7 @@ from __future__ import annotations
 import bisect
 from typing import TYPE_CHECKING
 
-from ..core.manual import shown
+from ..core.markup import Markup, Value, joined, markup
 from ..core.teletext import CODE_WORDS
 from ..core.times import FRAMES_OF_A_DAY, TICKS, frame_at, pts_of, ticks_between, time_of, wrapped
 from ..core.told import Told
@@ -16,7 +16,7 @@ from .seen import Seen
 if TYPE_CHECKING:
     from .report import Report
 
-NAMED = ' class="named"'
+NAMED = markup(' class="named"')
 OFF_FRAME, ORDER = 61, 62
 HAS_PTS = range(37, 41)  # of PES packets that can't be read, but for their PTS
 BYTES_A_LINE = 14  # of a packet, at most
@@ -39,25 +39,27 @@ def place_of_pts(pts: int, origin: int, within: int) -> str:
     return time if ticks % TICKS == 0 else f"none: {time} is {ticks % TICKS} ticks before"
 
 
-def pes_words(fault: Told, until: int | None, report: Report, seen: Seen) -> str:
+def pes_words(fault: Told, until: int | None, report: Report, seen: Seen) -> Markup:
     """What is known of the PES packet that a fault names, up to another one where it is given."""
     number, packets = fault.pes, report.part.packets
     assert number is not None
     span = seen.span_of(number)
     if span is not None:
         them = (number,) if until is None else (number, until)
-        return f"<p>{passed_words(fault, them, report)} {between(seen, span, until)}</p>"
+        return markup("<p>{} {}</p>", passed_words(fault, them, report),
+                      between(seen, span, until))
     pts = packets.pts_at(number)
     if seen.halt == number and pts is not None:
         words = f"PES packet {number} has the PTS {pts}. Its frame: " \
             f"{place_of_pts(pts, report.origin, report.asked.within)}."
         if seen.last_frame is not None:
             words += f" That of the one before: {time_of(seen.last_frame)}."
-        return f"<p>{words}</p>"
+        return markup("<p>{}</p>", words)
     if fault.number == ORDER:
         words = "before" if report.asked.within else "not after"
-        return f"<p>The frame of PES packet {number} is {words} that of the one before.</p>"
-    return f"<p>PES packet {number} can't be read, and nothing after it.</p>"
+        return markup("<p>The frame of PES packet {} is {} that of the one before.</p>", number,
+                      words)
+    return markup("<p>PES packet {} can't be read, and nothing after it.</p>", number)
 
 
 def passed_words(fault: Told, them: tuple[int, ...], report: Report) -> str:
@@ -103,7 +105,7 @@ def between_words(held: Seen, pes: int) -> str:
     return f"after {before}" if before else f"before {after}" if after else ""
 
 
-def around(held: Seen, frame: int, page: str) -> str:
+def around(held: Seen, frame: int, page: str) -> Markup:
     """The frames with a header of the page before and after a frame."""
     at = bisect.bisect_right(held.sendings, frame)
     words = []
@@ -115,12 +117,13 @@ def around(held: Seen, frame: int, page: str) -> str:
         after = held.sendings[at]
         words.append(f"next at {time_of(after)}, {frames_words(after - frame)} after")
     if not words:
-        return f"<p>The file has no header of page {page}.</p>"
-    return f"<p>Headers of page {page} around frame {time_of(frame)}: {'; '.join(words)}.</p>"
+        return markup("<p>The file has no header of page {}.</p>", page)
+    return markup("<p>Headers of page {} around frame {}: {}.</p>", page, time_of(frame),
+                  "; ".join(words))
 
 
 def units_table(program: Program, known: list[int], frame: int, broken: int | None,
-                has_all: bool) -> str:
+                has_all: bool) -> Markup:
     """The Teletext packets of the PES packets of a frame as `packet` prints them, all or the broken
     one."""
     numbers = " and ".join(map(str, known))
@@ -130,19 +133,20 @@ def units_table(program: Program, known: list[int], frame: int, broken: int | No
         if not has_all and index != broken:
             continue
         said = packet_lines(data)
-        name = f"<b>packet {index} &#9664; named by the refusal</b>" if index == broken \
-            else f"packet {index}"
-        rows.append(f'<tr{NAMED if index == broken else ""}><th scope="row">{name}<br/>'
-                    f"<small>{place}</small></th>"
-                    f"<td><pre>{shown(chr(10).join(said))}\n{marked_bytes(data)}</pre></td></tr>")
-    body = "".join(rows) or "<tr><td>no Teletext packet</td></tr>"
-    is_open = ' open="open"' if broken is not None else ""
-    return (f"<details{is_open}><summary>{which}, of frame {time_of(frame)}</summary>"
-            "<p>Bytes that have a wrong bit, by Hamming 8/4 or parity, are underlined.</p>"
-            f'<table class="packets">{body}</table></details>')
+        name: Value = f"packet {index}"
+        if index == broken:
+            name = markup("<b>{} &#9664; named by the refusal</b>", name)
+        rows.append(markup('<tr{}><th scope="row">{}<br/><small>{}</small></th><td><pre>{}\n{}'
+                           "</pre></td></tr>", NAMED * (index == broken), name, place,
+                           chr(10).join(said), marked_bytes(data)))
+    body = joined(rows) or markup("<tr><td>no Teletext packet</td></tr>")
+    is_open = markup(' open="open"') * (broken is not None)
+    return markup("<details{}><summary>{}, of frame {}</summary><p>Bytes that have a wrong bit, "
+                  'by Hamming 8/4 or parity, are underlined.</p><table class="packets">{}</table>'
+                  "</details>", is_open, which, time_of(frame), body)
 
 
-def marked_bytes(data: bytes) -> str:
+def marked_bytes(data: bytes) -> Markup:
     """42 bytes in hexadecimal; those of the address, a header or a row with a wrong bit marked.
 
     There is room for a new line after some of them.
@@ -152,7 +156,7 @@ def marked_bytes(data: bytes) -> str:
     is_text = number is not None and number <= LAST_ROW
     wrong = [byte not in CODE_WORDS if at < coded else is_text and STORED[byte] == HIT
              for at, byte in enumerate(data)]
-    shown_bytes = [f"<u>{byte:02x}</u>" if is_wrong else f"{byte:02x}"
+    shown_bytes = [markup("<u>{:02x}</u>", byte) if is_wrong else markup("{:02x}", byte)
                    for byte, is_wrong in zip(data, wrong)]
-    return "<wbr/>".join("".join(shown_bytes[at:at + BYTES_A_LINE])
-                         for at in range(0, len(data), BYTES_A_LINE))
+    return joined((joined(shown_bytes[at:at + BYTES_A_LINE])
+                   for at in range(0, len(data), BYTES_A_LINE)), markup("<wbr/>"))

@@ -6,6 +6,7 @@ from typing import NamedTuple, Sequence
 
 from ..core.gsi import titles_in
 from ..core.manual import meanings
+from ..core.markup import Value, markup
 from ..core.national import BY_WORD
 from ..core.programme import SubtitleList
 from ..core.teletext import page_name
@@ -121,10 +122,11 @@ class Report:
         return next((entry.first.line for entry in self.faults.entries
                      if entry.first.frame == broken), "")
 
-    def first_link(self, fault: Told) -> str:
+    def first_link(self, fault: Told) -> Value:
         """The place of the first fault of a number, as a link where the list has it."""
         entry = self.faults.first_entries.get(fault.number)
-        return f'<a href="#e{entry}">{place_words(fault)}</a>' if entry else place_words(fault)
+        words = place_words(fault)
+        return markup('<a href="#e{}">{}</a>', entry, words) if entry else words
 
 
 class Looks:

@@ -3,7 +3,7 @@ from __future__ import annotations
 
 from typing import NamedTuple, Sequence
 
-from ..core.manual import shown
+from ..core.markup import Markup, Value, joined, markup
 from ..core.times import time_of
 from ..core.words import counted
 from ..qc.sums import SummedFile
@@ -32,26 +32,26 @@ class Scope(NamedTuple):
         """What nobody looked at."""
         return [*[DELAY] * self.is_fitted, *[BETWEEN] * self.has_parts, ROW_0]
 
-    def box(self) -> str:
+    def box(self) -> Markup:
         """All that as a list."""
-        titles = [("Programme", shown(" / ".join(self.titles)))] if self.titles else []
+        titles = [("Programme", " / ".join(self.titles))] if self.titles else []
         words = f"{time_of(self.first)} to {time_of(self.last)}, " \
             f"{counted(self.subtitles, 'subtitle')}"
         if self.part:
             words += f"; part {self.part[0]} of {self.part[1]}"
-        clock = [("Clock", shown(self.clock))] if self.clock else []
-        rows = [*titles, *self.recorded(), ("Judged", words), *clock,
-                ("Not checked", "; ".join(map(shown, self.not_checked())))]
-        return listed(rows, "made scope")
+        clock = [("Clock", self.clock)] if self.clock else []
+        return listed([*titles, *self.recorded(), ("Judged", words), *clock,
+                       ("Not checked", "; ".join(self.not_checked()))], "made scope")
 
-    def recorded(self) -> list[tuple[str, str]]:
+    def recorded(self) -> list[tuple[str, Markup]]:
         """The recording as a line of the list."""
         one = self.recording
-        return [("Recording", f'<span class="long">{shown(one.name)}</span>, {one.size:,} bytes, '
-                 f'SHA-256 <code class="long">{one.sha256}</code>')] if one else []
+        return [("Recording", markup(
+            '<span class="long">{}</span>, {:,} bytes, SHA-256 <code class="long">{}</code>',
+            one.name, one.size, one.sha256))] if one else []
 
 
-def listed(rows: Sequence[tuple[str, str]], kind: str = "made") -> str:
+def listed(rows: Sequence[tuple[str, Value]], kind: str = "made") -> Markup:
     """Names and what is said of them."""
-    lines = "".join(f"<dt>{name}</dt><dd>{words}</dd>" for name, words in rows)
-    return f'<dl class="{kind}">{lines}</dl>'
+    lines = joined(markup("<dt>{}</dt><dd>{}</dd>", name, words) for name, words in rows)
+    return markup('<dl class="{}">{}</dl>', kind, lines)

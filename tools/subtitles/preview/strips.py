@@ -9,7 +9,7 @@ import bisect
 import itertools
 from typing import TYPE_CHECKING, Collection, Iterable, Iterator
 
-from ..core.manual import shown
+from ..core.markup import NO_MARKUP, Markup, joined, markup
 from ..core.programme import Subtitle
 from ..core.spans import Span, Spans
 from ..core.times import time_of
@@ -90,21 +90,21 @@ class Strips:
         """Whether strips are so long that each minute needs one of its own."""
         return self.unit > MINUTE
 
-    def overview(self) -> str:
+    def overview(self) -> Markup:
         """All strips that have something on them, and what is left out between them."""
-        parts: list[str] = []
+        parts: list[Markup] = []
         last: int | None = None
         minutes = self.used(MINUTE) if self.has_minutes() else set()
         for number in sorted(self.used(self.unit)):
             if last is not None and number > last + 1:
-                parts.append(f'<p class="gap">nothing from {time_of((last + 1) * self.unit)} to '
-                             f"{time_of(number * self.unit)}</p>")
+                parts.append(markup('<p class="gap">nothing from {} to {}</p>',
+                                    time_of((last + 1) * self.unit), time_of(number * self.unit)))
             strip = Strip(self, number * self.unit, (self.unit, self.step, self.words))
             parts.append(strip.drawn(minutes))
             last = number
-        return "".join(parts) or '<p class="gap">nothing</p>'
+        return joined(parts) or markup('<p class="gap">nothing</p>')
 
-    def minute(self, number: int) -> str:
+    def minute(self, number: int) -> Markup:
         """The strip of a minute of the day."""
         unit, _, step, words = MINUTES
         return Strip(self, number * MINUTE, (unit, step, words)).drawn(())
@@ -122,11 +122,11 @@ class Strip:
         inside = min(max(frame, self.begin), self.end) - self.begin
         return round(inside * WIDTH / self.unit, 1)
 
-    def drawn(self, minutes: Collection[int]) -> str:
+    def drawn(self, minutes: Collection[int]) -> Markup:
         """The strip; `minutes` are those that have strips of their own to lead to."""
         line = self.strips
-        words: list[str] = []
-        shapes = [f'<rect class="lane" y="0" width="{WIDTH}" height="{LANE}"/>']
+        words: list[Markup] = []
+        shapes = [markup('<rect class="lane" y="0" width="{}" height="{}"/>', WIDTH, LANE)]
         shapes += self.undecided()
         shapes += self.bars(words)
         shapes += self.hatching(words)
@@ -137,20 +137,22 @@ class Strip:
         for minute in range(self.begin // MINUTE, self.end // MINUTE):
             if minute in minutes:
                 at = self.x(minute * MINUTE)
-                shapes.append(
-                    f'<a href="#m{minute}" aria-label="{time_of(minute * MINUTE)[:5]}"><rect '
-                    f'class="go" x="{at}" y="0" width="{self.x((minute + 1) * MINUTE) - at:g}" '
-                    f'height="{HEIGHT}"/></a>')
-        flag = ""
+                shapes.append(markup(
+                    '<a href="#m{}" aria-label="{}"><rect class="go" x="{}" y="0" width="{:g}" '
+                    'height="{}"/></a>', minute, time_of(minute * MINUTE)[:5], at,
+                    self.x((minute + 1) * MINUTE) - at, HEIGHT))
+        flag = NO_MARKUP
         if line.broken is not None and self.begin <= line.broken < self.end:
-            shapes.append(f'<path class="broken" d="M{self.x(line.broken)} 0v{HEIGHT}"/>')
-            flag = f'<p class="flag">&#9650; {time_of(line.broken)}: {shown(line.flag)}</p>'
+            shapes.append(markup('<path class="broken" d="M{} 0v{}"/>', self.x(line.broken),
+                                 HEIGHT))
+            flag = markup('<p class="flag">&#9650; {}: {}</p>', time_of(line.broken), line.flag)
         label = f"{time_of(self.begin)} to {time_of(self.end)}"
-        return (f'<div class="strip"><p class="time">{time_of(self.begin)[:8]}</p><div>'
-                f'<svg viewBox="0 0 {WIDTH} {HEIGHT}" preserveAspectRatio="none" role="group" '
-                f'aria-label="{label}">{"".join(shapes)}</svg>{"".join(words)}</div>{flag}</div>')
+        return markup('<div class="strip"><p class="time">{}</p><div><svg viewBox="0 0 {} {}" '
+                      'preserveAspectRatio="none" role="group" aria-label="{}">{}</svg>{}</div>{}'
+                      "</div>", time_of(self.begin)[:8], WIDTH, HEIGHT, label, joined(shapes),
+                      joined(words), flag)
 
-    def bars(self, words: list[str]) -> Iterator[str]:
+    def bars(self, words: list[Markup]) -> Iterator[Markup]:
         """The subtitles: bars that are links, and a path of narrow ones and others."""
         line, entries = self.strips, self.strips.entries
         narrow: dict[Look, list[list[float]]] = {GOOD: [], ODD: [], UNKNOWN: []}
@@ -170,25 +172,25 @@ class Strip:
                 narrow[look].append([left, max(right, left + 0.6)])
         for (kind, top, height), spans in narrow.items():
             path = "".join(f"M{a:g} {top}h{b - a:.3g}v{height}H{a:g}z" for a, b in spans)
-            yield f'<path class="{kind}" d="{path}"/>' if path else ""
+            yield markup('<path class="{}" d="{}"/>', kind, path) if path else NO_MARKUP
 
     def bar(self, subtitle: Subtitle, left: float, right: float, look: Look,
-            words: list[str]) -> str:
+            words: list[Markup]) -> Markup:
         """A bar, and its number where it has room and is not hatched."""
         kind, top, height = look
         name, end = f"subtitle {subtitle.index}", self.strips.end
         has_room = right - left > WORDS_WIDTH * len(str(subtitle.index)) + 4
         if has_room and (end is None or subtitle.end <= end):
-            words.append(f'<span class="in {kind}" style="left:{(left + right) / 20:.4g}%">'
-                         f"{subtitle.index}</span>")
-        shape = (f'<rect class="{kind}" x="{left}" y="{top}" width="{right - left:.1f}" '
-                 f'height="{height}"><title>{name}: {time_of(subtitle.begin)} to '
-                 f"{time_of(subtitle.end)}</title></rect>")
+            words.append(markup('<span class="in {}" style="left:{:.4g}%">{}</span>', kind,
+                                (left + right) / 20, subtitle.index))
+        shape = markup('<rect class="{}" x="{}" y="{}" width="{:.1f}" height="{}"><title>{}: {} '
+                       "to {}</title></rect>", kind, left, top, right - left, height, name,
+                       time_of(subtitle.begin), time_of(subtitle.end))
         if subtitle.index in self.strips.entries.drawn:
-            return f'<a href="#s{subtitle.index}" aria-label="{name}">{shape}</a>'
+            return markup('<a href="#s{}" aria-label="{}">{}</a>', subtitle.index, name, shape)
         return shape
 
-    def hatching(self, words: list[str]) -> Iterator[str]:
+    def hatching(self, words: list[Markup]) -> Iterator[Markup]:
         """Lines over the time of which a receiver hears nothing."""
         end = self.strips.end
         if end is None or end >= self.end:
@@ -196,25 +198,25 @@ class Strip:
         left = self.x(end)
         lines = "".join(f"M{at:g} {FAULTS}L{min(at + 12, WIDTH):g} 0"
                         for at in range(int(left), WIDTH, 6) if at >= left)
-        yield (f'<rect class="after" x="{left}" width="{WIDTH - left:g}" height="{FAULTS}"/>'
-               f'<path class="hatch" d="{lines}"/>')
+        yield markup('<rect class="after" x="{}" width="{:g}" height="{}"/><path class="hatch" '
+                     'd="{}"/>', left, WIDTH - left, FAULTS, lines)
         if end >= self.begin:
             side = f"left:{left / 10:.4g}%" if left < WIDTH / 2 else \
                 f"right:{(WIDTH - left) / 10:.4g}%"
-            words.append(f'<span class="end" style="{side}">nothing heard after '
-                         f"{time_of(end - 1)}</span>")
+            words.append(markup('<span class="end" style="{}">nothing heard after {}</span>', side,
+                                time_of(end - 1)))
 
-    def undecided(self) -> Iterator[str]:
+    def undecided(self) -> Iterator[Markup]:
         """The frames at which it is not known what is due."""
         _, top, height = UNKNOWN
         for begin, end in self.strips.undecided.between(self.begin, self.end):
             left = self.x(begin)
             width = max(self.x(end + 1) - left, 2)
-            yield (f'<rect class="unknown" x="{left:g}" y="{top}" width="{width:.4g}" '
-                   f'height="{height}"><title>undecided: {time_of(begin)} to {time_of(end)}'
-                   "</title></rect>")
+            yield markup('<rect class="unknown" x="{:g}" y="{}" width="{:.4g}" height="{}">'
+                         "<title>undecided: {} to {}</title></rect>", left, top, width, height,
+                         time_of(begin), time_of(end))
 
-    def sendings(self) -> Iterator[str]:
+    def sendings(self) -> Iterator[Markup]:
         """The sendings, those that are close to each other as one block."""
         close = self.strips.close
         runs: list[list[float]] = []
@@ -230,32 +232,32 @@ class Strip:
                 runs.append([left, right])
         lines = "".join(f"M{left:g} {TICKS}v8" for left, right in runs if left == right)
         if lines:
-            yield f'<path class="tick" d="{lines}"/>'
+            yield markup('<path class="tick" d="{}"/>', lines)
         blocks = "".join(f"M{left:g} {TICKS}h{right - left:.3g}v8H{left:g}z"
                          for left, right in runs if left < right)
         if blocks:
-            yield f'<path class="many" d="{blocks}"/>'
+            yield markup('<path class="many" d="{}"/>', blocks)
 
-    def axis(self, words: list[str]) -> Iterator[str]:
+    def axis(self, words: list[Markup]) -> Iterator[Markup]:
         """Ticks of time, with words at some of them."""
         lines = "".join(f"M{self.x(frame):g} {AXIS}v4"
                         for frame in range(self.begin, self.end + 1, self.step))
-        yield f'<path class="axis" d="M0 {AXIS}H{WIDTH}{lines}"/>'
+        yield markup('<path class="axis" d="M0 {}H{}{}"/>', AXIS, WIDTH, lines)
         for frame in range(self.begin + self.words, self.end, self.words):
             short = time_of(frame)[:5] if self.step >= MINUTE else ":" + time_of(frame)[6:8]
             side = f"left:{self.x(frame) / 10:.4g}%"
-            words.append(f'<span class="axis" style="{side}">{short}</span>')
+            words.append(markup('<span class="axis" style="{}">{}</span>', side, short))
 
-    def trusted(self) -> Iterator[str]:
+    def trusted(self) -> Iterator[Markup]:
         """The frames that may be trusted: a line below the axis, thinner than a fault's mark."""
         for begin, end in self.strips.trusted.between(self.begin, self.end):
             left = self.x(begin)
             width = max(self.x(end + 1) - left, 2)
-            yield (f'<rect class="trusted" x="{left:g}" y="{TRUSTED}" width="{width:.4g}" '
-                   f'height="{THIN}"><title>trusted: {time_of(begin)} to {time_of(end)}</title>'
-                   "</rect>")
+            yield markup('<rect class="trusted" x="{:g}" y="{}" width="{:.4g}" height="{}">'
+                         "<title>trusted: {} to {}</title></rect>", left, TRUSTED, width, THIN,
+                         time_of(begin), time_of(end))
 
-    def faults(self) -> Iterator[str]:
+    def faults(self) -> Iterator[Markup]:
         """What is told: a mark for each span that has room for one, which leads to the list."""
         near = CLOSE * self.unit / WIDTH
         runs: list[list[int]] = []
@@ -267,8 +269,8 @@ class Strip:
         for begin, end in runs:
             left = self.x(begin)
             width = max(self.x(end + 1) - left, 2)
-            mark = (f'<rect class="bad" x="{left:g}" y="{FAULTS}" width="{width:.4g}" '
-                    f'height="{HEIGHT - FAULTS}"/>')
+            mark = markup('<rect class="bad" x="{:g}" y="{}" width="{:.4g}" height="{}"/>', left,
+                          FAULTS, width, HEIGHT - FAULTS)
             entry = self.strips.entries.entry_in(max(begin, self.begin), end + 1)
-            yield f'<a href="#e{entry.index}" aria-label="fault {entry.index}">{mark}</a>' \
-                if entry else mark
+            yield mark if entry is None else markup(
+                '<a href="#e{}" aria-label="fault {}">{}</a>', entry.index, entry.index, mark)

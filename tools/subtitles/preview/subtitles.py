@@ -6,6 +6,7 @@ import collections
 import itertools
 from typing import Iterable, NamedTuple
 
+from ..core.markup import NO_MARKUP, Markup, joined, markup
 from ..core.programme import Subtitle
 from ..core.times import time_of
 from ..core.words import counted
@@ -63,14 +64,14 @@ class Entries:
         pes = entry.first.pes
         return entry.first.frame if pes is None else self.held.last_before(pes)
 
-    def faults_in(self, subtitle: Subtitle) -> str:
+    def faults_in(self, subtitle: Subtitle) -> Markup:
         """Words for the faults while it is due, with a link to the first that is listed."""
         if not any(True for _ in self.faults.spans.between(subtitle.begin, subtitle.end)):
-            return ""
+            return NO_MARKUP
         entry = self.entry_in(subtitle.begin, subtitle.end)
         if not entry:
-            return ' <b class="bad">faults while it is due</b>'
-        return f' <a class="bad" href="#e{entry.index}"><b>fault {entry.index}</b></a>'
+            return markup(' <b class="bad">faults while it is due</b>')
+        return markup(' <a class="bad" href="#e{}"><b>fault {}</b></a>', entry.index, entry.index)
 
     def entry_in(self, begin: int, end: int) -> Entry | None:
         """The first listed fault that is told from `begin` to the frame before `end`."""
@@ -78,19 +79,19 @@ class Entries:
         is_one = at < len(self.entry_frames) and self.entry_frames[at] < end
         return self.entry_at[self.entry_frames[at]] if is_one else None
 
-    def entry(self, subtitle: Subtitle) -> str:
+    def entry(self, subtitle: Subtitle) -> Markup:
         """A subtitle with its pictures."""
         looked = self.looked[subtitle.index]
         first, end = time_of(subtitle.begin), time_of(subtitle.end)
         sent = self.held.sendings_between(subtitle.begin, subtitle.end)
         words = f"sent {counted(sent, 'time')} while it is due, {looked.words()}"
         name = subtitle.name.replace("s", "S", 1)
-        return (f'<section class="entry" id="s{subtitle.index}"><h3>{name} '
-                f"<code>{first}</code> to <code>{end}</code></h3><p>row "
-                f"{subtitle.row}, justification {subtitle.justify}; {words}"
-                f"{self.faults_in(subtitle)}</p>{self.figures.at(looked.frame)}</section>")
+        return markup('<section class="entry" id="s{}"><h3>{} <code>{}</code> to <code>{}</code>'
+                      "</h3><p>row {}, justification {}; {}{}</p>{}</section>", subtitle.index,
+                      name, first, end, subtitle.row, subtitle.justify, words,
+                      self.faults_in(subtitle), self.figures.at(looked.frame))
 
-    def all(self, strips: Strips) -> str:
+    def all(self, strips: Strips) -> Markup:
         """The entries in order, by minute where there are strips of minutes."""
         if not strips.has_minutes():
             return self.listed(self.subtitles)
@@ -98,13 +99,13 @@ class Entries:
         groups = itertools.groupby(self.subtitles, lambda one: one.begin // MINUTE)
         members = {minute: list(group) for minute, group in groups}
         for minute in sorted(strips.used(MINUTE)):
-            parts.append(f'<section class="minute" id="m{minute}">{strips.minute(minute)}'
-                         f"{self.listed(members.get(minute, []))}</section>")
-        return "".join(parts)
+            parts.append(markup('<section class="minute" id="m{}">{}{}</section>', minute,
+                                strips.minute(minute), self.listed(members.get(minute, []))))
+        return joined(parts)
 
-    def listed(self, subtitles: Iterable[Subtitle]) -> str:
+    def listed(self, subtitles: Iterable[Subtitle]) -> Markup:
         """Those with pictures, in order."""
-        return "".join(self.drawn.get(one.index, "") for one in subtitles)
+        return joined(self.drawn.get(one.index, NO_MARKUP) for one in subtitles)
 
     def counted(self, group: Iterable[Subtitle]) -> str:
         """How many subtitles of a group are of which kind."""

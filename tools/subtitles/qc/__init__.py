@@ -22,6 +22,7 @@ missing       places at which something is missing, and of which parts
 paced         the pace by which a part is judged, or which holes may be unseen
 start         the clock by the first picture
 clock         the clock of a part, and what is said of it
+chosen        what is chosen by itself, and by which evidence
 warned        what is strange of a recording
 
 checking      `check --all`, and all that its list comes to: it is read here alone

@@ -11,7 +11,7 @@ from ..core.words import counted, quoted
 from ..reading.receiver import Rows
 from ..reading.timeline import Timeline
 from .evidence import Choice, choices_of
-from .layouts import FEWEST, TENTHS, Sent, count_drawn, draws
+from .layouts import FEWEST, TENTHS, Sent, draws, missed
 
 BY_LAYOUT = {51, 52, 53, 54, 55}  # what is wrong with a text by one layout need not be by another
 BOXES = {0: "nothing", 1: "one end box", 2: "two end boxes"}
@@ -82,7 +82,7 @@ def counts_words(choice: Choice) -> str:
 def otherwise(sent: Sequence[Sent], option: NationalOption) -> str:
     """What a house draws otherwise than without a layout, and which TEXT says so; nothing where
     all is drawn as it was sent, or where it is not clear."""
-    if len(sent) < FEWEST or count_drawn(PLAIN, sent, option) == len(sent):
+    if len(sent) < FEWEST or not missed(PLAIN, sent, option, 0):
         return ""
     choice = choices_of(sent, option)[1]
     words = left_lines(choice)

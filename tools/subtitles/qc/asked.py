@@ -4,6 +4,7 @@ from __future__ import annotations
 import argparse
 import contextlib
 import dataclasses
+import functools
 import os
 import stat
 from typing import Sequence
@@ -13,7 +14,7 @@ from ..core.national import named_by
 from ..core.stl import stl_bytes
 from ..core.teletext import page_name
 from ..core.times import FRAMES_OF_A_DAY, Between, frame_of, time_of
-from ..core.words import Stop, Words
+from ..core.words import Stop, Words, shown
 from .options import (
     AUTO, FROM, KEEPING, LAYOUT, NONE, OPEN, PACE, TO, add_options, check_words, words_of_pages)
 
@@ -49,6 +50,7 @@ class Asked:
     passed_on: dict[str, str] = dataclasses.field(default_factory=dict)  # that `check` gets too
     found_layout: str | None = None  # by --layout auto; the empty one is that without an option
     kept_stl: str | None = None  # what came through a pipe as the subtitle file
+    language: str | None = None  # of the subtitle file, where that names the option
 
     @property
     def stl_path(self) -> str:
@@ -126,7 +128,7 @@ def add_pair_options(parser: Words) -> None:
 
 def pair_options() -> list[str]:
     """The names of those options in `Asked`."""
-    return [field.name for field in dataclasses.fields(Asked)][2:-1]
+    return [field.name for field in dataclasses.fields(Asked)][2:-2]
 
 
 def asked_of(words: argparse.Namespace) -> Asked:
@@ -142,7 +144,7 @@ def asked_with(stl: str, recording: str | None, options: argparse.Namespace) -> 
     asked = Asked(plain_name(stl), named,
                   **{name: getattr(options, name) for name in pair_options()})
     if asked.option == AUTO and not is_pipe(asked.stl):  # else it is known once that is read
-        asked.option = option_named_in(asked.stl)
+        take_option(asked)
     return asked
 
 
@@ -160,30 +162,42 @@ def keep_stl(asked: Asked, folder: str) -> None:
     with open(asked.kept_stl, "wb") as file:
         file.write(data)
     if asked.option == AUTO:
-        asked.option = option_named_in(asked.kept_stl)
+        take_option(asked)
 
 
-def option_named_in(stl: str) -> str:
-    """The national option of a subtitle file, by its language (GSI block, field LC)."""
+def take_option(asked: Asked) -> None:
+    """Takes the national option of a subtitle file, by its language (GSI block, field LC)."""
     language = b""
     with contextlib.suppress(Stop, OSError):  # that it is none is told later
-        language = first_bytes(stl, LC.stop)[LC]
-    return named_by(language).word
+        language = first_bytes(asked.stl_path, LC.stop)[LC]
+    asked.option, asked.language = named_by(language).word, language.decode("latin-1")
 
 
-def asked_of_line(line: Sequence[str], defaults: argparse.Namespace) -> Asked:
-    """The pair of a line of a list, with the options that hold for all where it has none."""
+def option_line(asked: Asked) -> str:
+    """The option that the language of the subtitle file names."""
+    language = f"the language of the file (LC) is {shown(asked.language)}" if asked.language else \
+        "the file names no language (LC)"
+    return f"option: {asked.option}, since {language}"
+
+
+@functools.lru_cache(maxsize=None)
+def line_parser() -> Words:
+    """What a line of a list is read by; it takes longer to make than to use."""
     parser = Words("")
     parser.add_argument("stl")
     parser.add_argument("recording")
     add_pair_options(parser)
+    return parser
+
+
+def asked_of_line(line: Sequence[str], defaults: argparse.Namespace) -> Asked:
+    """The pair of a line of a list, with the options that hold for all where it has none."""
     known = {name: getattr(defaults, name) for name in pair_options()}
     given = {word.partition("=")[0] for word in line}
     for one, other in (("origin", "start"), ("start", "origin")):
         if f"--{one}" in given:
             known[other] = None  # a line that tells its origin takes none of the call
-    parser.set_defaults(**known)
-    asked = asked_of(parser.parse_args(line))
+    asked = asked_of(line_parser().parse_args(line, argparse.Namespace(**known)))
     if asked.recording == "-":
         raise Stop("- is no recording of a list: give a file")
     return asked

@@ -1,38 +1,15 @@
 """Causes as a person reads them, and as values for machines."""
 from __future__ import annotations
 
-from typing import TypedDict
-
 from ..core.national import BY_WORD
 from ..core.times import time_of
 from ..core.words import counted
 from .causes import EARLY, IN_PAUSE, LATE, NOT_ERASED, OTHER, Cause
 from .lettering import text_of
 from .naming import Causes, counts_of
+from .values import Members
 
 LINE = "cause: "  # before each
-
-
-class SubtitleWords(TypedDict):
-    """A subtitle: its place in the file, SN, TCI and TCO."""
-
-    position: int
-    number: int
-    begin: str
-    end: str
-
-
-class CauseWords(TypedDict):
-    """A cause; the schema says what each member is."""
-
-    subtitle: SubtitleWords
-    cause: str
-    frames: int | None
-    text: str
-    sent: str | None
-    other: int | None
-    other_position: int | None
-    words: str
 
 
 class Wording:
@@ -43,7 +20,7 @@ class Wording:
         self.pages = causes.programme.pages
         self.option = BY_WORD[option].bits
 
-    def values(self, cause: Cause) -> CauseWords:
+    def values(self, cause: Cause) -> Members:
         """A cause for machines."""
         one = self.subtitles[cause.place]
         other = None if cause.other is None else self.subtitles[cause.other]

@@ -6,6 +6,7 @@ from typing import NamedTuple
 from ..core.times import ALL_DAY, Between
 from ..reading.moving import Stage
 from ..reading.packets import Range
+from .chosen import ORIGIN, Chosen
 
 RECORDING, GIVEN, START, TCP = "recording", "given", "start", "tcp"
 SOURCES = {RECORDING: "fitted to the recording", GIVEN: "given", START: "by the first picture",
@@ -20,11 +21,17 @@ class Clock(NamedTuple):
     """An origin and its `source`: fitted to the recording, given as `--origin`, or as `--start` by
     a time or by the TCP of the GSI block. `delay_frames` is how many frames later than by it the
     edges of the subtitles came, `None` where nothing can tell: a clock that was fitted to the
-    recording has the delay in it."""
+    recording has the delay in it. `evidence` is by what this call has fitted it."""
 
     origin: int
     source: str
     delay_frames: int | None = None
+    evidence: Chosen | None = None
+
+    def chosen(self, part: int | None) -> Chosen | None:
+        """It as what is chosen for a part; `None` where it was given."""
+        evidence = self.evidence or Chosen(ORIGIN, str(self.origin), FITTED)
+        return evidence._replace(part=part) if self.is_fitted else None
 
     @property
     def is_fitted(self) -> bool:

@@ -7,10 +7,11 @@ from typing import TYPE_CHECKING, Iterable, Iterator, Sequence
 from ..core.times import FRAMES_OF_A_DAY, TICKS, time_of
 from ..core.words import Stop, counted, line_of
 from ..reading.cutting import Cut, cut_of
-from ..reading.finding import Origin, Sought, find, runs_line
+from ..reading.finding import OfPart, Origin, Sought, find, runs_line
 from ..reading.packets import Packets, Range
 from ..reading.timeline import LEAST
 from .asked import MOST_TRIED, Asked
+from .chosen import ORIGIN, PES, Chosen
 from .clock import GIVEN, RECORDING, TCP, Clock, Found
 from .recording import Recording
 from .start import NoFirst, began, refuse_outside
@@ -18,6 +19,9 @@ from .unclear import Unclear
 
 if TYPE_CHECKING:
     from .pair import Pair
+    from .part import Part
+
+SAID = "origin: "  # before what is said of it
 
 
 def parts_of(pair: Pair, recording: Recording) -> list[Found]:
@@ -92,7 +96,7 @@ def origin_in(packets: Packets, asked: Sought) -> Origin:
 def fitted(pair: Pair, recording: Recording, clock: Clock | None) -> Origin:
     """What is found of the clock, also compared with one that is known, which is said."""
     origin = origin_in(recording.packets, sought(pair, recording, clock))
-    for line in [*origin.printed, *map("origin: {}".format, origin.told)]:
+    for line in [*origin.printed, *(SAID + line for line in origin.told)]:
         pair.speech.say(line)
     return origin
 
@@ -101,8 +105,14 @@ def found_in(origin: Origin, whole: Found) -> list[Found]:
     """The parts that are clear, as they were found; none where that is not clear."""
     if origin.status:
         return []
-    return [Found(*(part.frames or (whole.begin, whole.end)), Clock(part.origin, RECORDING),
-                  part.packets) for part in origin.parts]
+    return [Found(*(part.frames or (whole.begin, whole.end)), fitted_to(part), part.packets)
+            for part in origin.parts]
+
+
+def fitted_to(part: OfPart) -> Clock:
+    """The clock that was found for a part."""
+    return Clock(part.origin, RECORDING, evidence=Chosen(
+        ORIGIN, str(part.origin), f"{SAID}{part.line}", part.agree, part.among))
 
 
 def with_delay(clock: Clock, origin: Origin) -> tuple[Clock, list[str]]:
@@ -156,10 +166,17 @@ def taken(pair: Pair, recording: Recording, found: Found, within: int) -> Cut:
                   within, found.packets or pair.inside)
 
 
-def cut(pair: Pair, recording: Recording, found: Found) -> Range:
-    """The same by their numbers, which is said."""
+def cut(pair: Pair, part: Part) -> Range:
+    """The same of a part by their numbers, which is said."""
+    recording, found = part.recorded
     one, damage = taken(pair, recording, found, pair.asked.within), recording.packets.damage
-    pair.speech.say(f"cut: {one.told()}")
+    line = f"cut: {one.told()}"
+    if one.range is None:
+        pair.speech.say(line)
+    else:
+        first, last = one.range
+        pair.speech.choose(Chosen(PES, f"{first}-{last}", line, last - first + 1, one.read,
+                                  part.number))
     if damage and not one.is_over:
         pair.speech.say(f"cut: {recording.shown}: {damage}; it was read up to there")
     if one.range is None:

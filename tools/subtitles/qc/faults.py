@@ -2,7 +2,7 @@
 from __future__ import annotations
 
 import itertools
-from typing import Iterator, TypedDict
+from typing import Iterator
 
 from ..core.characters import letters
 from ..core.manual import meanings, plain
@@ -10,7 +10,7 @@ from ..core.national import BY_WORD
 from ..core.times import frame_at, time_of
 from ..core.told import CHARACTER, CONTENT, DISPLAY, LETTERS, STL_FAULTS, WITH_CAUSE, Told
 from ..reading.receiver import Rows
-from .cause_words import CauseWords, SubtitleWords, Wording
+from .cause_words import Wording
 from .cells import NOWHERE, FaultPlace, code_at, place_of
 from .counted import End
 from .headers import header_words
@@ -19,45 +19,8 @@ from .midnight import midnight_words
 from .option_advice import OptionAdvice
 from .part import Part
 from .subtitle_file import NamedSubtitle
+from .values import Members
 from .verdict import Verdict
-
-
-class Cell(TypedDict):
-    """What a cell holds: its code in hexadecimal, and its character where it has one."""
-
-    code: str
-    character: str | None
-
-
-class Fault(TypedDict):
-    """A fault; what does not apply is `None`. The schema says what each member is."""
-
-    part: int
-    line: str
-    number: int
-    name: str
-    severity: str
-    file: str
-    block: int | None
-    subtitle: SubtitleWords | None
-    byte: str | None
-    character: str | None
-    text_at: int | None
-    pes: int | None
-    pes_pts: int | None
-    pes_time: str | None
-    packet: int | None
-    frame: int | None
-    time: str | None
-    row: int | None
-    column: int | None
-    due: Cell | None
-    held: Cell | None
-    until: str | None
-    until_pes: int | None
-    means: str
-    do: str
-    cause: CauseWords | None
 
 
 class PartFaults:
@@ -72,10 +35,10 @@ class PartFaults:
         self.subtitles = part.subtitle_file()
         self.of_letters = OptionAdvice(self.subtitles, self.asked.option)
 
-    def __iter__(self) -> Iterator[Fault]:
+    def __iter__(self) -> Iterator[Members]:
         return itertools.starmap(self.fault, self.part.answer.told())
 
-    def fault(self, told: Told, end: End) -> Fault:
+    def fault(self, told: Told, end: End) -> Members:
         """All that is known of a fault."""
         is_stl = told.number in STL_FAULTS
         due = self.part.due().page_at(told.frame) if told.number == CONTENT and \
@@ -107,7 +70,7 @@ class PartFaults:
             "cause": self.cause_of(told),
         }
 
-    def cause_of(self, told: Told) -> CauseWords | None:
+    def cause_of(self, told: Told) -> Members | None:
         """The cause of the subtitle whose fault a 63, 72 or 74 is."""
         if self.wording is None or told.number not in WITH_CAUSE or told.frame is None:
             return None
@@ -127,11 +90,11 @@ class PartFaults:
         frame = frame_at(pts, self.part.origin, self.asked.within)
         return None if frame is None else time_of(frame)
 
-    def held_cell(self, told: Told, place: FaultPlace) -> Cell | None:
+    def held_cell(self, told: Told, place: FaultPlace) -> Members | None:
         """The cell of a 72 as it is held."""
         return self.cell(place.rows, told) if told.number == CONTENT else None
 
-    def cell(self, rows: Rows | None, told: Told) -> Cell | None:
+    def cell(self, rows: Rows | None, told: Told) -> Members | None:
         """The cell that a fault names."""
         if told.row is None or told.column is None:
             return None
@@ -141,13 +104,13 @@ class PartFaults:
         return {"code": f"{code:02X}", "character": self.letters[code] if code >= 0x20 else None}
 
 
-def words_of_subtitle(subtitle: NamedSubtitle) -> SubtitleWords:
+def words_of_subtitle(subtitle: NamedSubtitle) -> Members:
     """A subtitle for machines."""
     return {"position": subtitle.position, "number": subtitle.number, "begin": subtitle.begin,
             "end": subtitle.end}
 
 
-def faults_of(verdict: Verdict) -> Iterator[Fault]:
+def faults_of(verdict: Verdict) -> Iterator[Members]:
     """The faults of all parts."""
     for part in verdict.parts:
         if part.answer.count:

@@ -39,8 +39,8 @@ def judge(pair: Pair, part: Part, count: int) -> None:
 
 def begin(pair: Pair, part: Part) -> None:
     """Takes the PES packets of a part, the pace by which they are judged, and what is due then."""
-    (recording, found), asked = part.recorded, part.asked
-    part.pes = cut(pair, recording, found)
+    recording, asked = part.recorded[0], part.asked
+    part.pes = cut(pair, part)
     if pair.is_summed and recording.is_piped:
         part.judged = file_of(recording.path, recording.shown)
     part.due = functools.cache(lambda: due_of(pair, part))

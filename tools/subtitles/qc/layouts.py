@@ -248,21 +248,23 @@ def draws(layout: Layout, one: Sent, option: NationalOption) -> bool:
     return not isinstance(lines, Refused) and page_of(lines) == one.rows
 
 
-def count_drawn(layout: Layout, found: Sequence[Sent], option: NationalOption) -> int:
-    """How many subtitles a layout draws as they were sent."""
-    return sum(draws(layout, one, option) for one in found)
+def missed(layout: Layout, found: Sequence[Sent], option: NationalOption, most: int) -> int:
+    """How many subtitles a layout draws otherwise than they were sent; of more than some no more
+    are looked for."""
+    others = (one for one in found if not draws(layout, one, option))
+    return sum(1 for _ in itertools.islice(others, most + 1))
 
 
 def simplest(layout: Layout, found: Sequence[Sent], option: NationalOption) -> Layout:
     """A layout that draws as many, with each item left out that changes nothing."""
-    count = count_drawn(layout, found, option)
+    most = missed(layout, found, option, len(found))
     for names in (("strip",), ("before", "behind"), ("behind",), ("after",), *(
             (name,) for name in Layout._fields[4:])):
         less = layout._replace(**{name: getattr(PLAIN, name) for name in names})
         if less != layout and simplicity(less) < simplicity(layout):
-            others = count_drawn(less, found, option)
-            if others >= count:
-                layout, count = less, others
+            others = missed(less, found, option, most)
+            if others <= most:
+                layout, most = less, others
     return layout
 
 

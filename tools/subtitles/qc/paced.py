@@ -9,6 +9,7 @@ from ..reading.announced import PACKET, jumps_at
 from ..reading.pace import (
     BY_EVERY, IRREGULAR, PAUSED, REGULAR, Pace, each_of, pace_of, pauses_of, rows_of)
 from ..reading.packets import Range
+from . import chosen
 from .options import NONE, PACE
 from .part import Part
 from .recording import Recording
@@ -32,8 +33,10 @@ def set_pace(part: Part, pes: Range, verdict: Verdict, speech: Speech,
     else:
         note = unseen_words(pace, recording)
         if pace.frames:
-            speech.say(regular_words(pace, recording.is_stream))
+            speech.choose(chosen_of(pace, recording.is_stream, part.number))
             part.asked = asked.paced(pace.frames)
+        elif note:  # which is told with the verdict
+            speech.chosen.append(chosen.Chosen(chosen.PACE, None, note, part=part.number))
     if note and note not in verdict.notes:
         verdict.notes.append(note)
 
@@ -44,6 +47,12 @@ def measured(part: Part, pes: Range, times: Sequence[tuple[int, int]]) -> Pace:
     size = None if recording.is_stream else os.path.getsize(recording.path)
     return pace_of(rows_of(packets, pes, found.origin, asked.within),
                    each_of(packets, pes, size), asked.every, pauses_of(times), recording.is_stream)
+
+
+def chosen_of(pace: Pace, is_stream: bool, part: int) -> chosen.Chosen:
+    """A pace that is asked for, by at how many places a loss takes longer, of all that there are."""
+    return chosen.Chosen(chosen.PACE, str(pace.frames), regular_words(pace, is_stream),
+                         pace.among - pace.closer, pace.among, part)
 
 
 def regular_words(pace: Pace, is_stream: bool) -> str:

@@ -12,10 +12,12 @@ from ..core.times import ALL_DAY, time_of
 from ..core.told import EMPTY
 from ..core.words import Stop, counted
 from ..reading.timeline import timeline_near
-from . import checks, clocks, judging, names, warned
+from . import checks, chosen, clocks, judging, names, warned
 from .as_sent import BY_LAYOUT, left_lines, sent_in, told_of, why_none
+from .asked import option_line
 from .beside import beside_of, is_judged_beside
 from .checking import Answer
+from .chosen import Chosen
 from .clock import RECORDING, Clock, Found
 from .due_pages import subtitles_in
 from .ending import Ending
@@ -77,6 +79,8 @@ class Pair:
         """Judges the pair; `Unclear` where a step is not clear."""
         asked = self.asked
         refuse_files(asked)
+        if asked.language is not None:
+            self.speech.choose(Chosen(chosen.OPTION, asked.option, option_line(asked)))
         if self.is_summed:
             self.verdict.stl = file_of(asked.stl_path, asked.stl)
         answer = self.check_alone()
@@ -178,7 +182,9 @@ class Pair:
             raise Unclear(why_none(closest, choice, sent, option), *(
                 [self.again(LAYOUT, text)] if text and closest.drawn else []))
         asked.found_layout, self.verdict.layout = text_of(choice.layout), choice
-        for line in (told_of(choice), *left_lines(choice)):
+        self.speech.choose(Chosen(chosen.LAYOUT, asked.found_layout, told_of(choice),
+                                  choice.drawn, choice.found))
+        for line in left_lines(choice):
             self.speech.say(line)
 
     @functools.cached_property
@@ -231,6 +237,8 @@ class Pair:
         if not recording.stages:
             self.warn(recording, found[0].origin, self.whole)
         parts = self.parts(found, recording)
+        self.speech.chosen += filter(None, (
+            its.clock.chosen(one.number) for one in parts for its in [one.recorded[1]]))
         for one, its in (part.recorded for part in parts if recording.stages):
             self.warn(one, its.origin, its)
         self.verdict.warn(moves_told([part.recorded[1] for part in parts], self.asked.page_name))

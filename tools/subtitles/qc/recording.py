@@ -11,14 +11,15 @@ from typing import Iterator
 from ..core.files import first_bytes, pieces_of
 from ..core.pes import START
 from ..core.times import ticks_between
-from ..core.words import PACKET_SIZES, Stop, counted, shown, stream_words
+from ..core.words import PACKET_SIZES, Stop, counted, pid_name, shown, stream_words
 from ..reading.gaps import Place, marks_told, places_of, why_refused
 from ..reading.moving import Stage, joined, stages_of
-from ..reading.packets import PES, Packets
+from ..reading.packets import HEADER, PES, Packets
 from ..reading.survey import Survey, survey
 from ..reading.timing import reach_of
 from . import feed
 from .asked import Asked
+from .chosen import PID, Chosen
 from .ending import Ending
 from .names import KEPT, KEPT_STREAM, Names, again
 from .pes_header import first_of, header_words
@@ -139,6 +140,7 @@ class Recording:
             raise Unclear(self.said(why), *self.other_pids())
         found = [by_pid[pid] for pid in sorted(by_pid) if by_pid[pid].has_page]
         if len(found) == 1:
+            self.say_chosen(found[0], "on no other PID")
             return found[0]
         if not found:
             why = "; ".join([f"{self.name} has no header of page {page}", *self.why_nothing()])
@@ -147,9 +149,18 @@ class Recording:
         if self.asked.pes is None:
             self.stages = stages_of(self.survey, self.asked.page)
         if self.stages:
+            for stage in self.stages:
+                self.say_chosen(stage.packets, "the PMT moves it")
             return joined(self.stages)
         raise Unclear(self.said(f"page {page} is sent on {len(found)} PIDs of {self.name}"),
                       *(self.again("--pid", f"0x{one.pid:X}") for one in found))
+
+    def say_chosen(self, packets: Packets, why: str) -> None:
+        """Says which PID is chosen, and by what."""
+        begun = sum(1 for _ in packets.pts(does=HEADER))
+        line = f"{pid_name(packets.pid)}: page {self.asked.page_name} has a header in {begun} of " \
+            f"{counted(packets.count, 'PES packet')}, and {why}"
+        self.speech.choose(Chosen(PID, f"0x{packets.pid:X}", line, begun, packets.count))
 
     def why_nothing(self) -> list[str]:
         """Why nothing is given of each PID that should carry Teletext: scrambled, or not as it is.

@@ -6,6 +6,7 @@ import threading
 from typing import Callable, TextIO
 
 from ..core.words import shown, silence, tell
+from .chosen import Chosen
 from .progress import Progress
 from .typed import line_of
 
@@ -14,12 +15,13 @@ MOST_LINES = 40  # of a list
 
 class Speech:
     """Lines on standard output, or on standard error where a file goes there; the commands among
-    them are remembered."""
+    them are remembered, and what is chosen by the evidence that they give."""
 
     def __init__(self, progress: Progress, is_output_taken: bool = False) -> None:
         self.progress = progress
         self.out = sys.stderr if is_output_taken else sys.stdout
         self.commands: list[str] = []
+        self.chosen: list[Chosen] = []
         self.last, self.listed = "", 0
         self.at_end: Callable[[], None] = lambda: None  # what is done before the verdict's line
         self.lock = threading.RLock()  # a feed is heard beside the program that judges it
@@ -59,6 +61,11 @@ class Speech:
         self.commands.append(line_of(*words))
         self.listed = 0
         self.say(f"+ {self.commands[-1]}")
+
+    def choose(self, one: Chosen) -> None:
+        """A choice, and why it is made."""
+        self.say(one.line)
+        self.chosen.append(one)
 
     def of_list(self, line: str) -> None:
         """A line of a list, of which the first ones are said."""

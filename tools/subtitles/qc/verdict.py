@@ -8,6 +8,7 @@ from ..core.told import LOSSES, ON_SCREEN, STL_FAULTS
 from ..reading.gaps import Place
 from .asked import Asked
 from .beside import Beside, Counts
+from .chosen import Chosen
 from .clock import FITTED, FITTED_LATER
 from .delays import Spread, spread_of
 from .evidence import Choice
@@ -55,6 +56,7 @@ class Verdict:
     notes: list[str] = dataclasses.field(default_factory=list)
     hints: list[str] = dataclasses.field(default_factory=list)
     commands: list[str] = dataclasses.field(default_factory=list)
+    chosen: list[Chosen] = dataclasses.field(default_factory=list)
     stl: SummedFile | None = None
     recording: SummedFile | None = None
     is_kept: bool = False  # what was judged stays in the folder

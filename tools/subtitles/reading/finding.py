@@ -40,11 +40,15 @@ class Sought(NamedTuple):
 
 class OfPart(NamedTuple):
     """The origin of a part, its PES packets where PTS go back, and of one of several parts its
-    first and its last frame."""
+    first and its last frame; how many cues agree with it, among how many, and the line that says
+    so."""
 
     origin: int
     packets: Range | None = None
     frames: tuple[int, int] | None = None
+    agree: int = 0
+    among: int = 0
+    line: str = ""
 
 
 class Agreement(NamedTuple):
@@ -155,7 +159,7 @@ def take_one(origin: Origin, asked: Sought, bases: Sequence[Base],
     if is_clear(part):
         origin.status = 0
         is_back = len(bases) > 1 and len(parts) == 1
-        add(origin, OfPart(part.origin, part.sent.packets if is_back else None))
+        add(origin, part, part.sent.packets if is_back else None, None, len(edges))
     origin.told += part_lines(part, len(edges))
     measure(origin, asked.origin, part)
     if len(parts) > 1:
@@ -177,12 +181,12 @@ def take_parts(origin: Origin, asked: Sought, bases: Sequence[Base],
         origin.told += [f"{found} found, where --breaks {asked.breaks} is said",
                         *break_lines(parts)]
         return
+    count = sum(len(part.sent.edges) for part in parts)
     if all(map(is_clear, parts)):
         origin.status = 0
         for part in parts:
-            add(origin, OfPart(part.origin, part.sent.packets if len(bases) > 1 else None,
-                               (part.begin, part.end)))
-    count = sum(len(part.sent.edges) for part in parts)
+            add(origin, part, part.sent.packets if len(bases) > 1 else None,
+                (part.begin, part.end), count)
     origin.told += [f"{len(parts)} parts: {sum(part.best.agree for part in parts)} of "
                     f"{counted(count, 'cue')} agree", *break_lines(parts)]
     for part in parts:
@@ -193,13 +197,15 @@ def take_parts(origin: Origin, asked: Sought, bases: Sequence[Base],
                         "into the next part, and is in none" for one in part.over]
 
 
-def add(origin: Origin, part: OfPart) -> None:
-    """Takes a part that is clear."""
-    frames = f"--from {time_of(part.frames[0])} --to {time_of(part.frames[1])} " \
-        if part.frames else ""
-    packets = f"--pes {part.packets[0]}-{part.packets[1]} " if part.packets else ""
-    origin.parts.append(part)
-    origin.printed.append(f"{frames}{packets}--origin {part.origin}")
+def add(origin: Origin, part: FittedPart, packets: Range | None,
+        frames: tuple[int, int] | None, count: int) -> None:
+    """Takes a part that is clear; the file has so many edges."""
+    between = f"--from {time_of(frames[0])} --to {time_of(frames[1])} " if frames else ""
+    pes = f"--pes {packets[0]}-{packets[1]} " if packets else ""
+    best = part.best
+    origin.parts.append(OfPart(part.origin, packets, frames, best.agree, best.among,
+                               agree_line(part, count)))
+    origin.printed.append(f"{between}{pes}--origin {part.origin}")
 
 
 def measure(origin: Origin, known: int | None, part: FittedPart) -> None:
@@ -258,14 +264,20 @@ def is_clear(part: FittedPart) -> bool:
                                   or bool(part.sent.apart(part.best)))
 
 
-def part_lines(part: FittedPart, count: int) -> Iterator[str]:
-    """What there is to know of the best origin of a part; the file has so many edges."""
+def agree_line(part: FittedPart, count: int) -> str:
+    """How many cues of a part agree with its best origin; the file has so many edges."""
     best, others, edges = part.best, part.others, len(part.sent.edges)
     following = f"--origin {others[0].origin} with {others[0].agree}" if others else "none"
-    yield (f"{best.agree} of {counted(best.among, 'cue')} "
-           f"{'agrees' if best.agree == 1 else 'agree'}, {best.letters} with the letters that are "
-           f"due; {'the file' if edges == count else 'this part'} has {edges}; next best: "
-           f"{following}")
+    return (f"{best.agree} of {counted(best.among, 'cue')} "
+            f"{'agrees' if best.agree == 1 else 'agree'}, {best.letters} with the letters that are "
+            f"due; {'the file' if edges == count else 'this part'} has {edges}; next best: "
+            f"{following}")
+
+
+def part_lines(part: FittedPart, count: int) -> Iterator[str]:
+    """What there is to know of the best origin of a part; the file has so many edges."""
+    best = part.best
+    yield agree_line(part, count)
     if part.sent.within:
         late = sorted(best.late)
         yield "no cue is late" if not late[-1] else f"cues are " \

@@ -43,13 +43,14 @@ class Lull(NamedTuple):
 class Pace(NamedTuple):
     """What PES packets are like: how many frames they are apart at most, nearly everywhere, and how
     many where some are lost; with pauses the longest of them. Where they are regular a pace of one
-    frame less tells each such loss, and refuses nothing that is nearer; but at so many places where
-    they come `closer`."""
+    frame less tells each such loss, and refuses nothing that is nearer; but at so many places, of
+    `among`, where they come `closer`."""
 
     kind: str
     apart: int = 0
     lost: int = 0
     closer: int = 0
+    among: int = 0
 
     @property
     def frames(self) -> int | None:
@@ -83,7 +84,8 @@ def pace_of(rows: Sequence[Sequence[int]], each: int, every: int, pauses: Pauses
     idle = idle_of(silences, every, pauses)
     if 2 * len(idle) > len(silences):
         return Pace(PAUSED, max(one.last - one.first for one in idle), lost)
-    return Pace(REGULAR, apart, lost, sum(many for frames, many in far.items() if frames < lost))
+    closer = sum(many for frames, many in far.items() if frames < lost)
+    return Pace(REGULAR, apart, lost, closer, sum(far.values()))
 
 
 def lost_in(far: collections.Counter[int], apart: int, few: int) -> int:

@@ -61,5 +61,5 @@ def measured(frames: Iterable[int], edges: Sequence[int]) -> int | None:
     found = repeats_of(frames, edges)
     if len(found) < FEWEST:
         return None
-    return next(frames for frames, total in zip(found, itertools.accumulate(found))
-                if 2 * total >= sum(found))
+    totals = [*itertools.accumulate(found)]
+    return found[bisect.bisect_left(totals, -(-totals[-1] // 2))]

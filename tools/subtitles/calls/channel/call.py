@@ -4,7 +4,6 @@ from __future__ import annotations
 import argparse
 import contextlib
 import os
-import signal
 import tempfile
 
 from ...core.outputs import Inputs, temporary_folder
@@ -16,7 +15,6 @@ from .. import single
 from ..claim import locking, refuse_files_of_all
 from . import hook
 from .channel import Channel
-from .recorder import signals
 
 
 def judge(words: argparse.Namespace, called: str) -> int:
@@ -25,8 +23,7 @@ def judge(words: argparse.Namespace, called: str) -> int:
         raise Stop(AUTO_OF_FEED)
     if words.on_result is not None:
         hook.refuse_command(words.on_result)
-    for one in signals():
-        signal.signal(one, signal.default_int_handler)
+    single.heed_signals()
     if words.out is not None:
         refuse_files_of_all(words.out, Inputs(words.channel, words.stl, words.severity))
     with contextlib.ExitStack() as stack:

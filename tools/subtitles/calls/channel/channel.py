@@ -17,13 +17,14 @@ from ...core.words import Stop, counted, line_of, say, shown
 from ...qc.asked import Asked
 from ...qc.clock import FITTED_SHORT
 from ...qc.ending import Ending
+from ...qc.feed import Stall
 from ...qc.progress import Progress
 from ...qc.status import NOT_JUDGED
 from ...qc.typed import Typed
 from ...qc.unclear import Unclear
 from ...reading.finding import Origin
 from .. import collecting, single
-from ..objects import ENDING, Row, objects_in, row_of, unjudged
+from ..objects import ENDING, Row, in_order, row_of, rows_in, unjudged
 from . import hook, machine
 from .feed_clock import MINUTE
 from .hearing import Hearing
@@ -34,7 +35,7 @@ from .recorder import Recorded
 from .results import Results
 from .running import ANEW, ENDED, LOST, MARGIN, OnAir
 from .segments import Segments
-from .state import ERROR, HEARD, Exchange
+from .state import ERROR
 
 AROUND = 50  # frames before the last page transmission before it that have to be there
 OVERLAP = 10 * MINUTE  # by which a programme may begin before the one before it is over
@@ -49,7 +50,7 @@ class Channel:
     def __init__(self, words: argparse.Namespace, called: str, folder: str) -> None:
         self.words, self.called, self.folder = words, called, folder
         self.patience: int = words.patience * MINUTE
-        self.segments, self.state = Segments(folder), Exchange(folder)
+        self.segments = Segments(folder)
         self.results = Results(folder, words.out, Inputs(words.channel, words.stl, words.severity),
                                self.call_command)
         self.queue = Queue(Planned(words.channel, words, Journal(os.path.join(folder, "list")),
@@ -59,21 +60,18 @@ class Channel:
         self.machine = machine.Machine(words.out)
         self.running: OnAir | None = None
         self.progress = Progress()
-        self.rows: dict[str, Row] = {}
+        self.rows = dict[str, Row]()
         self.verdicts: list[str] = []
-        self.heard = -1  # the segment that is read, as the recorder knows it
         self.came, self.next_write = time.monotonic(), 0.0
-        self.is_stalled = self.is_stopped = False
+        self.stall = Stall(words.stall, self.say)
+        self.is_stopped = False
         self.begin()
 
     def begin(self) -> None:
         """Takes what an earlier call has left."""
         self.results.publish()
-        for path, known in objects_in(self.words.out) if self.words.out and os.path.isdir(
-                self.words.out) else []:
-            name = os.path.basename(path).removesuffix(ENDING)
-            if known is not None:
-                self.rows[name] = row_of(known, name)
+        if self.words.out and os.path.isdir(self.words.out):
+            self.rows = rows_in(self.words.out)
         self.queue.ended = self.queue.since = self.results.ended()
         self.queue.planned.look(True)
         kept = [known["verdict"] for one in self.queue.planned.programmes if one.has_ended
@@ -105,6 +103,8 @@ class Channel:
                 self.hearing.refuse(name)
             except (Stop, Unclear) as reason:
                 why = reason.reason if isinstance(reason, Unclear) else line_of(reason)
+                if self.segments.state[ERROR] and self.hearing.begin() is None:
+                    why = self.why_not_kept()  # so that nothing could be heard
                 self.say(f"the feed can't be read any further: {why}")
                 return why
         return BEFORE_IT
@@ -114,9 +114,6 @@ class Channel:
         while not self.hearing.has_ended():
             has_ended = recording.has_ended()
             data = self.segments.read()
-            if self.segments.at != self.heard:
-                self.heard = self.segments.at
-                self.state[HEARD] = self.heard + 1
             if data is None:
                 self.lose()
                 continue
@@ -129,7 +126,7 @@ class Channel:
             else:
                 time.sleep(LOOK)
             self.take_all(self.hearing.take(data))
-            self.stall(still)
+            self.stall.take(still)
             self.take(is_still=still >= PATIENCE)
             self.keep()
             self.show()
@@ -143,7 +140,7 @@ class Channel:
     def lose(self) -> None:
         """What comes next is behind a loss: it is heard anew."""
         self.take_all(self.hearing.end())
-        if self.segments.at > self.segments.known:
+        if self.segments.at >= self.segments.known:
             self.say(f"{LOST}: {self.why_lost()}")
         self.machine.lose()
         self.begin_anew(LOST)
@@ -151,8 +148,13 @@ class Channel:
 
     def why_lost(self) -> str:
         """Why something was lost, as far as the recorder could tell."""
-        error = self.state[ERROR]
+        error = self.segments.state[ERROR]
         return os.strerror(error) if error else "it was recorded anew"
+
+    def why_not_kept(self) -> str:
+        """Why something of the feed is not there."""
+        error = self.segments.state[ERROR] or errno.ENOENT
+        return f"the feed could not be kept: {os.strerror(error)}"
 
     def take_all(self, told: Iterator[None]) -> None:
         """Takes each line that is told of the feed."""
@@ -185,15 +187,6 @@ class Channel:
         self.hearing.drop(floor)
         self.publish()
         self.tell_machine()
-
-    def stall(self, still: float) -> None:
-        """Tells a feed that stands still, once, and that it goes on."""
-        if self.is_stalled and still < self.words.stall:
-            self.is_stalled = False
-            self.say("the feed goes on")
-        elif not self.is_stalled and still >= self.words.stall:
-            self.is_stalled = True
-            self.say(f"nothing has come for {counted(round(still), 'second')}")
 
     # ---- one programme after another
 
@@ -270,19 +263,18 @@ class Channel:
         name, heard = running.programme.name, self.hearing.of(running.asked)
         missing = running.missing(heard.start, self.now, why)
         needed = running.begin - TICKS * (running.asked.every + AROUND)
-        paths = self.segments.between(needed, running.since, running.until)
+        parts = self.segments.between(needed, running.since, running.until)
         folder = None
         if missing is not None:
             known = unjudged(name, missing, why == ENDED and self.now < running.end)
-        elif paths is None:
-            why_not = os.strerror(self.state[ERROR] or errno.ENOENT)
-            known = unjudged(name, f"the feed could not be kept: {why_not}")
+        elif parts is None:
+            known = unjudged(name, self.why_not_kept())
         else:
             is_moved = any(running.since <= one for one in heard.moves)
             asked = dataclasses.replace(running.asked,
                                         pid=None if is_moved else heard.pid or None)
             folder, known = self.results.judge(
-                lambda into: self.judge_in(running, asked, into), name, paths)
+                lambda into: self.judge_in(running, asked, into), name, parts)
         over = min(running.end, self.now)
         self.running = None
         hint = row_of(known, name).hint
@@ -328,8 +320,7 @@ class Channel:
                 self.say(f"{name}: its result can't be written, and is tried again: {why}")
         if written or is_new:
             with contextlib.suppress(OSError):
-                collecting.write_index(self.words.out,
-                                       [self.rows[name] for name in sorted(self.rows)])
+                collecting.write_index(self.words.out, in_order(self.rows))
 
     def call_command(self, path: str, verdict: str) -> None:
         """Calls what the house wants to have called after each result."""

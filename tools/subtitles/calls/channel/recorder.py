@@ -5,7 +5,6 @@ from __future__ import annotations
 import contextlib
 import os
 import select
-import signal
 import stat
 import time
 from typing import BinaryIO
@@ -14,9 +13,10 @@ from ...core.files import Input
 from ...core.pes import HEAD, START, begins_in
 from ...core.words import Stop
 from ..claim import locking
-from ..forked import ERRORS, FILES
+from ..forked import beside, signals_held
+from ..single import heed_signals, ignore_signals
 from .segments import LEAST, PART, numbers_in, path_of, size_in
-from .state import ENDED, ERROR, FILE, HEARD, Exchange
+from .state import ERROR, FILE, HEARD, Exchange
 
 LONG, MOST = 5.0, 1 << 25  # seconds, and bytes, of a segment
 AHEAD = 8  # segments by which a file may be read before it is heard
@@ -48,7 +48,6 @@ class Recorder:
         known, heard = numbers_in(folder), self.state[HEARD]
         self.number = max([heard - 1, *known[-1:]]) + 2 if heard or known else 0
         self.go_on(about.st_size)
-        self.state[ENDED] = 0
 
     def go_on(self, size: int) -> None:
         """Of the same file, goes on where it was."""
@@ -79,7 +78,6 @@ class Recorder:
             self.state[ERROR] = error.errno or 0
         except NotWanted:
             return False
-        self.state[ENDED] = 1
         return True
 
     def whole(self, data: bytes) -> bytes:
@@ -174,15 +172,8 @@ def record_alone(name: str, folder: str) -> int:
     """Records a feed until a signal ends that, or it ends; answers the status."""
     alive, own = os.pipe()
     ending = [own]
-    for one in signals():
-        signal.signal(one, lambda *_: os.close(ending.pop()) if ending else None)
+    heed_signals(lambda *_: os.close(ending.pop()) if ending else None)
     return 0 if record(name, folder, alive) else 2
-
-
-def signals() -> list[int]:
-    """The signals that end a call: of those a hang-up, unless it was ignored."""
-    is_ignored = signal.getsignal(signal.SIGHUP) == signal.SIG_IGN
-    return [signal.SIGTERM, signal.SIGINT, *[signal.SIGHUP] * (not is_ignored)]
 
 
 class Recorded:
@@ -190,37 +181,30 @@ class Recorded:
     call, which may end and be begun again."""
 
     def __init__(self, name: str, folder: str) -> None:
-        self.state, self.pid, self.is_over = Exchange(folder), 0, False
+        self.pid, self.is_over = 0, False
         if os.path.isdir(name):
             return
-        self.state[ENDED] = 0
         alive, self.alive = os.pipe()
-        with Input(name):
-            self.pid = os.fork()
-        if not self.pid:
-            self.record(name, folder, alive)
+
+        def does() -> bool:
+            os.setsid()
+            ignore_signals()  # who began it ends it
+            return record(name, folder, alive)
+
+        with Input(name), signals_held():
+            self.pid = beside(does, alive)
         os.close(alive)
         nothing = os.open(os.devnull, os.O_RDONLY)
         os.dup2(nothing, 0)  # whoever feeds it hears when the recorder ends
         os.close(nothing)
 
-    def record(self, name: str, folder: str, alive: int) -> None:
-        """Records it, in the process that is begun for that; never comes back."""
-        try:
-            os.setsid()
-            for one in signals():
-                signal.signal(one, signal.SIG_IGN)  # who began it ends it
-            close_all_but(alive)
-            record(name, folder, alive)
-        finally:
-            os._exit(0)
-
     def has_ended(self) -> bool:
         """Whether nothing more comes."""
-        if self.pid and os.waitpid(self.pid, os.WNOHANG)[0]:
+        pid, status = os.waitpid(self.pid, os.WNOHANG) if self.pid else (0, 0)
+        if pid:
             self.pid, self.is_over = 0, True
-            if not self.state[ENDED]:
-                raise Stop("the recorder ended")
+        if status:
+            raise Stop("the recorder ended")
         return self.is_over
 
     def close(self) -> None:
@@ -229,11 +213,3 @@ class Recorded:
             os.close(self.alive)
             os.waitpid(self.pid, 0)
             self.pid = 0
-
-
-def close_all_but(kept: int) -> None:
-    """Closes what a process has open that was forked, locks among it, which would stay."""
-    for name in os.listdir(FILES):
-        with contextlib.suppress(OSError):
-            if int(name) > ERRORS and int(name) != kept:
-                os.close(int(name))

@@ -14,11 +14,11 @@ from typing import Any, Callable, Sequence
 from ...core.outputs import Inputs, new_name, result_file
 from ...core.words import Stop, ended, line_of
 from ..claim import refuse
-from ..forked import INPUT, Forked, ended_of, signals_held
+from ..forked import INPUT, Forked, beside, ended_of, signals_held
 from ..objects import ENDING, left_by_call, object_at, put, unjudged, value_at
 from ..result import FORMAT, misfit
 from .journal import Journal
-from .recorder import close_all_but
+from .segments import Read, bytes_of
 
 LONGEST = 60.0  # seconds in which a programme is judged, and one more for each so many bytes:
 SLOWEST = 2_000_000
@@ -65,20 +65,20 @@ class Results:
         return next((over[name] for name in sorted(over, key=lambda name: over[name], reverse=True)
                      if self.has(name)), 0)
 
-    def judge(self, call: Callable[[str], int], name: str, paths: Sequence[str]
+    def judge(self, call: Callable[[str], int], name: str, parts: Sequence[Read]
               ) -> tuple[str | None, dict[str, Any]]:
-        """Judges what is in some files, in this order, by a call that writes into a folder; answers
-        that, and the result."""
+        """Judges what was read of a feed, by a call that writes into a folder; answers that, and
+        the result."""
         folder, longest = new_name(self.folder, WORK), LONGEST
         try:
             os.mkdir(folder)
-            longest += sum(map(os.path.getsize, paths)) / SLOWEST
-            status, told = called(lambda: ended_by(paths, lambda: call(folder)), longest)
+            longest += sum(one.size for one in parts) / SLOWEST
+            status, told = called(lambda: ended_by(parts, lambda: call(folder)), longest)
         except TimeoutError:
             return folder, unjudged(name, f"it was not judged within {longest:.0f} seconds")
         except (OSError, Stop) as reason:
             return folder, unjudged(name, line_of(reason))
-        if not all(map(os.path.exists, paths)):
+        if not all(os.path.exists(one.path) for one in parts):
             return folder, unjudged(name, "the feed could not be kept as long as it was judged")
         return folder, left_by_call(os.path.join(folder, name + ENDING), name, status, told)
 
@@ -174,18 +174,16 @@ def called(does: Callable[[], int], longest: float) -> tuple[int, list[str]]:
         raise
 
 
-def ended_by(paths: Sequence[str], does: Callable[[], int]) -> int:
-    """The status of what reads some files, one after another, on standard input."""
+def ended_by(parts: Sequence[Read], does: Callable[[], int]) -> int:
+    """The status of what reads some parts of a feed on standard input."""
     own, into = os.pipe()
-    if not os.fork():
-        try:
-            close_all_but(into)
-            with open(into, "wb") as pipe:
-                for path in paths:
-                    with open(path, "rb") as file:
-                        shutil.copyfileobj(file, pipe)
-        finally:
-            os._exit(0)
+
+    def hand_on() -> bool:
+        with open(into, "wb") as pipe:
+            pipe.writelines(bytes_of(parts))
+        return True
+
+    beside(hand_on, into)
     os.close(into)
     os.dup2(own, INPUT)
     os.close(own)

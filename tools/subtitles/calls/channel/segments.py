@@ -5,9 +5,10 @@ from __future__ import annotations
 
 import contextlib
 import os
-from typing import BinaryIO, Iterator, NamedTuple
+from typing import BinaryIO, Iterable, Iterator, NamedTuple
 
 from .journal import Journal
+from .state import HEARD, Exchange
 
 PART = 1 << 18  # bytes that are read at a time
 LEAST = 1 << 20  # bytes by which what is told of a feed is behind what was read of it, at most
@@ -41,6 +42,22 @@ class Begin(NamedTuple):
     is_exact: bool
 
 
+class Read(NamedTuple):
+    """What was read of a segment: its file, and how many bytes."""
+
+    path: str
+    size: int
+
+
+def bytes_of(several: Iterable[Read]) -> Iterator[bytes]:
+    """What was read, in parts."""
+    for path, size in several:
+        with open(path, "rb") as file:
+            while size and (data := file.read(min(PART, size))):
+                size -= len(data)
+                yield data
+
+
 class Segments:
     """The segments of a folder, read from the oldest on. When each began is kept in the file
     `index`, so that the time of the feed goes on for who begins to read anew.
@@ -50,11 +67,12 @@ class Segments:
     """
 
     def __init__(self, folder: str) -> None:
-        self.folder = folder
+        self.folder, self.state = folder, Exchange(folder)
         self.index = Journal(os.path.join(folder, "index"))
         self.begins = {number: Begin(*rest) for number, *rest in self.index.entries(4)}
         self.known, self.count = max(self.begins, default=-1), len(self.begins)
         self.file: BinaryIO | None = None
+        self.is_lost = False  # something behind the segment that is read, and that was told
         self.at = self.oldest = next(iter(numbers_in(folder)), -1)
 
     def begun(self) -> Begin | None:
@@ -65,8 +83,8 @@ class Segments:
         return None if number is None else self.begins[number]._replace(is_exact=False)
 
     def read(self) -> bytes | None:
-        """Some bytes that come next; nothing where there are none yet. `None` where something is
-        lost, and what comes next is behind that."""
+        """Some bytes that come next; nothing where there are none yet. `None`, once, where
+        something is lost: what came before it is there until more is read."""
         while True:
             data = self.read_on()
             following = None if data else self.following()
@@ -76,18 +94,20 @@ class Segments:
             if data:
                 return data
             is_lost = -1 < self.at != following - 1
+            if is_lost and not self.is_lost:
+                self.is_lost = True
+                return None
             if self.at < 0 or is_lost:
                 self.oldest = following
             self.close()
-            self.at = following
-            if is_lost:
-                return None
+            self.at, self.is_lost = following, False
 
     def read_on(self) -> bytes:
         """Some bytes of the segment that is read."""
         if self.file is None:
             with contextlib.suppress(FileNotFoundError):
                 self.file = open(path_of(self.folder, self.at), "rb", buffering=0)
+                self.state[HEARD] = self.at + 1
         return self.file.read(PART) if self.file else b""
 
     def following(self) -> int | None:
@@ -102,13 +122,14 @@ class Segments:
 
     def before(self) -> Iterator[bytes]:
         """All that was read so far, since the last loss."""
-        for number in self.there():
-            left = None if number < self.at else self.file.tell() if self.file else 0
-            with contextlib.suppress(FileNotFoundError), \
-                    open(path_of(self.folder, number), "rb") as file:
-                while left != 0 and (data := file.read(PART if left is None else min(PART, left))):
-                    left = None if left is None else left - len(data)
-                    yield data
+        with contextlib.suppress(FileNotFoundError):
+            yield from bytes_of([self.read_of(number) for number in self.there()])
+
+    def read_of(self, number: int) -> Read:
+        """What was read of a segment: more may have come to it, where PTS may come again."""
+        size = size_in(self.folder, number) if number < self.at else \
+            self.file.tell() if self.file else 0
+        return Read(path_of(self.folder, number), size)
 
     def there(self) -> list[int]:
         """The segments that were read, since the last loss, as far as they are there."""
@@ -126,13 +147,13 @@ class Segments:
         is_whole = behind >= LEAST or numbers[at:at + 1] == [self.oldest]
         return at if is_whole else None
 
-    def between(self, time: int, earlier: int, last: int) -> list[str] | None:
-        """The files with all that came from one time to another, and from an earlier one on, where
-        that is there; `None` where some of the first is gone."""
+    def between(self, time: int, earlier: int, last: int) -> list[Read] | None:
+        """All that was read from one time to another, and from an earlier one on, where that is
+        there; `None` where some of the first is gone."""
         numbers = self.there()
         if self.first_at(time, numbers) is None:
             return None
-        return [path_of(self.folder, one) for one in numbers[self.first_at(earlier, numbers) or 0:]
+        return [self.read_of(one) for one in numbers[self.first_at(earlier, numbers) or 0:]
                 if one not in self.begins or self.begins[one].time <= last]
 
     def drop(self, before: int) -> None:

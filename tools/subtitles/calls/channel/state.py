@@ -1,23 +1,25 @@
 """What the recorder and the judge of a channel tell each other: numbers in the file `state`, which
-is written to at once whatever room there is."""
+is written to at once, also where there is no room any more."""
 from __future__ import annotations
 
 import contextlib
 import os
 
-HEARD, ERROR, ENDED, FILE = range(0, 32, 8)  # where what is told begins
-SIZE = 8  # bytes of a number
+HEARD, ERROR, FILE = range(0, 24, 8)  # where what is told begins
+SIZE, COUNT = 8, 6  # bytes of a number, and how many there are
 
 
 class Exchange:
     """`HEARD` is the number behind the segment that the judge reads, `ERROR` that of the error by
-    which something was lost, `ENDED` 1 once the feed has ended; at `FILE`, of a feed that is a
-    file: its device, its number there, a segment, and the place in the file where that begins.
+    which something was lost; at `FILE`, of a feed that is a file: its device, its number there, a
+    segment, and the place in the file where that begins.
 
     The file is opened each time, since somebody may have emptied the folder."""
 
     def __init__(self, folder: str) -> None:
         self.path = os.path.join(folder, "state")
+        if not os.path.exists(self.path):
+            self.put(HEARD, *[0] * COUNT)  # it has its room before the disk is full
 
     def __getitem__(self, at: int) -> int:
         return self.several(at, 1)[0]

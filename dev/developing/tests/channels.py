@@ -1,0 +1,168 @@
+"""Channels as processes, made for tests: programmes, what is sent of them, and calls that judge it.
+"""
+from __future__ import annotations
+
+import os
+import re
+import subprocess
+import threading
+import time
+from typing import Callable, Iterator, NamedTuple, Sequence
+
+from developing.pes import pts_bytes
+from developing.stl import boxed, gsi_block, subtitle_blocks
+from subtitles.core.times import CLOCK, FRAMES_A_SECOND, TICKS
+from .bench import Case, packets, tool_path
+
+SECOND = TICKS * FRAMES_A_SECOND
+BEGIN = CLOCK - 30 * SECOND  # of a feed, so that PTS begin again soon
+SOON = 60.0  # seconds in which what is waited for has to come
+FITTED = "; the clock was fitted to the recording"
+ACCEPTED = f"accepted 276 frames 12 transmissions{FITTED}"
+# With the last blank sending before it.
+WITH_BLANK = f"accepted 326 frames 13 transmissions{FITTED}"
+LASTS = 12  # seconds of a programme of four subtitles
+THREE = [f"one  {ACCEPTED}",
+         "lost  not judged: not seen: two, which is behind it in the list, is sent",
+         f"two  {WITH_BLANK}", f"three  {WITH_BLANK}"]  # what is said of those
+
+
+def make_subtitles(case: Case, name: str, first: int, words: str) -> str:
+    """A subtitle file with a subtitle for each word, from the frame `first` on."""
+    texts = words.split()
+    blocks = b"".join(subtitle_blocks(number, first + 75 * number, first + 75 * number + 50, 20, 2,
+                                      boxed(text.encode())) for number, text in enumerate(texts))
+    return case.write(f"{name}.stl", gsi_block(name.encode(), len(texts), len(texts), first)
+                      + blocks)
+
+
+def make_programme(case: Case, name: str, first: int, words: str, pts: int) -> bytes:
+    """The same, and its transmission, which begins at a PTS."""
+    stl = make_subtitles(case, name, first, words)
+    origin = (pts - TICKS * first) % CLOCK
+    case.schedule(stl, f"{name}.pes", "--origin", str(origin), "--every", "25")
+    return case.read(f"{name}.pes")
+
+
+def blank(data: bytes, pts: int, seconds: int) -> bytes:
+    """The last sending of a transmission again, once a second from a PTS on."""
+    last = packets(data)[-1]
+    return b"".join(last[:9] + pts_bytes((pts + SECOND * one) % CLOCK) + last[14:]
+                    for one in range(seconds))
+
+
+def three(case: Case, starts: Sequence[int], end: int, missing: int = 0) -> list[bytes]:
+    """Three programmes, which begin at some seconds of a feed, each with what is sent behind it, up
+    to an end; behind the second one some seconds are missing. A list has one more, which is not
+    sent."""
+    found = []
+    for (name, first, words), start, following in zip(
+            (("one", 1_000_000, "Alpha Beta Gamma Delta"), ("two", 500_000, "Night Rain Wind Snow"),
+             ("three", 900_000, "Red Green Blue White")), starts, [*starts[1:], end]):
+        made = make_programme(case, name, first, words, (BEGIN + SECOND * start) % CLOCK)
+        begin = start + LASTS + missing * (name == "two")
+        found += [made, blank(made, BEGIN + SECOND * begin, following - begin - 1)]
+    make_subtitles(case, "lost", 200_000, "Never was sent here")
+    case.write("list", b"one.stl\nlost.stl\ntwo.stl # at night\n\nthree.stl --every 50\n")
+    return found
+
+
+def verdicts(done_lines: Sequence[str]) -> list[str]:
+    """Lines without the date and the time of day."""
+    return [line.partition("  ")[2] for line in done_lines]
+
+
+def until(holds: Callable[[], object], seconds: float = SOON) -> bool:
+    """Waits until something holds; whether it does in time."""
+    end = time.monotonic() + seconds
+    while not holds() and time.monotonic() < end:
+        time.sleep(0.02)
+    return bool(holds())
+
+
+class Used(NamedTuple):
+    """What a process and its children take: kilobytes, of what they share each its part, those of
+    the process alone, and the most files that one of them has open."""
+
+    kilobytes: int
+    own: int
+    handles: int
+
+
+def used_by(pid: int) -> Used:
+    """What is used by now; of children that end meanwhile nothing."""
+    found = [one for one in map(used_alone, family_of(pid)) if one]
+    return Used(sum(one.kilobytes for one in found), found[0].own if found else 0,
+                max((one.handles for one in found), default=0))
+
+
+def used_alone(pid: int) -> Used | None:
+    """What one process takes."""
+    try:
+        with open(f"/proc/{pid}/smaps_rollup", encoding="ascii") as file:
+            sizes = dict(re.findall(r"(\w+): +(\d+) kB", file.read()))
+        return Used(int(sizes["Pss"]), int(sizes["Rss"]), len(os.listdir(f"/proc/{pid}/fd")))
+    except (OSError, KeyError):
+        return None
+
+
+def family_of(pid: int) -> Iterator[int]:
+    """A process, its children, and theirs."""
+    parents = dict[int, int]()
+    for name in filter(str.isdecimal, os.listdir("/proc")):
+        try:
+            with open(f"/proc/{name}/stat", encoding="utf-8", errors="replace") as file:
+                parents[int(name)] = int(file.read().rpartition(") ")[2].split()[1])
+        except OSError:
+            continue
+    family = [pid]
+    for one in family:
+        family += [child for child, parent in parents.items() if parent == one]
+        yield one
+
+
+class Running:
+    """A call of a channel, or of a recorder: what it says goes to a file. `most` is the most that
+    it took, where that is watched."""
+
+    def __init__(self, case: Case, *words: str, stdin: int = subprocess.DEVNULL,
+                 log: str = "log", before: Sequence[str] = ()) -> None:
+        self.case, self.log = case, log
+        with open(case.path(log), "ab") as file:
+            self.process = subprocess.Popen([*before, tool_path("qc"), *words], cwd=case.folder,
+                                            stdin=stdin, stdout=file, stderr=file)
+        self.most = Used(0, 0, 0)  # kilobytes, also of the process alone, and open files
+        self.watching = threading.Thread(target=self.watch, daemon=True)
+
+    def watch(self) -> None:
+        """Keeps the most that is used, as long as it runs."""
+        while self.process.poll() is None:
+            now = used_by(self.process.pid)
+            self.most = Used(*(max(pair) for pair in zip(self.most, now)))
+            time.sleep(0.25)
+
+    def put(self, data: bytes) -> None:
+        """Hands on some of the feed."""
+        assert self.process.stdin
+        self.process.stdin.write(data)
+        self.process.stdin.flush()
+
+    def says(self, words: str) -> bool:
+        """Whether it says some words, soon."""
+        def is_there() -> bool:
+            return words.encode() in self.case.read(self.log)
+
+        until(lambda: is_there() or self.process.poll() is not None)
+        return is_there()
+
+    def lines(self) -> list[str]:
+        """What it has said, without dates."""
+        return verdicts(self.case.read(self.log).decode().splitlines())
+
+    def end(self, number: int | None = None) -> int:
+        """Its status, after a signal, or once its feed has ended."""
+        if number is not None:
+            self.process.send_signal(number)
+        elif self.process.stdin:
+            self.process.stdin.close()
+        return self.process.wait(SOON * 5)
