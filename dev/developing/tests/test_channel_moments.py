@@ -133,12 +133,14 @@ class Moments(Case):
                  ["--channel", "list", "kept", "-o", "out", "-p", self.bench.program]]
         calls = [Running(self, *one, log=f"log{at}") for at, one in enumerate(words)]
         at = lost = 0
-        ends = sorted(self.chance.sample(range(len(self.feed)), 2 * self.moments))
-        for number, end in enumerate(ends):
+        moments = [(which, number) for which in (0, 1) for number in (signal.SIGKILL, *SIGNALS)
+                   ] * (self.moments if self.bench.is_timed else 1)
+        self.chance.shuffle(moments)
+        ends = sorted(self.chance.sample(range(len(self.feed)), len(moments)))
+        for end, (which, number) in zip(ends, moments):
             while at < end:
                 at += os.write(pipe, self.feed[at:min(end, at + 4096)])
-            which = number % 2
-            self.end(calls[which], self.chance.choice([signal.SIGKILL, *SIGNALS]))
+            self.end(calls[which], number)
             lost += which == 0
             self.results("out")
             calls[which] = Running(self, *words[which], log=f"log{which}")

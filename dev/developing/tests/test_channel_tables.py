@@ -14,6 +14,8 @@ from .bench import Case
 
 FIRST = 1_000_000  # the frame of a programme's first subtitle
 LASTS, EACH = 50, 75  # frames of a subtitle, and from one to the next
+FOUR = ["Alpha", "Beta", "Gamma", "Delta"]
+AGES = 10 ** 15  # ticks
 
 
 def defaults(*words: str) -> argparse.Namespace:
@@ -41,54 +43,46 @@ class Tables(Case):
             found.add(begin + TICKS * (EACH * number + LASTS) + late, b"")
         return found
 
+    def begin(self, texts: list[str], changes: Changes, since: int = 0, until: int = AGES,
+              within: int = 0) -> int | None:
+        """When a programme of some texts has its first TCI, by changes, where that is known."""
+        stl = programme(self, "some.stl", FIRST, texts)
+        found = Awaited(stl, "english", since, until, within).midnight(changes)
+        return None if found is None else found + TICKS * FIRST
+
     def test_waits_for_five_edges(self) -> None:
-        """Midnight is known once five edges in a row agree; before that it is not."""
-        texts = ["Alpha", "Beta", "Gamma", "Delta"]
-        stl = programme(self, "one.stl", FIRST, texts)
-        for begin in (0, 5, 12 * CLOCK + 3):
-            for count in range(9):
-                awaited = Awaited(stl, "english", 0, begin + 3600 * SECOND)
+        """Midnight is known once five edges in a row agree, or all where they are fewer."""
+        for texts, begin, least in ((FOUR, 0, 5), (FOUR, 5, 5), (FOUR, 12 * CLOCK + 3, 5),
+                                    (FOUR[:2], 5, 4)):
+            for count in range(2 * len(texts) + 1):
                 changes = self.changes(texts, begin)
                 del changes.times[count:], changes.letters[count:]
-                found = awaited.midnight(changes)
-                wanted = begin - TICKS * FIRST if count >= 5 else None
-                self.must(f"{begin}, {count} changes", found == wanted, found)
-        few = programme(self, "two.stl", FIRST, texts[:2])
-        for count in range(5):
-            changes = self.changes(texts[:2], 5)
-            del changes.times[count:], changes.letters[count:]
-            found = Awaited(few, "english", 0, SECOND * 3600).midnight(changes)
-            self.must(f"{count} of four", found == (5 - TICKS * FIRST if count == 4 else None),
-                      found)
+                found = self.begin(texts, changes)
+                self.must(f"{len(texts)}, {begin}, {count} changes", found == (
+                    begin if count >= least else None), found)
 
     def test_waits_for_its_own_edges(self) -> None:
-        """Not before it waits, nor after; of another programme, or in another order, none."""
-        texts = ["Alpha", "Beta", "Gamma", "Delta"]
-        stl, begin = programme(self, "one.stl", FIRST, texts), 100 * SECOND
-        last = begin + TICKS * (EACH * 3 + LASTS)
-        fifth = begin + TICKS * 2 * EACH
-        midnight = begin - TICKS * FIRST
-        for name, since, until, own, wanted in (
-                ("all", 0, last, texts, midnight), ("since then", begin, last, texts, midnight),
-                ("since the second", begin + 1, last, texts, midnight),
-                ("since the fifth", fifth + 1, last, texts, None),
-                ("up to the fifth", 0, fifth, texts, midnight),
-                ("up to just before it", 0, fifth - 1, texts, None),
-                ("others", 0, last, ["One", "Two", "Three", "Four"], None),
-                ("another order", 0, last, texts[::-1], None),
-                ("two of them", 0, last, [*texts[:2], "Three", "Four"], None),
-                ("the last three", 0, last, ["One", *texts[1:]], midnight)):
-            found = Awaited(stl, "english", since, until).midnight(self.changes(own, begin))
-            self.must(name, found == wanted, found)
-
-    def test_waits_for_texts_that_come_again(self) -> None:
-        """Where each of those that are heard stands in the file before, too."""
-        texts, begin = ["Alpha", "Beta", "Gamma", "Gamma", "Beta", "Alpha"], 7 * SECOND
+        """Not before it waits, nor after; of another programme, or in another order, none; where
+        each of those that are heard stands in the file before, the second ones."""
+        begin = 100 * SECOND
+        last, fifth = begin + TICKS * (EACH * 3 + LASTS), begin + TICKS * 2 * EACH
+        for name, since, until, own, is_found in (
+                ("all", 0, last, FOUR, True), ("since then", begin, last, FOUR, True),
+                ("since the second", begin + 1, last, FOUR, True),
+                ("since the fifth", fifth + 1, last, FOUR, False),
+                ("up to the fifth", 0, fifth, FOUR, True),
+                ("up to just before it", 0, fifth - 1, FOUR, False),
+                ("others", 0, last, ["One", "Two", "Three", "Four"], False),
+                ("another order", 0, last, FOUR[::-1], False),
+                ("two of them", 0, last, [*FOUR[:2], "Three", "Four"], False),
+                ("the last three", 0, last, ["One", *FOUR[1:]], True)):
+            found = self.begin(FOUR, self.changes(own, begin), since, until)
+            self.must(name, found == (begin if is_found else None), found)
+        texts = ["Alpha", "Beta", "Gamma", "Gamma", "Beta", "Alpha"]
         changes = self.changes(texts, begin)
         changes.drop(begin + TICKS * EACH * 3)
-        stl = programme(self, "one.stl", FIRST, texts)
-        found = Awaited(stl, "english", 0, 3600 * SECOND).midnight(changes)
-        self.must("the second time", found == begin - TICKS * FIRST, found)
+        found = self.begin(texts, changes)
+        self.must("the second ones", found == begin, found)
 
     def test_waits_in_steps(self) -> None:
         """Looked at after each change, as a feed brings them, it is found as early."""
@@ -148,14 +142,12 @@ class Tables(Case):
     def test_edges_that_are_off(self) -> None:
         """Within 0 midnight is by the one in the middle, within more by the one that is least late;
         a subtitle that never comes is none, and a file has to have one."""
-        texts = ["Alpha", "Beta", "Gamma"]
-        stl, begin = programme(self, "one.stl", FIRST, texts), 100 * SECOND
         for within, off, wanted in ((0, (9, -5, 1, 0, 3, 99), 1), (0, (-4, -3, -2, -1, 0), -2),
                                     (2, (9, -5, 1, 0, 3, 99), -5), (2, (9, 8, 7, 6, 5), 5)):
-            changes = self.changes(texts, begin)
+            changes = self.changes(FOUR[:3], 0)
             changes.times = [time + by for time, by in zip(changes.times, off)]
-            found = Awaited(stl, "english", 0, 10 ** 12, within).midnight(changes)
-            self.must(f"{within} {off}", found == begin - TICKS * FIRST + wanted, found)
+            found = self.begin(FOUR[:3], changes, -SECOND, within=within)
+            self.must(f"{within} {off}", found == wanted, found)
         blocks = [subtitle_blocks(at, *times, 20, 2, b"x") for at, times in enumerate(
             ((50, 40), (60, 60), (70, 90), (10, 20)))]
         some = Awaited(self.write("two.stl", gsi_block(b"", 4, 4) + b"".join(blocks)), "english",
@@ -166,14 +158,11 @@ class Tables(Case):
 
     def test_edges_within_some_frames(self) -> None:
         """Within N one edge may be N frames later than another, and no more."""
-        texts = ["Alpha", "Beta", "Gamma"]
-        stl, begin = programme(self, "one.stl", FIRST, texts), 100 * SECOND
         for within, late, is_found in ((0, 0, True), (2, 0, True), (2, 2, True), (2, 3, True),
                                        (2, 3.4, False), (2, 4, False), (0, 2, False),
                                        (5, 6, True), (5, 7, False)):
-            changes = self.changes(texts, begin)
+            changes = self.changes(FOUR[:3], SECOND)
             changes.times[2] += int(TICKS * late) - TICKS * within // 2
             changes.times[3] -= TICKS * within // 2
-            awaited = Awaited(stl, "english", 0, begin + 3600 * SECOND, within)
-            found = awaited.midnight(changes)
+            found = self.begin(FOUR[:3], changes, within=within)
             self.must(f"within {within}, {late} late", (found is not None) == is_found, found)

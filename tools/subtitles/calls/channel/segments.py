@@ -72,7 +72,7 @@ class Segments:
         self.begins = {number: Begin(*rest) for number, *rest in self.index.entries(4)}
         self.known, self.count = max(self.begins, default=-1), len(self.begins)
         self.file: BinaryIO | None = None
-        self.is_lost = False  # something behind the segment that is read, which was told
+        self.is_lost = False  # something behind the segment that is read, and that was told
         self.at = self.oldest = next(iter(numbers_in(folder)), -1)
 
     def begun(self) -> Begin | None:
@@ -83,8 +83,8 @@ class Segments:
         return None if number is None else self.begins[number]._replace(is_exact=False)
 
     def read(self) -> bytes | None:
-        """Some bytes that come next; nothing where there are none yet. `None`, once, where something
-        is lost: what came before it is there until more is read."""
+        """Some bytes that come next; nothing where there are none yet. `None`, once, where
+        something is lost: what came before it is there until more is read."""
         while True:
             data = self.read_on()
             following = None if data else self.following()
@@ -126,7 +126,7 @@ class Segments:
             yield from bytes_of([self.read_of(number) for number in self.there()])
 
     def read_of(self, number: int) -> Read:
-        """What was read of a segment: more may have come to it."""
+        """What was read of a segment: more may have come to it, where PTS may come again."""
         size = size_in(self.folder, number) if number < self.at else \
             self.file.tell() if self.file else 0
         return Read(path_of(self.folder, number), size)
