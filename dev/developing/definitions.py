@@ -7,6 +7,7 @@ is none of these; what one equation binds is not bound in the next.
 from __future__ import annotations
 
 import collections
+import functools
 import os
 import re
 from typing import Iterable, Iterator, NamedTuple, Union
@@ -176,6 +177,7 @@ class Library:
                  for source, name in named_in(file, file.definitions, text, bound))
         return [it for it in found if it]
 
+    @functools.lru_cache(None)
     def used_by(self, one: Definition) -> list[Meant]:
         """What a definition names."""
         first, *equations = one.parts()
@@ -254,16 +256,25 @@ class Library:
         in one file."""
         ranks = {module: (self.crates.index(file.crate), at)
                  for at, (module, file) in enumerate(self.files.items())}
-        left = dict(needs)
-        done: list[Definition] = []
+        left, done = dict(needs), list[Definition]()
+        lacking = {one: len(names & needs.keys() - {one}) for one, names in needs.items()}
+        needed_by = collections.defaultdict[Definition, list[Definition]](list)
+        for one, names in needs.items():
+            for other in names - {one}:
+                needed_by[other].append(one)
+        ready = {one for one, count in lacking.items() if not count}
         while left:
-            ready = [one for one, names in left.items() if not names & left.keys() - {one}]
             now = done[-1].file if done else None
             # Definitions that need each other stand in one file, and are read as they stand there.
             one = min(ready or left, key=lambda it: (
                 ranks[it.file.module][0], it.file is not now, ranks[it.file.module], it.line))
             del left[one]
+            ready.discard(one)
             done.append(one)
+            for other in needed_by[one]:
+                lacking[other] -= 1
+                if other in left and not lacking[other]:
+                    ready.add(other)
         return done
 
 

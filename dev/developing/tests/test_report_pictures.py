@@ -2,18 +2,43 @@
 from __future__ import annotations
 
 import unittest
+from typing import Any, NamedTuple, Sequence
 
 from developing.stl import gsi_block, tti_block
+from subtitles.core.markup import Markup
+from subtitles.core.programme import Subtitle
 from subtitles.preview import blocks
+from subtitles.preview.faults import Entry
+from subtitles.preview.strips import Strip, Strips, runs_of
 from subtitles.preview.subtitles import Looked, looked_at
-from subtitles.preview.strips import runs_of
 from subtitles.qc.subtitle_file import SubtitleFile
 from .bench import Case
 from .parts import fault_of, in_page
-from .test_report_faults import SUBTITLES
+from .test_report_faults import SUBTITLES, at, faults
+
+
+class Pictured(NamedTuple):
+    """The subtitles that have pictures, of which some are not as due."""
+
+    odd: frozenset[int]
+    drawn: Sequence[int] = (1,)
+    unknown: Sequence[int] = ()
+
+    @staticmethod
+    def entry_in(begin: int, end: int) -> Entry:
+        """The fault that begins between two frames."""
+        del begin, end
+        return Entry(5, fault_of("refused 74 End"))
+
 
 class Drawn(unittest.TestCase):
     """What is drawn of time."""
+
+    def line(self, subtitles: Sequence[Subtitle] = SUBTITLES, sendings: Sequence[int] = (),
+             odd: Sequence[int] = (), end: int | None = None, broken: int | None = None,
+             lines: Sequence[str] = ()) -> Strips:
+        entries: Any = Pictured(frozenset(odd))
+        return Strips(list(subtitles), sendings, entries, faults(*lines), broken, "flag", end)
 
     def test_runs(self) -> None:
         rows: list[tuple[list[int], list[tuple[int, int]]]] = [
@@ -22,8 +47,89 @@ class Drawn(unittest.TestCase):
         for frames, wanted in rows:
             self.assertEqual(list(runs_of(frames)), wanted)
 
+    def test_units(self) -> None:
+        """The shortest of which there are no more than 24 in use."""
+        for count, step, called in ((1, 250, "ten seconds"), (24, 250, "ten seconds"),
+                                    (25, 250, "a minute"), (24, 1500, "ten seconds"),
+                                    (25, 1000, "a minute"),
+                                    (25, 1500, "ten minutes"), (300, 1500, "an hour")):
+            some = [Subtitle(number + 1, 1, step * number, step * number + 9, 20, 2, b"")
+                    for number in range(count)]
+            with self.subTest(count=count, step=step):
+                self.assertEqual(self.line(some).called, called)
+        line = self.line([SUBTITLES[0]], [0, 249, 750, 751, 1000],
+                         lines=("refused 68 P frame @300",))
+        self.assertEqual(line.used(250), {0, 1, 3, 4})
+        long = [SUBTITLES[0], Subtitle(2, 2, 249, 1001, 20, 2, b"")]
+        self.assertEqual(self.line(long).used(250), {0, 1, 2, 3, 4})
+        self.assertEqual(self.line([Subtitle(1, 1, 0, 250, 20, 2, b"")]).used(250), {0})
+        overview = in_page(line.overview())
+        self.assertEqual((overview.count('class="strip"'), overview.count("nothing from")), (4, 1))
+        self.assertIn(f"nothing from {at(500)} to {at(750)}", overview)
 
-class Pictured(unittest.TestCase):
+    def test_close(self) -> None:
+        """On up to 300 strips of minutes what is nearer than 3 units is a block, on more than 8."""
+        for count, close in ((1, 3), (300, 3), (301, 8)):
+            some = [Subtitle(number + 1, 1, 1500 * number, 1500 * number + 9, 20, 2, b"")
+                    for number in range(count)]
+            self.assertEqual(self.line(some).close, close)
+
+    def test_bars(self) -> None:
+        """Of each subtitle that is due in the strip; links where it has a picture, its look; of
+        more than so many those without pictures are one path."""
+        drawn = in_page(Strip(self.line(odd=[2]), 0, (250, 25, 50)).drawn(()))
+        self.assertEqual(drawn.count('aria-label="subtitle'), 1)
+        self.assertIn('<rect class="odd" x="300.0" y="2" width="100.0" height="20"', drawn)
+        self.assertIn('<rect class="bar" x="100.0" y="5" width="100.0" height="14"', drawn)
+        for begin, count in ((0, 3), (50, 2), (49, 3), (100, 1), (125, 0)):
+            found = in_page(*Strip(self.line(), begin, (250, 25, 50)).bars([]))
+            self.assertEqual(found.count("<rect"), count, begin)
+        self.assertEqual(in_page(*Strip(self.line(), 0, (75, 25, 50)).bars([])).count("<rect"), 1)
+        many = [Subtitle(one + 1, 1, 9 * one, 9 * one + 5, 20, 2, b"") for one in range(5001)]
+        found = in_page(*Strip(self.line(many), 0, (250, 25, 50)).bars([]))
+        self.assertEqual((found.count("<rect"), found.count("<path")), (1, 1))
+
+    def test_ends(self) -> None:
+        """What is not heard is hatched, up to the end of the strip; the first fault is flagged."""
+        for end, is_hatched, words in ((None, False, False), (100, True, True), (250, False, False),
+                                       (249, True, True), (0, True, True)):
+            told: list[Markup] = []
+            lines = list(Strip(self.line(end=end), 0, (250, 25, 50)).hatching(told))
+            self.assertEqual((bool(lines), bool(told)), (is_hatched, words), end)
+            if end:
+                self.assertEqual("00:00:03:24" in in_page(*told), end == 100, told)
+        told = []
+        list(Strip(self.line(end=100), 250, (250, 25, 50)).hatching(told))
+        self.assertEqual(told, [])
+        for broken, is_here in ((249, False), (250, True), (499, True), (500, False),
+                                (None, False)):
+            drawn = in_page(Strip(self.line(broken=broken), 250, (250, 25, 50)).drawn(()))
+            self.assertEqual("flag" in drawn, is_here, broken)
+
+    def test_sendings_and_faults(self) -> None:
+        """Those that are close are one block; marks as long as a fault stands."""
+        for frames, ticks, blocks in (([10], 1, 0), ([10, 20], 2, 0), ([10, 11, 12], 3, 0)):
+            found = in_page(*Strip(self.line(sendings=frames), 0, (250, 25, 50)).sendings())
+            self.assertEqual((found.count("v8") - found.count("v8H"), found.count("v8H")),
+                             (ticks, blocks), frames)
+        found = in_page(*Strip(self.line(sendings=[10, 11, 12]), 0,
+                               (1500, 25, 50)).sendings())
+        self.assertEqual((found.count("v8H"), found.count('class="tick"')), (1, 0))
+        lines = ("refused 73 Gap frame @30", "ended 73 Gap frame @54", "refused 68 P frame @200",
+                 "refused 73 Gap frame @240", "ended 73 Gap frame @260")
+        strip = Strip(self.line(lines=lines), 0, (250, 25, 50))
+        found = in_page(*strip.faults())
+        self.assertEqual(found.count('class="bad"'), 3)
+        self.assertIn('x="120" y="40" width="100"', found)
+        self.assertIn('x="960" y="40" width="40"', found)
+        self.assertIn('href="#e5"', found)
+        trusted = self.line(lines=("trusted frames @25 @49", "trusted frames @300 @310"))
+        found = in_page(*Strip(trusted, 0, (250, 25, 50)).trusted())
+        self.assertEqual(found.count("<rect"), 1)
+        self.assertIn('x="100" y="45" width="100"', found)
+
+
+class Seen(unittest.TestCase):
     """The subtitles that have pictures."""
 
     def test_looked_at(self) -> None:

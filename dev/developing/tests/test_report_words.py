@@ -2,22 +2,26 @@
 rows of `test_reports_at_random` and `test_at_random` hold the pages as a whole."""
 from __future__ import annotations
 
+import collections
 import random
 import unittest
+from types import SimpleNamespace
+from typing import Any
 
 from developing.pes import packet
 from subtitles.core.markup import markup
+from subtitles.core.spans import Spans
 from subtitles.core.times import FRAMES_OF_A_DAY
 from subtitles.core.teletext import CODE_WORDS
 from subtitles.preview import page, program as asking
 from subtitles.preview.packet_words import packet_lines
-from subtitles.preview.page import lost_places
+from subtitles.preview.page import lost_places, pages_table, subtitles_words
 from subtitles.preview.places import marked_bytes
 from subtitles.preview.scope import BETWEEN, DELAY, ROW_0, Scope
 from subtitles.qc.made_with import MadeWith
 from subtitles.qc.sums import SummedFile
 from .bench import Case
-from .parts import in_page
+from .parts import in_page, part_with
 
 
 class Box(unittest.TestCase):
@@ -45,6 +49,48 @@ class Box(unittest.TestCase):
             self.assertEqual(one.not_checked(), checked)
             self.assertEqual(("x / y" in box, "a&lt;b" in box and "1,234 bytes" in box,
                               ">clock<" in box), (bool(one.titles),) * 2 + (bool(one.clock),))
+
+
+class Bounds(unittest.TestCase):
+    """What no row has so many of, or so few."""
+
+    def test_subtitles(self) -> None:
+        """How many there are, how they are held, and which are not as due, with pictures."""
+        for count, drawn, within, odd, links, words in (
+                (1, 0, 0, 0, 0, "1 subtitle. What a receiver holds at the first frame of each"),
+                (1200, 100, 0, 100, 100,
+                 "1,200 subtitles. What a receiver holds at the first frame of each"),
+                (1200, 101, 0, 101, 100,
+                 "1,200 subtitles. What a receiver holds at the first frame of each"),
+                (2000, 500, 1, 501, 100, "2,000 subtitles. What a receiver holds at the frame "
+                 "after which each is whole")):
+            looks: Any = SimpleNamespace(entries=SimpleNamespace(
+                drawn=range(1, drawn + 1), odd=set(range(1, odd + 1)),
+                counted=lambda subtitles: "all as due"))
+            report: Any = SimpleNamespace(asked=SimpleNamespace(within=within),
+                                          subtitles=[1] * count, part=part_with(0, 9, 0))
+            said = in_page(subtitles_words(report, looks))
+            with self.subTest(drawn=drawn):
+                self.assertIn(f"<p>{words}: all as due.", said)
+                self.assertEqual(said.count('href="#s'), links)
+                self.assertEqual((" ..." in said, "The first 500 of them have pictures." in said),
+                                 (drawn > 100, odd > drawn))
+        report.subtitles = []
+        self.assertIn("no subtitle", in_page(subtitles_words(report, looks)))
+
+    def test_pages(self) -> None:
+        """A row for each page, the first 200; of control bits the four that are set most often."""
+        bits = collections.Counter({"C4": 3, "C6": 2, "C7": 9, "C8": 4, "C10": 1})
+        page = SimpleNamespace(number=1234, first=None, last=None, bits=bits)
+        report: Any = SimpleNamespace(page="888", origin=0, asked=SimpleNamespace(within=0))
+        for count in (0, 1, 200, 201, 203):
+            seen: Any = SimpleNamespace(
+                count=1, passed=Spans(), ending=None, halt=None, page=(0, 0x88),
+                pages={(1, at): page for at in range(count)})
+            text = in_page(pages_table(report, seen))
+            self.assertEqual((text.count("<tr>") - bool(count), text.count(
+                ">C7 (9); C8 (4); C4 (3); C6 (2)<"), f"{count - 200} more page" in text), (
+                    min(count, 200), min(count, 200), count > 200), count)
 
 
 class Reports(Case):

@@ -345,7 +345,7 @@ class Channel:
             self.unjudged(programme.name, programme.reason or reason, programme.reason is None)
         self.publish()
         if all(self.results.has(one.name) for one in self.queue.planned.programmes):
-            self.segments.clear()
+            self.segments.take_away(self.segments.at + 1)
         self.results.sweep()
         self.tell_machine()
 

@@ -160,20 +160,17 @@ class Segments:
         """Takes away what came before a time, and what is before a loss."""
         numbers = self.there()
         floor = numbers[self.first_at(before, numbers) or 0] if numbers else self.at
-        for number in numbers_in(self.folder):
-            if number < floor:
-                with contextlib.suppress(OSError):
-                    os.unlink(path_of(self.folder, number))
+        self.take_away(floor)
         needed = max((one for one in self.begins if one <= floor), default=floor)
         self.begins = {one: known for one, known in self.begins.items() if one >= needed}
         if self.count > len(self.begins) + MANY:
             self.index.replace([number, *known] for number, known in self.begins.items())
             self.count = len(self.begins)
 
-    def clear(self) -> None:
-        """Takes away all that was read: no programme needs any of it."""
+    def take_away(self, floor: int) -> None:
+        """Takes away the segments before one."""
         for number in numbers_in(self.folder):
-            if number <= self.at:
+            if number < floor:
                 with contextlib.suppress(OSError):
                     os.unlink(path_of(self.folder, number))
 
