@@ -14,7 +14,7 @@ import re
 import subprocess
 import sys
 import textwrap
-from typing import NamedTuple
+from typing import NamedTuple, Sequence
 
 from subtitles.calls.result import schema
 from subtitles.core.built import TOP, read
@@ -184,12 +184,21 @@ def of_qc(text: str) -> dict[str, str]:
 
 def of_chapter() -> dict[str, str]:
     """The parts of qc's chapter, by the table of options of a pair."""
-    rows = ["| Option | Is | Without it | Not with |", "|---|---|---|---|"]
+    rows = ["| Option | Is | Without it |", "|---|---|---|"]
     for one in of_pairs.OPTIONS:
         form = one.form.replace("|", "\\|")
-        others = ", ".join(mode.name for mode in of_pairs.JUDGED if mode not in one.modes)
-        rows.append(f"| `{form}` | {one.means} | {one.without} | {others} |")
-    return {"options": "\n".join(rows) + "\n"}
+        rows.append(f"| `{form}` | {one.means} | {one.without} |")
+    return {"options": "\n".join(rows) + "\n\n" + not_with(of_pairs.OPTIONS, of_pairs.JUDGED)}
+
+
+def not_with(known: Sequence[of_pairs.Option], modes: Sequence[of_pairs.Mode]) -> str:
+    """What options a way to call does not take, as a sentence for each that lacks one."""
+    told = []
+    for mode in modes:
+        lacked = [f"`{one.name}`" for one in known if mode not in one.modes]
+        if lacked:
+            told.append(f"Not with {mode.name}: {', '.join(lacked)}.")
+    return textwrap.fill(" ".join(told), WIDTH, break_on_hyphens=False) + "\n" if told else ""
 
 
 def completed(usage: str, table: str, helps: list[str]) -> dict[str, str]:

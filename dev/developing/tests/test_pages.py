@@ -6,6 +6,7 @@ import unittest
 
 from subtitles.core.built import TOP, read
 from subtitles.core.words import Stop
+from subtitles.qc.options import ALONE, CHANNEL, PAIR, Option
 from .. import pages
 from .bench import Case
 
@@ -92,6 +93,16 @@ class Parts(unittest.TestCase):
         self.assertEqual(made["status"], "Status 0 or 2.\n")
         self.assertIn("Which one. WORD is a, b.", made["options"])
         self.assertIn("[\\-\\-from TIME] [\\-o OUT]", made["synopsis"])
+
+    def test_says_what_a_call_does_not_take(self) -> None:
+        one, two, three = (Option(name, None, "", modes) for name, modes in (
+            ("--one", (PAIR,)), ("--two", (PAIR, ALONE)), ("--three", (PAIR, CHANNEL))))
+        for known, said in (
+                ([], ""), ([two], "Not with `--channel`: `--two`.\n"),
+                ([one, two, three], "Not with STL alone: `--one`, `--three`. "
+                                    "Not with `--channel`: `--one`, `--two`.\n")):
+            with self.subTest(said=said):
+                self.assertEqual(pages.not_with(known, (PAIR, ALONE, CHANNEL)), said)
 
     def test_makes_a_completion(self) -> None:
         made = pages.completed(USAGE, TABLE, [HELP])
