@@ -70,7 +70,8 @@ class Disks(Case):
             self.must(f"{name}: said", call.says(said) and call.says("three  accepted") and [
                 line for line in call.lines() if line.startswith(said) and line.endswith(why)],
                 call.lines())
-            self.must(f"{name}: not there", os.listdir(self.path(out)) == [])
+            there = [one for one in os.listdir(self.path(out)) if one.endswith(".json")]
+            self.must(f"{name}: not there", not there, there)
             mend(folder)
             self.must(f"{name}: tried again", until(
                 lambda: os.path.exists(self.path(f"{out}/three.json"))), call.lines())

@@ -2,6 +2,7 @@
 what is strange of PTS, where something is missing."""
 from __future__ import annotations
 
+import itertools
 import random
 import unittest
 from types import SimpleNamespace
@@ -138,6 +139,21 @@ class Times(unittest.TestCase):
             pts = [None if one is None else TICKS * one for one in frames]
             found = cut_of(packets_with(pts), 0, 50, 0, 25).range
             self.assertEqual(found, wanted, frames)
+
+    def test_hours(self) -> None:
+        """All of a programme is taken, also where it is longer than half of what PTS count, and
+        nothing of what comes before or after it, in whatever runs it comes."""
+        hour = 90_000
+        for hours, before, after in ((1, 3, 9), (9, 0, 9), (13, 1, 1), (14, 0, 0), (14, 1, 8),
+                                     (20, 0, 0), (20, 1, 2), (23, 0, 0), (23, 0, 2)):
+            begin, end = before * hour, (before + hours) * hour
+            for length, origin in itertools.product((1, 100, 3600), (0, CLOCK - TICKS * end // 2)):
+                count = (before + hours + after) * hour // 25
+                made = Packets(257, [Run(at, length, (origin + TICKS * 25 * at) % CLOCK, TICKS * 25,
+                                         "heb", "") for at in range(0, count, length)])
+                found = cut_of(made, begin, end, origin, 25).range
+                wanted = max(begin // 25 - 1, 0), min(end // 25, count - 1)
+                self.assertEqual(found, wanted, (hours, before, after, length, origin))
 
     def test_ends_within_some_frames(self) -> None:
         """The last page is blank, and where a header had ended it before, that too; or it is so

@@ -81,6 +81,22 @@ class Losses(unittest.TestCase):
             with self.subTest(shift=shift, before=before, after=after):
                 self.assertEqual(is_in(place, part_with(100, 200, shift)), wanted)
 
+    def test_hours(self) -> None:
+        """Also in a part that is longer than half of what PTS count."""
+        hour = 90_000
+        for hours, shift in itertools.product((1, 12, 14, 20, 23, 24), SHIFTS):
+            part = part_with(0, hours * hour, shift)
+            for at, wanted in ((-hour // 2, False), (1, True), (hours * hour // 2, True),
+                               (hours * hour - hour // 2, True), (hours * hour - 2, True),
+                               (hours * hour + hour // 2, False)):
+                before, after = (shifted(TICKS * (at + more), shift) for more in (-1, 1))
+                for place in (Place(before, after), Place(before, after, missing=90_000)):
+                    self.assertEqual(is_in(place, part), wanted, (hours, at))
+            found, ends = part.found, (-hour // 2, hours * hour + hour // 2)
+            assert found
+            seen = reach((shifted(TICKS * ends[0], shift), shifted(TICKS * ends[1], shift)), found)
+            self.assertEqual(seen, Span(*ends), hours)
+
     def test_marks(self) -> None:
         """A mark is in the part with whose PES packets it is judged, whatever its PTS are: the
         first one, one between, the last."""

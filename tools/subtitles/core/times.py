@@ -72,6 +72,13 @@ def ticks_between(first: int, second: int) -> int:
     return wrapped(second - first + CLOCK // 2) - CLOCK // 2
 
 
+def ticks_within(first: int, length: int, pts: int) -> int:
+    """How many ticks a PTS is later than a first one, below 0 where it is earlier, where those that
+    are asked for come up to so many ticks later, which may be more than half of the clock."""
+    before = (CLOCK - length) // 2
+    return wrapped(pts - first + before) - before
+
+
 def pts_of(frame: int, origin: int) -> int:
     """The PTS of a frame of the day; `origin` is that of 00:00:00:00."""
     return wrapped(origin + TICKS * frame)

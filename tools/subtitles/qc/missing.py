@@ -4,7 +4,7 @@ from __future__ import annotations
 import dataclasses
 from typing import Iterator, Sequence
 
-from ..core.times import FRAMES_OF_A_DAY, TICKS, frame_in, pts_of, ticks_between, time_of
+from ..core.times import FRAMES_OF_A_DAY, TICKS, frame_in, pts_of, ticks_within, time_of
 from ..core.told import LOSSES
 from ..reading.gaps import Place, what_of
 from .part import Part
@@ -62,9 +62,10 @@ def is_in(place: Place, part: Part) -> bool:
         return False
     if place.mark is not None and part.pes is not None:
         return part.pes[0] <= place.mark <= part.pes[1]
-    first, last = (part.found.origin + TICKS * frame for frame in part.found[:2])
-    is_before = place.after is not None and ticks_between(first, place.after) <= 0
-    is_after = place.before is not None and ticks_between(last, place.before) >= 0
+    begin, end = part.found[:2]
+    first, length = pts_of(begin, part.found.origin), TICKS * (end - begin)
+    is_before = place.after is not None and ticks_within(first, length, place.after) <= 0
+    is_after = place.before is not None and ticks_within(first, length, place.before) >= length
     return not is_before and not is_after
 
 

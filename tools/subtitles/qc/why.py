@@ -4,7 +4,7 @@ from __future__ import annotations
 from typing import Iterator, Sequence
 
 from ..core.spans import Span
-from ..core.times import FRAMES_OF_A_DAY, TICKS, frame_in, pts_of, ticks_between
+from ..core.times import FRAMES_OF_A_DAY, TICKS, frame_in, pts_of, ticks_within
 from ..reading.gaps import Place
 from ..reading.timeline import timeline_near
 from .cause_words import Wording
@@ -31,7 +31,8 @@ def reach(pts: tuple[int, int] | None, found: Found) -> Span | None:
     """
     if pts is None or found.packets:
         return None
-    first, last = (ticks_between(pts_of(found.begin, found.origin), one) for one in pts)
+    first, last = (ticks_within(pts_of(found.begin, found.origin),
+                                TICKS * (found.end - found.begin), one) for one in pts)
     return Span(found.begin - -first // TICKS, found.begin + last // TICKS)
 
 

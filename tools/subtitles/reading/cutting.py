@@ -4,7 +4,7 @@ from __future__ import annotations
 import itertools
 from typing import Iterator, NamedTuple
 
-from ..core.times import FRAMES_OF_A_DAY, TICKS, frame_in, pts_of, ticks_between, time_of
+from ..core.times import FRAMES_OF_A_DAY, TICKS, frame_in, pts_of, time_of, wrapped
 from ..core.words import counted
 from .packets import BLANK, CLOSED, ERASE, HEADER, OPEN, Packets, Range, Run
 
@@ -109,11 +109,13 @@ def from_time_on(packets: Packets, low: int, high: int) -> Iterator[tuple[int, i
 
 
 def is_outside(run: Run, low: int, high: int) -> bool:
-    """Whether all of a run is a frame before a PTS at least, or after another one."""
+    """Whether all of a run is a frame before a PTS at least, or after another one, which may be a
+    day later: no more than half of the clock tells which of two is later."""
     first, last = run.pts, run.last
     if first is None or last is None or not 0 <= run.step * run.length < SKIPPED:
         return first is None
-    return ticks_between(last, low) > TICKS or ticks_between(high, first) > TICKS
+    begin, length = low - TICKS, wrapped(high - low) + 2 * TICKS
+    return wrapped(first - begin) > length and wrapped(begin - first) > wrapped(last - first)
 
 
 def begin_of(own: list[One], begin: int, within: int) -> int | None:
