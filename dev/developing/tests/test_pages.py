@@ -97,10 +97,11 @@ class Parts(unittest.TestCase):
     def test_says_what_a_call_does_not_take(self) -> None:
         one, two, three = (Option(name, None, "", modes) for name, modes in (
             ("--one", (PAIR,)), ("--two", (PAIR, ALONE)), ("--three", (PAIR, CHANNEL))))
-        for known, said in (
+        rows: list[tuple[list[Option], str]] = [
                 ([], ""), ([two], "Not with `--channel`: `--two`.\n"),
                 ([one, two, three], "Not with STL alone: `--one`, `--three`. "
-                                    "Not with `--channel`: `--one`, `--two`.\n")):
+                                    "Not with `--channel`: `--one`, `--two`.\n")]
+        for known, said in rows:
             with self.subTest(said=said):
                 self.assertEqual(pages.not_with(known, (PAIR, ALONE, CHANNEL)), said)
 

@@ -21,7 +21,7 @@ from subtitles.reading.gaps import SECOND
 from .parts import part_with
 
 # What is added to all PTS of a case: nothing, then so much that they begin again in its midst.
-SHIFTS = (0, CLOCK - 10 * TICKS, CLOCK - TICKS // 2, CLOCK - 1, 5 * TICKS)
+SHIFTS = (0, CLOCK - 150 * TICKS, CLOCK - 10 * TICKS, CLOCK - TICKS // 2, CLOCK - 1, 5 * TICKS)
 
 
 def shifted(pts: int, shift: int) -> int:
