@@ -15,9 +15,11 @@ pub mod GoodByLemmas
 pub mod GoodLemmas
 pub mod GrowingFrameLemmas
 pub mod JoinedRisingLemmas
+pub mod JudgedFileLemmas
 pub mod MarkTestLemmas
 pub mod NoneKeepsLemmas
 pub mod NothingToldLemmas
+pub mod OldTextLemmas
 pub mod PesFileLemmas
 pub mod PieceWalkLemmas
 pub mod PlaceLemmas

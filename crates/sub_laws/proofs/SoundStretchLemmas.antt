@@ -105,7 +105,7 @@ module _ (keeps : Bool) (transmission : Transmission) (options : OptionsValue) (
   later = packets_between transmission (g + 1) (f + 1)
 
   -- What is heard is the rest of frame g, and then those.
-  on_air-cut : sent ≡ drop j (packets_of transmission g) ++ later
+  pub on_air-cut : sent ≡ drop j (packets_of transmission g) ++ later
   on_air-cut =
       ap (drop j)
       (packets_between-split transmission g (g + 1) (f + 1) stretch.rising (omega arith)

@@ -2,8 +2,10 @@ pub mod AtOnce
 pub mod BrokenPlaces
 pub mod CleanStretch
 pub mod DelayOfFiles
+pub mod JudgedFiles
 pub mod Laws
 pub mod LostRows
+pub mod OldText
 pub mod OnScreen
 pub mod Planned
 pub mod Recovery

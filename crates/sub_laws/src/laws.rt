@@ -6,7 +6,9 @@ ghost use Rattle.sub_laws.specs.BrokenPlaces.{LawOfBrokenPlaces, LawOfNothingTol
 ghost use Rattle.sub_laws.specs.BrokenPlaces.{LawOfNothingToldRepeats};
 ghost use Rattle.sub_laws.specs.CleanStretch.{LawOfUntoldStretch};
 ghost use Rattle.sub_laws.specs.DelayOfFiles.{LawOfLongerDelayOfFiles};
+ghost use Rattle.sub_laws.specs.JudgedFiles.{LawOfJudgedAlike, LawOfJudgedParts};
 ghost use Rattle.sub_laws.specs.Laws.{LawOfAllKept, LawOfGood, LawOfWindow};
+ghost use Rattle.sub_laws.specs.OldText.{LawOfOldText};
 ghost use Rattle.sub_laws.specs.OnScreen.{LawOfCompletePlan};
 ghost use Rattle.sub_rules.specs.Kept.{LawOfRightCells};
 ghost use Rattle.sub_rules.specs.PesReading.{LawOfExactFrames};
@@ -19,6 +21,8 @@ ghost use Rattle.sub_rules.specs.Repeats.{LawOfMayKeep, LawOfNoRepeats, LawOfNon
 ghost use Rattle.sub_laws.specs.Stretch.{LawOfWholeRecovery, LawOfWholeStretch};
 ghost use Rattle.sub_laws.specs.Sufficient.{LawOfStretch, LawOfSufficientParts};
 ghost use Rattle.sub_laws.specs.ToldRepeats.{LawOfUntoldRepeats};
+
+use stl_file::law_of_scope;
 
 /// A start at any packet of a good transmission meets a header of the page within the repeat bound.
 #[tactic(auto, using(crate::proofs::RobustLemmas::law_of_window))]
@@ -210,4 +214,24 @@ pub fn law_of_followed_stretch()
 /// With no wrong bit a receiver that keeps its page holds what is kept, at the end of each frame.
 pub fn law_of_kept_on_air()
     ensures { LawOfKeptOnAir }
+{}
+
+/// Where text goes or changes a header that erases the page is sent, within some frames up to so
+/// many later: so old text is gone there at the latest, whatever a receiver held before.
+pub fn law_of_old_text()
+    ensures { LawOfOldText }
+{}
+
+/// What can be relied on in a part of a subtitle file, and whether a transmission is judged by it,
+/// is that of the file from which the blocks of all other subtitles were taken out.
+pub fn law_of_judged_parts()
+    ensures { LawOfJudgedParts }
+{
+    law_of_scope();
+}
+
+/// By two subtitle files in which the same can be relied on, and it is not known at the same frames
+/// what is due, the same is told of a PES file.
+pub fn law_of_judged_alike()
+    ensures { LawOfJudgedAlike }
 {}

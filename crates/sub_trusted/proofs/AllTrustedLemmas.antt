@@ -5,7 +5,7 @@ use Rattle.std.proofs.lemmas.Bool.Decides.{nat_tests}
 use Rattle.std.proofs.Common.{◌≡◌, ◌≢◌, ℕ, ◌<◌, ◌≤◌, ◌⊎◌, inl, inr, Bool, true}
 use Rattle.std.proofs.Common.{false, ◌||◌, not, List, [], ◌∷◌, ◌++◌, Contains}
 use Rattle.std.proofs.Common.{length, refl, sym, ap, ◌∙◌, subst, arith}
-use Rattle.std.proofs.lemmas.Bool.{or_parts}
+use Rattle.std.proofs.lemmas.Bool.{or_parts, or_right}
 use Rattle.std.proofs.lemmas.List.Elements.{Contains-append_left}
 use Rattle.ttx_page.specs.PacketKind.{kind}
 use Rattle.ttx_page.specs.Span.{holds_beginning}
@@ -19,7 +19,7 @@ use Rattle.sub_rules.specs.Transmission.{Transmission}
 use Rattle.sub_rules.specs.declared.event.Event.{Event}
 use Rattle.sub_rules.specs.declared.event.Event.TheVariants.{Trusted}
 use Rattle.sub_rules.proofs.TrustedLemmas.{past_after, told_after-append}
-use Rattle.sub_trusted.specs.TrustedFrames.{CanStay, LawOfAllTrusted}
+use Rattle.sub_trusted.specs.TrustedFrames.{CanStay, IsAnythingTold, LawOfAllTrusted}
 use Rattle.sub_trusted.proofs.DoubtLemmas.{contains-announced}
 use Rattle.sub_trusted.proofs.AllTrustedStretchLemmas.{Fits, fits}
 use Rattle.sub_trusted.proofs.AllTrustedLeadLemmas.{IsTold, Leads, told_left, told_right}
@@ -115,8 +115,8 @@ module _ (g : Task) (pieces : List Piece) (a b i : ℕ)
         told_after-append,
       )
 
-  all_marks : told_after [] (marks ++ close) ≢ [] → Among (told_after [] (marks ++ close))
-  all_marks something =
+  all_marks : tells (past_after [] marks) ≡ true → Among (told_after [] (marks ++ close))
+  all_marks anything =
       subst Among (sym (told_after-append [] marks close)) (of_goes goes)
     where
       of_goes : Leads (top g frames a b i fit) b
@@ -128,16 +128,22 @@ module _ (g : Task) (pieces : List Piece) (a b i : ℕ)
       of_goes (inr past) =
           told_right (top g frames a b i fit) b (told_after [] marks)
           (told_after (past_after [] marks) close)
-          (closing_told g frames a b i fit (length pieces) (past_after [] marks) past
-          (any_told (past_after [] marks) refl something))
+          (closing_told g frames a b i fit (length pieces) (past_after [] marks) past anything)
 
-  pub all_told : all_of_pieces g pieces ≢ [] → Among (all_of_pieces g pieces)
+  -- Something of the PES file is told, or of the subtitle file.
+  anything_tells : IsAnythingTold g pieces → tells (past_after [] marks) ≡ true
   unfolding all_of_pieces told_of_pieces
-  all_told something =
+  anything_tells (inl something) =
+      any_told (past_after [] marks) refl
+      (λ none. something (nothing_of (told_of_pieces g pieces) none))
+  anything_tells (inr beside) = or_right (list_any is_said (past_after [] marks)) _ (rw beside refl)
+
+  pub all_told : IsAnythingTold g pieces → Among (all_of_pieces g pieces)
+  unfolding all_of_pieces told_of_pieces
+  all_told anything =
       let told : List Event = told_of_pieces g pieces in
       let same : told ≡ told_after [] (marks ++ close) = refl in
-      let (from, to, low, high, c) =
-      all_marks (λ none. something (nothing_of told (same ∙ none))) in (
+      let (from, to, low, high, c) = all_marks (anything_tells anything) in (
         from,
         to,
         low,
@@ -150,7 +156,7 @@ module _ (g : Task) (pieces : List Piece) (a b i : ℕ)
 -- ---- the law
 
 pub law_of_all_trusted : LawOfAllTrusted
-law_of_all_trusted g pieces a b i can there low high header something =
+law_of_all_trusted g pieces a b i can there low high header anything =
     let frames : Transmission = sent_by_pieces g pieces in
     let inside : i < risen frames =
     let all = part_length (sent_by_pieces g pieces) in omega arith in
@@ -164,4 +170,4 @@ law_of_all_trusted g pieces a b i can there low high header something =
     × (from ≤ f)
     × (b ≤ to)
     × Contains (all_of_pieces g pieces) (Trusted from to)) (sym at)
-    (all_told g pieces a b i can fit something)
+    (all_told g pieces a b i can fit anything)

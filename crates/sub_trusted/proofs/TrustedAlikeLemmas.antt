@@ -150,5 +150,5 @@ module _ (g : Task) (due : ℕ → Rows) (ending : ℕ → Option ℕ) (first_in
         ap (holds_beginning g.watched.keeps (kind g.watched.page)) ps ∙ stays.run.header in
         let (first, last, start, end, c) =
         law_of_all_trusted h pieces from b j can (omega arith) (omega arith) (omega arith) header
-        something in
+        (inl something) in
         (first, last, omega arith, end, c)

@@ -142,6 +142,10 @@ pub record CanStay (g : Task) (pieces : List Piece) (a b : ℕ) : Type 0 where
       → b < last_frame (rising_of g pieces)
   pub before_unread : (u : Unread) → g.unread ≡ Some u → b < last_frame (rising_of g pieces)
 
+-- Anything is told: of the PES file; or of the subtitle file, of which something is refused.
+abbrev pub IsAnythingTold : Task → List Piece → Type 0
+IsAnythingTold g pieces = (all_of_pieces g pieces ≢ []) ⊎ IsTrue g.beside
+
 -- Where anything is told, the frames of such a stretch from one with a header on with which the
 -- text begins are told as trusted, all in one. So no frame that may stay is left out, but within
 -- some frames for those after the last one that is finished.
@@ -153,7 +157,7 @@ LawOfAllTrusted =
     → a ≤ frame_at (rising_of g pieces) i
     → frame_at (rising_of g pieces) i ≤ b
     → BeginsText g (rising_of g pieces) i
-    → all_of_pieces g pieces ≢ []
+    → IsAnythingTold g pieces
     → (from : ℕ)
     × (to : ℕ)
     × (from ≤ frame_at (rising_of g pieces) i)

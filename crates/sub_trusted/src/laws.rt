@@ -36,10 +36,10 @@ pub fn law_of_trusted_alike()
     ensures { LawOfTrustedAlike }
 {}
 
-/// No frame that may stay is left out: where anything is told of a PES file, each stretch of which
-/// nothing is told that a receiver depends on, and in which no piece may have been sent that is
-/// passed over, is told as trusted, from its first header of the page on. Within some frames its
-/// last frame has to be finished.
+/// No frame that may stay is left out: where anything is told of a PES file, or something is
+/// refused of the subtitle file, each stretch of which nothing is told that a receiver depends on,
+/// and in which no piece may have been sent that is passed over, is told as trusted, from its first
+/// header of the page on. Within some frames its last frame has to be finished.
 #[tactic(auto, using(crate::proofs::AllTrustedLemmas::law_of_all_trusted))]
 pub fn law_of_all_trusted()
     ensures { LawOfAllTrusted }

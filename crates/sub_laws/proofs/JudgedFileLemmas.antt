@@ -1,0 +1,135 @@
+-- What a transmission is judged by of a part of a subtitle file, `judged_parts`; and that nothing
+-- else of what is refused has a say in what is told, `law_of_judged_alike`.
+use Rattle.std.proofs.Math.Path.{fun_ext}
+use Rattle.std.proofs.Common.{◌≡◌, ℕ, Bool, false, true, ◌&&◌, ◌++◌, Option, Some, None}
+use Rattle.std.proofs.Common.{option_map, refl, sym, ap, ◌∙◌}
+use Rattle.std.specs.List.{concat}
+use Rattle.stl_file.specs.Reader.{findings_for}
+use Rattle.stl_file.specs.Reading.{Findings, breaks, finds, no_more, refuses}
+use Rattle.stl_file.specs.Subtitle.{SubtitleValue}
+use Rattle.stl_file.specs.TakenOut.{LawOfScope, all_day, is_read_whole, taken_out}
+use Rattle.stl_file.specs.TakenOut.{unnumbered}
+use Rattle.stl_rows.specs.declared.layout.Drawing.{Drawing}
+use Rattle.stl_rows.specs.DrawnPage.{drawn}
+use Rattle.stl_rows.specs.Judged.{AllJudged, are_in_order, are_some, is_beside}
+use Rattle.stl_rows.specs.Judged.{is_followed_in_order, judged_behind, judged_of}
+use Rattle.stl_rows.specs.Loading.{of_day}
+use Rattle.stl_rows.specs.Programme.{ProgrammeValue, times_of}
+use Rattle.sub_rules.specs.FrameRules.{is_undecided_beside}
+use Rattle.sub_rules.specs.PieceEvents.{all_of_pieces}
+use Rattle.sub_laws.specs.CleanStretch.{task_unsure}
+use Rattle.sub_laws.specs.JudgedFiles.{LawOfJudgedAlike, LawOfJudgedParts}
+
+-- ---- a part of a file
+
+-- Whether a file was read whole does not hang on block numbers.
+whole_unnumbered : (left : Findings) → is_read_whole left ≡ is_read_whole (unnumbered left)
+whole_unnumbered no_more = refl
+whole_unnumbered (breaks f block) = refl
+whole_unnumbered (refuses f block left) = whole_unnumbered left
+whole_unnumbered (finds t block left) = whole_unnumbered left
+
+-- Nor whether what follows a subtitle is in order.
+followed_unnumbered : (last : SubtitleValue) (left : Findings)
+    → is_followed_in_order (times_of last) left
+    ≡ is_followed_in_order (times_of last) (unnumbered left)
+followed_unnumbered last no_more = refl
+followed_unnumbered last (breaks f block) = refl
+followed_unnumbered last (refuses f block left) = followed_unnumbered last left
+followed_unnumbered last (finds t block left) = refl
+
+-- What can be relied on behind a subtitle, or from the first one on.
+abbrev behind : Drawing → Option SubtitleValue → Bool → Findings → AllJudged
+behind drawing last other left = judged_behind drawing (option_map times_of last) other left
+
+-- Nor what can be relied on.
+judged_unnumbered : (drawing : Drawing) (last : Option SubtitleValue) (other : Bool)
+    (left : Findings)
+    → behind drawing last other left ≡ behind drawing last other (unnumbered left)
+unfolding judged_behind
+judged_unnumbered drawing last other no_more = refl
+judged_unnumbered drawing last other (breaks f block) = refl
+judged_unnumbered drawing last other (refuses f block left) =
+    judged_unnumbered drawing last true left
+judged_unnumbered drawing last other (finds t block left) =
+    rw (
+      followed_unnumbered t left,
+      judged_unnumbered drawing (Some t) false left,
+      judged_unnumbered drawing (Some t) true left,
+    ) refl
+
+-- A page that is drawn does not depend on what is taken of the file.
+drawn_of_day : (drawing : Drawing) (t : SubtitleValue)
+    → drawn drawing t ≡ drawn (of_day drawing) t
+unfolding drawn
+drawn_of_day drawing t = refl
+
+-- So what can be relied on does not.
+judged_of_day : (drawing : Drawing) (last : Option SubtitleValue) (other : Bool) (left : Findings)
+    → behind drawing last other left ≡ behind (of_day drawing) last other left
+unfolding judged_behind
+judged_of_day drawing last other no_more = refl
+judged_of_day drawing last other (breaks f block) = refl
+judged_of_day drawing last other (refuses f block left) = judged_of_day drawing last true left
+judged_of_day drawing last other (finds t block left) =
+    rw (
+      drawn_of_day drawing t,
+      judged_of_day drawing (Some t) false left,
+      judged_of_day drawing (Some t) true left,
+    ) refl
+
+module _ (drawing : Drawing) (one other : Findings) (same : unnumbered one ≡ unnumbered other) where
+  -- What can be relied on is the same where the findings are, block numbers aside.
+  judged_same : behind drawing None false one ≡ behind (of_day drawing) None false other
+  judged_same =
+      judged_unnumbered drawing None false one
+      ∙ ap (behind drawing None false) same
+      ∙ sym (judged_unnumbered drawing None false other)
+      ∙ judged_of_day drawing None false other
+
+  -- And so is whether the file was read whole.
+  whole_same : is_read_whole one ≡ is_read_whole other
+  whole_same = whole_unnumbered one ∙ ap is_read_whole same ∙ sym (whole_unnumbered other)
+
+  -- So a transmission is judged by both or by none.
+  judges_same :
+      (is_read_whole one && are_some (behind drawing None false one).judged
+      && are_in_order (behind drawing None false one).judged)
+      ≡ (is_read_whole other && are_some (behind (of_day drawing) None false other).judged
+      && are_in_order (behind (of_day drawing) None false other).judged)
+  judges_same =
+      ap
+      (λ (whole : Bool). whole && are_some (behind drawing None false one).judged
+      && are_in_order (behind drawing None false one).judged)
+      whole_same
+      ∙ ap
+      (λ (all : AllJudged). is_read_whole other && are_some all.judged && are_in_order all.judged)
+      judged_same
+
+-- The law, from that of reading: for `law_of_judged_parts`.
+pub judged_parts : LawOfScope → LawOfJudgedParts
+unfolding judged_of
+judged_parts law drawing gsi blocks size each read =
+    let part : Findings = findings_for drawing.scope (gsi ++ concat blocks) in
+    let rest : Findings =
+    findings_for (all_day drawing.scope) (gsi ++ concat (taken_out drawing.scope None blocks)) in
+    let same = law drawing.scope gsi blocks size each read in
+    (judged_same drawing part rest same, judges_same drawing part rest same)
+
+-- ---- two files
+
+-- The tasks are one, since equal functions are.
+pub law_of_judged_alike : LawOfJudgedAlike
+law_of_judged_alike one other options unread pieces programme beside undecided =
+    ap
+    (λ (p : ProgrammeValue).
+    all_of_pieces (task_unsure p options unread (is_beside one) (is_undecided_beside one)) pieces)
+    programme
+    ∙ ap
+    (λ (b : Bool).
+    all_of_pieces (task_unsure other.programme options unread b (is_undecided_beside one)) pieces)
+    beside
+    ∙ ap
+    (λ (u : ℕ → Bool).
+    all_of_pieces (task_unsure other.programme options unread (is_beside other) u) pieces)
+    (fun_ext undecided)
