@@ -2,7 +2,7 @@
 ghost use Rattle.sub_io.specs.Device.{CanFail};
 
 use std::alloc::Global;
-use sub_answer::{Status, WholeFile, answer, say};
+use sub_answer::{Status, answer, say};
 use sub_io::{Flush, MemSink, MemSource, Source};
 use sub_request::Request;
 use sub_words::ParseWords;
@@ -34,9 +34,7 @@ pub fn answer_words<'a, S: Source, T: Source, F: Flush, K: Flush>(
     requires out { CanFail (K.failure_count out.old) }
 {
     match Request::parse(alloc, words) {
-        Ok(request) => {
-            answer::<WholeFile, WholeFile, S, T, F, K>(alloc, &request, first, second, file, out)
-        }
+        Ok(request) => { answer::<S, T, F, K>(alloc, &request, first, second, file, out) }
         Err(fault) => say(&fault, out),
     }
 }

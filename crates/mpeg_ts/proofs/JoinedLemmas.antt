@@ -104,14 +104,14 @@ settle_by gap v part wrong more all claims begins last found.Unfinished e =
     ap (λ l. mark_where (gap && gave_packet v.given) ++ l)
     (claims.opened
     (handed_over (with_gap gap (record v { part = Open; bytes = part_bytes part }))) part begins e)
-settle_by gap v part wrong more all claims begins last found.Other e =
+settle_by gap v part wrong more all claims begins last (found.Other f) e =
     let before = mark_where (gap && gave_packet v.given) in
     let bytes = part_bytes part in
     let state : JoiningValue = record (with_gap gap (record v { part = Open; bytes = bytes })) {
       part = Ended;
       pending = [];
     } in
-    let o = other_found bytes e in
+    let o = other_found bytes f e in
     ap (λ l. (before ++ bytes) ++ l) (joined-ended state wrong more refl)
     ∙ append-nil (before ++ bytes)
     ∙ ap (λ l. before ++ l)

@@ -3,6 +3,7 @@ pub mod JoinedLemmas
 pub mod NoteLemmas
 pub mod OutcomeLemmas
 pub mod ReadyLemmas
+pub mod RecordingLemmas
 pub mod SourceLemmas
 pub mod StreamLemmas
 pub mod WindowLemmas

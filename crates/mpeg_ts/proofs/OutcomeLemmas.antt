@@ -178,10 +178,10 @@ found-whole : (n size : ℕ) (r : Result ℕ PesFault)
 found-whole n size r h1 = grind (arith, nat_tests, by_bool)
 
 -- Another start or length.
-found-other : (n : ℕ) (r : Result ℕ PesFault)
-    → found_by_size n r ≡ found.Other
-    → (f : PesFault) × (r ≡ Err f)
-found-other n r h1 = grind (arith, nat_tests, by_bool)
+pub found-other : (n : ℕ) (r : Result ℕ PesFault) (f : PesFault)
+    → found_by_size n r ≡ found.Other f
+    → r ≡ Err f
+found-other n r f h1 = grind (arith, nat_tests, by_bool)
 
 -- Bytes in which a whole PES packet was found.
 pub record IsWhole (bytes : List ℕ) (size : ℕ) : Type 0 where
@@ -201,9 +201,9 @@ pub whole_found : (bytes : List ℕ) (size : ℕ)
 unfolding found_in
 whole_found bytes size h1 = grind (arith, nat_tests, by_bool, found-whole)
 
-pub other_found : (bytes : List ℕ) → found_in bytes ≡ found.Other → IsOther bytes
+pub other_found : (bytes : List ℕ) (f : PesFault) → found_in bytes ≡ found.Other f → IsOther bytes
 unfolding found_in
-other_found bytes h1 = grind (arith, nat_tests, by_bool, found-other)
+other_found bytes f h1 = grind (arith, nat_tests, by_bool, found-other)
 
 -- A part that does not begin with a PES packet's first byte.
 pub outcome-headless : (cut : Bool) (part : Part)

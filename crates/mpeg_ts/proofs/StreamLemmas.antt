@@ -6,7 +6,7 @@ use Rattle.std.proofs.Common.{take, drop, Option, Some, None, Bool, true, false,
 use Rattle.std.proofs.Common.{arith, append_assoc, length-append, length-drop, drop-drop, rules}
 use Rattle.std.proofs.Common.{get_or, inl, length-take, length-take-le, take-append-drop}
 use Rattle.std.proofs.lemmas.Bool.Decides.{nat_tests}
-use Rattle.std.proofs.lemmas.List.{append-nil, drop-append-le, drop-take, drop_all, get_or-take}
+use Rattle.std.proofs.lemmas.List.{append-nil, drop-append-le, drop_all, get_or-take}
 use Rattle.std.proofs.lemmas.List.{take-take}
 use Rattle.std.proofs.Math.Seq.{drop-append-add, drop-append_seam, take-append-add}
 use Rattle.std.proofs.KnownBytes.{Keeps-trans, Keeps-refl}
@@ -121,7 +121,7 @@ unfolding given_later
 later_end j = refl
 
 -- Nor where it has ended.
-later_ended : (j : JoiningValue) (all : List Note)
+pub later_ended : (j : JoiningValue) (all : List Note)
     → has_ended j.part ≡ true
     → given_later j all ≡ []
 unfolding given_later
@@ -716,71 +716,87 @@ pub others_given : (v w : StreamValue) (taken bytes : List ℕ) (count : ℕ)
     → given_of w bytes ≡ given_of v (taken ++ bytes)
 others_given v w taken bytes count h1 h2 h3 h4 h5 h6 h7 = grind (arith, nat_tests, given_behind)
 
--- The first packet of bytes stands in the first so many. For `take_lent`.
-pub front_within : (lead distance : ℕ) (bytes : List ℕ)
-    → 188 ≤ distance
-    → take 188 (drop lead bytes) ≡ take 188 (drop lead (take (lead + distance) bytes))
-front_within lead distance bytes near =
-    sym (ap (take 188) (drop-take lead distance bytes)
-    ∙ take-take 188 distance (drop lead bytes) near)
-
 -- A packet of the PID.
 pub same_pid : (number : ℕ) (p : List ℕ) (j : JoiningValue)
     → pid p ≡ number
     → after_packet number p j ≡ after_note j (note_of p)
 same_pid number p j h1 = grind (arith, nat_tests)
 
--- What is left after a packet that was lent.
-pub packet_given : (v w : StreamValue) (taken p bytes : List ℕ) (count : ℕ)
-    → length taken ≡ count
-    → count ≡ v.lead + v.distance
+-- A packet of the PID, and the bytes up to the next.
+unit_taken : (distance number : ℕ) (j : JoiningValue) (unit rest p : List ℕ)
+    → 188 ≤ distance
+    → length unit ≡ distance
+    → p ≡ take 188 unit
+    → slice_index p 0 ≡ 0x47
+    → has_ended j.part ≡ false
+    → j.pending ≡ []
+    → stream_gives distance number 0 true (after_packet number p j) rest
+    ≡ stream_gives distance number 0 true j (unit ++ rest)
+unit_taken distance number j unit rest p near size packet sync going idle =
+    let heads : take 188 (unit ++ rest) ≡ p =
+    take-append-le 188 unit rest (omega (arith, size)) ∙ sym packet in
+    let begins : begins_packet distance true (unit ++ rest) ≡ true =
+    ap (λ (n : ℕ). (n == 0x47) && true)
+    (sym (get_or-take 188 (unit ++ rest) 0 0 (omega arith))
+    ∙ ap (λ (l : List ℕ). slice_index l 0) heads ∙ sync) in
+    let behind : drop distance (unit ++ rest) ≡ rest =
+    ap (λ (n : ℕ). drop n (unit ++ rest)) (sym size) ∙ drop-append_seam unit rest in
+    ap (stream_gives distance number 0 true (after_packet number p j)) (sym behind)
+    ∙ ap (λ (l : List ℕ). stream_gives distance number 0 true (after_packet number l j)
+    (drop distance (unit ++ rest))) (sym heads)
+    ∙ stream_packet distance number 0 true j (unit ++ rest) near
+    (omega (arith, size, length-append unit rest)) begins going idle
+
+-- What is left after packets of others and a packet, which were lent.
+pub packet_given : (v w : StreamValue) (lent p bytes : List ℕ) (place count : ℕ)
+    → count ≡ place + v.distance
+    → count ≤ length lent
     → v.window.held ≡ []
     → count ≤ v.window.left
     → v.in_step ≡ true
     → v.run ≡ 0
     → 188 ≤ v.distance
-    → p ≡ take 188 (drop v.lead taken)
+    → p ≡ take 188 (drop place lent)
     → slice_index p 0 ≡ 0x47
     → has_ended v.joining.part ≡ false
     → v.joining.pending ≡ []
+    → ((rest : List ℕ) → stream_gives v.distance v.number 0 true v.joining rest
+    ≡ stream_gives v.distance v.number 0 true v.joining (drop v.lead (take place lent ++ rest)))
     → w ≡ record v {
       window = record v.window { left = v.window.left - count };
       lead = 0;
       joining = after_packet v.number p v.joining;
     }
-    → given_of w bytes ≡ given_of v (taken ++ bytes)
-packet_given v w taken p bytes count long sum none few step run near packet sync going idle is =
+    → given_of w bytes ≡ given_of v (take count lent ++ bytes)
+packet_given v w lent p bytes place count sum fits none few step run near packet sync going idle
+    others is =
+    let long : length (take count lent) ≡ count = length-take-le count lent fits in
     ap (λ (u : StreamValue). given_of u bytes) is
     ∙ given_behind v (record v {
       window = record v.window { left = v.window.left - count };
       lead = 0;
       joining = after_packet v.number p v.joining;
-    }) taken bytes none (omega (arith, long)) gives refl
+    }) (take count lent) bytes none (omega (arith, long)) gives refl
     (ap (λ n. record v.window { left = v.window.left - n }) (sym long))
   where
     gives : (rest : List ℕ)
         → stream_gives v.distance v.number v.run v.in_step (after_packet v.number p v.joining) rest
-        ≡ stream_gives v.distance v.number v.run v.in_step v.joining (drop v.lead (taken ++ rest))
+        ≡ stream_gives v.distance v.number v.run v.in_step v.joining
+        (drop v.lead (take count lent ++ rest))
     gives rest =
-        let unit = drop v.lead taken in
-        let size : length unit ≡ v.distance = omega (arith, long, sum, length-drop v.lead taken) in
-        let whole : drop v.lead (taken ++ rest) ≡ unit ++ rest =
-        drop-append-le v.lead taken rest (omega (arith, long, sum)) in
-        let heads : take 188 (unit ++ rest) ≡ p =
-        take-append-le 188 unit rest (omega (arith, size)) ∙ sym packet in
-        let begins : begins_packet v.distance true (unit ++ rest) ≡ true =
-        ap (λ (n : ℕ). (n == 0x47) && true)
-        (sym (get_or-take 188 (unit ++ rest) 0 0 (omega arith))
-        ∙ ap (λ (l : List ℕ). slice_index l 0) heads ∙ sync) in
-        let behind : drop v.distance (unit ++ rest) ≡ rest =
-        ap (λ (n : ℕ). drop n (unit ++ rest)) (sym size) ∙ drop-append_seam unit rest in
-        rw (step, run, whole)
-        (ap (stream_gives v.distance v.number 0 true (after_packet v.number p v.joining))
-        (sym behind)
-        ∙ ap (λ (l : List ℕ). stream_gives v.distance v.number 0 true
-        (after_packet v.number l v.joining) (drop v.distance (unit ++ rest))) (sym heads)
-        ∙ stream_packet v.distance v.number 0 true v.joining (unit ++ rest) near
-        (omega (arith, size, length-append unit rest)) begins going idle)
+        let unit = take v.distance (drop place lent) in
+        let size : length unit ≡ v.distance =
+        omega (arith, sum, fits, length-take v.distance (drop place lent), length-drop place lent) in
+        let parts : take count lent ≡ take place lent ++ unit =
+        ap (λ (n : ℕ). take n lent) sum ∙ take-add place v.distance lent in
+        let front : p ≡ take 188 unit =
+        packet ∙ sym (take-take 188 v.distance (drop place lent) near) in
+        rw (step, run)
+        (unit_taken v.distance v.number v.joining unit rest p near size front sync going idle
+        ∙ others (unit ++ rest)
+        ∙ ap (λ (l : List ℕ). stream_gives v.distance v.number 0 true v.joining (drop v.lead l))
+        (sym (append_assoc (take place lent) unit rest)
+        ∙ ap (λ (l : List ℕ). l ++ rest) (sym parts)))
 
 pub ruleset others = other_passed
 

@@ -1,10 +1,10 @@
 -- How the PES packets of a PID are put together, one note after another: what is kept, and what is
 -- given. What that is in the standard's terms says `Carried`.
-use Rattle.std.specs.Prelude.{◌≡◌, ◌⊎◌, ℕ, ◌+◌, ◌-◌, ◌<◌, ◌≤◌, ◌%◌, ◌==◌, ◌&&◌, ◌||◌, not, nat_lt}
+use Rattle.std.specs.Prelude.{◌≡◌, ℕ, ◌+◌, ◌≤◌, ◌%◌, ◌==◌, ◌&&◌, ◌||◌, not, nat_lt}
 use Rattle.std.specs.Prelude.{nat_le, Bool, true, false}
 use Rattle.std.specs.Prelude.{if◌then◌else◌, List, [], ◌∷◌, ◌++◌, length, take, bytes_eq}
-use Rattle.std.specs.Prelude.{slice_index}
-use Rattle.std.specs.Prelude.{drop, slice_range, Result, Ok, Err}
+use Rattle.std.specs.Prelude.{slice_index, ⊤, Result, Ok, Err}
+use Rattle.ttx_pes.specs.Pieces.{IsPiece}
 use Rattle.ttx_pes.specs.Reading.{size_at}
 use Rattle.ttx_pes.specs.declared.fault.PesFault.{PesFault}
 use Rattle.mpeg_ts.specs.Carried.{mark, mark_where}
@@ -19,6 +19,10 @@ use Rattle.mpeg_ts.specs.declared.joining.Given.{Given}
 use Rattle.mpeg_ts.specs.declared.joining.Given.TheVariants as given
 use Rattle.mpeg_ts.specs.declared.joining.Found.{Found}
 use Rattle.mpeg_ts.specs.declared.joining.Found.TheVariants as found
+use Rattle.mpeg_ts.specs.declared.waiting.Next.{Next}
+use Rattle.mpeg_ts.specs.declared.waiting.Next.TheVariants as next
+use Rattle.mpeg_ts.specs.declared.waiting.Waiting.{Waiting}
+use Rattle.mpeg_ts.specs.declared.waiting.Waiting.TheVariants as waiting
 
 -- What is kept: of the last good packet bytes 0 to 3, whether it announced a jump, and its payload,
 -- which is empty where there is none yet; whether its repeat came since, a jump was announced, and
@@ -110,7 +114,7 @@ with_gap gap v = record v {
 -- What so many bytes hold of a PES packet of that size.
 abbrev pub found_by_size : ℕ → Result ℕ PesFault → Found
 found_by_size count (Ok size) = if nat_le size count then found.Whole size else found.Unfinished
-found_by_size count (Err f) = found.Other
+found_by_size count (Err f) = found.Other f
 
 -- What the bytes of a part hold: the PES packet that they begin with, not all of it yet, or another
 -- start or length.
@@ -122,7 +126,7 @@ found_in bytes =
 -- An open part by what its bytes hold.
 abbrev pub settled_as : Found → JoiningValue → JoiningValue
 settled_as found.Unfinished v = v
-settled_as found.Other v = record v { part = Ended; pending = v.pending ++ v.bytes }
+settled_as (found.Other f) v = record v { part = Ended; pending = v.pending ++ v.bytes }
 settled_as (found.Whole size) v = record v {
   part = Complete;
   given = if nat_lt size (length v.bytes) then given.Mark else given.Packet;
@@ -186,27 +190,72 @@ given_later v (note ∷ more) =
 
 -- ---- how it is kept
 
--- The bytes that are ready: so many last ones of a mark, then those of a range, then perhaps a
--- mark.
-abbrev pub ready_bytes : ℕ → ℕ → ℕ → Bool → List ℕ → List ℕ
-ready_bytes mark_left start end mark_behind bytes =
-    drop (184 - mark_left) mark ++ (slice_range bytes start end ++ mark_where mark_behind)
+-- A mark, if there is one, waits.
+abbrev pub mark_alone : Bool → Waiting
+mark_alone true = waiting.Mark
+mark_alone false = waiting.Nothing
 
--- Of what is ready so much is lent as stands together: the end of a mark, or all but a mark behind
--- it. So a PES packet is lent whole.
-abbrev pub AreLentWhole : List ℕ → List ℕ → Type 0
-AreLentWhole lent pending =
-    ((place : ℕ) × (lent ≡ drop place mark))
-    ⊎ ((has_mark : Bool) × (pending ≡ lent ++ mark_where has_mark))
+-- The bytes that wait to be given.
+abbrev pub waiting_bytes : Waiting → List ℕ → List ℕ
+waiting_bytes waiting.Nothing bytes = []
+waiting_bytes waiting.Mark bytes = mark
+waiting_bytes (waiting.Packet mark_before size mark_behind) bytes =
+    mark_where mark_before ++ (take size bytes ++ mark_where mark_behind)
+waiting_bytes (waiting.Rest mark_before fault) bytes = mark_where mark_before ++ bytes
 
--- What holds of the numbers that are kept, and of the bytes of the part.
-pub record IsJoining
-    (mark_left start end : ℕ) (mark_behind : Bool) (payload_size : ℕ) (part : PartState)
-    (bytes : List ℕ)
-    : Type 0 where
-  pub mark : mark_left ≤ 184
-  pub range : start ≤ end
-  pub within : end ≤ length bytes
-  pub behind : mark_behind ≡ true → start < end
-  pub last : payload_size ≤ length bytes
-  pub room : part ≡ Open → length bytes ≤ 1655
+-- No piece begins these bytes, for this fault.
+abbrev pub IsRefused : List ℕ → PesFault → Type 0
+IsRefused bytes fault = (6 ≤ length bytes) × (size_at (take 6 bytes) ≡ Err fault)
+
+-- What waits is a piece, or what no piece begins; behind that nothing comes.
+abbrev pub WaitsFor : Waiting → PartState → List ℕ → Type 0
+WaitsFor waiting.Nothing part bytes = ⊤
+WaitsFor waiting.Mark part bytes = ⊤
+WaitsFor (waiting.Packet mark_before size mark_behind) part bytes =
+    IsPiece (take size bytes) × (size ≤ length bytes)
+WaitsFor (waiting.Rest mark_before fault) part bytes =
+    IsRefused bytes fault × (has_ended part ≡ true)
+
+-- What holds of what is kept.
+pub record IsJoining (w : Waiting) (payload_size : ℕ) (part : PartState) (bytes : List ℕ) : Type 0
+  where
+    pub last : payload_size ≤ length bytes
+    pub room : part ≡ Open → length bytes ≤ 1655
+    pub waits : WaitsFor w part bytes
+
+-- The bytes of what was taken.
+abbrev pub taken_bytes : Next → List ℕ → List ℕ
+taken_bytes next.Nothing bytes = []
+taken_bytes next.Mark bytes = mark
+taken_bytes (next.Packet size) bytes = take size bytes
+taken_bytes (next.Rest fault) bytes = bytes
+
+-- They stand in the bytes of the part.
+abbrev pub IsWithin : Next → List ℕ → Type 0
+IsWithin next.Nothing bytes = ⊤
+IsWithin next.Mark bytes = ⊤
+IsWithin (next.Packet size) bytes = size ≤ length bytes
+IsWithin (next.Rest fault) bytes = ⊤
+
+-- What is given next was taken of what is ready. Bytes that are no piece stay.
+abbrev pub TakesNext : JoiningValue → Next → JoiningValue → Type 0
+TakesNext old next.Nothing new = (old.pending ≡ []) × (new ≡ old)
+TakesNext old next.Mark new =
+    (old.pending ≡ mark ++ new.pending) × (new ≡ record old { pending = new.pending })
+TakesNext old (next.Packet size) new =
+    IsPiece (take size old.bytes)
+    × (size ≤ length old.bytes)
+    × (old.pending ≡ take size old.bytes ++ new.pending)
+    × (new ≡ record old { pending = new.pending })
+TakesNext old (next.Rest fault) new =
+    (old.pending ≡ old.bytes)
+    × IsRefused old.bytes fault
+    × (has_ended old.part ≡ true)
+    × (new ≡ old)
+
+-- The same, whatever it is: no byte of it stays.
+abbrev pub TakesFirst : JoiningValue → Next → JoiningValue → Type 0
+TakesFirst old next new =
+    (old.pending ≡ taken_bytes next new.bytes ++ new.pending)
+    × (new ≡ record old { pending = new.pending })
+    × (taken_bytes next new.bytes ≡ [] → old.pending ≡ [])

@@ -5,6 +5,7 @@ pub mod PacketSize
 pub mod PacketsInStep
 pub mod Parts
 pub mod Pid
+pub mod Recording
 pub mod Stream
 pub mod TransportPacket
 pub mod Window

@@ -1,13 +1,12 @@
 -- How far a recording was read for one PID, and what is still to be given.
 use Rattle.std.specs.Prelude.{◌≡◌, ℕ, ◌+◌, ◌-◌, ◌^◌, ◌≤◌, ◌==◌, Bool, true, false, if◌then◌else◌}
-use Rattle.std.specs.Prelude.{List, [], ◌++◌, length, drop, nat_lt, Option, is_some, option_map}
-use Rattle.sub_io.specs.Asking.{Asks}
+use Rattle.std.specs.Prelude.{List, [], ◌++◌, length, drop, nat_lt, slice_index, Option, option_map}
 use Rattle.mpeg_ts.specs.GoodPackets.{Hole, hole_size, note_of, notes}
 use Rattle.mpeg_ts.specs.Joining.{JoiningValue, after_note, given_later, handed_over}
 use Rattle.mpeg_ts.specs.Joining.{nothing_joined}
 use Rattle.mpeg_ts.specs.PacketsInStep.{items, lead_size, most_bytes}
 use Rattle.mpeg_ts.specs.Pid.{greatest_pid}
-use Rattle.mpeg_ts.specs.TransportPacket.{pid}
+use Rattle.mpeg_ts.specs.TransportPacket.{pid, sync_byte}
 use Rattle.mpeg_ts.specs.Window.{WindowValue, held_and_left}
 
 -- The PID and the distance of packets; the bytes that were taken; so many bytes that are passed
@@ -58,6 +57,10 @@ still_given v told = option_map (given_of v) told
 abbrev pub gives_some : StreamValue → List ℕ → Bool
 gives_some v bytes = nat_lt 0 (length (given_of v bytes))
 
+-- Whether some of it is ready.
+abbrev pub is_some_ready : StreamValue → Bool
+is_some_ready v = nat_lt 0 (length v.joining.pending)
+
 -- How many bytes there may be from the next item on.
 abbrev pub bytes_at_most : StreamValue → ℕ
 bytes_at_most v = (length v.window.held + v.window.left) - v.lead
@@ -70,6 +73,10 @@ after_packet number p j = if pid p == number then after_note j (note_of p) else 
 abbrev pub after_skipped : ℕ → ℕ → JoiningValue → JoiningValue
 after_skipped distance run j = if run + 1 == hole_size distance then after_note j Hole else j
 
+-- A packet of the PID begins with its first byte.
+abbrev pub BeginsPacket : ℕ → List ℕ → Type 0
+BeginsPacket number p = (slice_index p 0 ≡ sync_byte) × (pid p ≡ number)
+
 -- What holds of the numbers.
 pub record IsStream (number distance lead run taken : ℕ) (in_step : Bool) : Type 0 where
   pub is_pid : number ≤ greatest_pid
@@ -79,18 +86,3 @@ pub record IsStream (number distance lead run taken : ℕ) (in_step : Bool) : Ty
   pub no_lead : in_step ≡ false → lead ≡ 0
   pub no_run : in_step ≡ true → run ≡ 0
   pub counted : run + taken ≤ 2 ^ 48
-
--- The source of a recording, and what was read of it.
-pub record SourceValue (D : Type 0) : Type 0 where
-  pub device : D
-  pub stream : StreamValue
-
--- A pull, or a passing over: the source inside is asked for no byte behind those that give some.
-abbrev pub AsksInside :
-    {D : Type 0}
-    → (D → ℕ → Option ℕ → D → Type 0) → (D → List ℕ) → (D → Option (List ℕ))
-    → SourceValue D → ℕ → Option ℕ → SourceValue D → Type 0
-AsksInside IsPull lent remaining old count answer new =
-    (gives : List ℕ → Bool)
-    × Asks IsPull lent remaining (gives_some old.stream) old.device (is_some answer)
-    gives new.device

@@ -1,19 +1,23 @@
 //! Putting the PES packets of a PID together, one transport packet after another.
-ghost use Rattle.std.specs.Prelude.{◌≡◌, ℕ, ◌+◌, ◌≤◌, ◌<◌, ◌↔◌, ◌++◌, ◌||◌, drop, take, length, []};
-ghost use Rattle.std.specs.Prelude.{◌&&◌, if◌then◌else◌, IfSome, false, true};
+ghost use Rattle.std.specs.Prelude.{◌≡◌, ◌≤◌, ◌↔◌, length, []};
+ghost use Rattle.std.specs.Prelude.{◌&&◌, false, true};
 ghost use Rattle.mpeg_ts.specs.GoodPackets.{Wrong, Hole, note_of};
-ghost use Rattle.mpeg_ts.specs.Joining.{AreLentWhole, after_note, after_valid, begun, gone_on};
-ghost use Rattle.mpeg_ts.specs.Joining.{grown, has_ended, holding, is_complete, link_after};
-ghost use Rattle.mpeg_ts.specs.Joining.{nothing_joined, remembering, repeats};
+ghost use Rattle.mpeg_ts.specs.Joining.{IsWithin, TakesFirst, TakesNext, after_note, after_valid};
+ghost use Rattle.mpeg_ts.specs.Joining.{begun, gave_packet, given_after, gone_on, grown};
+ghost use Rattle.mpeg_ts.specs.Joining.{handed_over};
+ghost use Rattle.mpeg_ts.specs.Joining.{has_ended, holding, is_complete, link_after, mark_alone};
+ghost use Rattle.mpeg_ts.specs.Joining.{nothing_joined, remembering, repeats, taken_bytes};
 ghost use Rattle.mpeg_ts.specs.Parts.{is_break, is_unlinked};
 ghost use Rattle.mpeg_ts.specs.TransportPacket.{has_payload, is_wrong, payload};
 
-use crate::mark::{MARK_SIZE, mark_end, mark_gap};
+use crate::mark::mark_bytes;
 use crate::part_bytes::{PartBytes, find_packet};
 use crate::transport_packet::{
     PACKET, announces_jump, begins, counter_of, has_payload, is_wrong, payload_of,
 };
+use crate::waiting::{Next, Waiting, mark_alone};
 use std::marker::Model;
+use ttx_pes::PesFault;
 
 /// How far the part has come that the last good packet belongs to.
 #[derive(Drop)]
@@ -48,7 +52,7 @@ pub(crate) enum Found {
     /// A PES packet, the first so many of them.
     Whole(usize),
     /// Another start or another length.
-    Other,
+    Other(PesFault),
 }
 
 /// Puts the PES packets of a PID together, for a caller that hands in the PID's packets one by one.
@@ -70,17 +74,12 @@ pub struct Joining {
     has_break: bool,
     part: PartState,
     given: Given,
-    // What is ready to be given: so many last bytes of a mark, then `bytes[start..end]`, and then
-    // perhaps a mark.
-    mark_left: usize,
-    start: usize,
-    end: usize,
-    mark_behind: bool,
+    waiting: Waiting,
 }
 
 impl Model for Joining {
     ghost use Rattle.std.specs.Prelude.{◌-◌, drop, length};
-    ghost use Rattle.mpeg_ts.specs.Joining.{JoiningValue, IsJoining, ready_bytes};
+    ghost use Rattle.mpeg_ts.specs.Joining.{JoiningValue, IsJoining, waiting_bytes};
 
     ghost Value = { JoiningValue };
 
@@ -94,11 +93,10 @@ impl Model for Joining {
       part = j.part;
       bytes = j.bytes;
       given = j.given;
-      pending = ready_bytes j.mark_left j.start j.end j.mark_behind j.bytes;
+      pending = waiting_bytes j.waiting j.bytes;
     } };
 
-    ghost invariant = { λ j. IsJoining
-        j.mark_left j.start j.end j.mark_behind j.payload_size j.part j.bytes };
+    ghost invariant = { λ j. IsJoining j.waiting j.payload_size j.part j.bytes };
 }
 
 impl Joining {
@@ -116,10 +114,7 @@ impl Joining {
             has_break: false,
             part: PartState::Headless,
             given: Given::Nothing,
-            mark_left: 0,
-            start: 0,
-            end: 0,
-            mark_behind: false,
+            waiting: Waiting::Nothing,
         }
     }
 
@@ -129,7 +124,10 @@ impl Joining {
     pub fn is_idle(&self) -> bool
         ensures { (result ≡ true) ↔ (self.now.pending ≡ []) }
     {
-        self.mark_left == 0 && self.start == self.end
+        match self.waiting {
+            Waiting::Nothing => true,
+            _ => false,
+        }
     }
 
     /// Whether nothing comes any more but what is ready.
@@ -150,7 +148,7 @@ impl Joining {
         ensures { self.new ≡ after_note self.old Wrong }
     {
         self.has_break = true;
-        mark_gap(true, &mut self.given, &mut self.mark_left);
+        self.waiting = mark_alone(mark_gap(true, &mut self.given));
     }
 
     /// So many bytes were skipped in a row that packets may be missing.
@@ -313,8 +311,6 @@ impl Joining {
     {
         self.bytes.clear();
         self.payload_size = 0;
-        self.start = 0;
-        self.end = 0;
     }
 
     // Keeps that payload alone.
@@ -328,7 +324,7 @@ impl Joining {
         self.clear();
         self.bytes.add(payload);
         self.payload_size = payload.len();
-        mark_gap(gap, &mut self.given, &mut self.mark_left);
+        self.waiting = mark_alone(mark_gap(gap, &mut self.given));
     }
 
     // Adds that payload to an open part, and makes its PES packet ready if it is there whole.
@@ -340,24 +336,27 @@ impl Joining {
         requires most { length payload.now ≤ 184 }
         ensures { self.new ≡ grown gap self.old payload.now }
     {
-        mark_gap(gap, &mut self.given, &mut self.mark_left);
+        let mark_before = mark_gap(gap, &mut self.given);
         self.bytes.add(payload);
         self.payload_size = payload.len();
-        self.start = 0;
-        self.end = 0;
         match find_packet(self.bytes.as_slice()) {
             Found::Unfinished => {
                 self.part = PartState::Open;
+                self.waiting = mark_alone(mark_before);
             }
-            Found::Other => {
+            Found::Other(fault) => {
                 self.part = PartState::Ended;
-                self.end = self.bytes.as_slice().len();
+                self.waiting = Waiting::Rest { mark_before, fault };
             }
             Found::Whole(size) => {
+                let mark_behind = size < self.bytes.as_slice().len();
                 self.part = PartState::Complete;
-                self.end = size;
-                self.mark_behind = size < self.bytes.as_slice().len();
-                self.given = if self.mark_behind {
+                self.waiting = Waiting::Packet {
+                    mark_before,
+                    size,
+                    mark_behind,
+                };
+                self.given = if mark_behind {
                     Given::Mark
                 } else {
                     Given::Packet
@@ -366,69 +365,108 @@ impl Joining {
         }
     }
 
-    /// The bytes that are given next, as far as they stand together.
+    /// Takes what is given next of what is ready. Bytes that are no PES packet stay.
+    #[tactic(auto, using(crate::proofs::ReadyLemmas::taking))]
     #[inline(always)]
-    pub fn lent(&self) -> &[u8]
-        ensures next { take (length result.now) self.now.pending ≡ result.now }
-        ensures within { length result.now ≤ length self.now.pending }
-        ensures none { result.now ≡ [] → self.now.pending ≡ [] }
-        ensures whole { AreLentWhole result.now self.now.pending }
+    pub fn take_next(&mut self) -> Next
+        ensures next { TakesNext self.old result self.new }
+        ensures within { IsWithin result self.new.bytes }
     {
-        if self.mark_left > 0 {
-            return mark_end(self.mark_left);
+        match self.waiting {
+            Waiting::Nothing => Next::Nothing,
+            Waiting::Mark => {
+                self.waiting = Waiting::Nothing;
+                Next::Mark
+            }
+            Waiting::Packet {
+                mark_before,
+                size,
+                mark_behind,
+            } => {
+                if mark_before {
+                    self.waiting = Waiting::Packet {
+                        mark_before: false,
+                        size,
+                        mark_behind,
+                    };
+                    return Next::Mark;
+                }
+                self.waiting = mark_alone(mark_behind);
+                Next::Packet(size)
+            }
+            Waiting::Rest { mark_before, fault } => {
+                if mark_before {
+                    self.waiting = Waiting::Rest {
+                        mark_before: false,
+                        fault,
+                    };
+                    return Next::Mark;
+                }
+                Next::Rest(fault)
+            }
         }
-        &self.bytes.as_slice()[self.start..self.end]
     }
 
-    // How many bytes are ready to be given.
+    /// The bytes of what was taken.
     #[inline(always)]
-    pub(crate) fn ready(&self) -> usize
-        ensures { result ≡ length self.now.pending }
+    pub fn taken(&self, next: Next) -> &[u8]
+        requires { IsWithin next self.now.bytes }
+        ensures { result.now ≡ taken_bytes next self.now.bytes }
     {
-        let range = &self.bytes.as_slice()[self.start..self.end];
-        let front = self.mark_left + range.len();
-        if self.mark_behind {
-            front + MARK_SIZE
-        } else {
-            front
+        match next {
+            Next::Packet(size) => {
+                let (packet, _) = self.bytes.as_slice().split_at(size);
+                packet
+            }
+            Next::Mark => mark_bytes().as_slice(),
+            Next::Rest(_) => self.bytes.as_slice(),
+            Next::Nothing => &[],
         }
     }
 
-    /// Passes over so many of the bytes that are ready.
-    #[tactic(auto, using(crate::proofs::ReadyLemmas::passing))]
-    #[inline(always)]
-    pub fn pass(&mut self, count: usize)
-        requires { count ≤ length self.old.pending }
-        ensures { self.new ≡ record self.old { pending = drop count self.old.pending } }
+    // The bytes of the part.
+    pub(crate) fn bytes(&self) -> &[u8]
+        ensures { result.now ≡ self.now.bytes }
     {
-        if count <= self.mark_left {
-            self.mark_left -= count;
-            return;
-        }
-        let more = count - self.mark_left;
-        if more < self.end - self.start || !self.mark_behind {
-            self.mark_left = 0;
-            self.start += more;
-            return;
-        }
-        self.mark_left = MARK_SIZE - (more - (self.end - self.start));
-        self.start = self.end;
-        self.mark_behind = false;
+        self.bytes.as_slice()
     }
 
-    // Gives bytes that are ready, as many as there is room for, and answers how many.
-    #[inline(always)]
-    pub(crate) fn give(&mut self, to: &mut [u8]) -> usize
-        ensures bound { result ≤ length to.new }
-        ensures bytes { self.old.pending ≡ take result to.new ++ self.new.pending }
-        ensures rest { self.new ≡ record self.old { pending = self.new.pending } }
-        ensures none { result ≡ 0 → 0 < length to.new → self.old.pending ≡ [] }
+    // All that was ready was given.
+    pub(crate) fn hand_over(&mut self)
+        ensures { self.new ≡ handed_over self.old }
     {
-        let lent = self.lent();
-        let count = lent.len().min(to.len());
-        let (given, _) = lent.split_at(count);
-        to[..count].copy_from_slice(given);
-        self.pass(count);
-        count
+        self.waiting = Waiting::Nothing;
+    }
+
+    /// Takes what is given next of what is ready, whatever it is.
+    #[tactic(auto, using(crate::proofs::ReadyLemmas::firsts))]
+    pub fn take_first(&mut self) -> Next
+        ensures first { TakesFirst self.old result self.new }
+        ensures within { IsWithin result self.new.bytes }
+    {
+        let next = self.take_next();
+        match next {
+            Next::Rest(_) => self.waiting = Waiting::Nothing,
+            _ => {}
+        }
+        next
+    }
+}
+
+// Whether a mark is due for a gap, which is one behind a PES packet.
+#[inline(always)]
+fn mark_gap(gap: bool, given: &mut Given) -> bool
+    ensures given { given.new ≡ given_after gap given.old }
+    ensures due { result ≡ (gap && gave_packet given.old) }
+{
+    if !gap {
+        return false;
+    }
+    match &*given {
+        Given::Packet => {
+            *given = Given::Mark;
+            true
+        }
+        _ => false,
     }
 }

@@ -22,17 +22,21 @@ mod part_bytes;
 mod passing;
 mod pes_source;
 mod pid;
+mod recording_pieces;
 mod stream;
 mod survey_options;
 mod transport_packet;
+mod waiting;
 mod window;
 
 pub use joining::Joining;
 pub use packet_size::PacketSize;
 pub use pes_source::PesSource;
 pub use pid::Pid;
+pub use recording_pieces::RecordingPieces;
 pub use survey_options::SurveyOptions;
 pub use transport_packet::{
     PACKET, SYNC_BYTE, announces_jump, begins, counter_of, has_adaptation, has_payload, is_wrong,
     payload_of, pid_of,
 };
+pub use waiting::Next;

@@ -1,9 +1,6 @@
 //! What stands where something is missing.
-ghost use Rattle.std.specs.Prelude.{◌≡◌, ◌-◌, ◌≤◌, ◌&&◌, drop, length, if◌then◌else◌};
+ghost use Rattle.std.specs.Prelude.{◌≡◌};
 ghost use Rattle.mpeg_ts.specs.Carried.{mark};
-ghost use Rattle.mpeg_ts.specs.Joining.{gave_packet, given_after};
-
-use crate::joining::Given;
 
 /// The bytes of a mark.
 pub(crate) const MARK_SIZE: usize = 184;
@@ -31,34 +28,4 @@ pub(crate) fn mark_bytes() -> &'static [u8; MARK_SIZE]
     ensures { result.now ≡ mark }
 {
     &MARK
-}
-
-// So many last bytes of the mark. (Out of line: where it is built into a reader, what is lent is
-// chosen between it and a PES packet again for each byte that is read.)
-#[inline(never)]
-pub(crate) fn mark_end(count: usize) -> &'static [u8]
-    requires { count ≤ 184 }
-    ensures bytes { result.now ≡ drop (184 - count) mark }
-    ensures len { length result.now ≡ count }
-{
-    let (_, end) = mark_bytes().split_at(MARK_SIZE - count);
-    end
-}
-
-// Makes a mark ready for a gap behind a PES packet.
-#[inline(always)]
-pub(crate) fn mark_gap(gap: bool, given: &mut Given, mark_left: &mut usize)
-    ensures given { given.new ≡ given_after gap given.old }
-    ensures mark { mark_left.new ≡ (if gap && gave_packet given.old then 184 else mark_left.old) }
-{
-    if !gap {
-        return;
-    }
-    match &*given {
-        Given::Packet => {
-            *given = Given::Mark;
-            *mark_left = MARK_SIZE;
-        }
-        _ => {}
-    }
 }

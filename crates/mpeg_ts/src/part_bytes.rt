@@ -1,7 +1,10 @@
 //! The bytes of a part.
-ghost use Rattle.std.specs.Prelude.{◌≡◌, ℕ, ◌+◌, ◌<◌, ◌≤◌, [], ◌++◌, length};
-ghost use Rattle.mpeg_ts.specs.Joining.{found_in};
-ghost use Rattle.mpeg_ts.specs.declared.joining.Found.TheVariants.{Unfinished, Whole};
+ghost use Rattle.std.specs.Prelude.{◌≡◌, ℕ, ◌+◌, ◌≤◌, [], ◌++◌, length, take};
+ghost use Rattle.sub_io.specs.Reading.{AreBytes};
+ghost use Rattle.ttx_pes.specs.Pieces.{IsPiece};
+ghost use Rattle.ttx_pes.specs.declared.fault.PesFault.{PesFault};
+ghost use Rattle.mpeg_ts.specs.Joining.{IsRefused, found_in};
+ghost use Rattle.mpeg_ts.specs.declared.joining.Found.TheVariants.{Other, Unfinished, Whole};
 
 use crate::joining::Found;
 use std::marker::Model;
@@ -70,19 +73,30 @@ impl PartBytes {
 }
 
 // Looks for the PES packet that bytes begin with.
-#[tactic(auto, unfolding(crate::specs::Joining::found_in))]
 #[inline(always)]
 pub(crate) fn find_packet(bytes: &[u8]) -> Found
     ensures found { found_in bytes.now ≡ result }
-    ensures within { (size : ℕ) → result ≡ Whole size → size ≤ length bytes.now }
-    ensures some { (size : ℕ) → result ≡ Whole size → 0 < size }
     ensures open { result ≡ Unfinished → length bytes.now ≤ 1655 }
+    ensures packet { (size : ℕ) → result ≡ Whole size
+        → IsPiece (take size bytes.now) × (size ≤ length bytes.now) }
+    ensures other { (fault : PesFault) → result ≡ Other fault → IsRefused bytes.now fault }
+{
+    found_at_front(bytes)
+}
+
+// The same, by its size.
+#[tactic(auto, unfolding(crate::specs::Joining::found_in))]
+#[inline(always)]
+fn found_at_front(bytes: &[u8]) -> Found
+    ensures found { found_in bytes.now ≡ result }
+    ensures open { result ≡ Unfinished → length bytes.now ≤ 1655 }
+    ensures fit { AreBytes bytes.now }
 {
     let Some(head) = bytes.first_chunk() else {
         return Found::Unfinished;
     };
     match size_of(head) {
-        Err(_) => Found::Other,
+        Err(fault) => Found::Other(fault),
         Ok(size) => {
             if size <= bytes.len() {
                 Found::Whole(size)

@@ -4,10 +4,10 @@ ghost use Rattle.std.specs.Prelude.{◌≡◌, ◌+◌, ◌<◌, ◌≤◌, List
 ghost use Rattle.std.specs.Prelude.{false, slice_index, true};
 ghost use Rattle.mpeg_ts.specs.GoodPackets.{hole_size};
 ghost use Rattle.mpeg_ts.specs.Joining.{JoiningValue, has_ended};
-ghost use Rattle.mpeg_ts.specs.Stream.{stream_gives};
+ghost use Rattle.mpeg_ts.specs.Stream.{BeginsPacket, stream_gives};
 ghost use Rattle.mpeg_ts.specs.TransportPacket.{pid, sync_byte};
 
-use crate::transport_packet::{PACKET, SYNC_BYTE};
+use crate::transport_packet::{PACKET, SYNC_BYTE, pid_of};
 
 // The packet at that place of bytes.
 #[inline(always)]
@@ -42,6 +42,21 @@ pub(crate) fn place_behind_others(bytes: &[u8], from: usize, distance: usize, nu
         at += distance;
     }
     at
+}
+
+// Whether a packet of that PID stands at that place of bytes, and all bytes up to the next.
+#[inline(always)]
+pub(crate) fn begins_unit(bytes: &[u8], place: usize, distance: usize, number: u16) -> bool
+    requires within { place ≤ length bytes.now }
+    requires near { 188 ≤ distance }
+    ensures fits { result ≡ true → place + distance ≤ length bytes.now }
+    ensures packet { result ≡ true → BeginsPacket number (take 188 (drop place bytes.now)) }
+{
+    if bytes.len() - place < distance {
+        return false;
+    }
+    let packet = packet_in(bytes, place);
+    packet[0] == SYNC_BYTE && pid_of(packet) == number
 }
 
 // How many bytes stand before the first sync byte: out of step no packet begins at one of them. The

@@ -1,20 +1,22 @@
 //! Reading a recording for one PID: its packets in step, and what they give.
-ghost use Rattle.std.specs.Prelude.{◌≡◌, ◌+◌, ◌-◌, ◌^◌, ◌<◌, ◌≤◌, ◌↔◌, List, ℕ, [], ◌++◌, drop};
-ghost use Rattle.std.specs.Prelude.{take, length};
+ghost use Rattle.std.specs.Prelude.{◌≡◌, ◌+◌, ◌-◌, ◌^◌, ◌<◌, ◌≤◌, ◌↔◌, List, ℕ, [], drop};
+ghost use Rattle.std.specs.Prelude.{◌≢◌, take, length};
 ghost use Rattle.std.specs.Prelude.{Ok, false, is_ok, slice_index, true};
 ghost use Rattle.std.specs.Io.KnownBytes.{IsAtEnd, Keeps};
 ghost use Rattle.sub_io.specs.Asking.{Asks};
 ghost use Rattle.sub_io.specs.Device.{CanFail, CountsFailure};
 ghost use Rattle.mpeg_ts.specs.GoodPackets.{hole_size};
-ghost use Rattle.mpeg_ts.specs.Joining.{AreLentWhole, JoiningValue, has_ended};
+ghost use Rattle.mpeg_ts.specs.Joining.{IsWithin, JoiningValue, TakesFirst, TakesNext};
+ghost use Rattle.mpeg_ts.specs.Joining.{handed_over, has_ended, taken_bytes};
 ghost use Rattle.mpeg_ts.specs.PacketSize.{bytes_of};
 ghost use Rattle.mpeg_ts.specs.PacketsInStep.{begins_packet, bytes_needed, lead_size};
 ghost use Rattle.mpeg_ts.specs.Stream.{after_packet, after_skipped, bytes_ahead, bytes_at_most};
 ghost use Rattle.mpeg_ts.specs.Stream.{given_of, gives_some, start_of_stream, still_given};
 
 use crate::joining::Joining;
-use crate::passing::{junk_size, packet_in, place_behind_others};
+use crate::passing::{begins_unit, junk_size, packet_in, place_behind_others};
 use crate::transport_packet::{PACKET, SYNC_BYTE, pid_of};
+use crate::waiting::Next;
 use crate::window::Window;
 use crate::{PacketSize, Pid};
 use std::marker::Model;
@@ -275,6 +277,7 @@ impl Stream {
     }
 
     // Takes the next item, `false` at the end.
+    #[inline(never)]
     #[tactic(auto, using(crate::proofs::StreamLemmas::steps))]
     fn step<S: Source>(&mut self, source: &mut S) -> Result<bool, Failed>
         requires count { CanFail (S.failure_count source.old) }
@@ -302,41 +305,9 @@ impl Stream {
         Ok(true)
     }
 
-    // Passes over packets of other PIDs that the source lends, and answers whether it did.
-    #[inline(always)]
-    #[tactic(auto, using(crate::proofs::StreamLemmas::skims))]
-    fn pass_others<S: Source>(&mut self, source: &mut S) -> bool
-        requires count { CanFail (S.failure_count source.old) }
-        requires idle { self.old.joining.pending ≡ [] }
-        requires going { has_ended self.old.joining.part ≡ false }
-        ensures kept { Keeps (still_given self.old (S.remaining source.old))
-            (still_given self.new (S.remaining source.new))
-            × Asks S.is_pull S.lent S.remaining
-            (gives_some self.old) source.old true (gives_some self.new) source.new }
-        ensures same { self.new
-            ≡ record self.old { window = self.new.window; lead = self.new.lead } }
-        ensures fewer { result ≡ true → bytes_at_most self.new < bytes_at_most self.old }
-        ensures none { result ≡ false → (self.new ≡ self.old) × (source.new ≡ source.old) }
-        ensures count { S.failure_count source.new ≡ S.failure_count source.old }
-    {
-        if !self.in_step || self.window.len() > 0 {
-            return false;
-        }
-        let lent = source.held();
-        if lent.len() < self.lead || self.window.left() < lent.len() as u64 {
-            return false;
-        }
-        let count = place_behind_others(lent, self.lead, self.distance, self.number);
-        if count <= self.lead || !source.pass(count) {
-            return false;
-        }
-        self.window.pass(count as u64);
-        self.lead = 0;
-        true
-    }
-
-    // Takes the packet that stands next, if it is one of the PID and the source lends all bytes up
-    // to the one after it, and answers whether it did. It is looked at where the source lends it.
+    // Passes over the packets of other PIDs that the source lends, and takes the one of the PID
+    // behind them where the source lends all bytes up to the next. Answers whether it did either.
+    // They are looked at where the source lends them.
     #[inline(always)]
     #[tactic(auto, using(crate::proofs::StreamLemmas::skims))]
     fn take_lent<S: Source>(&mut self, source: &mut S) -> bool
@@ -354,46 +325,25 @@ impl Stream {
         if !self.in_step || self.window.len() > 0 {
             return false;
         }
-        let count = self.lead + self.distance;
-        if self.window.left() < count as u64 {
-            return false;
-        }
         let lent = source.held();
-        if lent.len() < count {
+        if lent.len() < self.lead || self.window.left() < lent.len() as u64 {
             return false;
         }
-        let packet = packet_in(lent, self.lead);
-        if packet[0] != SYNC_BYTE || pid_of(packet) != self.number {
-            return false;
+        let place = place_behind_others(lent, self.lead, self.distance, self.number);
+        if !begins_unit(lent, place, self.distance, self.number) {
+            if place <= self.lead || !source.pass(place) {
+                return false;
+            }
+            self.window.pass(place as u64);
+            self.lead = 0;
+            return true;
         }
-        self.joining.take_packet(packet);
+        self.joining.take_packet(packet_in(lent, place));
+        let count = place + self.distance;
         source.pass(count);
         self.window.pass(count as u64);
         self.lead = 0;
         true
-    }
-
-    // Passes over packets of other PIDs, or takes the next item; `false` at the end.
-    #[inline(never)]
-    #[tactic(auto, using(crate::proofs::StreamLemmas::steps))]
-    fn take_other<S: Source>(&mut self, source: &mut S) -> Result<bool, Failed>
-        requires count { CanFail (S.failure_count source.old) }
-        requires idle { self.old.joining.pending ≡ [] }
-        requires going { has_ended self.old.joining.part ≡ false }
-        ensures keeps { Keeps (still_given self.old (S.remaining source.old))
-            (still_given self.new (S.remaining source.new)) }
-        ensures end { result ≡ Ok false
-            → IsAtEnd (still_given self.new (S.remaining source.new)) }
-        ensures fewer { result ≡ Ok true → bytes_at_most self.new < bytes_at_most self.old }
-        ensures asks { Asks S.is_pull S.lent S.remaining
-            (gives_some self.old) source.old (is_ok result) (gives_some self.new) source.new }
-        ensures count { CountsFailure
-            (S.failure_count source.old) result (S.failure_count source.new) }
-    {
-        if self.pass_others(source) {
-            return Ok(true);
-        }
-        self.step(source)
     }
 
     // Whether nothing is ready, and more may come.
@@ -407,10 +357,31 @@ impl Stream {
         self.joining.is_idle() && !self.joining.has_ended()
     }
 
-    // Reads on until bytes are ready, or the end is reached.
+    // Reads on until something is ready, or the end is reached.
     #[inline(always)]
     #[tactic(auto, using(crate::proofs::StreamLemmas::reads))]
     pub(crate) fn read_on<S: Source>(&mut self, source: &mut S) -> Result<(), Failed>
+        requires { CanFail (S.failure_count source.old) }
+        ensures keeps { Keeps (still_given self.old (S.remaining source.old))
+            (still_given self.new (S.remaining source.new)) }
+        ensures ready { self.old.joining.pending ≢ [] → result ≡ Ok tt }
+        ensures end { result ≡ Ok tt → self.new.joining.pending ≡ []
+            → IsAtEnd (still_given self.new (S.remaining source.new)) }
+        ensures asks { Asks S.is_pull S.lent S.remaining
+            (gives_some self.old) source.old (is_ok result) (gives_some self.new) source.new }
+        ensures count { CountsFailure
+            (S.failure_count source.old) result (S.failure_count source.new) }
+    {
+        if !self.is_idle() {
+            return Ok(());
+        }
+        self.read_more(source)
+    }
+
+    // Reads on where nothing is ready.
+    #[inline(always)]
+    #[tactic(auto, using(crate::proofs::StreamLemmas::reads))]
+    fn read_more<S: Source>(&mut self, source: &mut S) -> Result<(), Failed>
         requires { CanFail (S.failure_count source.old) }
         ensures keeps { Keeps (still_given self.old (S.remaining source.old))
             (still_given self.new (S.remaining source.new)) }
@@ -422,7 +393,7 @@ impl Stream {
             (S.failure_count source.old) result (S.failure_count source.new) }
     {
         while self.wants_more() {
-            if !self.take_lent(source) && !self.take_other(source)? {
+            if !self.take_lent(source) && !self.step(source)? {
                 return Ok(());
             }
         }
@@ -437,51 +408,46 @@ impl Stream {
         self.joining.is_idle()
     }
 
-    // The bytes that are given next, as far as they stand together.
+    // Takes what is given next of what is ready. Bytes that are no PES packet stay.
     #[inline(always)]
-    pub(crate) fn lent(&self) -> &[u8]
-        ensures next { take (length result.now) self.now.joining.pending ≡ result.now }
-        ensures within { length result.now ≤ length self.now.joining.pending }
-        ensures none { result.now ≡ [] → self.now.joining.pending ≡ [] }
-        ensures whole { AreLentWhole result.now self.now.joining.pending }
+    pub(crate) fn take_next(&mut self) -> Next
+        ensures next { TakesNext self.old.joining result self.new.joining }
+        ensures within { IsWithin result self.new.joining.bytes }
+        ensures same { self.new ≡ record self.old { joining = self.new.joining } }
     {
-        self.joining.lent()
+        self.joining.take_next()
     }
 
-    // How many bytes are ready to be given.
-    #[inline(always)]
-    pub(crate) fn ready(&self) -> usize
-        ensures { result ≡ length self.now.joining.pending }
+    // The bytes of the part.
+    pub(crate) fn bytes(&self) -> &[u8]
+        ensures { result.now ≡ self.now.joining.bytes }
     {
-        self.joining.ready()
+        self.joining.bytes()
     }
 
-    // Passes over so many of the bytes that are ready.
-    #[inline(always)]
-    pub(crate) fn pass(&mut self, count: usize)
-        requires { count ≤ length self.old.joining.pending }
-        ensures { self.new ≡ record self.old {
-          joining = record self.old.joining {
-            pending = drop count self.old.joining.pending;
-          };
-        } }
+    // All that was ready was given.
+    pub(crate) fn hand_over(&mut self)
+        ensures { self.new ≡ record self.old { joining = handed_over self.old.joining } }
     {
-        self.joining.pass(count);
+        self.joining.hand_over();
     }
 
-    // Gives bytes that are ready, as many as there is room for, and answers how many.
+    // Takes what is given next of what is ready, whatever it is.
     #[inline(always)]
-    pub(crate) fn give(&mut self, to: &mut [u8]) -> usize
-        ensures bound { result ≤ length to.new }
-        ensures bytes { self.old.joining.pending
-            ≡ take result to.new ++ self.new.joining.pending }
-        ensures rest { self.new ≡ record self.old {
-          joining = record self.old.joining {
-            pending = self.new.joining.pending;
-          };
-        } }
-        ensures none { result ≡ 0 → 0 < length to.new → self.old.joining.pending ≡ [] }
+    pub(crate) fn take_first(&mut self) -> Next
+        ensures first { TakesFirst self.old.joining result self.new.joining }
+        ensures within { IsWithin result self.new.joining.bytes }
+        ensures same { self.new ≡ record self.old { joining = self.new.joining } }
     {
-        self.joining.give(to)
+        self.joining.take_first()
+    }
+
+    // The bytes of what was taken.
+    #[inline(always)]
+    pub(crate) fn taken(&self, next: Next) -> &[u8]
+        requires { IsWithin next self.now.joining.bytes }
+        ensures { result.now ≡ taken_bytes next self.now.joining.bytes }
+    {
+        self.joining.taken(next)
     }
 }

@@ -9,3 +9,4 @@ pub mod MemoryLemmas
 pub mod PartLemmas
 pub mod PesEventLemmas
 pub mod SurveyListingLemmas
+pub mod PartOfFileLemmas

@@ -1,53 +1,41 @@
--- A source of a part of what another one gives, by how it was made. Main lemmas: all_of_source,
--- range_of_source, stream_of_source, both_of_source.
+-- A part of what a source gives, by how it was made. Main lemmas: all_of_source, file_of_source,
+-- stream_of_source, all_of_pieces, range_of_pieces, all_of_file.
 use Rattle.std.proofs.lemmas.Bool.Decides.{nat_tests}
-use Rattle.std.proofs.Common.{arith}
-use Rattle.std.proofs.Common.{◌≡◌, ap, ℕ, List, Option, Some, None}
-use Rattle.std.specs.Prelude.{option_map}
+use Rattle.std.proofs.Common.{◌≡◌, ◌∙◌, ap, arith, refl, sym, ℕ, List, Option, Some, None, true, false}
+use Rattle.std.proofs.lemmas.Bool.{true≢false}
+use Rattle.std.specs.Prelude.{◌⊎◌, option_map}
 use Rattle.mpeg_ts.specs.Carried.{carried}
 use Rattle.mpeg_ts.specs.PacketSize.{bytes_of}
 use Rattle.ttx_pes.specs.PieceRange.{PieceRangeValue, first_index, in_range}
 use Rattle.sub_request.specs.declared.pes_packets.TransportStream.{TransportStream}
-use Rattle.sub_answer.specs.Answering.{InputCall, input_call}
-use Rattle.sub_answer.specs.Part.{IsPartOf, number_in, through_range, through_stream, whole_file}
+use Rattle.sub_request.specs.declared.request.Request.{Request}
+use Rattle.sub_answer.specs.Answering.{InputCall, pieces_call, reads_pieces, whole_call}
+use Rattle.sub_answer.specs.Part.{IsPartOf, IsRangeOf, number_in, through_range, through_stream}
+use Rattle.sub_answer.specs.Part.{whole_file}
 use Rattle.sub_answer.specs.declared.part.Part.{Part}
 use Rattle.sub_answer.proofs.EndingLemmas.{whole_source}
 
+-- ---- of a source
+
 module _ {D : Type 0} (remaining : D → Option (List ℕ)) (failure_count : D → ℕ)
     (old left : D) (input : InputCall) where
-  -- Of this stream and this range, where one of them is given.
-  given_part : (p : Part)
-      → input.call.told ≡ through_range p.range (through_stream p.stream (remaining old))
-      → input.number.told ≡ number_in p.range (through_stream p.stream (remaining old))
-      → input.call.old_count ≡ failure_count old
-      → input.call.new_count ≡ failure_count left
-      → (p ≡ whole_file → ⊥)
+  -- All that it gives, where the request reads no pieces.
+  pub all_of_source : (request : Request) (p : Part)
+      → (p ≡ whole_file) ⊎ (reads_pieces request ≡ true)
+      → reads_pieces request ≡ false
+      → input ≡ whole_call remaining failure_count old left
       → IsPartOf p remaining failure_count old left input
-  given_part p told number old_count new_count other = grind (arith, nat_tests)
+  all_of_source request p fits none is = grind (arith, nat_tests, whole_source)
 
-  -- All that it gives.
-  pub all_of_source : (p : Part)
+  -- All that a file gives, or what a transport stream carries.
+  pub whole_of_source : (p : Part)
       → p.stream ≡ None
       → p.range ≡ None
-      → input ≡ input_call remaining failure_count (λ s. Some 0) (λ s. 0) old left
+      → input ≡ whole_call remaining failure_count old left
       → IsPartOf p remaining failure_count old left input
-  all_of_source p stream range is = grind (arith, nat_tests, whole_source)
+  whole_of_source p stream range is = grind (arith, nat_tests, whole_source)
 
-  -- A range of it.
-  pub range_of_source : (p : Part) (r : PieceRangeValue)
-      → p.stream ≡ None
-      → p.range ≡ Some r
-      → input.call.told ≡ option_map (in_range r) (remaining old)
-      → input.number.told ≡ option_map (first_index r) (remaining old)
-      → input.call.old_count ≡ failure_count old
-      → input.call.new_count ≡ failure_count left
-      → IsPartOf p remaining failure_count old left input
-  range_of_source p r stream range told number old_count new_count =
-      given_part p (rw (stream, range) told) (rw (stream, range) number) old_count new_count
-      (λ whole. let none = ap (λ (q : Part). q.range) whole in cc)
-
-  -- What a transport stream carries.
-  pub stream_of_source : (p : Part) (s : TransportStream)
+  pub carried_of_source : (p : Part) (s : TransportStream)
       → p.stream ≡ Some s
       → p.range ≡ None
       → input.call.told ≡ option_map (carried s.pid (bytes_of s.packet_size)) (remaining old)
@@ -55,23 +43,92 @@ module _ {D : Type 0} (remaining : D → Option (List ℕ)) (failure_count : D �
       → input.call.old_count ≡ failure_count old
       → input.call.new_count ≡ failure_count left
       → IsPartOf p remaining failure_count old left input
-  stream_of_source p s stream range told number old_count new_count =
-      given_part p (rw (stream, range) told) (rw (stream, range) number) old_count new_count
-      (λ whole. let none = ap (λ (q : Part). q.stream) whole in cc)
+  carried_of_source p s stream range told number old_count new_count = record {
+    told = rw (stream, range) told;
+    number = rw range number;
+    old_count = old_count;
+    new_count = new_count;
+    left_is = λ whole. let none = ap (λ (q : Part). q.stream) whole in absurd cc;
+  }
+
+  -- A range of a file.
+  pub file_of_source : (p : Part)
+      → p.stream ≡ None
+      → IsRangeOf p.range remaining remaining failure_count old left input
+      → IsPartOf p remaining failure_count old left input
+  file_of_source p stream is = record {
+    told = rw stream is.told;
+    number = rw stream is.number;
+    old_count = is.old_count;
+    new_count = is.new_count;
+    left_is = λ whole. is.left_is (ap (λ (q : Part). q.range) whole);
+  }
 
   -- A range of what a transport stream carries.
-  pub both_of_source : (p : Part) (s : TransportStream) (r : PieceRangeValue)
+  pub stream_of_source : {P : Type 0} (given behind : P → Option (List ℕ)) (count : P → ℕ)
+      (before after : P) (p : Part) (s : TransportStream)
+      → IsRangeOf p.range given behind count before after input
       → p.stream ≡ Some s
-      → p.range ≡ Some r
-      → input.call.told
-      ≡ option_map (in_range r)
-      (option_map (carried s.pid (bytes_of s.packet_size)) (remaining old))
-      → input.number.told
-      ≡ option_map (first_index r)
-      (option_map (carried s.pid (bytes_of s.packet_size)) (remaining old))
-      → input.call.old_count ≡ failure_count old
-      → input.call.new_count ≡ failure_count left
+      → given before ≡ option_map (carried s.pid (bytes_of s.packet_size)) (remaining old)
+      → count before ≡ failure_count old
+      → count after ≡ failure_count left
       → IsPartOf p remaining failure_count old left input
-  both_of_source p s r stream range told number old_count new_count =
-      given_part p (rw (stream, range) told) (rw (stream, range) number) old_count new_count
-      (λ whole. let none = ap (λ (q : Part). q.stream) whole in cc)
+  stream_of_source given behind count before after p s is stream carries first last = record {
+    told = rw stream (is.told ∙ ap (through_range p.range) carries);
+    number = rw stream (is.number ∙ ap (number_in p.range) carries);
+    old_count = is.old_count ∙ first;
+    new_count = is.new_count ∙ last;
+    left_is = λ whole. let none = ap (λ (q : Part). q.stream) whole in absurd cc;
+  }
+
+-- ---- of pieces
+
+module _ {P : Type 0} (given behind : P → Option (List ℕ)) (count : P → ℕ) (before after : P)
+    (input : InputCall) where
+  -- All of them.
+  pub all_of_pieces : (first : P → Option ℕ) (passed : P → ℕ)
+      → first before ≡ Some 0
+      → input ≡ pieces_call given behind count first passed before after
+      → IsRangeOf None given behind count before after input
+  all_of_pieces first passed start is = record {
+    told = ap (λ (i : InputCall). i.call.told) is;
+    number = ap (λ (i : InputCall). i.number.told) is ∙ start;
+    old_count = ap (λ (i : InputCall). i.call.old_count) is;
+    new_count = ap (λ (i : InputCall). i.call.new_count) is;
+    left_is = λ none. ap (λ (i : InputCall). i.call.left) is;
+  }
+
+  -- Those of a range, by what is told of who gives these.
+  pub range_of_pieces : (part : InputCall) (r : PieceRangeValue)
+      → input ≡ part
+      → part.call.told ≡ option_map (in_range r) (given before)
+      → part.number.told ≡ option_map (first_index r) (given before)
+      → part.call.old_count ≡ count before
+      → part.call.new_count ≡ count after
+      → IsRangeOf (Some r) given behind count before after input
+  range_of_pieces part r is told number old_count new_count = record {
+    told = ap (λ (i : InputCall). i.call.told) is ∙ told;
+    number = ap (λ (i : InputCall). i.number.told) is ∙ number;
+    old_count = ap (λ (i : InputCall). i.call.old_count) is ∙ old_count;
+    new_count = ap (λ (i : InputCall). i.call.new_count) is ∙ new_count;
+    left_is = λ none. absurd cc;
+  }
+
+-- All pieces of a source, by what is told of who gives them.
+pub all_of_file : {D : Type 0} (remaining : D → Option (List ℕ)) (failure_count : D → ℕ)
+    (old new : D) (input part : InputCall)
+    → input ≡ part
+    → part.call.told ≡ remaining old
+    → part.number.told ≡ Some 0
+    → part.call.old_count ≡ failure_count old
+    → part.call.new_count ≡ failure_count new
+    → part.call.left ≡ remaining new
+    → IsRangeOf None remaining remaining failure_count old new input
+all_of_file remaining failure_count old new input part is told number old_count new_count left =
+    record {
+      told = ap (λ (i : InputCall). i.call.told) is ∙ told;
+      number = ap (λ (i : InputCall). i.number.told) is ∙ number;
+      old_count = ap (λ (i : InputCall). i.call.old_count) is ∙ old_count;
+      new_count = ap (λ (i : InputCall). i.call.new_count) is ∙ new_count;
+      left_is = λ none. ap (λ (i : InputCall). i.call.left) is ∙ left;
+    }

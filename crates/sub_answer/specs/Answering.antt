@@ -1,6 +1,6 @@
 -- What is said of the answer to a request, command by command.
-use Rattle.std.specs.Prelude.{◌≡◌, ◌≢◌, ⊤, ℕ, Bool, true, false, List, Option, Result, Err}
-use Rattle.std.specs.Prelude.{Ok, codes}
+use Rattle.std.specs.Prelude.{◌≡◌, ◌≢◌, ◌<◌, ⊤, ℕ, Bool, true, false, List, Option, Result, Err}
+use Rattle.std.specs.Prelude.{Ok, Some, codes, if◌then◌else◌}
 use Rattle.sub_io.specs.Device.{failed}
 use Rattle.sub_io.specs.Reading.{IfTold}
 use Rattle.ttx_pes.specs.Reader.{FailsAtPacket}
@@ -20,7 +20,7 @@ use Rattle.sub_checker.specs.declared.telling.Accepted.{Accepted}
 use Rattle.sub_rules.specs.declared.fault.CheckFault.{CheckFault}
 use Rattle.sub_request.specs.declared.listening.Listening.{Listening}
 use Rattle.sub_listen.specs.declared.listening.ListenFault.{ListenFault}
-use Rattle.sub_listing.specs.DeviceCall.{SinkCall, SourceCall, source_call}
+use Rattle.sub_listing.specs.DeviceCall.{SinkCall, SourceCall, read_call, source_call}
 use Rattle.sub_listing.specs.Extracting.{EndsExtract}
 use Rattle.sub_listing.specs.FirstPacket.{FirstNumber, PrintsFrom, StartsAt, first_number}
 use Rattle.sub_answer.specs.BothFiles.{TellsSources, TellsStatus}
@@ -133,6 +133,36 @@ input_call remaining failure_count number passed old new = record {
   call = source_call remaining failure_count old new;
   number = first_number number passed old new;
 }
+
+-- A source of which all is read, from its first PES packet on.
+abbrev pub whole_call : {S : Type 0} → (S → Option (List ℕ)) → (S → ℕ) → S → S → InputCall
+whole_call remaining failure_count old new =
+    input_call remaining failure_count (λ s. Some 0) (λ s. 0) old new
+
+-- Pieces in a call, by what is still to come of them, what their device has still to give and how
+-- often that has failed, and by the number of the first one.
+abbrev pub pieces_call :
+    {P : Type 0}
+    → (P → Option (List ℕ)) → (P → Option (List ℕ)) → (P → ℕ) → (P → Option ℕ) → (P → ℕ) → P → P
+    → InputCall
+pieces_call remaining left failure_count number passed old new = record {
+  call = read_call remaining left failure_count old new;
+  number = first_number number passed old new;
+}
+
+-- The device of an input failed in a call.
+abbrev pub fails : InputCall → Type 0
+fails input = input.call.old_count < input.call.new_count
+
+-- The first input of the request gives pieces: PES packets are listed or heard.
+abbrev pub reads_pieces : Request → Bool
+reads_pieces (ask.Packets pes) = true
+reads_pieces (ask.Listen pes listening) = true
+reads_pieces _ = false
+
+-- The first input of the request, of a source and of one that gives pieces.
+abbrev pub first_input : Request → InputCall → InputCall → InputCall
+first_input request source pieces = if reads_pieces request then pieces else source
 
 -- What is answered to a request: what is printed and written, and the status. `Untouched` says that
 -- no byte of the second source was read.

@@ -4,6 +4,8 @@ use Rattle.std.specs.Prelude.{◌≡◌, ◌⊎◌, ℕ, ◌+◌, ◌<◌, List,
 use Rattle.std.specs.Io.KnownBytes.{Keeps, append_known, prepend_known}
 use Rattle.sub_io.specs.Buffered.{HandsOn, HeldBack, ReadAhead, failures_and_refused}
 use Rattle.sub_request.specs.Files.{files_of}
+use Rattle.sub_request.specs.declared.files.FileNames.{FileNames}
+use Rattle.sub_request.specs.declared.files.FileNames.TheVariants as names
 use Rattle.sub_request.specs.declared.request.Request.{Request}
 use Rattle.sub_request.specs.declared.request.UsageFault.{UsageFault}
 use Rattle.sub_files.specs.FileCalls.{FileCall}
@@ -221,6 +223,16 @@ devices_of part (ReadPes pes) = sources part (Some pes) None
 devices_of part (ReadBoth stl pes) = sources whole_file (Some stl) (Some pes)
 devices_of part (Write stl output) = source_and_file whole_file stl output
 devices_of part (Extract recording output) = source_and_file part recording output
+
+-- What was opened is what these names ask for.
+abbrev pub Fits : {I O : Type 0} → FileNames → Opened I O → Type 0
+Fits names.None Nothing = Unit {0}
+Fits (names.ReadStl name) (ReadStl stl) = Unit {0}
+Fits (names.ReadPes name) (ReadPes pes) = Unit {0}
+Fits (names.ReadBoth name other) (ReadBoth stl pes) = Unit {0}
+Fits (names.Write name other) (Write stl output) = Unit {0}
+Fits (names.Extract name other) (Extract recording output) = Unit {0}
+Fits names opened = ⊥
 
 -- The files of a request as its answer left them.
 pub record FilesLeft (I O : Type 0) : Type 0 where

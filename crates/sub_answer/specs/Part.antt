@@ -54,3 +54,15 @@ pub record IsPartOf
   pub new_count : input.call.new_count ≡ failure_count left
   -- Where that is all, the same is left of both.
   pub left_is : part ≡ whole_file → input.call.left ≡ remaining left
+
+-- Pieces of a range of those that another one gives, or all, in a call which leaves that so, by what
+-- is told of that one, what its device has still to give, and how often that has failed.
+pub record IsRangeOf
+    {D : Type 0} (range : Option PieceRangeValue) (remaining left : D → Option (List ℕ))
+    (failure_count : D → ℕ) (old new : D) (input : InputCall)
+    : Type 0 where
+  pub told : input.call.told ≡ through_range range (remaining old)
+  pub number : input.number.told ≡ number_in range (remaining old)
+  pub old_count : input.call.old_count ≡ failure_count old
+  pub new_count : input.call.new_count ≡ failure_count new
+  pub left_is : range ≡ None → input.call.left ≡ left new

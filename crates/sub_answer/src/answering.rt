@@ -9,8 +9,9 @@ mod listen;
 mod survey;
 
 ghost use Rattle.std.specs.Prelude.{◌≡◌, ◌+◌, ◌<◌, false, true};
-ghost use Rattle.sub_answer.specs.Answering.{Answers, HandsOnBefore, WritesBefore, input_call};
-ghost use Rattle.sub_answer.specs.Answering.{takes_memory};
+ghost use Rattle.sub_answer.specs.Answering.{Answers, HandsOnBefore, WritesBefore, fails};
+ghost use Rattle.sub_answer.specs.Answering.{first_input, pieces_call, reads_pieces, takes_memory};
+ghost use Rattle.sub_answer.specs.Answering.{whole_call};
 ghost use Rattle.sub_listing.specs.DeviceCall.{CanFail, CountsFault, sink_call};
 ghost use Rattle.sub_listing.specs.Faults.{usage_line};
 ghost use Rattle.sub_request.specs.Files.{files_of, reads_one, reads_two, writes_one};
@@ -22,23 +23,22 @@ use check_all::print_every_fault;
 use listen::print_listening;
 use std::alloc::Global;
 use stl_rows::Drawing;
-use sub_io::{Flush, Sink, Source};
+use sub_io::{Flush, MemSource, Sink, Source};
 use sub_listing::{
-    FirstPacket, Status, extract_packets, line_of_usage, list_packets, list_subtitles,
-    print_fault_line, print_help, show_packet, write_normal, write_schedule,
+    Status, extract_packets, line_of_usage, list_packets, list_subtitles, print_fault_line,
+    print_help, show_packet, write_normal, write_schedule,
 };
 use sub_request::{Request, UsageFault};
 use survey::print_survey;
+use ttx_pes::{FilePieces, NumberedPieces};
 
 /// Answers a request that `Request::parse` gave.
 ///
 /// `first` is the subtitle file or the only input, `second` the PES file of a check, `file` the
-/// file to be written and `out` the standard output. Of PES packets the sources give those that the
-/// request reads, and `N` and `M` tell which one of its file each gives first: `WholeFile` where
-/// that is the first. Devices that the request does not name are
-/// not touched. `Fault` where a device failed, or where memory ran out; what was printed until then
+/// file to be written and `out` the standard output. Of PES packets the source gives those of a
+/// file, all of them. Devices that the request does not name are not touched. `Fault` where a device failed, or where memory ran out; what was printed until then
 /// stays.
-pub fn answer<N: FirstPacket<S>, M: FirstPacket<T>, S: Source, T: Source, F: Flush, K: Flush>(
+pub fn answer<S: Source, T: Source, F: Flush, K: Flush>(
     alloc: Global,
     request: &Request<'_>,
     first: &mut S,
@@ -53,8 +53,8 @@ pub fn answer<N: FirstPacket<S>, M: FirstPacket<T>, S: Source, T: Source, F: Flu
 
     // What is printed and written of what the devices tell, command by command.
     ensures answers { Answers request.now
-        (input_call S.remaining S.failure_count N.number N.passed first.old first.new)
-        (input_call T.remaining T.failure_count M.number M.passed second.old second.new)
+        (whole_call S.remaining S.failure_count first.old first.new)
+        (whole_call T.remaining T.failure_count second.old second.new)
         (second.new ≡ second.old)
         (sink_call F.contents F.failure_count file.old file.new)
         (sink_call K.contents K.failure_count out.old out.new) result }
@@ -96,10 +96,103 @@ pub fn answer<N: FirstPacket<S>, M: FirstPacket<T>, S: Source, T: Source, F: Flu
         < S.failure_count first.new + T.failure_count second.new + F.failure_count file.new
         + K.failure_count out.new }
 {
+    if reads_pieces(request) {
+        let mut nothing = MemSource::new(&[]);
+        let mut pieces = FilePieces::new(first);
+        return answer_over(alloc, request, &mut nothing, &mut pieces, file, out);
+    }
+    let mut pieces = FilePieces::new(second);
+    answer_over(alloc, request, first, &mut pieces, file, out)
+}
+
+/// Whether the first input of a request gives pieces: PES packets are listed or heard.
+pub fn reads_pieces(request: &Request<'_>) -> bool
+    ensures { result ≡ reads_pieces request.now }
+{
+    match request {
+        Request::Packets { .. } | Request::Listen { .. } => true,
+        _ => false,
+    }
+}
+
+/// Answers a request that `Request::parse` gave, as `answer` does, over those PES packets that the
+/// request reads: of a file or of a recording, all of them or some.
+///
+/// `first` is the subtitle file, or what is reported on or written of a recording, and `pes` gives
+/// the PES packets that are listed, heard or checked. Devices that the request does not name are not touched. `Fault` where a device failed, or where memory ran out; what was printed until then
+/// stays.
+pub fn answer_over<S: Source, P: NumberedPieces, F: Flush, K: Flush>(
+    alloc: Global,
+    request: &Request<'_>,
+    first: &mut S,
+    pes: &mut P,
+    file: &mut F,
+    out: &mut K,
+) -> Status
+    requires first { CanFail (S.failure_count first.old) }
+    requires pes { CanFail (P.failure_count pes.old) }
+    requires file { CanFail (F.failure_count file.old) }
+    requires out { CanFail (K.failure_count out.old) }
+
+    // What is printed and written of what the devices tell, command by command.
+    ensures answers { Answers request.now
+        (first_input request.now
+        (whole_call S.remaining S.failure_count first.old first.new)
+        (pieces_call P.remaining P.left P.failure_count P.first P.passed pes.old pes.new))
+        (pieces_call P.remaining P.left P.failure_count P.first P.passed pes.old pes.new)
+        (pes.new ≡ pes.old)
+        (sink_call F.contents F.failure_count file.old file.new)
+        (sink_call K.contents K.failure_count out.old out.new) result }
+
+    // Devices that are not named stay as they are.
+    ensures first { reads_pieces request.now ≡ true → first.new ≡ first.old }
+    ensures one { reads_one (files_of request.now) ≡ false → first.new ≡ first.old }
+    ensures pes { reads_pieces request.now ≡ false → reads_two (files_of request.now) ≡ false
+        → pes.new ≡ pes.old }
+    ensures file { writes_one (files_of request.now) ≡ false → file.new ≡ file.old }
+
+    // Each device fails once at most, and not where the status is another than `Fault`.
+    ensures first_count { CountsFault S.failure_count first.old result first.new }
+    ensures pes_count { CountsFault P.failure_count pes.old result pes.new }
+    ensures device { P.device pes.new ≡ P.device pes.old }
+    ensures file_count { CountsFault F.failure_count file.old result file.new }
+    ensures out_count { CountsFault K.failure_count out.old result out.new }
+
+    // Where the status is `Done`, a file that is named holds no byte back.
+    ensures held { writes_one (files_of request.now) ≡ true
+        → result ≡ Status.Done
+        → F.held file.new ≡ 0 }
+
+    // Where the source of the PES file or recording may have to ask its device, all that was told
+    // before is with the device of `out`: each such call may fail, and where one did the line of
+    // its failure alone may be held back.
+    ensures followed { K.held out.old ≡ 0 → HandsOnBefore request.now
+        (fails (first_input request.now
+        (whole_call S.remaining S.failure_count first.old first.new)
+        (pieces_call P.remaining P.left P.failure_count P.first P.passed pes.old pes.new)))
+        (P.failure_count pes.old < P.failure_count pes.new)
+        (HoldsLastLine K.contents K.held K.is_push out.new) }
+
+    // Where the source of a recording may have to ask its device, all that was written before is
+    // with the device of `file`.
+    ensures written { F.held file.old ≡ 0 → WritesBefore request.now
+        (fails (first_input request.now
+        (whole_call S.remaining S.failure_count first.old first.new)
+        (pieces_call P.remaining P.left P.failure_count P.first P.passed pes.old pes.new)))
+        (F.held file.new ≡ 0) }
+
+    // The status of a command that takes no memory is `Fault` only where a device failed.
+    ensures fault { takes_memory request.now ≡ false
+        → result ≡ Status.Fault
+        → S.failure_count first.old + P.failure_count pes.old + F.failure_count file.old
+        + K.failure_count out.old
+        < S.failure_count first.new + P.failure_count pes.new + F.failure_count file.new
+        + K.failure_count out.new }
+{
     match request {
         Request::Help => print_help(out),
         Request::Packet { bytes } => show_packet(bytes, out),
-        Request::Packets { .. } => list_packets::<N, S, K>(first, out),
+        Request::Packets { .. } => list_packets(pes, out),
         Request::Show { .. } => list_subtitles(first, out),
         Request::Schedule {
             options,
@@ -123,12 +216,12 @@ pub fn answer<N: FirstPacket<S>, M: FirstPacket<T>, S: Source, T: Source, F: Flu
         } => {
             let drawing = Drawing::new(*national, *layout, *scope);
             if *all {
-                print_every_fault::<M, S, T, K>(alloc, first, second, drawing, options, out)
+                print_every_fault(alloc, first, pes, drawing, options, out)
             } else {
-                print_verdict::<M, S, T, K>(alloc, first, second, drawing, options, out)
+                print_verdict(alloc, first, pes, drawing, options, out)
             }
         }
-        Request::Listen { listening, .. } => print_listening::<N, S, K>(first, listening, out),
+        Request::Listen { listening, .. } => print_listening(pes, listening, out),
         Request::Extract { .. } => extract_packets(first, file, out),
         Request::Survey { options, .. } => print_survey(alloc, *options, first, out),
     }

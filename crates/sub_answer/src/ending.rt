@@ -2,75 +2,73 @@
 //! answered.
 //!
 //! For a device that the request does not name an empty one is handed in, by a function of its own.
-ghost use Rattle.std.specs.Prelude.{◌≡◌, ⊤, true, []};
+ghost use Rattle.std.specs.Prelude.{◌≡◌, ⊤, false, true, []};
 ghost use Rattle.sub_io.specs.Buffered.{HandsOn, failures_and_refused};
 ghost use Rattle.sub_io.specs.Device.{CanFail};
-ghost use Rattle.sub_answer.specs.Answering.{input_call};
+ghost use Rattle.sub_answer.specs.Answering.{first_input, pieces_call, reads_pieces, whole_call};
 ghost use Rattle.sub_answer.specs.Ending.{EndsWith, HandsOnBeside, HoldsNothing, IsClosedAfter};
 ghost use Rattle.sub_answer.specs.Ending.{IsEmptyFile, IsEmptySource, Says, lines_in, lines_of};
 
-use crate::answering::{answer, say};
+use crate::answering::{answer_over, say};
 use crate::handing_on::{HandOn, hand_on_all};
 use std::alloc::Global;
 use sub_io::{BufferedSink, Close, MemSink, MemSource, Sink, Source};
-use sub_listing::{FirstPacket, Status, WholeFile};
+use sub_listing::Status;
 use sub_request::{Request, UsageFault};
+use ttx_pes::{FilePieces, NumberedPieces};
 
-/// Answers a request that reads one source.
-pub fn answer_from<N: FirstPacket<S>, S: Source, K: Sink>(
+/// Answers a request that reads no file.
+pub fn answer_alone<K: Sink>(
     alloc: Global,
     request: &Request<'_>,
-    first: &mut S,
     out: &mut BufferedSink<'_, K>,
 ) -> Status
-    requires first { CanFail (S.failure_count first.old) }
-    requires out { failures_and_refused (K.failure_count out.old.device) out.old.refused ≡ 0 }
-    ensures { EndsWith request.now
-        (λ input. input
-        ≡ input_call S.remaining S.failure_count N.number N.passed first.old first.new)
-        IsEmptySource ⊤ IsEmptyFile
+    requires { failures_and_refused (K.failure_count out.old.device) out.old.refused ≡ 0 }
+    ensures { EndsWith request.now IsEmptySource IsEmptySource ⊤ IsEmptyFile
         (lines_of K.contents K.failure_count out.old)
         (lines_of K.contents K.failure_count out.new) result }
 {
-    let mut second = MemSource::new(&[]);
-    answer_pair::<N, WholeFile, S, MemSource<'_>, K>(alloc, request, first, &mut second, out)
+    let (mut first, mut nothing) = (MemSource::new(&[]), MemSource::new(&[]));
+    let mut pes = FilePieces::new(&mut nothing);
+    answer_pair(alloc, request, &mut first, &mut pes, out)
 }
 
-/// Answers a request that reads two sources.
-pub fn answer_pair<N: FirstPacket<S>, M: FirstPacket<T>, S: Source, T: Source, K: Sink>(
+/// Answers a request that reads a source, and the PES packets of another one.
+pub fn answer_pair<S: Source, P: NumberedPieces, K: Sink>(
     alloc: Global,
     request: &Request<'_>,
     first: &mut S,
-    second: &mut T,
+    pes: &mut P,
     out: &mut BufferedSink<'_, K>,
 ) -> Status
     requires first { CanFail (S.failure_count first.old) }
-    requires second { CanFail (T.failure_count second.old) }
+    requires pes { CanFail (P.failure_count pes.old) }
     requires out { failures_and_refused (K.failure_count out.old.device) out.old.refused ≡ 0 }
-    ensures { EndsWith request.now
+    ensures ends { EndsWith request.now
+        (λ input. input ≡ first_input request.now
+        (whole_call S.remaining S.failure_count first.old first.new)
+        (pieces_call P.remaining P.left P.failure_count P.first P.passed pes.old pes.new))
         (λ input. input
-        ≡ input_call S.remaining S.failure_count N.number N.passed first.old first.new)
-        (λ input. input
-        ≡ input_call T.remaining T.failure_count M.number M.passed second.old second.new)
-        (second.new ≡ second.old) IsEmptyFile
+        ≡ pieces_call P.remaining P.left P.failure_count P.first P.passed pes.old pes.new)
+        (pes.new ≡ pes.old) IsEmptyFile
         (lines_of K.contents K.failure_count out.old)
         (lines_of K.contents K.failure_count out.new) result }
+    ensures device { P.device pes.new ≡ P.device pes.old }
 {
     let (mut nowhere, mut room) = ([0; 0], [0; 1]);
     let mut file = BufferedSink::new(MemSink::new(&mut nowhere), &mut room);
-    answer_and_hand_on::<N, M, S, T, MemSink<'_>, BufferedSink<'_, K>>(
-        alloc, request, first, second, &mut file, out,
-    )
+    answer_and_hand_on(alloc, request, first, pes, &mut file, out)
 }
 
-/// Answers a request that reads one source and writes a file.
-pub fn answer_with_file<N: FirstPacket<S>, S: Source, F: Close, O: HandOn<F>>(
+/// Answers a request that reads a source and no PES packets, and may write a file.
+pub fn answer_source<S: Source, F: Close, O: HandOn<F>>(
     alloc: Global,
     request: &Request<'_>,
     first: &mut S,
     file: &mut BufferedSink<'_, F>,
     out: &mut O,
 ) -> Status
+    requires reads { reads_pieces request.now ≡ false }
     requires first { CanFail (S.failure_count first.old) }
     requires file { (failures_and_refused (F.failure_count file.old.device) file.old.refused ≡ 0)
         × (file.old.held ≡ []) }
@@ -78,8 +76,7 @@ pub fn answer_with_file<N: FirstPacket<S>, S: Source, F: Close, O: HandOn<F>>(
     ensures closed { F.is_closed file.new.device ≡ true }
     ensures after { HandsOnBeside O.is_handed_on file.new out.new result }
     ensures ends { EndsWith request.now
-        (λ input. input
-        ≡ input_call S.remaining S.failure_count N.number N.passed first.old first.new)
+        (λ input. input ≡ whole_call S.remaining S.failure_count first.old first.new)
         IsEmptySource ⊤
         (IsClosedAfter F.contents F.failure_count F.is_close request.now file.old file.new)
         (lines_in O.contents O.held_back O.failure_count out.old)
@@ -87,15 +84,39 @@ pub fn answer_with_file<N: FirstPacket<S>, S: Source, F: Close, O: HandOn<F>>(
     ensures done { result ≡ Status.Done → HandsOn F.failure_count file.old file.new
         × HoldsNothing O.held_back O.failure_count out.old out.new }
 {
-    let mut second = MemSource::new(&[]);
-    answer_and_hand_on::<N, WholeFile, S, MemSource<'_>, F, O>(
-        alloc,
-        request,
-        first,
-        &mut second,
-        file,
-        out,
-    )
+    let mut nothing = MemSource::new(&[]);
+    let mut pes = FilePieces::new(&mut nothing);
+    answer_and_hand_on(alloc, request, first, &mut pes, file, out)
+}
+
+/// Answers a request that reads PES packets alone, and may write a file.
+pub fn answer_pieces<P: NumberedPieces, F: Close, O: HandOn<F>>(
+    alloc: Global,
+    request: &Request<'_>,
+    pes: &mut P,
+    file: &mut BufferedSink<'_, F>,
+    out: &mut O,
+) -> Status
+    requires reads { reads_pieces request.now ≡ true }
+    requires pes { CanFail (P.failure_count pes.old) }
+    requires file { (failures_and_refused (F.failure_count file.old.device) file.old.refused ≡ 0)
+        × (file.old.held ≡ []) }
+    requires out { O.failure_count out.old ≡ 0 }
+    ensures closed { F.is_closed file.new.device ≡ true }
+    ensures after { HandsOnBeside O.is_handed_on file.new out.new result }
+    ensures ends { EndsWith request.now
+        (λ input. input
+        ≡ pieces_call P.remaining P.left P.failure_count P.first P.passed pes.old pes.new)
+        IsEmptySource ⊤
+        (IsClosedAfter F.contents F.failure_count F.is_close request.now file.old file.new)
+        (lines_in O.contents O.held_back O.failure_count out.old)
+        (lines_in O.contents O.held_back O.failure_count out.new) result }
+    ensures device { P.device pes.new ≡ P.device pes.old }
+    ensures done { result ≡ Status.Done → HandsOn F.failure_count file.old file.new
+        × HoldsNothing O.held_back O.failure_count out.old out.new }
+{
+    let mut nothing = MemSource::new(&[]);
+    answer_and_hand_on(alloc, request, &mut nothing, pes, file, out)
 }
 
 // Answers a request over these devices, closes the file as that left it, and then hands on the
@@ -103,44 +124,37 @@ pub fn answer_with_file<N: FirstPacket<S>, S: Source, F: Close, O: HandOn<F>>(
 //
 // Where the status is 0, neither the file nor the lines are held back, and no call of either sink
 // has failed: the devices below them have taken all bytes, by calls that did not fail.
-fn answer_and_hand_on<
-    N: FirstPacket<S>,
-    M: FirstPacket<T>,
-    S: Source,
-    T: Source,
-    F: Close,
-    O: HandOn<F>,
->(
+fn answer_and_hand_on<S: Source, P: NumberedPieces, F: Close, O: HandOn<F>>(
     alloc: Global,
     request: &Request<'_>,
     first: &mut S,
-    second: &mut T,
+    pes: &mut P,
     file: &mut BufferedSink<'_, F>,
     out: &mut O,
 ) -> Status
     requires first { CanFail (S.failure_count first.old) }
-    requires second { CanFail (T.failure_count second.old) }
+    requires pes { CanFail (P.failure_count pes.old) }
     requires file { (failures_and_refused (F.failure_count file.old.device) file.old.refused ≡ 0)
         × (file.old.held ≡ []) }
     requires out { O.failure_count out.old ≡ 0 }
     ensures ends { EndsWith request.now
+        (λ input. input ≡ first_input request.now
+        (whole_call S.remaining S.failure_count first.old first.new)
+        (pieces_call P.remaining P.left P.failure_count P.first P.passed pes.old pes.new))
         (λ input. input
-        ≡ input_call S.remaining S.failure_count N.number N.passed first.old first.new)
-        (λ input. input
-        ≡ input_call T.remaining T.failure_count M.number M.passed second.old second.new)
-        (second.new ≡ second.old)
+        ≡ pieces_call P.remaining P.left P.failure_count P.first P.passed pes.old pes.new)
+        (pes.new ≡ pes.old)
         (IsClosedAfter F.contents F.failure_count F.is_close request.now file.old file.new)
         (lines_in O.contents O.held_back O.failure_count out.old)
         (lines_in O.contents O.held_back O.failure_count out.new) result }
+    ensures device { P.device pes.new ≡ P.device pes.old }
     ensures done { result ≡ Status.Done → HandsOn F.failure_count file.old file.new
         × HoldsNothing O.held_back O.failure_count out.old out.new }
     ensures closed { F.is_closed file.new.device ≡ true }
     // The lines were handed on beside the file as it is in the end, and so after it was closed.
     ensures after { HandsOnBeside O.is_handed_on file.new out.new result }
 {
-    let status = answer::<N, M, S, T, BufferedSink<'_, F>, O>(
-        alloc, request, first, second, file, out,
-    );
+    let status = answer_over(alloc, request, first, pes, file, out);
     file.close();
     out.hand_on(status, file)
 }

@@ -18,10 +18,11 @@ mod handing_on;
 mod laws;
 mod over_files;
 mod part;
+mod part_of_file;
 mod parts;
 
-pub use answering::{answer, say};
+pub use answering::{answer, answer_over, say};
 pub use ending::say_and_hand_on;
 pub use laws::law_of_files_in_memory;
 pub use over_files::open_and_answer;
-pub use sub_listing::{FirstPacket, InputFault, PartOfFile, Status, WholeFile, read_input};
+pub use sub_listing::{InputFault, Status, read_input};

@@ -1,22 +1,23 @@
 //! Opens the files that a request names, and answers it over them, by a function for each way of
 //! opening.
-ghost use Rattle.std.specs.Prelude.{◌≡◌, ◌≤◌, ⊤, IfErr, IfOk, None, Some, length};
+ghost use Rattle.std.specs.Prelude.{◌≡◌, ◌⊎◌, ◌≤◌, ⊤, IfErr, IfOk, None, Some, false, length, true};
 ghost use Rattle.sub_io.specs.Buffered.{failures_and_refused};
 ghost use Rattle.sub_request.specs.Files.{files_of};
 ghost use Rattle.sub_files.specs.FileCalls.{CallsInTurn};
 ghost use Rattle.sub_files.specs.Opening.{AreUnused, IsUnopened};
-ghost use Rattle.sub_answer.specs.Ending.{Ends, EndsAndLetsGo, EndsWith, IsEmptyFile};
+ghost use Rattle.sub_answer.specs.Answering.{reads_pieces};
+ghost use Rattle.sub_answer.specs.Ending.{Ends, Fits, EndsAndLetsGo, EndsWith, IsEmptyFile};
 ghost use Rattle.sub_answer.specs.Ending.{IsEmptySource, devices_of, lines_of, source_and_file};
 ghost use Rattle.sub_answer.specs.Ending.{sources, told_of_files};
 ghost use Rattle.sub_answer.specs.Part as specs;
 
-use crate::ending::{answer_from, answer_with_file};
+use crate::ending::{answer_alone, answer_source};
 use crate::part::{Part, part_asked, whole_file};
-use crate::parts::{answer_part, answer_second_part};
+use crate::parts::{answer_part, answer_recording, answer_second_part};
 use std::alloc::Global;
 use sub_files::{CreatedFile, FileSystem, Opened, PesFile, StlFile, open, room, size_of_rooms};
-use sub_io::{BufferedSink, BufferedSource, MemSink, MemSource, Sink};
-use sub_listing::{Status, WholeFile};
+use sub_io::{BufferedSink, BufferedSource, MemSink, Sink};
+use sub_listing::Status;
 use sub_request::{Request, UsageFault};
 
 /// Opens the files that the request names, and answers it over them, with room for their buffers;
@@ -70,6 +71,7 @@ fn answer_opened<D: FileSystem, K: Sink>(
     requires rooms { 2 ≤ length rooms.old }
     requires out { failures_and_refused (K.failure_count out.old.device) out.old.refused ≡ 0 }
     requires unused { AreUnused D.Input.failure_count D.Output.failure_count opened }
+    requires fits { Fits (files_of request.now) opened }
     ensures { EndsAndLetsGo (CallsInTurn D.is_call files.old files.new)
         (told_of_files D.Input.remaining D.Input.failure_count
         D.Output.contents D.Output.failure_count)
@@ -108,8 +110,7 @@ fn read_nothing<K: Sink>(
         (lines_of K.contents K.failure_count out.old)
         (lines_of K.contents K.failure_count out.new) result }
 {
-    let mut first = MemSource::new(&[]);
-    answer_from::<WholeFile, MemSource<'_>, K>(alloc, request, &mut first, out)
+    answer_alone(alloc, request, out)
 }
 
 // Answers a request that reads a part of one file.
@@ -122,6 +123,7 @@ fn read_one<D: FileSystem, K: Sink>(
     room: &mut [u8],
     out: &mut BufferedSink<'_, K>,
 ) -> Status
+    requires fits { (part ≡ specs.whole_file) ⊎ (reads_pieces request.now ≡ true) }
     requires room { 2 ≤ length room.old }
     requires out { failures_and_refused (K.failure_count out.old.device) out.old.refused ≡ 0 }
     requires unused { D.Input.failure_count file ≡ 0 }
@@ -150,6 +152,7 @@ fn read_both<D: FileSystem, K: Sink>(
     rooms: &mut [u8],
     out: &mut BufferedSink<'_, K>,
 ) -> Status
+    requires reads { reads_pieces request.now ≡ false }
     requires rooms { 2 ≤ length rooms.old }
     requires out { failures_and_refused (K.failure_count out.old.device) out.old.refused ≡ 0 }
     requires unused { (D.Input.failure_count stl ≡ 0) × (D.Input.failure_count pes ≡ 0) }
@@ -187,6 +190,7 @@ fn read_and_write<D: FileSystem, K: Sink>(
     rooms: &mut [u8],
     out: &mut BufferedSink<'_, K>,
 ) -> Status
+    requires reads { reads_pieces request.now ≡ false }
     requires rooms { 2 ≤ length rooms.old }
     requires out { failures_and_refused (K.failure_count out.old.device) out.old.refused ≡ 0 }
     requires unused { (D.Input.failure_count stl ≡ 0) × (D.Output.failure_count output ≡ 0) }
@@ -201,12 +205,7 @@ fn read_and_write<D: FileSystem, K: Sink>(
     let (room, other) = rooms.split_at_mut(half);
     let mut first = BufferedSource::new(stl.into_file(), room);
     let mut file = BufferedSink::new(output.into_file(), other);
-    let status = answer_with_file::<
-        WholeFile,
-        BufferedSource<'_, D::Input>,
-        D::Output,
-        BufferedSink<'_, K>,
-    >(alloc, request, &mut first, &mut file, out);
+    let status = answer_source(alloc, request, &mut first, &mut file, out);
     files.let_go_input(first.into_inner());
     files.let_go_output(file.into_inner());
     status
@@ -222,6 +221,8 @@ fn read_and_extract<D: FileSystem, K: Sink>(
     rooms: &mut [u8],
     out: &mut BufferedSink<'_, K>,
 ) -> Status
+    requires reads { reads_pieces request.now ≡ false }
+    requires all { (specs.part_asked request.now).range ≡ None }
     requires rooms { 2 ≤ length rooms.old }
     requires out { failures_and_refused (K.failure_count out.old.device) out.old.refused ≡ 0 }
     requires unused { (D.Input.failure_count recording ≡ 0) × (D.Output.failure_count output ≡ 0) }
@@ -237,7 +238,8 @@ fn read_and_extract<D: FileSystem, K: Sink>(
     let (room, other) = rooms.split_at_mut(half);
     let first = BufferedSource::new(recording.into_file(), room);
     let mut file = BufferedSink::new(output.into_file(), other);
-    let (status, first) = answer_part(alloc, request, part_asked(request), first, &mut file, out);
+    let part = part_asked(request);
+    let (status, first) = answer_recording(alloc, request, part, first, &mut file, out);
     files.let_go_input(first.into_inner());
     files.let_go_output(file.into_inner());
     status

@@ -1,22 +1,24 @@
-//! Answers a request over a part of what a source gives: the source of that part is made here, of
-//! one type for each of the four ways, so that a whole file costs nothing.
-ghost use Rattle.std.specs.Prelude.{◌≡◌, ⊤, Some, []};
+//! Answers a request over a part of what a source gives: what gives its PES packets is made here,
+//! of a file or of a recording.
+ghost use Rattle.std.specs.Prelude.{◌≡◌, ◌⊎◌, ⊤, None, Some, [], false, true};
 ghost use Rattle.sub_io.specs.Buffered.{HandsOn, failures_and_refused};
 ghost use Rattle.sub_io.specs.Device.{CanFail};
-ghost use Rattle.sub_answer.specs.Answering.{input_call};
+ghost use Rattle.sub_answer.specs.Answering.{reads_pieces, whole_call};
 ghost use Rattle.sub_answer.specs.Ending.{EndsWith, IsClosedAfter, IsEmptyFile, IsEmptySource};
 ghost use Rattle.sub_answer.specs.Ending.{lines_in, lines_of};
-ghost use Rattle.sub_answer.specs.Part.{IsPartOf};
+ghost use Rattle.sub_answer.specs.Part.{IsPartOf, IsRangeOf, whole_file};
 
-use crate::ending::{answer_pair, answer_with_file};
+use crate::answering::reads_pieces;
+use crate::ending::{answer_pair, answer_pieces, answer_source};
 use crate::handing_on::HandOn;
 use crate::part::Part;
-use mpeg_ts::PesSource;
+use crate::part_of_file::PartOfFile;
+use mpeg_ts::{PesSource, RecordingPieces};
 use std::alloc::Global;
 use sub_io::{BufferedSink, Close, Sink, Source};
-use sub_listing::{PartOfFile, Status, WholeFile};
+use sub_listing::Status;
 use sub_request::Request;
-use ttx_pes::RangeSource;
+use ttx_pes::{FilePieces, NumberedPieces, PartOfPieces, PieceRange};
 
 /// Answers a request that reads a part of one source, and may write a file; gives the source back
 /// as that left it.
@@ -28,6 +30,7 @@ pub fn answer_part<S: Source + Drop, F: Close, O: HandOn<F>>(
     file: &mut BufferedSink<'_, F>,
     out: &mut O,
 ) -> (Status, S)
+    requires fits { (part ≡ whole_file) ⊎ (reads_pieces request.now ≡ true) }
     requires first { CanFail (S.failure_count whole) }
     requires file { (failures_and_refused (F.failure_count file.old.device) file.old.refused ≡ 0)
         × (file.old.held ≡ []) }
@@ -39,36 +42,136 @@ pub fn answer_part<S: Source + Drop, F: Close, O: HandOn<F>>(
         (lines_in O.contents O.held_back O.failure_count out.new) result.0 }
     ensures done { result.0 ≡ Status.Done → HandsOn F.failure_count file.old file.new }
 {
-    match (part.stream, part.range) {
-        (None, None) => {
-            let mut first = whole;
-            let status = answer_with_file::<WholeFile, S, F, O>(
-                alloc, request, &mut first, file, out,
-            );
-            (status, first)
+    let Part { stream, range } = part;
+    let mut whole = whole;
+    if !reads_pieces(request) {
+        let status = answer_source(alloc, request, &mut whole, file, out);
+        return (status, whole);
+    }
+    match stream {
+        None => {
+            let status = answer_file(alloc, request, range, &mut whole, file, out);
+            (status, whole)
         }
-        (Some(stream), None) => {
+        Some(stream) => {
+            let pieces = RecordingPieces::new(whole, stream.pid, stream.packet_size);
+            let (status, pieces) = answer_range(alloc, request, range, pieces, file, out);
+            (status, pieces.into_inner())
+        }
+    }
+}
+
+/// Answers a request that reads a source and no PES packets one by one, of a file or of all that the
+/// packets of a PID carry, and may write a file; gives the source back as that left it.
+pub fn answer_recording<S: Source + Drop, F: Close, O: HandOn<F>>(
+    alloc: Global,
+    request: &Request<'_>,
+    part: Part,
+    whole: S,
+    file: &mut BufferedSink<'_, F>,
+    out: &mut O,
+) -> (Status, S)
+    requires reads { reads_pieces request.now ≡ false }
+    requires all { part.range ≡ None }
+    requires first { CanFail (S.failure_count whole) }
+    requires file { (failures_and_refused (F.failure_count file.old.device) file.old.refused ≡ 0)
+        × (file.old.held ≡ []) }
+    requires out { O.failure_count out.old ≡ 0 }
+    ensures ends { EndsWith request.now (IsPartOf part S.remaining S.failure_count whole result.1)
+        IsEmptySource ⊤
+        (IsClosedAfter F.contents F.failure_count F.is_close request.now file.old file.new)
+        (lines_in O.contents O.held_back O.failure_count out.old)
+        (lines_in O.contents O.held_back O.failure_count out.new) result.0 }
+    ensures done { result.0 ≡ Status.Done → HandsOn F.failure_count file.old file.new }
+{
+    let Part { stream, range: _ } = part;
+    let mut whole = whole;
+    match stream {
+        None => {
+            let status = answer_source(alloc, request, &mut whole, file, out);
+            (status, whole)
+        }
+        Some(stream) => {
             let mut first = PesSource::new(whole, stream.pid, stream.packet_size);
-            let status = answer_with_file::<WholeFile, PesSource<S>, F, O>(
-                alloc, request, &mut first, file, out,
-            );
+            let status = answer_source(alloc, request, &mut first, file, out);
             (status, first.into_inner())
         }
-        (None, Some(range)) => {
-            let mut first = RangeSource::new(whole, range);
-            let status = answer_with_file::<PartOfFile, RangeSource<S>, F, O>(
-                alloc, request, &mut first, file, out,
-            );
-            (status, first.into_inner())
+    }
+}
+
+// Answers a request that reads PES packets of a range, or all, of a file.
+fn answer_file<S: Source, F: Close, O: HandOn<F>>(
+    alloc: Global,
+    request: &Request<'_>,
+    range: Option<PieceRange>,
+    whole: &mut S,
+    file: &mut BufferedSink<'_, F>,
+    out: &mut O,
+) -> Status
+    requires reads { reads_pieces request.now ≡ true }
+    requires first { CanFail (S.failure_count whole.old) }
+    requires file { (failures_and_refused (F.failure_count file.old.device) file.old.refused ≡ 0)
+        × (file.old.held ≡ []) }
+    requires out { O.failure_count out.old ≡ 0 }
+    ensures ends { EndsWith request.now
+        (IsRangeOf range S.remaining S.remaining S.failure_count whole.old whole.new)
+        IsEmptySource ⊤
+        (IsClosedAfter F.contents F.failure_count F.is_close request.now file.old file.new)
+        (lines_in O.contents O.held_back O.failure_count out.old)
+        (lines_in O.contents O.held_back O.failure_count out.new) result }
+    ensures done { result ≡ Status.Done → HandsOn F.failure_count file.old file.new }
+{
+    match range {
+        None => {
+            let mut pieces = FilePieces::new(whole);
+            answer_pieces(alloc, request, &mut pieces, file, out)
         }
-        (Some(stream), Some(range)) => {
-            let carried = PesSource::new(whole, stream.pid, stream.packet_size);
-            let mut first = RangeSource::new(carried, range);
-            let status = answer_with_file::<PartOfFile, RangeSource<PesSource<S>>, F, O>(
-                alloc, request, &mut first, file, out,
-            );
-            let inside = first.into_inner();
-            (status, inside.into_inner())
+        Some(range) => {
+            let mut some = PartOfFile {
+                pieces: FilePieces::new(whole),
+                to_pass: range.first(),
+                passed: 0,
+                left: range.most(),
+            };
+            answer_pieces(alloc, request, &mut some, file, out)
+        }
+    }
+}
+
+// Answers a request that reads PES packets of a range, or all; gives back who gives them.
+fn answer_range<P: NumberedPieces + Drop, F: Close, O: HandOn<F>>(
+    alloc: Global,
+    request: &Request<'_>,
+    range: Option<PieceRange>,
+    pieces: P,
+    file: &mut BufferedSink<'_, F>,
+    out: &mut O,
+) -> (Status, P)
+    requires reads { reads_pieces request.now ≡ true }
+    requires start { P.first pieces ≡ Some 0 }
+    requires pieces { CanFail (P.failure_count pieces) }
+    requires file { (failures_and_refused (F.failure_count file.old.device) file.old.refused ≡ 0)
+        × (file.old.held ≡ []) }
+    requires out { O.failure_count out.old ≡ 0 }
+    ensures ends { EndsWith request.now
+        (IsRangeOf range P.remaining P.left P.failure_count pieces result.1)
+        IsEmptySource ⊤
+        (IsClosedAfter F.contents F.failure_count F.is_close request.now file.old file.new)
+        (lines_in O.contents O.held_back O.failure_count out.old)
+        (lines_in O.contents O.held_back O.failure_count out.new) result.0 }
+    ensures device { P.device result.1 ≡ P.device pieces }
+    ensures done { result.0 ≡ Status.Done → HandsOn F.failure_count file.old file.new }
+{
+    match range {
+        None => {
+            let mut pieces = pieces;
+            let status = answer_pieces(alloc, request, &mut pieces, file, out);
+            (status, pieces)
+        }
+        Some(range) => {
+            let mut some = PartOfPieces::new(pieces, range);
+            let status = answer_pieces(alloc, request, &mut some, file, out);
+            (status, some.into_inner())
         }
     }
 }
@@ -83,46 +186,101 @@ pub fn answer_second_part<S: Source, T: Source + Drop, K: Sink>(
     whole: T,
     out: &mut BufferedSink<'_, K>,
 ) -> (Status, T)
+    requires reads { reads_pieces request.now ≡ false }
     requires first { CanFail (S.failure_count first.old) }
     requires second { CanFail (T.failure_count whole) }
     requires out { failures_and_refused (K.failure_count out.old.device) out.old.refused ≡ 0 }
     ensures { EndsWith request.now
-        (λ input. input
-        ≡ input_call S.remaining S.failure_count (λ s. Some 0) (λ s. 0) first.old first.new)
+        (λ input. input ≡ whole_call S.remaining S.failure_count first.old first.new)
         (IsPartOf part T.remaining T.failure_count whole result.1) (result.1 ≡ whole) IsEmptyFile
         (lines_of K.contents K.failure_count out.old)
         (lines_of K.contents K.failure_count out.new) result.0 }
 {
-    match (part.stream, part.range) {
-        (None, None) => {
-            let mut input = whole;
-            let status = answer_pair::<WholeFile, WholeFile, S, T, K>(
-                alloc, request, first, &mut input, out,
-            );
-            (status, input)
+    let Part { stream, range } = part;
+    let mut whole = whole;
+    match stream {
+        None => {
+            let status = answer_second_file(alloc, request, first, range, &mut whole, out);
+            (status, whole)
         }
-        (Some(stream), None) => {
-            let mut input = PesSource::new(whole, stream.pid, stream.packet_size);
-            let status = answer_pair::<WholeFile, WholeFile, S, PesSource<T>, K>(
-                alloc, request, first, &mut input, out,
-            );
-            (status, input.into_inner())
+        Some(stream) => {
+            let carried = RecordingPieces::new(whole, stream.pid, stream.packet_size);
+            let (status, carried) = answer_second_range(alloc, request, first, range, carried, out);
+            (status, carried.into_inner())
         }
-        (None, Some(range)) => {
-            let mut input = RangeSource::new(whole, range);
-            let status = answer_pair::<WholeFile, PartOfFile, S, RangeSource<T>, K>(
-                alloc, request, first, &mut input, out,
-            );
-            (status, input.into_inner())
+    }
+}
+
+// Answers a request that reads a source, and PES packets of a range, or all, of a file.
+fn answer_second_file<S: Source, T: Source, K: Sink>(
+    alloc: Global,
+    request: &Request<'_>,
+    first: &mut S,
+    range: Option<PieceRange>,
+    whole: &mut T,
+    out: &mut BufferedSink<'_, K>,
+) -> Status
+    requires reads { reads_pieces request.now ≡ false }
+    requires first { CanFail (S.failure_count first.old) }
+    requires second { CanFail (T.failure_count whole.old) }
+    requires out { failures_and_refused (K.failure_count out.old.device) out.old.refused ≡ 0 }
+    ensures { EndsWith request.now
+        (λ input. input ≡ whole_call S.remaining S.failure_count first.old first.new)
+        (IsRangeOf range T.remaining T.remaining T.failure_count whole.old whole.new)
+        (whole.new ≡ whole.old) IsEmptyFile
+        (lines_of K.contents K.failure_count out.old)
+        (lines_of K.contents K.failure_count out.new) result }
+{
+    match range {
+        None => {
+            let mut pieces = FilePieces::new(whole);
+            answer_pair(alloc, request, first, &mut pieces, out)
         }
-        (Some(stream), Some(range)) => {
-            let carried = PesSource::new(whole, stream.pid, stream.packet_size);
-            let mut input = RangeSource::new(carried, range);
-            let status = answer_pair::<WholeFile, PartOfFile, S, RangeSource<PesSource<T>>, K>(
-                alloc, request, first, &mut input, out,
-            );
-            let inside = input.into_inner();
-            (status, inside.into_inner())
+        Some(range) => {
+            let mut some = PartOfFile {
+                pieces: FilePieces::new(whole),
+                to_pass: range.first(),
+                passed: 0,
+                left: range.most(),
+            };
+            answer_pair(alloc, request, first, &mut some, out)
+        }
+    }
+}
+
+// Answers a request that reads a source, and PES packets of a range, or all; gives back who gives
+// them.
+fn answer_second_range<S: Source, P: NumberedPieces + Drop, K: Sink>(
+    alloc: Global,
+    request: &Request<'_>,
+    first: &mut S,
+    range: Option<PieceRange>,
+    pieces: P,
+    out: &mut BufferedSink<'_, K>,
+) -> (Status, P)
+    requires reads { reads_pieces request.now ≡ false }
+    requires start { P.first pieces ≡ Some 0 }
+    requires first { CanFail (S.failure_count first.old) }
+    requires pieces { CanFail (P.failure_count pieces) }
+    requires out { failures_and_refused (K.failure_count out.old.device) out.old.refused ≡ 0 }
+    ensures ends { EndsWith request.now
+        (λ input. input ≡ whole_call S.remaining S.failure_count first.old first.new)
+        (IsRangeOf range P.remaining P.left P.failure_count pieces result.1)
+        (result.1 ≡ pieces) IsEmptyFile
+        (lines_of K.contents K.failure_count out.old)
+        (lines_of K.contents K.failure_count out.new) result.0 }
+    ensures device { P.device result.1 ≡ P.device pieces }
+{
+    match range {
+        None => {
+            let mut pieces = pieces;
+            let status = answer_pair(alloc, request, first, &mut pieces, out);
+            (status, pieces)
+        }
+        Some(range) => {
+            let mut some = PartOfPieces::new(pieces, range);
+            let status = answer_pair(alloc, request, first, &mut some, out);
+            (status, some.into_inner())
         }
     }
 }

@@ -2,7 +2,7 @@
 -- is a cell that is not right, receivers show what is kept there: `different_of_first`.
 use Rattle.std.proofs.lemmas.Bool.Decides.{nat_tests}
 use Rattle.std.proofs.Common.{◌≡◌, ℕ, List, [], ◌∷◌, length, Option, Some, None, Result, Err, refl}
-use Rattle.std.proofs.Common.{sym, subst, arith, All, false, true}
+use Rattle.std.proofs.Common.{sym, subst, arith, All, true}
 use Rattle.std.proofs.lemmas.Option.{same_Some}
 use Rattle.std.specs.List.{AllByRecursion}
 use Rattle.std.proofs.lemmas.Bool.{true≢false}

@@ -1,4 +1,4 @@
-//! The exact checker: a PES file against a programme.
+//! The exact checker: the pieces of a PES file against a programme.
 ghost use Rattle.std.specs.Prelude.{◌≡◌, ℕ, Err, IfErr, IfOk, IfSome, IsFalse, List, Option};
 ghost use Rattle.std.specs.Prelude.{false, is_none, length, take, true};
 ghost use Rattle.sub_io.specs.Device.{CanFail, CountsIf, failed};
@@ -22,57 +22,41 @@ ghost use Rattle.sub_check.specs.CheckedFiles.{first_answer};
 use crate::first_fault::FirstFault;
 use stl_rows::{Judging, Programme};
 use sub_checker::{Accepted, tell_pieces};
-use sub_io::{LiveAudience, Source};
+use sub_io::LiveAudience;
 use sub_plan::Options;
 use sub_rules::{CheckFault, Event};
-use ttx_pes::PesFault;
+use ttx_pes::{PesFault, Pieces};
 
-/// Checks a PES file against a programme: it is accepted exactly where it carries a good
-/// transmission of it, of complete pages if the options ask for them, and a refusal is the first
-/// fault that `check_all` tells.
-///
-/// It reads one PES packet at a time and takes no memory: beside numbers it keeps one PES packet,
-/// one page, the page that is due, and a mark for each row sent since the last header of the page.
-/// The due page is drawn anew only where a subtitle begins or ends. Packets that begin with a
-/// header of the page and are those of the PES packet before, byte for byte, are not looked at
-/// again.
+/// Checks the pieces of a PES file against a programme, as `check` does those of a source.
 ///
 /// # Errors
 ///
-/// For each PES packet in turn: its own fault as `Pes`, `OffFrame`, `Order`; `Early` for the first;
-/// at each frame before it `Content`, then `Gap`; its packets in order, `Address` to `Enhancement`;
-/// `NoFirstHeader` for the first; `Content`, `Gap`, and where complete pages are asked for
-/// `Incomplete`. At the end `Empty` or `Late`. `Pes` with `Read` where the source failed in this
-/// call, and only there. Within frames a frame ends where a PES packet of another one comes, or
-/// none; `Incomplete` is told only at an end by which the page had to be whole, and at another one
-/// `Content` only of a code that was not due within these frames. `Late` is also told where the
-/// page is not whole at the last end, and need not be by then. Where repeats may keep the page,
-/// `Control` passes a header that repeats it, and `Content` is told where a row with text is not
-/// sent again.
-pub fn check<S: Source>(
+/// Those of `check`.
+pub fn check_pieces<P: Pieces>(
     programme: &Programme,
-    source: &mut S,
+    source: &mut P,
     options: &Options,
 ) -> Result<Accepted, CheckFault>
-    requires { CanFail (S.failure_count source.old) }
+    requires { CanFail (P.failure_count source.old) }
     // Where the source tells its bytes, these decide the answer: they are accepted exactly where
     // they are a PES file that carries a good transmission of the programme, which is then robust.
     ensures checked { IsFalse options.now.keeps → options.now.within ≡ 0
-        → IfTold (S.remaining source.old) (λ bytes.
+        → IfTold (P.remaining source.old) (λ bytes.
         IsChecked programme.now options.now bytes result) }
     // By whatever options, where these allow for frames that are late, and where repeats may keep
     // the page, they are accepted exactly where it is good by that.
-    ensures checked_by { IfTold (S.remaining source.old) (λ bytes.
+    ensures checked_by { IfTold (P.remaining source.old) (λ bytes.
         IsCheckedBy programme.now options.now bytes result) }
     // That the source failed is told at the PES packet within which it failed: those before it were
     // taken.
     ensures read { (pes : ℕ) → result ≡ Err (CheckFault.Pes pes PesFault.Read)
-        → FailsAtPacket pes (S.remaining source.old) (S.remaining source.new) }
+        → FailsAtPacket pes (P.remaining source.old) (P.left source.new) }
     // No answer refuses a subtitle file, nothing is written, and `Read` is told exactly where the
     // source failed in this call.
     ensures own { failed is_subtitle_fault result ≡ false }
     ensures no_write { failed is_pes_write result ≡ false }
-    ensures count { CountsIf S.failure_count source.old (failed is_pes_read result) source.new }
+    ensures device { P.device source.new ≡ P.device source.old }
+    ensures count { CountsIf P.failure_count source.old (failed is_pes_read result) source.new }
 {
     let mut first = FirstFault::new();
     match tell_known(programme, source, options, &mut first) {
@@ -84,71 +68,56 @@ pub fn check<S: Source>(
 
 // Tells all that is broken of a PES file, checked against a programme of a subtitle file of which
 // nothing is refused.
-fn tell_known<S: Source, A: LiveAudience<Event>>(
+fn tell_known<P: Pieces, A: LiveAudience<Event>>(
     programme: &Programme,
-    source: &mut S,
+    source: &mut P,
     options: &Options,
     audience: &mut A,
 ) -> Result<Option<Accepted>, CheckFault>
-    requires failures { CanFail (S.failure_count source.old) }
+    requires failures { CanFail (P.failure_count source.old) }
     requires goes_on { A.has_stopped audience.old ≡ false }
     requires still { A.is_waiting audience.old ≡ false }
     ensures exact { (pieces : List Piece) (unread : Option Unread)
-        → IfTold (S.remaining source.old) (λ bytes.
+        → IfTold (P.remaining source.old) (λ bytes.
         ReadsPieces (clock_of options.now) 0 bytes pieces unread
         → TellsPieces (task_of programme.now options.now unread) (clock_of options.now) bytes
         pieces A.is_told audience.old audience.new result) }
     ensures stopped { IfOk result (λ counts. A.has_stopped audience.new ≡ is_none counts) }
     ensures goes_on { IfErr result (λ _. A.has_stopped audience.new ≡ false) }
     ensures read { (pes : ℕ) → result ≡ Err (CheckFault.Pes pes PesFault.Read)
-        → FailsAtPiece pes (S.remaining source.old) (S.remaining source.new) }
+        → FailsAtPiece pes (P.remaining source.old) (P.left source.new) }
     ensures sent { (pes : ℕ) (pieces : List Piece) (unread : Option Unread)
         → result ≡ Err (CheckFault.Pes pes PesFault.Read)
-        → IfTold (S.remaining source.old) (λ bytes.
+        → IfTold (P.remaining source.old) (λ bytes.
         ReadsPieces (clock_of options.now) 0 bytes pieces unread
         → length (frames_of (take pes pieces)) ≡ pes
-        → FailsAtPacket pes (S.remaining source.old) (S.remaining source.new)) }
+        → FailsAtPacket pes (P.remaining source.old) (P.left source.new)) }
     ensures only { IfErr result (λ f. is_pes_read f ≡ true) }
     ensures options { IsOptions options.now }
     ensures programme { IsProgramme programme.now.drawing programme.now.records }
-    ensures count { CountsIf S.failure_count source.old (failed is_pes_read result) source.new }
+    ensures device { P.device source.new ≡ P.device source.old }
+    ensures count { CountsIf P.failure_count source.old (failed is_pes_read result) source.new }
 {
     tell_pieces(&Judging::known(programme), source, options, audience)
 }
 
-/// Checks a PES file, as `check` does, against what can be judged of a subtitle file, and tells all
-/// that is broken to a device of the caller's, one event after another, until it says stop.
-///
-/// The events are those of `check`'s list, each where it is broken: all rules that a packet breaks;
-/// of a rule that is asked at the end of each frame, where it begins to be broken and where it has
-/// ended. Beside them it tells which frames may stay on air as they are, each run of them where it
-/// is over. A piece that begins as a PES packet does and is as long as its length field says, but
-/// is none that can be read, or whose PTS is that of no frame of the day, is passed over: its fault
-/// is told, of pieces one directly after the other with one fault that of the first, and up to
-/// which one they go. Where the bytes can't be read on, that is the last event. Where subtitles of
-/// the file are refused, no cell is asked for at the frames at which it is not known for that what
-/// is due; `Undecided` is told there, and what is trusted always. It counts what was
-/// read: the frames of the day from the first PES packet's to the latest one's, and the headers of
-/// the page. `None` where the device said stop: the PES packet at which it did was read in part.
-///
-/// It takes no memory, and reads as `check` does but for what it passes over. What the device holds
-/// back it hands on before a piece is read that the source does not lend whole, and so may have to
-/// wait for: what a PES packet settles is seen before the next one has come.
+/// Checks the pieces of a PES file against what can be judged of a subtitle file, and tells all
+/// that is broken, as `check_all` does those of a source.
 ///
 /// # Errors
 ///
-/// `Pes` with `Read` where the source failed: then the events are those of the pieces before.
-pub fn check_all<S: Source, A: LiveAudience<Event>>(
+/// `Pes` with `Read` where a device failed: then the events are those of the pieces before.
+pub fn check_all_pieces<P: Pieces, A: LiveAudience<Event>>(
     judging: &Judging<'_>,
-    source: &mut S,
+    source: &mut P,
     options: &Options,
     audience: &mut A,
 ) -> Result<Option<Accepted>, CheckFault>
-    requires failures { CanFail (S.failure_count source.old) }
+    requires failures { CanFail (P.failure_count source.old) }
     requires goes_on { A.has_stopped audience.old ≡ false }
     requires still { A.is_waiting audience.old ≡ false }
     // Where the source tells its bytes, these decide what the device is told.
-    ensures told { IfTold (S.remaining source.old) (λ bytes.
+    ensures told { IfTold (P.remaining source.old) (λ bytes.
         TellsEvents judging.now options.now bytes A.is_told audience.old audience.new result) }
     // Where all was told, and nothing of the subtitle file is refused, `check` answers by the first
     // fault of it, or else with these counts.
@@ -156,29 +125,29 @@ pub fn check_all<S: Source, A: LiveAudience<Event>>(
         → judging.now ≡ known programme
         → IsFalse options.now.keeps
         → options.now.within ≡ 0
-        → IfTold (S.remaining source.old) (λ bytes.
+        → IfTold (P.remaining source.old) (λ bytes.
         IfOk result (λ counts. IfSome counts (λ a. IsChecked programme options.now bytes
         (first_answer (all_events_of programme options.now bytes) a)))) }
     ensures first_by { (programme : ProgrammeValue)
         → judging.now ≡ known programme
-        → IfTold (S.remaining source.old) (λ bytes.
+        → IfTold (P.remaining source.old) (λ bytes.
         IfOk result (λ counts. IfSome counts (λ a. IsCheckedBy programme options.now bytes
         (first_answer (all_events_of programme options.now bytes) a)))) }
     // The next four are laws of what it is told: they name neither the answer nor the device, and
     // stand here so that this call carries them.
     // What is told as trusted may stay on air as it is, whatever is on air elsewhere.
     ensures trusted { IsFalse options.now.keeps → options.now.within ≡ 0
-        → IfTold (S.remaining source.old) (λ bytes.
+        → IfTold (P.remaining source.old) (λ bytes.
         TellsWhatMayStay judging.now options.now bytes) }
     // So it may by any options, with a delay within frames, and by receivers that may forget the
     // page where repeats may keep it.
-    ensures trusted_by { IfTold (S.remaining source.old) (λ bytes.
+    ensures trusted_by { IfTold (P.remaining source.old) (λ bytes.
         TellsWhatMayStayBy judging.now options.now bytes) }
     // It is known there what is due.
-    ensures known { IfTold (S.remaining source.old) (λ bytes.
+    ensures known { IfTold (P.remaining source.old) (λ bytes.
         TellsWhatIsKnown judging.now options.now bytes) }
     // What is told where the source failed begins what is told of all.
-    ensures begins { IfTold (S.remaining source.old) (λ bytes.
+    ensures begins { IfTold (P.remaining source.old) (λ bytes.
         BeginsWhatIsTold judging.now options.now bytes) }
     // Nothing is counted exactly where the device said stop.
     ensures stopped { IfOk result (λ counts. A.has_stopped audience.new ≡ is_none counts) }
@@ -189,12 +158,13 @@ pub fn check_all<S: Source, A: LiveAudience<Event>>(
     // That the source failed is told at the piece within which it failed: those before it were
     // taken. There is no other `Err`.
     ensures read { (pes : ℕ) → result ≡ Err (CheckFault.Pes pes PesFault.Read)
-        → FailsAtPiece pes (S.remaining source.old) (S.remaining source.new) }
+        → FailsAtPiece pes (P.remaining source.old) (P.left source.new) }
     ensures only { IfErr result (λ f. is_pes_read f ≡ true) }
     // Where the source may have to ask its device, all that was told before is handed on: each such
     // call may fail, and where one did nothing is held back.
     ensures asked { A.held audience.old ≡ 0 → IfErr result (λ _. A.held audience.new ≡ 0) }
-    ensures count { CountsIf S.failure_count source.old (failed is_pes_read result) source.new }
+    ensures device { P.device source.new ≡ P.device source.old }
+    ensures count { CountsIf P.failure_count source.old (failed is_pes_read result) source.new }
 {
     tell_pieces(judging, source, options, audience)
 }

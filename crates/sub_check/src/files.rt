@@ -10,7 +10,7 @@ ghost use Rattle.stl_rows.specs.declared.fault.LoadFault.{LoadFault};
 ghost use Rattle.sub_check.specs.CheckedFiles.{AreAccepted, AreAcceptedBy, AreChecked};
 ghost use Rattle.sub_rules.specs.Fault.{is_pes_read, is_pes_write, is_stl_read, is_subtitle_fault};
 
-use crate::checking::check;
+use crate::checking_file::check;
 use std::alloc::Global;
 use stl_file::Scope;
 use stl_rows::{Layout, National, law_of_loading, load};

@@ -14,11 +14,13 @@
 #![tactic(auto)]
 
 mod checking;
+mod checking_file;
 mod files;
 mod first_fault;
 mod laws;
 
-pub use checking::{check, check_all};
+pub use checking::{check_all_pieces, check_pieces};
+pub use checking_file::{check, check_all};
 pub use files::check_files;
 pub use laws::{law_of_accepted_keeping, law_of_accepted_none_keeps, law_of_accepted_within_more};
 pub use sub_checker::Accepted;

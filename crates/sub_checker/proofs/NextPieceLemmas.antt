@@ -10,9 +10,9 @@ use Rattle.sub_checker.specs.Lending.{ReadsNext}
 use Rattle.sub_checker.specs.NextPieces.{IsAgain, is_passed, last_with}
 
 -- Where it is those of the PES packet before again, they are those that were sent last.
-pub again_is : {clock : Clock} {pes : ℕ} {told rest : Option (List ℕ)} {old new : ComparingValue}
-    (r : NextPiece) (passed : Bool) (last : List (List ℕ))
-    → ReadsNext clock pes told rest old new (Ok (Some r))
+pub again_is : {clock : Clock} {pes : ℕ} {told rest behind : Option (List ℕ)}
+    {old new : ComparingValue} (r : NextPiece) (passed : Bool) (last : List (List ℕ))
+    → ReadsNext clock pes told rest behind old new (Ok (Some r))
     → (passed ≡ false → last ≡ packets_of_units old.frame.units)
     → passed ≡ false
     → IsAgain r

@@ -20,10 +20,10 @@ use Rattle.sub_rules.specs.declared.piece.NextPiece.{NextPiece}
 use Rattle.sub_rules.specs.declared.piece.NextPiece.TheVariants.{Sent}
 use Rattle.sub_rules.specs.declared.sending.Sending.{Sending}
 
--- What `next_piece` says of an answer, by what the source told before and tells after, and the
--- reader before and after.
+-- What `next_piece` says of an answer, by the bytes that were to come before and are to come then,
+-- those that follow what was read, and the reader before and after.
 pub record ReadsNext
-    (clock : Clock) (pes : ℕ) (told rest : Option (List ℕ)) (old new : ComparingValue)
+    (clock : Clock) (pes : ℕ) (told rest behind : Option (List ℕ)) (old new : ComparingValue)
     (result : Result (Option NextPiece) CheckFault)
     : Type 0 where
   pub exact :
@@ -46,4 +46,4 @@ pub record ReadsNext
       → new.frame.units ≡ old.frame.units
   pub day : (sending : Sending) → result ≡ Ok (Some (Sent sending)) → sending.frame < day
   pub place : IfErr result (λ f. is_pes_read f ≡ true → f ≡ Pes pes Read)
-  pub within : IfErr result (λ f. is_pes_read f ≡ true → FailsWithin told rest)
+  pub within : IfErr result (λ f. is_pes_read f ≡ true → FailsWithin told behind)

@@ -31,10 +31,10 @@ use crate::lending::next_followed;
 use crate::relaying::{Relay, Stage};
 use crate::telling::{Accepted, is_source_failure};
 use stl_rows::Judging;
-use sub_io::{Audience, LiveAudience, Source};
+use sub_io::{Audience, LiveAudience};
 use sub_plan::Options;
 use sub_rules::{CheckFault, Event, NextPiece, Sending, units_of};
-use ttx_pes::{ComparingReader, PesFault};
+use ttx_pes::{ComparingReader, PesFault, Pieces};
 
 /// Tells all that is broken of a PES file to a device of the caller's, piece by piece, until it
 /// says stop, and counts what was read; `None` where it said stop. Reading goes on behind a piece
@@ -45,17 +45,17 @@ use ttx_pes::{ComparingReader, PesFault};
 /// # Errors
 ///
 /// `Pes` with `Read` where the source failed: then the events are those of the pieces before.
-pub fn tell_pieces<S: Source, A: LiveAudience<Event>>(
+pub fn tell_pieces<P: Pieces, A: LiveAudience<Event>>(
     judging: &Judging<'_>,
-    source: &mut S,
+    source: &mut P,
     options: &Options,
     audience: &mut A,
 ) -> Result<Option<Accepted>, CheckFault>
-    requires failures { CanFail (S.failure_count source.old) }
+    requires failures { CanFail (P.failure_count source.old) }
     requires goes_on { A.has_stopped audience.old ≡ false }
     requires still { A.is_waiting audience.old ≡ false }
     ensures exact { (pieces : List Piece) (unread : Option Unread)
-        → IfTold (S.remaining source.old) (λ bytes.
+        → IfTold (P.remaining source.old) (λ bytes.
         ReadsPieces (clock_of options.now) 0 bytes pieces unread
         → TellsPieces (task_beside judging.now options.now unread) (clock_of options.now) bytes
         pieces A.is_told audience.old audience.new result) }
@@ -63,20 +63,21 @@ pub fn tell_pieces<S: Source, A: LiveAudience<Event>>(
     ensures some { TellsSome A.is_told audience.old audience.new }
     ensures goes_on { IfErr result (λ _. A.has_stopped audience.new ≡ false) }
     ensures read { (pes : ℕ) → result ≡ Err (CheckFault.Pes pes PesFault.Read)
-        → FailsAtPiece pes (S.remaining source.old) (S.remaining source.new) }
+        → FailsAtPiece pes (P.remaining source.old) (P.left source.new) }
     // Where none was passed over before, those that were taken are PES packets of the grammar.
     ensures sent { (pes : ℕ) (pieces : List Piece) (unread : Option Unread)
         → result ≡ Err (CheckFault.Pes pes PesFault.Read)
-        → IfTold (S.remaining source.old) (λ bytes.
+        → IfTold (P.remaining source.old) (λ bytes.
         ReadsPieces (clock_of options.now) 0 bytes pieces unread
         → length (frames_of (take pes pieces)) ≡ pes
-        → FailsAtPacket pes (S.remaining source.old) (S.remaining source.new)) }
+        → FailsAtPacket pes (P.remaining source.old) (P.left source.new)) }
     ensures only { IfErr result (λ f. is_pes_read f ≡ true) }
     ensures options { IsOptions options.now }
     ensures programme { IsProgramme judging.now.programme.drawing judging.now.programme.records }
     // Where the source failed, as each of its calls may, nothing that was told is held back.
     ensures asked { A.held audience.old ≡ 0 → IfErr result (λ _. A.held audience.new ≡ 0) }
-    ensures count { CountsIf S.failure_count source.old (failed is_pes_read result) source.new }
+    ensures device { P.device source.new ≡ P.device source.old }
+    ensures count { CountsIf P.failure_count source.old (failed is_pes_read result) source.new }
 {
     let mut reader = ComparingReader::new();
     let mut checker = Checker::new(judging, options);

@@ -1,3 +1,4 @@
+pub mod FileLemmas
 pub mod ReceptionLemmas
 pub mod RunningLemmas
 pub mod WaysOutLemmas

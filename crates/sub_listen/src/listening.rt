@@ -18,7 +18,7 @@ use sub_io::{FaultCode, Source};
 use sub_request::Listening;
 use sub_rules::{CheckFault, NextPiece, next_piece};
 use ttx_page::{Page, Receiver};
-use ttx_pes::ComparingReader;
+use ttx_pes::{ComparingReader, FilePieces, Pieces};
 
 /// Why a PES file is not heard.
 #[derive(Clone, Copy, Debug, PartialEq, Eq)]
@@ -90,6 +90,37 @@ pub fn listen<R: Receiver + Drop, S: Source>(
         → FailsListening listening.now (S.remaining pes.old) (S.remaining pes.new) f) }
     ensures own { IfErr result (λ f. is_stl_fault f ≡ false) }
     ensures count { CountsIf S.failure_count pes.old (failed is_failed_read result) pes.new }
+{
+    let mut pieces = FilePieces::new(pes);
+    listen_pieces(receiver, screen, &mut pieces, listening)
+}
+
+/// Lets a receiver with a screen hear the pieces of a PES file, as `listen` does those of a source.
+///
+/// # Errors
+///
+/// Those of `listen`.
+pub fn listen_pieces<R: Receiver + Drop, P: Pieces>(
+    receiver: &mut R,
+    screen: &mut Option<Page>,
+    pes: &mut P,
+    listening: &Listening,
+) -> Result<(), ListenFault>
+    requires count { CanFail (P.failure_count pes.old) }
+    requires tuned { R.tuned_to receiver.old ≡ listening.now.options.page }
+    ensures exact { (frames : Transmission) (unread : Option Unread)
+        → IfTold (P.remaining pes.old) (λ bytes.
+        ReadsAs (clock_of listening.now.options) 0 bytes frames unread
+        → failed is_failed_read result ≡ false
+        → HearsFile R.leaves listening.now frames unread (P.remaining pes.old)
+        (P.left pes.new) (R.tuned_to receiver.old)
+        (display (R.state receiver.old) screen.old)
+        (display (R.state receiver.new) screen.new) result) }
+    ensures failed { IfErr result (λ f. is_failed_read f ≡ true
+        → FailsListening listening.now (P.remaining pes.old) (P.left pes.new) f) }
+    ensures own { IfErr result (λ f. is_stl_fault f ≡ false) }
+    ensures device { P.device pes.new ≡ P.device pes.old }
+    ensures count { CountsIf P.failure_count pes.old (failed is_failed_read result) pes.new }
 {
     let mut reader = ComparingReader::new();
     let mut least = 0;

@@ -29,6 +29,17 @@ source_call remaining failure_count old new = record {
   new_count = failure_count new;
 }
 
+-- What is read of in a call, by the bytes that are still to come of it, those that its device has
+-- still to give, and how often that has failed.
+abbrev pub read_call :
+    {D : Type 0} → (D → Option (List ℕ)) → (D → Option (List ℕ)) → (D → ℕ) → D → D → SourceCall
+read_call told left failure_count old new = record {
+  told = told old;
+  left = left new;
+  old_count = failure_count old;
+  new_count = failure_count new;
+}
+
 -- A sink in a call, by what such a sink has taken and how often it has failed.
 abbrev pub sink_call : {K : Type 0} → (K → Option (List ℕ)) → (K → ℕ) → K → K → SinkCall
 sink_call contents failure_count old new = record {

@@ -32,8 +32,9 @@ const HELP: &[u8] = b"usage: subttx COMMAND FILES [options]
   --pid P   --packet-size 188   --pes I-J                    a transport stream, a part
 
 STL is an EBU STL file, PES a file of DVB Teletext PES packets. To look for PID,
-clock and PES packets: tools/qc STL RECORDING. All options: man subttx, or
-man -l docs/subttx.1; the manual: docs/MANUAL.md.
+clock and PES packets: subttx-qc STL RECORDING. All options: man subttx; the
+manual: lib/subttx/docs/MANUAL.md. In the repository these are tools/qc,
+docs/subttx.1 and docs/MANUAL.md.
 
 Exit status: 0 accepted or done; 1 refused; 2 not answered (usage, device, memory).
 ";

@@ -1,8 +1,9 @@
 //! How a file is listed: what is read of it is printed, one piece after the other.
 ghost use Rattle.std.specs.Prelude.{◌≡◌, ℕ, ◌+◌, ◌<◌, ◌≤◌, ◌++◌, [], None, Some, decimal, length};
-ghost use Rattle.std.specs.Prelude.{Bool, false, true};
+ghost use Rattle.std.specs.Prelude.{Bool, List, Option, false, true};
+ghost use Rattle.std.specs.Borrow.{GName};
 ghost use Rattle.sub_io.specs.Device.{CountsIf};
-ghost use Rattle.sub_listing.specs.DeviceCall.{CanFail, CountsFault, sink_call, source_call};
+ghost use Rattle.sub_listing.specs.DeviceCall.{CanFail, CountsFault, read_call, sink_call};
 ghost use Rattle.sub_listing.specs.LastLine.{HoldsLastLine, IsAlone};
 ghost use Rattle.sub_listing.specs.Listing.{Gives, IsCut, IsListed, PrintsListing, has_failed};
 ghost use Rattle.sub_listing.specs.Printer.{StaysPrinted, printer_value};
@@ -14,7 +15,7 @@ use crate::lines::{push_decimal, push_fault_line, push_text};
 use crate::printer::Printer;
 use crate::status::Status;
 use arrayvec::ArrayVec;
-use sub_io::{Flush, Source};
+use sub_io::Flush;
 
 /// Room for one piece: the lines of one PES packet, or of one subtitle.
 pub const PIECE: usize = 7168;
@@ -22,8 +23,8 @@ pub const PIECE: usize = 7168;
 /// The lines of one piece.
 pub type Text = ArrayVec<u8, PIECE>;
 
-/// Reads what is listed of a file, and makes its lines.
-pub trait Lister {
+/// Reads what is listed of an input, a source or one that gives pieces, and makes its lines.
+pub trait Lister<I> {
     /// It has not come to the end, and met no fault.
     ghost ready: { Self → Type 0 };
 
@@ -37,19 +38,31 @@ pub trait Lister {
     /// source that may have to wait.
     ghost is_followed: { Bool };
 
+    // The bytes that are still to come of such an input, where they are told.
+    ghost told: { I → Option (List ℕ) };
+
+    // Those that its device has still to give.
+    ghost left: { I → Option (List ℕ) };
+
+    // How many calls of its device have failed.
+    ghost failure_count: { I → ℕ };
+
+    // By which reference it holds its device, where it holds it by one.
+    ghost device: { I → Option GName };
+
     /// Makes the lines of the next piece. `None` where another may follow, else how the listing
     /// ends.
     ///
     /// The printer may hand on the lines before it, so that they are seen before the source has to
     /// wait. Where it can't, its sink failed, and what is read and made is of no use.
-    fn next<S: Source, K: Flush>(
+    fn next<K: Flush>(
         &mut self,
-        source: &mut S,
+        input: &mut I,
         printer: &mut Printer<'_, K>,
         text: &mut Text,
     ) -> Option<Status>
         requires ready { ready self.old }
-        requires source { CanFail (S.failure_count source.old) }
+        requires input { CanFail (failure_count input.old) }
         requires out { CanFail (K.failure_count printer.old.out.now) }
         requires goes_on { printer.old.failed ≡ false }
         requires empty { text.old.items ≡ [] }
@@ -60,16 +73,19 @@ pub trait Lister {
             (printer_value (K.contents printer.new.out.now) (K.failure_count printer.new.out.now)
             printer.new.refused printer.new.failed printer.new.first) }
         ensures gives { printer.new.failed ≡ false → Gives (lists self.old) (lists self.new)
-            (S.remaining source.old) (S.remaining source.new) text.new.items result }
+            (told input.old) (left input.new) text.new.items result }
+        ensures settled { printer.new.failed ≡ false → result ≡ None
+            → left input.new ≡ told input.new }
         ensures ready { printer.new.failed ≡ false → result ≡ None → ready self.new }
         ensures fewer { printer.new.failed ≡ false → result ≡ None
             → pieces self.new < pieces self.old }
         ensures count { printer.new.failed ≡ false
-            → CountsIf S.failure_count source.old (has_failed result) source.new }
+            → CountsIf failure_count input.old (has_failed result) input.new }
         ensures cut { printer.new.failed ≡ true
-            → IsCut (lists self.old) (S.remaining source.old) (S.remaining source.new) }
+            → IsCut (lists self.old) (told input.old) (left input.new) }
         ensures cut_count { printer.new.failed ≡ true
-            → S.failure_count source.new ≡ S.failure_count source.old }
+            → failure_count input.new ≡ failure_count input.old }
+        ensures held { device input.new ≡ device input.old }
         ensures followed { is_followed ≡ true
             → (printer.old.waiting ≡ false → K.held printer.old.out.now ≡ 0)
             → has_failed result ≡ true → printer.new.failed ≡ false
@@ -79,21 +95,22 @@ pub trait Lister {
 /// Lists a file, one piece after the other as they are read.
 ///
 /// Lines before a refusal stay. One piece is kept at a time, and its lines are put at once.
-pub fn list<L: Lister, S: Source, K: Flush>(lister: &mut L, source: &mut S, out: &mut K) -> Status
+pub fn list<I, L: Lister<I>, K: Flush>(lister: &mut L, input: &mut I, out: &mut K) -> Status
     requires ready { L.ready lister.old }
-    requires source { CanFail (S.failure_count source.old) }
+    requires input { CanFail (L.failure_count input.old) }
     requires out { CanFail (K.failure_count out.old) }
     ensures listing { PrintsListing (L.lists lister.old)
-        (source_call S.remaining S.failure_count source.old source.new)
+        (read_call L.told L.left L.failure_count input.old input.new)
         (sink_call K.contents K.failure_count out.old out.new) result }
-    ensures source_count { CountsFault S.failure_count source.old result source.new }
+    ensures input_count { CountsFault L.failure_count input.old result input.new }
+    ensures held { L.device input.new ≡ L.device input.old }
     ensures out_count { CountsFault K.failure_count out.old result out.new }
     ensures fault { result ≡ Status.Fault
-        → S.failure_count source.old + K.failure_count out.old
-        < S.failure_count source.new + K.failure_count out.new }
+        → L.failure_count input.old + K.failure_count out.old
+        < L.failure_count input.new + K.failure_count out.new }
     ensures followed { L.is_followed ≡ true
         → K.held out.old ≡ 0
-        → S.failure_count source.old < S.failure_count source.new
+        → L.failure_count input.old < L.failure_count input.new
         → HoldsLastLine K.contents K.held K.is_push out.new }
 {
     let mut printer = Printer {
@@ -103,38 +120,39 @@ pub fn list<L: Lister, S: Source, K: Flush>(lister: &mut L, source: &mut S, out:
         waiting: false,
         first: 0,
     };
-    list_to(lister, source, &mut printer)
+    list_to(lister, input, &mut printer)
 }
 
 // Prints the lines of all that a lister gives, by a printer.
-fn list_to<L: Lister, S: Source, K: Flush>(
+fn list_to<I, L: Lister<I>, K: Flush>(
     lister: &mut L,
-    source: &mut S,
+    input: &mut I,
     printer: &mut Printer<'_, K>,
 ) -> Status
     requires ready { L.ready lister.old }
-    requires source { CanFail (S.failure_count source.old) }
+    requires input { CanFail (L.failure_count input.old) }
     requires out { CanFail (K.failure_count printer.old.out.now) }
     requires goes_on { printer.old.failed ≡ false }
     ensures same { printer.new.out.ghost_name ≡ printer.old.out.ghost_name }
     ensures listing { PrintsListing (L.lists lister.old)
-        (source_call S.remaining S.failure_count source.old source.new)
+        (read_call L.told L.left L.failure_count input.old input.new)
         (sink_call K.contents K.failure_count printer.old.out.now printer.new.out.now) result }
-    ensures source_count { CountsFault S.failure_count source.old result source.new }
+    ensures input_count { CountsFault L.failure_count input.old result input.new }
+    ensures held { L.device input.new ≡ L.device input.old }
     ensures out_count { CountsFault K.failure_count printer.old.out.now result
         printer.new.out.now }
     ensures fault { result ≡ Status.Fault
-        → S.failure_count source.old + K.failure_count printer.old.out.now
-        < S.failure_count source.new + K.failure_count printer.new.out.now }
+        → L.failure_count input.old + K.failure_count printer.old.out.now
+        < L.failure_count input.new + K.failure_count printer.new.out.now }
     ensures followed { L.is_followed ≡ true
         → (printer.old.waiting ≡ false → K.held printer.old.out.now ≡ 0)
-        → S.failure_count source.old < S.failure_count source.new
+        → L.failure_count input.old < L.failure_count input.new
         → HoldsLastLine K.contents K.held K.is_push printer.new.out.now }
 {
     let mut text = Text::new();
     'pieces: loop {
         text.clear();
-        let end = lister.next(source, printer, &mut text);
+        let end = lister.next(input, printer, &mut text);
         if printer.failed {
             return Status::Fault;
         }

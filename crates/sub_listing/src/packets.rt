@@ -1,6 +1,6 @@
 //! `packets PES`: lists PES packets and their Teletext units.
 ghost use Rattle.std.specs.Prelude.{◌≡◌, ℕ, ◌+◌, ◌-◌, ◌<◌, ◌≤◌, ◌++◌, [], None, IfNone};
-ghost use Rattle.std.specs.Prelude.{IfSome, false, is_none, true};
+ghost use Rattle.std.specs.Prelude.{IfSome, Ok, false, is_none, true};
 ghost use Rattle.arrayvec.specs.ArrayVec.{array_vec_len};
 ghost use Rattle.sub_io.specs.Device.{CanFail, CountsIf, failed};
 ghost use Rattle.ttx_pes.specs.Comparing.{as_given};
@@ -12,47 +12,49 @@ ghost use Rattle.ttx_pes.specs.Reading.{most_packets};
 ghost use Rattle.ttx_pes.specs.declared.progress.Progress.TheVariants.{Reading};
 ghost use Rattle.sub_listing.specs.FirstPacket.{PrintsFrom, first_number};
 ghost use Rattle.sub_listing.specs.Lines.{number_in_file, unit_line};
-ghost use Rattle.sub_listing.specs.DeviceCall.{CountsFault, sink_call, source_call};
+ghost use Rattle.sub_listing.specs.DeviceCall.{CountsFault, read_call, sink_call};
 ghost use Rattle.sub_listing.specs.LastLine.{HoldsLastLine};
 ghost use Rattle.sub_listing.specs.Listing.{Lists};
 ghost use Rattle.sub_listing.specs.PacketsListing.{ListsPackets, frame_lines, pes_listing};
 ghost use Rattle.sub_listing.specs.Printer.{StaysPrinted, printer_value};
 
 use crate::faults::{line_of_check, line_of_failed_read};
-use crate::first_packet::FirstPacket;
 use crate::lines::{number_in_file, push_lower_hex, push_number, push_text};
 use crate::listing::{Lister, PIECE, Text, end_at, end_with, list};
 use crate::printer::Printer;
 use crate::printing::print_fault_line;
 use crate::status::Status;
-use sub_io::{Flush, Live, Source};
+use sub_io::{Flush, Live};
 use sub_rules::CheckFault;
-use ttx_pes::{Compared, ComparingReader, MOST_UNITS, PesFault, Unit, hand_on_first};
+use ttx_pes::{
+    Compared, ComparingReader, MOST_UNITS, NumberedPieces, PesFault, Pieces, Unit, hand_on_first,
+};
 
 /// Lists PES packets of a file (EN 300 472), one after another as they are read, each by its number
 /// in the file; and then how many were listed, or why it is refused.
 ///
 /// Lines before a refusal stay. `Fault` where a device failed.
-pub fn list_packets<N: FirstPacket<S>, S: Source, K: Flush>(source: &mut S, out: &mut K) -> Status
-    requires source { CanFail (S.failure_count source.old) }
+pub fn list_packets<P: NumberedPieces, K: Flush>(pieces: &mut P, out: &mut K) -> Status
+    requires pieces { CanFail (P.failure_count pieces.old) }
     requires out { CanFail (K.failure_count out.old) }
     ensures listing { PrintsFrom ListsPackets
-        (first_number N.number N.passed source.old source.new)
-        (source_call S.remaining S.failure_count source.old source.new)
+        (first_number P.first P.passed pieces.old pieces.new)
+        (read_call P.remaining P.left P.failure_count pieces.old pieces.new)
         (sink_call K.contents K.failure_count out.old out.new) result }
-    ensures source_count { CountsFault S.failure_count source.old result source.new }
+    ensures device { P.device pieces.new ≡ P.device pieces.old }
+    ensures pieces_count { CountsFault P.failure_count pieces.old result pieces.new }
     ensures out_count { CountsFault K.failure_count out.old result out.new }
     ensures fault { result ≡ Status.Fault
-        → S.failure_count source.old + K.failure_count out.old
-        < S.failure_count source.new + K.failure_count out.new }
-    // Where the source may have to ask its device, all that was printed before is handed on: each
-    // such call may fail, and where one did the line of its failure alone may be held back.
+        → P.failure_count pieces.old + K.failure_count out.old
+        < P.failure_count pieces.new + K.failure_count out.new }
+    // Where a device may be asked, all that was printed before is handed on: each such call may
+    // fail, and where one did the line of its failure alone may be held back.
     ensures followed { K.held out.old ≡ 0
-        → S.failure_count source.old < S.failure_count source.new
+        → P.failure_count pieces.old < P.failure_count pieces.new
         → HoldsLastLine K.contents K.held K.is_push out.new }
 {
-    match N::find(source) {
-        Ok(first) => list(&mut PacketLister::new(first), source, out),
+    match pieces.find_first() {
+        Ok(first) => list(&mut PacketLister::new(first), pieces, out),
         Err(at) => print_fault_line(&line_of_failed_read(at), out),
     }
 }
@@ -96,7 +98,7 @@ impl PacketLister {
     }
 }
 
-impl Lister for PacketLister {
+impl<P: Pieces> Lister<P> for PacketLister {
     ghost ready = { λ l. (l.reader.progress ≡ Reading l.index) × (l.index ≤ most_packets) };
 
     ghost pieces = { λ l. most_packets - l.index };
@@ -105,13 +107,21 @@ impl Lister for PacketLister {
 
     ghost is_followed = { true };
 
-    fn next<S: Source, K: Flush>(
+    ghost told = { λ p. P.remaining p };
+
+    ghost left = { λ p. P.left p };
+
+    ghost failure_count = { λ p. P.failure_count p };
+
+    ghost device = { λ p. P.device p };
+
+    fn next<K: Flush>(
         &mut self,
-        source: &mut S,
+        input: &mut P,
         printer: &mut Printer<'_, K>,
         text: &mut Text,
     ) -> Option<Status> {
-        let Some(read) = next_followed(&mut self.reader, source, printer) else {
+        let Some(read) = next_followed(&mut self.reader, input, printer) else {
             return Some(Status::Fault);
         };
         match read {
@@ -127,14 +137,14 @@ impl Lister for PacketLister {
     }
 }
 
-// Reads the next PES packet. Where the source does not lend all of it, the lines before it are
-// handed on first; `None` where they can't be, and then nothing was read.
-fn next_followed<S: Source, K: Flush>(
+// Reads the next PES packet. Where a device may be asked for it, the lines before it are handed on
+// first; `None` where they can't be, and then nothing was read.
+fn next_followed<P: Pieces, K: Flush>(
     reader: &mut ComparingReader,
-    source: &mut S,
+    pieces: &mut P,
     printer: &mut Printer<'_, K>,
 ) -> Option<Result<Compared, PesFault>>
-    requires source { CanFail (S.failure_count source.old) }
+    requires pieces { CanFail (P.failure_count pieces.old) }
     requires out { CanFail (K.failure_count printer.old.out.now) }
     requires goes_on { printer.old.failed ≡ false }
     ensures same { printer.new.out.ghost_name ≡ printer.old.out.ghost_name }
@@ -144,12 +154,15 @@ fn next_followed<S: Source, K: Flush>(
         (printer_value (K.contents printer.new.out.now) (K.failure_count printer.new.out.now)
         printer.new.refused printer.new.failed printer.new.first) }
     ensures failed { printer.new.failed ≡ is_none result }
-    ensures refused { IfNone result (S.failure_count source.new ≡ S.failure_count source.old) }
+    ensures refused { IfNone result (P.failure_count pieces.new ≡ P.failure_count pieces.old) }
+    ensures device { P.device pieces.new ≡ P.device pieces.old }
     ensures count { IfSome result (λ read.
-        CountsIf S.failure_count source.old (failed is_read read) source.new) }
+        CountsIf P.failure_count pieces.old (failed is_read read) pieces.new) }
     ensures tells { IfSome result (λ read. TellsPacket reader.old.progress
-        (S.remaining source.old) (S.remaining source.new)
+        (P.remaining pieces.old) (P.left pieces.new)
         (given_frame (as_given read) reader.new.frame)) }
+    ensures settled { IfSome result (λ read. as_given read ≡ Ok true
+        → P.left pieces.new ≡ P.remaining pieces.new) }
     ensures progress { IfSome result (λ read. reader.new.progress
         ≡ progress_after reader.old.progress (given_frame (as_given read) reader.new.frame)) }
     ensures few { IfSome result (λ _.
@@ -157,29 +170,31 @@ fn next_followed<S: Source, K: Flush>(
     ensures asked { (printer.old.waiting ≡ false → K.held printer.old.out.now ≡ 0)
         → IfSome result (λ read. failed is_read read ≡ true → K.held printer.new.out.now ≡ 0) }
 {
-    if hand_on_first(source, printer).is_err() {
+    if hand_on_first(pieces, printer).is_err() {
         return None;
     }
-    Some(read_settled(reader, source, printer))
+    Some(read_settled(reader, pieces, printer))
 }
 
 // Reads the next PES packet, beside a printer at which nothing waits meanwhile.
-fn read_settled<S: Source, A: Live>(
+fn read_settled<P: Pieces, A: Live>(
     reader: &mut ComparingReader,
-    source: &mut S,
+    pieces: &mut P,
     _printer: &A,
 ) -> Result<Compared, PesFault>
-    requires source { CanFail (S.failure_count source.old) }
-    requires settled { NothingWaits (A.is_waiting _printer.now) (S.lent source.old) }
-    ensures count { CountsIf S.failure_count source.old (failed is_read result) source.new }
-    ensures tells { TellsPacket reader.old.progress (S.remaining source.old)
-        (S.remaining source.new) (given_frame (as_given result) reader.new.frame) }
+    requires pieces { CanFail (P.failure_count pieces.old) }
+    requires settled { NothingWaits (A.is_waiting _printer.now) (P.ready pieces.old) }
+    ensures device { P.device pieces.new ≡ P.device pieces.old }
+    ensures count { CountsIf P.failure_count pieces.old (failed is_read result) pieces.new }
+    ensures tells { TellsPacket reader.old.progress (P.remaining pieces.old)
+        (P.left pieces.new) (given_frame (as_given result) reader.new.frame) }
+    ensures settled { as_given result ≡ Ok true → P.left pieces.new ≡ P.remaining pieces.new }
     ensures progress { reader.new.progress
         ≡ progress_after reader.old.progress (given_frame (as_given result) reader.new.frame) }
     ensures few { (given : ℕ) → reader.new.progress ≡ Reading given → given ≤ most_packets }
     ensures asked { failed is_read result ≡ true → A.is_waiting _printer.now ≡ false }
 {
-    reader.next(source)
+    reader.next(pieces)
 }
 
 // Room for the line of a PES packet.

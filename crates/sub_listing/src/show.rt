@@ -53,7 +53,7 @@ impl SubtitleLister {
     }
 }
 
-impl Lister for SubtitleLister {
+impl<S: Source> Lister<S> for SubtitleLister {
     ghost ready = { λ l. IsReady l.reader l.count };
 
     ghost pieces = { λ l. blocks_left l.reader };
@@ -62,14 +62,22 @@ impl Lister for SubtitleLister {
 
     ghost is_followed = { false };
 
-    fn next<S: Source, K: Flush>(
+    ghost told = { λ s. S.remaining s };
+
+    ghost left = { λ s. S.remaining s };
+
+    ghost failure_count = { λ s. S.failure_count s };
+
+    ghost device = { λ s. None };
+
+    fn next<K: Flush>(
         &mut self,
-        source: &mut S,
+        input: &mut S,
         _printer: &mut Printer<'_, K>,
         text: &mut Text,
     ) -> Option<Status> {
         let Some(reader) = &mut self.reader else {
-            return match StlReader::open(source) {
+            return match StlReader::open(input) {
                 Ok(reader) => {
                     self.reader = Some(reader);
                     None
@@ -77,7 +85,7 @@ impl Lister for SubtitleLister {
                 Err(fault) => end_with(text, &line_of_stl(fault, 0)),
             };
         };
-        match reader.next(source) {
+        match reader.next(input) {
             Ok(Some(subtitle)) => {
                 push_subtitle(text, &subtitle);
                 self.count += 1;

@@ -3,7 +3,6 @@ ghost use Rattle.std.specs.Prelude.{◌≡◌, ◌≢◌, ℕ, ◌+◌, ◌<◌,
 ghost use Rattle.std.specs.Prelude.{Ok, Some, false, true};
 ghost use Rattle.sub_io.specs.Device.{CanFail, CountsIf, failed};
 ghost use Rattle.sub_io.specs.Reading.{IfTold};
-ghost use Rattle.ttx_pes.specs.LentPacket.{holds_packet};
 ghost use Rattle.ttx_pes.specs.PesPacket.{PesValue};
 ghost use Rattle.ttx_pes.specs.Pieces.{behind_piece};
 ghost use Rattle.ttx_pes.specs.Reader.{FailsWithin, TakesPesPacket};
@@ -17,9 +16,8 @@ ghost use Rattle.sub_rules.specs.Pieces.{Piece, ReadsPieces, TakesOnePiece, Tell
 
 use crate::fault::CheckFault;
 use crate::sending::Sending;
-use sub_io::Source;
 use sub_plan::Options;
-use ttx_pes::{Compared, ComparingReader, PesFault};
+use ttx_pes::{Compared, ComparingReader, PesFault, Pieces};
 
 /// A piece of a PES file: it begins as a PES packet does, and is as long as its length field says
 /// (EN 300 472, PES_packet_length).
@@ -32,7 +30,7 @@ pub enum NextPiece {
 }
 
 /// Reads the next piece, the one of this number from 0, and goes on after one that is passed over:
-/// `None` at the end of the source.
+/// `None` where nothing is left.
 ///
 /// The reader lends what was read. After a piece that is passed over `again` says nothing of what
 /// was sent before it.
@@ -42,27 +40,27 @@ pub enum NextPiece {
 /// `Pes` with the fault of bytes that are no piece: `Truncated`, `Start`, `Length` or `TooMany`;
 /// `Read` where the source failed.
 #[inline(always)]
-pub fn next_piece<S: Source>(
+pub fn next_piece<P: Pieces>(
     reader: &mut ComparingReader,
-    source: &mut S,
+    source: &mut P,
     options: &Options,
     pes: u32,
 ) -> Result<Option<NextPiece>, CheckFault>
-    requires failures { CanFail (S.failure_count source.old) }
+    requires failures { CanFail (P.failure_count source.old) }
     requires reading { reader.old.progress ≡ Reading pes }
     requires few { pes ≤ most_packets }
     ensures exact { (pieces : List Piece) (unread : Option Unread)
-        → IfTold (S.remaining source.old) (λ bytes. failed is_pes_read result ≡ false
+        → IfTold (P.remaining source.old) (λ bytes. failed is_pes_read result ≡ false
         → ReadsPieces (clock_of options.now) pes bytes pieces unread
         → TellsPiece (clock_of options.now) pes bytes pieces unread reader.new.frame result) }
     // Exactly the bytes of the piece were taken.
     ensures taken { IfOk result (λ piece. IsSome piece
-        → TakesOnePiece (S.remaining source.old) (S.remaining source.new)) }
+        → TakesOnePiece (P.remaining source.old) (P.remaining source.new)) }
     // Where it is sent, they are a PES packet of the grammar.
     ensures sent { (sending : Sending) → result ≡ Ok (Some (NextPiece.Sent sending))
-        → TakesPesPacket (S.remaining source.old) (S.remaining source.new) reader.new.frame }
-    ensures left { IfTold (S.remaining source.old) (λ bytes. IfOk result (λ piece. IsSome piece
-        → S.remaining source.new ≡ Some (behind_piece bytes))) }
+        → TakesPesPacket (P.remaining source.old) (P.remaining source.new) reader.new.frame }
+    ensures left { IfTold (P.remaining source.old) (λ bytes. IfOk result (λ piece. IsSome piece
+        → P.remaining source.new ≡ Some (behind_piece bytes))) }
     ensures progress { IfOk result (λ piece. IsSome piece
         → reader.new.progress ≡ Reading (pes + 1)) }
     // More than a day has frames are refused.
@@ -83,10 +81,14 @@ pub fn next_piece<S: Source>(
     ensures place { IfErr result (λ f. is_pes_read f ≡ true
         → f ≡ CheckFault.Pes pes PesFault.Read) }
     ensures within { IfErr result (λ f. is_pes_read f ≡ true
-        → FailsWithin (S.remaining source.old) (S.remaining source.new)) }
-    // Where the source lends all that is read of it, it does not fail.
-    ensures lent { holds_packet (S.lent source.old) ≡ true → failed is_pes_read result ≡ false }
-    ensures count { CountsIf S.failure_count source.old (failed is_pes_read result) source.new }
+        → FailsWithin (P.remaining source.old) (P.left source.new)) }
+    // Nothing behind a piece that was taken was read.
+    ensures settled { IfOk result (λ piece. IsSome piece
+        → P.left source.new ≡ P.remaining source.new) }
+    // Where the source asks no device for it, it does not fail.
+    ensures ready { P.ready source.old ≡ true → failed is_pes_read result ≡ false }
+    ensures device { P.device source.new ≡ P.device source.old }
+    ensures count { CountsIf P.failure_count source.old (failed is_pes_read result) source.new }
 {
     match reader.next(source) {
         Err(fault) => {

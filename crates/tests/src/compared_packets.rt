@@ -4,7 +4,7 @@ use fixtures::{Drip, ROW, every_second};
 use std::process::Abort;
 use sub_io::{FailAt, MemSource};
 use ttx_packet::Packet;
-use ttx_pes::{Compared, ComparingReader, PesFault, Unit};
+use ttx_pes::{Compared, ComparingReader, FilePieces, PesFault, Unit};
 
 // The PTS of frame 10:00:00:00.
 const TEN: u64 = 3_240_000_000;
@@ -13,11 +13,11 @@ const TEN: u64 = 3_240_000_000;
 fn assert_compares(
     rt: &impl Abort,
     reader: &mut ComparingReader,
-    source: &mut MemSource,
+    pieces: &mut FilePieces<'_, MemSource<'_>>,
     want: Compared,
     pts_and_units: (u64, usize),
 ) {
-    assert_same(rt, &reader.next(source), &Ok(want));
+    assert_same(rt, &reader.next(pieces), &Ok(want));
     assert_same(rt, &(reader.pts(), reader.units().len()), &pts_and_units);
 }
 
@@ -25,12 +25,13 @@ fn assert_compares(
 fn tells_a_data_field_that_is_sent_again(rt: HostRuntime) {
     let file = every_second();
     let mut source = MemSource::new(&file);
+    let mut pieces = FilePieces::new(&mut source);
     let mut reader = ComparingReader::new();
-    assert_compares(&rt, &mut reader, &mut source, Compared::Other, (TEN, 3));
+    assert_compares(&rt, &mut reader, &mut pieces, Compared::Other, (TEN, 3));
     assert_compares(
         &rt,
         &mut reader,
-        &mut source,
+        &mut pieces,
         Compared::Same,
         (TEN + 90_000, 3),
     );
@@ -42,11 +43,11 @@ fn tells_a_data_field_that_is_sent_again(rt: HostRuntime) {
     assert_compares(
         &rt,
         &mut reader,
-        &mut source,
+        &mut pieces,
         Compared::Other,
         (TEN + 180_000, 2),
     );
-    assert_compares(&rt, &mut reader, &mut source, Compared::End, (0, 0));
+    assert_compares(&rt, &mut reader, &mut pieces, Compared::End, (0, 0));
 }
 
 #[test]
@@ -54,15 +55,16 @@ fn goes_on_behind_a_piece_that_is_refused(rt: HostRuntime) {
     let mut file = every_second();
     file[45] = 0x20; // data_identifier of the first PES packet
     let mut source = MemSource::new(&file);
+    let mut pieces = FilePieces::new(&mut source);
     let mut reader = ComparingReader::new();
-    let answer = reader.next(&mut source);
+    let answer = reader.next(&mut pieces);
     assert_same(&rt, &answer, &Err(PesFault::DataId));
     assert!(rt; PesFault::DataId.is_of_piece() && !PesFault::Truncated.is_of_piece());
     reader.pass_over();
     assert_compares(
         &rt,
         &mut reader,
-        &mut source,
+        &mut pieces,
         Compared::Other,
         (TEN + 90_000, 3),
     );
@@ -70,7 +72,7 @@ fn goes_on_behind_a_piece_that_is_refused(rt: HostRuntime) {
     assert_compares(
         &rt,
         &mut reader,
-        &mut source,
+        &mut pieces,
         Compared::Other,
         (TEN + 180_000, 2),
     );
@@ -79,7 +81,7 @@ fn goes_on_behind_a_piece_that_is_refused(rt: HostRuntime) {
 // What is answered to the first PES packet of a file, where the pull after that many bytes fails.
 fn answer_before(file: &[u8; 552], bytes: u64) -> Result<Compared, PesFault> {
     let mut source = FailAt::new(Drip { rest: file }, bytes);
-    ComparingReader::new().next(&mut source)
+    ComparingReader::new().next(&mut FilePieces::new(&mut source))
 }
 
 #[test]

@@ -5,7 +5,7 @@ use crate::asserting::{assert_same, assert_same_in};
 use fixtures::FIRST;
 use std::process::Abort;
 use sub_io::{FailAt, Live, MemSource, Stopped};
-use ttx_pes::{hand_on_first, holds_packet};
+use ttx_pes::{FilePieces, hand_on_first, holds_packet};
 
 // Asserts whether this many bytes hold the packet that they begin.
 fn assert_holds(rt: &impl Abort, bytes: &[u8], holds: bool) {
@@ -50,13 +50,12 @@ impl Live for Waiting {
 #[test]
 fn hands_on_where_a_packet_is_not_lent(rt: HostRuntime) {
     let mut device = Waiting { calls: 0 };
-    assert_same(
-        &rt,
-        &hand_on_first(&MemSource::new(&FIRST), &mut device),
-        &Ok(()),
-    );
+    let mut lent = MemSource::new(&FIRST);
+    let pieces = FilePieces::new(&mut lent);
+    assert_same(&rt, &hand_on_first(&pieces, &mut device), &Ok(()));
     assert_same(&rt, &device.calls, &0);
-    let unknown = FailAt::new(MemSource::new(&FIRST), 9);
+    let mut source = FailAt::new(MemSource::new(&FIRST), 9);
+    let unknown = FilePieces::new(&mut source);
     assert_same(&rt, &hand_on_first(&unknown, &mut device), &Ok(()));
     assert_same(&rt, &device.calls, &1);
     // One that does not wait is left as it is.

@@ -22,6 +22,8 @@ mod dropped_rows;
 #[cfg(test)]
 mod fault_codes;
 #[cfg(test)]
+mod given_pieces;
+#[cfg(test)]
 mod interrupted;
 #[cfg(test)]
 mod lent_packets;

@@ -1,8 +1,11 @@
 //! What tests of transport streams share: packets, and what the packets of a PID give.
 
-use mpeg_ts::{PacketSize, PesSource, Pid};
+ghost use Rattle.std.specs.Prelude.{⊤};
+
+use mpeg_ts::{PacketSize, Pid, RecordingPieces};
 use std::process::Abort;
-use sub_io::{MemSink, MemSource, Sink, fill, put_all};
+use sub_io::{MemSink, MemSource, Sink, put_all};
+use ttx_pes::{Came, Pieces, TakePiece};
 
 /// Bytes 0 to 3 of packets of PID 101 (hexadecimal) that begin a PES packet, by their counters.
 pub(crate) const BEGINS_0: [u8; 4] = [0x47, 0x41, 0x01, 0x10];
@@ -42,9 +45,30 @@ pub(crate) const ZEROS: [u8; 2820] = [0; 2820];
 /// Puts pieces one after another, as far as there is room.
 pub(crate) fn put_pieces(sink: &mut MemSink<'_>, pieces: &[&[u8]]) {
     for piece in pieces {
-        if sink.failures() == 0 {
-            let _ = put_all(sink, piece);
-        }
+        put_piece(sink, piece);
+    }
+}
+
+// Puts a piece, as far as there is room.
+fn put_piece(sink: &mut MemSink<'_>, piece: &[u8]) {
+    if sink.failures() == 0 {
+        let _ = put_all(sink, piece);
+    }
+}
+
+/// Puts each piece behind those before it, as far as there is room.
+#[derive(Drop)]
+pub(crate) struct Gathered<'a> {
+    pub(crate) sink: MemSink<'a>,
+}
+
+impl TakePiece for Gathered<'_> {
+    type Answer = ();
+
+    ghost is_take = { λ old piece answer new. ⊤ };
+
+    fn take(&mut self, piece: &[u8]) {
+        put_piece(&mut self.sink, piece);
     }
 }
 
@@ -65,10 +89,19 @@ pub(crate) fn assert_gives_of(
     let Some(pid) = Pid::new(number) else {
         return assert!(rt; false);
     };
-    let mut source = PesSource::new(MemSource::new(recorded.written()), pid, packet_size);
     let mut room = [0; 2048];
-    let given = fill(&mut source, &mut room).unwrap_or(0);
-    assert!(rt; &room[..given] == wanted_bytes.written());
+    let mut gathered = Gathered {
+        sink: MemSink::new(&mut room),
+    };
+    let mut pieces = RecordingPieces::new(MemSource::new(recorded.written()), pid, packet_size);
+    for _ in 0..wanted.len() + 1 {
+        match pieces.next(&mut gathered) {
+            Ok(Came::Piece(())) => {}
+            _ => break,
+        }
+    }
+    put_piece(&mut gathered.sink, pieces.read());
+    assert!(rt; gathered.sink.written() == wanted_bytes.written());
 }
 
 /// The same of PID 101 (hexadecimal) in packets of 188 bytes.

@@ -2,12 +2,13 @@
 //! repeated, lost or wrong. Each stream is written here packet by packet.
 
 use crate::transport_recordings::{
-    BACK_1, BEGINS_0, BEGINS_1, BEGINS_2, FILL, FRONT_0, JUMP, JUMP_FILL, MARK_HEAD, MARK_REST,
-    NULL, WRONG_1, ZEROS, assert_gives, assert_gives_of, put_pieces,
+    BACK_1, BEGINS_0, BEGINS_1, BEGINS_2, BEGINS_9, FILL, FRONT_0, Gathered, JUMP, JUMP_FILL,
+    MARK_HEAD, MARK_REST, NULL, WRONG_1, ZEROS, assert_gives, assert_gives_of, put_pieces,
 };
 use fixtures::{FIRST, SECOND};
-use mpeg_ts::{PacketSize, PesSource, Pid};
-use sub_io::{FailAt, MemSink, MemSource, Source, fill};
+use mpeg_ts::{PacketSize, PesSource, Pid, RecordingPieces};
+use sub_io::{FailAt, MemSink, MemSource, Source};
+use ttx_pes::{Came, PesFault, Pieces};
 
 #[test]
 fn gives_the_pes_packets_of_the_pid(rt: HostRuntime) {
@@ -240,10 +241,56 @@ fn lends_a_pes_packet_whole(rt: HostRuntime) {
     assert!(rt; source.held() == &FIRST[..]);
     assert!(rt; source.pass(184));
     assert!(rt; !source.pass(1));
-    // The mark before the second PES packet is passed over with it.
+    // The mark before the second PES packet is lent by itself.
     assert!(rt; source.read_on().is_ok());
-    assert!(rt; source.pass(368));
-    assert!(rt; !source.pass(1));
+    assert!(rt; source.pass(184));
+    assert!(rt; source.read_on().is_ok());
+    assert!(rt; source.held() == &SECOND[..]);
+}
+
+#[test]
+fn gives_a_mark_and_then_the_pes_packet_that_is_ready(rt: HostRuntime) {
+    let mut recording_room = [0; 1024];
+    let mut recorded = MemSink::new(&mut recording_room);
+    let start: [u8; 4] = [0x00, 0x00, 0x01, 0xBE];
+    put_pieces(
+        &mut recorded,
+        &[
+            &BEGINS_0,
+            &FIRST,
+            &BEGINS_2,
+            &SECOND,
+            &BEGINS_9,
+            &start,
+            &FIRST[4..],
+        ],
+    );
+    let Some(pid) = Pid::new(0x101) else {
+        return assert!(rt; false);
+    };
+    let recording = MemSource::new(recorded.written());
+    let mut pieces = RecordingPieces::new(recording, pid, PacketSize::Plain);
+    let mut room = [0; 1024];
+    let mut gathered = Gathered {
+        sink: MemSink::new(&mut room),
+    };
+    let mut ready = [false; 6];
+    let mut ends = [Came::End; 6];
+    for i in 0..6 {
+        ready[i] = pieces.is_ready();
+        if let Ok(came) = pieces.next(&mut gathered) {
+            ends[i] = came;
+        }
+    }
+    let piece = Came::Piece(());
+    let rest = Came::Rest(PesFault::Start);
+    // The mark before a PES packet is known with it; what is no PES packet stays.
+    assert!(rt; ends == [piece, piece, piece, piece, rest, rest]);
+    assert!(rt; ready == [false, false, true, false, true, true]);
+    assert!(rt; pieces.read().len() == 184);
+    pieces.pass_read();
+    assert!(rt; pieces.read().is_empty());
+    assert!(rt; pieces.next(&mut gathered) == Ok(Came::End));
 }
 
 #[test]
@@ -256,10 +303,19 @@ fn gives_a_pes_packet_before_it_asks_for_more(rt: HostRuntime) {
     };
     // The second call of the device fails: nothing is taken by it, and the next one goes on.
     let device = FailAt::new(MemSource::new(recorded.written()), 1);
-    let mut source = PesSource::new(device, pid, PacketSize::Plain);
-    let mut room = [0; 184];
-    assert!(rt; fill(&mut source, &mut room).is_ok() && room == FIRST);
-    assert!(rt; fill(&mut source, &mut room).is_err());
-    assert!(rt; source.failures() == 1);
-    assert!(rt; fill(&mut source, &mut room).is_ok() && room == SECOND);
+    let mut pieces = RecordingPieces::new(device, pid, PacketSize::Plain);
+    let mut room = [0; 1024];
+    let mut gathered = Gathered {
+        sink: MemSink::new(&mut room),
+    };
+    assert!(rt; pieces.next(&mut gathered) == Ok(Came::Piece(())));
+    assert!(rt; gathered.sink.written() == &FIRST[..]);
+    assert!(rt; pieces.next(&mut gathered).is_err());
+    let mut more_room = [0; 1024];
+    let mut more = Gathered {
+        sink: MemSink::new(&mut more_room),
+    };
+    assert!(rt; pieces.next(&mut more) == Ok(Came::Piece(())));
+    assert!(rt; more.sink.written() == &SECOND[..]);
+    assert!(rt; pieces.into_inner().failures() == 1);
 }

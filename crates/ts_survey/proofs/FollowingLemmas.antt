@@ -1,7 +1,7 @@
 -- What is taken, piece after piece: for `give_ready` first-taken; and that it is what the packets
 -- of a PID carry, law_of_following.
-use Rattle.std.proofs.Common.{◌≡◌, ℕ, Bool, true, false, List, [], ◌∷◌, ◌++◌, length, take, drop}
-use Rattle.std.proofs.Common.{refl, sym, ap, ◌∙◌, subst, take-append-drop}
+use Rattle.std.proofs.Common.{◌≡◌, ◌<◌, ℕ, Bool, true, false, List, [], ◌∷◌, ◌++◌, length}
+use Rattle.std.proofs.Common.{refl, sym, ap, ◌∙◌, subst, arith, length-append}
 use Rattle.std.proofs.lemmas.List.Folds.{concat-append}
 use Rattle.std.specs.List.{concat}
 use Rattle.mpeg_ts.specs.GoodPackets.{Note, notes}
@@ -11,7 +11,7 @@ use Rattle.mpeg_ts.specs.PacketsInStep.{items_of}
 use Rattle.mpeg_ts.specs.Stream.{stream_gives}
 use Rattle.mpeg_ts.proofs.CarriedLemmas.{carried_given}
 use Rattle.ttx_page.proofs.RunLemmas.{RunsBy-append}
-use Rattle.ts_survey.specs.Following.{FollowsNotes, LawOfFollowing, TakesBytes}
+use Rattle.ts_survey.specs.Following.{FollowsNotes, GivesNext, LawOfFollowing, TakesBytes}
 
 -- What was taken so far, and then the rest, is all.
 abbrev pub Continues :
@@ -21,18 +21,32 @@ Continues {T} IsTaken old whole now left =
 
 -- One piece more.
 pub first-taken :
-    {T : Type 0} (IsTaken : T → List ℕ → T → Type 0) (old mid new : T) (lent pending : List ℕ)
-    → take (length lent) pending ≡ lent
-    → IsTaken old lent mid
-    → TakesBytes IsTaken mid (drop (length lent) pending) new
-    → TakesBytes IsTaken old pending new
-first-taken IsTaken old mid new lent pending next one more = record {
-  pieces = lent ∷ more.pieces;
-  joined = ap (λ l. lent ++ l) more.joined
-      ∙ ap (λ l. l ++ drop (length lent) pending) (sym next)
-      ∙ take-append-drop (length lent) pending;
-  run = (mid, one, more.run);
+    {T : Type 0} (IsTaken : T → List ℕ → T → Type 0) (before after : JoiningValue)
+    (old mid new : T)
+    → GivesNext IsTaken before old after mid
+    → TakesBytes IsTaken mid after.pending new
+    → TakesBytes IsTaken old before.pending new
+first-taken IsTaken before after old mid new first more = record {
+  pieces = first.piece ∷ more.pieces;
+  joined = ap (λ l. first.piece ++ l) more.joined ∙ sym first.joined;
+  run = (mid, first.taken, more.run);
 }
+
+-- Fewer bytes are ready then.
+pub fewer_ready :
+    {T : Type 0} (IsTaken : T → List ℕ → T → Type 0) (before after : JoiningValue) (old new : T)
+    → GivesNext IsTaken before old after new
+    → (before.pending ≡ [] → ⊥)
+    → length after.pending < length before.pending
+fewer_ready IsTaken before after old new first some =
+    shorter before.pending first.piece after.pending first.joined (λ none. some (first.some none))
+  where
+    shorter : (all piece rest : List ℕ) → all ≡ piece ++ rest → (piece ≡ [] → ⊥)
+        → length rest < length all
+    shorter all [] rest joined more = absurd (more refl)
+    shorter all (x ∷ piece) rest joined more =
+        let sum : length all ≡ length (x ∷ (piece ++ rest)) = ap length joined in
+        omega (arith, sum, length-append piece rest)
 
 -- Some bytes, and then others.
 taken-after :

@@ -1,5 +1,5 @@
 -- What the packets of a PID carry is taken piece after piece: what was taken, joined, is that.
-use Rattle.std.specs.Prelude.{◌≡◌, ℕ, List, [], ◌∷◌, MatchBool}
+use Rattle.std.specs.Prelude.{◌≡◌, ℕ, List, [], ◌∷◌, ◌++◌, MatchBool}
 use Rattle.std.specs.List.{concat}
 use Rattle.mpeg_ts.specs.Carried.{carried}
 use Rattle.mpeg_ts.specs.GoodPackets.{Note, notes}
@@ -18,6 +18,17 @@ pub record TakesBytes
   pub pieces : List (List ℕ)
   pub joined : concat pieces ≡ bytes
   pub run : RunsBy IsTaken old pieces new
+
+-- What is given next of what is ready was taken: none of it where nothing was.
+pub record GivesNext
+    {T : Type 0} (IsTaken : T → List ℕ → T → Type 0) (before : JoiningValue) (old : T)
+    (after : JoiningValue) (new : T)
+    : Type 0 where
+  pub piece : List ℕ
+  pub joined : before.pending ≡ piece ++ after.pending
+  pub same : after ≡ record before { pending = after.pending }
+  pub some : piece ≡ [] → before.pending ≡ []
+  pub taken : IsTaken old piece new
 
 -- The notes of a PID come one after another to who puts its PES packets together and has them
 -- taken: after each all that it makes ready is taken, until nothing comes any more.

@@ -1,6 +1,8 @@
 pub mod Adaptation
+pub mod Counters
 pub mod Following
 pub mod Heard
+pub mod Intervals
 pub mod Lines
 pub mod Missing
 pub mod Payload

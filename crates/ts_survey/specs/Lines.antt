@@ -1,17 +1,23 @@
 -- The lines of which something is kept back until all of it is known, each word by word (own;
 -- docs/manual/survey.md).
-use Rattle.std.specs.Prelude.{ℕ, ◌-◌, ◌==◌, Bool, if◌then◌else◌, List, [], ◌∷◌}
-use Rattle.std.specs.Prelude.{Option, codes, decimal, length}
+use Rattle.std.specs.Prelude.{ℕ, ◌-◌, ◌==◌, Bool, if◌then◌else◌, List, [], ◌∷◌, ◌++◌}
+use Rattle.std.specs.Prelude.{Option, Some, None, codes, decimal, length}
 use Rattle.std.specs.List.{concat}
+use Rattle.ts_survey.specs.Counters.{told_between}
 use Rattle.ts_survey.specs.Text.{Adds, ticks_word, time_word}
 use Rattle.ts_survey.specs.declared.carrier.Pending.{Pending}
 use Rattle.ts_survey.specs.declared.heard.Heard.{Heard}
 use Rattle.ts_survey.specs.declared.pes_lines.Run.{Run}
+use Rattle.ts_survey.specs.declared.pid_state.Pids.{Pids}
 use Rattle.ts_survey.specs.declared.text.Text.{Text}
 
 -- Words were added, one after another.
 abbrev pub AddsWords : Text → List (List ℕ) → Text → Type 0
 AddsWords old words new = Adds old (concat words) new
+
+-- What is told ends with these words.
+abbrev pub EndsWithWords : List (List ℕ) → Text → Type 0
+EndsWithWords words new = (told : Text) × AddsWords told words new
 
 -- A number.
 abbrev pub number_word : ℕ → List ℕ
@@ -56,9 +62,18 @@ clock_line pid one told =
     ∷ ticks_word one.strange.ticks ∷ number_word (one.strange.second - one.strange.first)
     ∷ number_word one.strange.usual ∷ number_word one.strange.usual_packets ∷ told ∷ line_end ∷ []
 
--- It was added.
-abbrev pub TellsClock : ℕ → Pending → Text → Text → Type 0
-TellsClock pid one old new = (told : List ℕ) × AddsWords old (clock_line pid one told) new
+-- That of a strange PCR, if there is one, among what is known of PIDs.
+abbrev pub clock_told : ℕ → Pids → Option Pending → List (List ℕ)
+clock_told pid pids None = []
+clock_told pid pids (Some one) =
+    clock_line pid one (told_between pids pid one.strange.first one.strange.second)
+
+-- Those of strange PCR, one after another, up to the first place without one.
+abbrev pub pending_words : ℕ → Pids → List (Option Pending) → List (List ℕ)
+pending_words pid pids [] = []
+pending_words pid pids (None ∷ more) = []
+pending_words pid pids (Some one ∷ more) =
+    clock_told pid pids (Some one) ++ pending_words pid pids more
 
 -- `end PID COUNT MARKS PACKETS SCRAMBLED REFUSAL CUT LAST`, of a PID.
 abbrev pub end_line : ℕ → ℕ → ℕ → ℕ → ℕ → ℕ → Bool → Option ℕ → List (List ℕ)

@@ -1,11 +1,12 @@
 //! A PID with Teletext that is followed: what its packets carry, and what is missing.
-ghost use Rattle.std.specs.Prelude.{◌≡◌, ◌||◌, IfNone, IfSome, Some, codes, false};
-ghost use Rattle.std.specs.Prelude.{if◌then◌else◌, true};
+ghost use Rattle.std.specs.Prelude.{◌≡◌, ◌||◌, [], ◌∷◌, ◌++◌, drop, slice_index_or, IfNone, Some};
+ghost use Rattle.std.specs.Prelude.{None, codes, false, if◌then◌else◌, is_some, true};
 ghost use Rattle.mpeg_ts.specs.GoodPackets.{Hole};
 ghost use Rattle.mpeg_ts.specs.Joining.{after_note};
 ghost use Rattle.mpeg_ts.specs.TransportPacket.{announces_jump, counter, has_payload, is_wrong};
-ghost use Rattle.ts_survey.specs.Lines.{AddsWords, TellsClock, clock_line, end_line};
-ghost use Rattle.ts_survey.specs.Missing.{is_cut, lost_before, lost_with, more_lost};
+ghost use Rattle.ts_survey.specs.Lines.{AddsWords, EndsWithWords, clock_line, clock_told};
+ghost use Rattle.ts_survey.specs.Lines.{end_line, pending_words};
+ghost use Rattle.ts_survey.specs.Missing.{ends_within_packet, lost_before, lost_with, more_lost};
 
 use crate::adaptation::{is_scrambled, pts_said};
 use crate::clock::{SECOND, Strange};
@@ -199,26 +200,50 @@ impl Carrier {
     }
 
     /// Tells the strange PCR of which all is known, by the number of the last packet; or all.
-    pub fn settle(&mut self, number: Option<u64>, pids: &Pids, text: &mut Text) {
+    pub fn settle(&mut self, number: Option<u64>, pids: &Pids, text: &mut Text)
+        ensures all { IfNone number (AddsWords text.old
+            (pending_words self.old.pid pids.now self.old.pending) text.new) }
+        ensures none { IfNone number (slice_index_or self.new.pending 0 None ≡ None) }
+    {
         for _ in 0..PENDING {
-            let [first, second, third, fourth] = self.pending;
-            let Some(one) = first else {
-                return;
-            };
-            let is_known = match number {
-                Some(number) => number > one.strange.second.saturating_add(LOOKED_AT),
-                None => true,
-            };
-            if !is_known {
+            if !self.settle_first(number, pids, text) {
                 return;
             }
-            tell_pending(self.pid, first, pids, text);
-            self.pending = [second, third, fourth, None];
         }
     }
 
+    // Tells the first strange PCR, where all is known of it, and answers whether it did.
+    fn settle_first(&mut self, number: Option<u64>, pids: &Pids, text: &mut Text) -> bool
+        ensures some { result ≡ true
+            → is_some (slice_index_or self.old.pending 0 None) ≡ true }
+        ensures told { result ≡ true → AddsWords text.old
+            (clock_told self.old.pid pids.now (slice_index_or self.old.pending 0 None)) text.new }
+        ensures rest { result ≡ true
+            → self.new.pending ≡ drop 1 self.old.pending ++ None ∷ [] }
+        ensures waits { result ≡ false → (self.new ≡ self.old) × (text.new ≡ text.old) }
+        ensures none { IfNone number (result ≡ is_some (slice_index_or self.old.pending 0 None)) }
+        ensures pid { self.new.pid ≡ self.old.pid }
+    {
+        let [first, second, third, fourth] = self.pending;
+        let Some(one) = first else {
+            return false;
+        };
+        let is_known = match number {
+            Some(number) => number > one.strange.second.saturating_add(LOOKED_AT),
+            None => true,
+        };
+        if !is_known {
+            return false;
+        }
+        tell_pending(self.pid, first, pids, text);
+        self.pending = [second, third, fourth, None];
+        true
+    }
+
     /// Whether a strange PCR waits.
-    pub fn waits(&self) -> bool {
+    pub fn waits(&self) -> bool
+        ensures { result ≡ is_some (slice_index_or self.now.pending 0 None) }
+    {
         let [first, _, _, _] = self.pending;
         first.is_some()
     }
@@ -228,8 +253,14 @@ impl Carrier {
         self.packets_of.to.flush(text);
     }
 
-    /// The recording is over.
-    pub fn end(&mut self, text: &mut Text) {
+    /// The recording is over: the last that is told is the line of the PID.
+    pub fn end(&mut self, text: &mut Text)
+        ensures { EndsWithWords (end_line self.new.pid self.new.packets_of.to.lines.count
+            self.new.packets_of.to.lines.marks self.new.packets self.new.scrambled
+            self.new.packets_of.to.refusal
+            (ends_within_packet self.new.begun self.new.packets_of.to.last)
+            self.new.begun) text.new }
+    {
         self.packets_of.to.end(text);
         self.tell_end(text);
     }
@@ -239,7 +270,8 @@ impl Carrier {
         ensures { AddsWords text.old (end_line self.now.pid self.now.packets_of.to.lines.count
             self.now.packets_of.to.lines.marks self.now.packets self.now.scrambled
             self.now.packets_of.to.refusal
-            (is_cut self.now.begun self.now.packets_of.to.last) self.now.begun) text.new }
+            (ends_within_packet self.now.begun self.now.packets_of.to.last)
+            self.now.begun) text.new }
     {
         let given = &self.packets_of.to;
         text.put(b"end");
@@ -279,8 +311,7 @@ fn known_after(pending: Option<Pending>, pts: u64) -> Option<Pending> {
 
 // Tells a strange PCR, where there is one.
 fn tell_pending(pid: u16, pending: Option<Pending>, pids: &Pids, text: &mut Text)
-    ensures some { IfSome pending (λ one. TellsClock pid one text.old text.new) }
-    ensures none { IfNone pending (text.new ≡ text.old) }
+    ensures { AddsWords text.old (clock_told pid pids.now pending) text.new }
 {
     let Some(one) = pending else {
         return;
@@ -307,7 +338,8 @@ fn tell_clock(pid: u16, one: &Pending, told: &[u8], text: &mut Text)
 
 // Whether the last PES packet that began did not come whole, as a word.
 fn cut_word(begun: Option<u64>, last: Option<u64>) -> &'static [u8]
-    ensures { result.now ≡ (if is_cut begun last then codes " 1" else codes " 0") }
+    ensures { result.now
+        ≡ (if ends_within_packet begun last then codes " 1" else codes " 0") }
 {
     if begun.is_some() && last != begun {
         b" 1"

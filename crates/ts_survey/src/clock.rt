@@ -1,6 +1,8 @@
 //! The clock of a programme: its PCR, and which of them are strange.
-ghost use Rattle.std.specs.Prelude.{◌≡◌};
+ghost use Rattle.std.specs.Prelude.{◌≡◌, min, take};
 ghost use Rattle.ts_survey.specs.Usual as specs;
+ghost use Rattle.ts_survey.specs.Usual.{IsMiddle};
+ghost use Rattle.ts_survey.specs.Intervals.{IsUsual};
 
 use crate::text::{CLOCK, Text, forward};
 use mpeg_ts::{PACKET, announces_jump};
@@ -47,15 +49,23 @@ impl Numbers {
     }
 
     // The one in the middle, the upper of two; 0 where there are none.
-    fn middle(&self) -> u64 {
+    fn middle(&self) -> u64
+        ensures { IsMiddle (take (min self.now.count 100) self.now.kept) result }
+    {
         let mut sorted = self.kept;
-        let count = self.count.min(KNOWN);
-        let (some, _) = sorted.split_at_mut(count);
-        some.sort_unstable();
-        match some.get(count / 2) {
-            Some(number) => *number,
-            None => 0,
-        }
+        let (some, _) = sorted.split_at_mut(self.count.min(KNOWN));
+        middle_of(some)
+    }
+}
+
+// The one in the middle of numbers, which are sorted for that; 0 where there are none.
+fn middle_of(numbers: &mut [u64]) -> u64
+    ensures { IsMiddle numbers.old result }
+{
+    numbers.sort_unstable();
+    match numbers.get(numbers.len() / 2) {
+        Some(number) => *number,
+        None => 0,
     }
 }
 
@@ -153,7 +163,9 @@ impl Clock {
     }
 
     // Whether a PCR comes as others do: the first ones tell how that is.
-    fn is_usual(&self, ticks: u64) -> bool {
+    fn is_usual(&self, ticks: u64) -> bool
+        ensures { IsUsual self.now.ticks ticks result }
+    {
         is_usual(ticks, self.ticks.count, self.ticks.middle())
     }
 

@@ -1,5 +1,6 @@
 //! All that is followed in a transport stream, one packet after another.
-ghost use Rattle.std.specs.Prelude.{◌≡◌, ◌≢◌, ◌<◌, IfSome};
+ghost use Rattle.std.specs.Prelude.{◌≡◌, ◌≢◌, ◌<◌, IfNone, IfSome};
+ghost use Rattle.ts_survey.specs.Missing.{NoteHoles};
 ghost use Rattle.ts_survey.specs.Payload as specs;
 
 use crate::adaptation::{payload_in, pcr_base};
@@ -226,8 +227,10 @@ impl Multiplex {
         }
     }
 
-    // Tells the strange PCR of which all is known.
-    fn settle(&mut self, number: Option<u64>, text: &mut Text) {
+    // Tells the strange PCR of which all is known; without a number all, so that none waits.
+    fn settle(&mut self, number: Option<u64>, text: &mut Text)
+        ensures { IfNone number (self.new.settle_at ≡ 0xFFFF_FFFF_FFFF_FFFF) }
+    {
         let mut waits = false;
         for carrier in self.carriers.iter_mut() {
             carrier.settle(number, &self.pids, text);
@@ -243,7 +246,7 @@ impl Multiplex {
     // Looks at what begins in a PID of which nothing is known.
     fn look(&mut self, pid: u16, packet: &[u8; PACKET], text: &mut Text) {
         let payload = payload_in(packet);
-        if is_teletext(payload) {
+        if begins_teletext(payload) {
             self.follow(pid, text);
         } else if payload.len() > 3 && payload[0] == 0 && payload[1] == 0 && payload[2] == 1 {
             let mut state = self.pids.get(pid);
@@ -348,7 +351,9 @@ impl Multiplex {
     }
 
     /// So many bytes were skipped that packets of any PID may be missing.
-    pub fn note_hole(&mut self) {
+    pub fn note_hole(&mut self)
+        ensures { NoteHoles self.old.carriers.items self.new.carriers.items }
+    {
         for carrier in self.carriers.iter_mut() {
             carrier.note_hole();
         }
@@ -361,8 +366,11 @@ impl Multiplex {
         }
     }
 
-    /// The recording is over: tells what is known of PID after PID, and of clocks and pictures.
-    pub fn end(&mut self, text: &mut Text) {
+    /// The recording is over: tells what is known of PID after PID, and of clocks and pictures. No
+    /// strange PCR waits any more.
+    pub fn end(&mut self, text: &mut Text)
+        ensures { self.new.settle_at ≡ 0xFFFF_FFFF_FFFF_FFFF }
+    {
         self.settle(None, text);
         for video in self.videos.iter() {
             video.end(text);
@@ -386,8 +394,8 @@ fn is_unknown(state: &PidState) -> bool {
 
 // Whether a payload begins with a PES packet of Teletext: private_stream_1, whose first data byte
 // is a data_identifier of EBU data, 10 to 1F (EN 300 472).
-fn is_teletext(payload: &[u8]) -> bool
-    ensures { result ≡ specs.is_teletext payload.now }
+fn begins_teletext(payload: &[u8]) -> bool
+    ensures { result ≡ specs.begins_teletext payload.now }
 {
     if payload.len() < 10 || payload[0] != 0 || payload[1] != 0 || payload[2] != 1 {
         return false;

@@ -4,7 +4,7 @@ ghost use Rattle.mpeg_ts.specs.GoodPackets.{Hole, note_of};
 ghost use Rattle.mpeg_ts.specs.Joining.{after_note, handed_over, has_ended, nothing_joined};
 ghost use Rattle.mpeg_ts.specs.Joining.{repeats};
 ghost use Rattle.mpeg_ts.specs.TransportPacket.{has_payload, is_wrong};
-ghost use Rattle.ts_survey.specs.Following.{TakesBytes, any_piece};
+ghost use Rattle.ts_survey.specs.Following.{GivesNext, TakesBytes, any_piece};
 
 use crate::text::Text;
 use mpeg_ts::{Joining, PACKET};
@@ -77,14 +77,20 @@ impl<T: TakesPieces> PidPackets<T> {
 }
 
 // Hands on all that is ready.
+#[tactic(auto, using(crate::proofs::FollowingLemmas::fewer_ready))]
 fn give_ready<T: TakesPieces>(joining: &mut Joining, to: &mut T, text: &mut Text)
     ensures joining { joining.new ≡ handed_over joining.old }
     ensures taken { TakesBytes T.is_taken to.old joining.old.pending to.new }
 {
     'pieces: while !joining.is_idle() {
-        let lent = joining.lent();
-        let size = lent.len();
-        to.take(lent, text);
-        joining.pass(size);
+        give_next(joining, to, text);
     }
+}
+
+// Hands on what is given next of what is ready.
+fn give_next<T: TakesPieces>(joining: &mut Joining, to: &mut T, text: &mut Text)
+    ensures { GivesNext T.is_taken joining.old to.old joining.new to.new }
+{
+    let next = joining.take_first();
+    to.take(joining.taken(next), text);
 }

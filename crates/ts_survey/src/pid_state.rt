@@ -1,5 +1,8 @@
 //! What is kept of every PID: its counter, and what it carries.
 ghost use Rattle.std.specs.Prelude.{◌≡◌, ◌<◌, length};
+ghost use Rattle.std.specs.List.{list_any};
+ghost use Rattle.ts_survey.specs.Counters as specs;
+ghost use Rattle.ts_survey.specs.Counters.{is_break_between, others_of, told_between};
 
 use mpeg_ts::{PACKET, announces_jump, counter_of, has_payload};
 use std::alloc::Global;
@@ -144,22 +147,45 @@ impl Pids {
 
     /// What the counters of other PIDs tell of the packets between two: `broken`, `whole`, or
     /// nothing.
-    pub fn told_between(&self, pid: u16, first: u64, second: u64) -> &'static [u8] {
-        let is_broken = self.breaks.iter().any(|one| {
-            one.pid != pid && one.before != 0 && one.before < second && one.at > first
-        });
-        if is_broken {
+    pub fn told_between(&self, pid: u16, first: u64, second: u64) -> &'static [u8]
+        ensures { result.now ≡ told_between self.now pid first second }
+    {
+        if is_broken_between(&self.breaks, pid, first, second) {
             return b" broken";
         }
-        for (other, state) in self.states.iter().enumerate() {
-            if other != pid as usize
-                && state.first != 0
-                && state.first <= first
-                && state.last > first
-            {
-                return b" whole";
-            }
+        if others_go_over(&self.states, pid as usize, first) {
+            return b" whole";
         }
         b" unknown"
     }
+}
+
+// Whether the counter of another PID broke between two packets.
+fn is_broken_between(breaks: &[Break], pid: u16, first: u64, second: u64) -> bool
+    ensures { result ≡ list_any (is_break_between pid first second) breaks.now }
+{
+    breaks.iter().any(|one| one.pid != pid
+        && one.before != 0
+        && one.before < second
+        && first < one.at)
+}
+
+// Whether packets of another PID came up to a packet, and behind it.
+#[tactic(auto, using(crate::proofs::CounterLemmas::others_any))]
+fn others_go_over(states: &[PidState], pid: usize, first: u64) -> bool
+    ensures { result ≡ list_any (specs.goes_over first) (others_of pid states.now) }
+{
+    if pid >= states.len() {
+        return goes_over(states, first);
+    }
+    let (before, here) = states.split_at(pid);
+    let (_, behind) = here.split_at(1);
+    goes_over(before, first) || goes_over(behind, first)
+}
+
+// Whether packets of one of these PIDs came up to a packet, and behind it.
+fn goes_over(states: &[PidState], first: u64) -> bool
+    ensures { result ≡ list_any (specs.goes_over first) states.now }
+{
+    states.iter().any(|state| state.first != 0 && state.first <= first && first < state.last)
 }

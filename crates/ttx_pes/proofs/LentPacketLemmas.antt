@@ -58,7 +58,7 @@ unfolding holds_packet
 lent_head lent holds = grind (arith, nat_tests)
 
 -- Where its size was read of the bytes that were taken, the rest of it is lent still. For
--- `take_packet`.
+-- `read_piece`.
 pub lent_rest : (lent left room : List ℕ) (got size : ℕ)
     → holds_packet lent ≡ true
     → lent ≡ take got room ++ left
@@ -105,9 +105,9 @@ unfolding holds_packet
 holds_read bytes r many is = grind (arith, nat_tests)
 
 -- Where the read of a packet failed, nothing was waiting. For `read_settled` of two crates.
-pub waits_not : (is_waiting fails : Bool) (lent : List ℕ)
-    → NothingWaits is_waiting lent
-    → (holds_packet lent ≡ true → fails ≡ false)
+pub waits_not : (is_waiting fails ready : Bool)
+    → NothingWaits is_waiting ready
+    → (ready ≡ true → fails ≡ false)
     → fails ≡ true
     → is_waiting ≡ false
-waits_not is_waiting fails lent h1 h2 h3 = grind (arith, nat_tests)
+waits_not is_waiting fails ready h1 h2 h3 = grind (arith, nat_tests)

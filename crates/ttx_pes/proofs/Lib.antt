@@ -18,6 +18,9 @@ pub mod PieceLemmas
 pub mod PieceListLemmas
 pub mod SentUnitLemmas
 pub mod HeadLemmas
-pub mod HeldBytesLemmas
 pub mod PieceRangeLemmas
 pub mod RangeLemmas
+pub mod LimitedLemmas
+pub mod PartLemmas
+pub mod PieceRoomLemmas
+pub mod PieceTellingLemmas

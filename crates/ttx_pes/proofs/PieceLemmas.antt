@@ -28,7 +28,7 @@ sized_piece b fit long e =
       long = h.3;
     }
 
--- The piece that was taken where its fault is answered. For `read_compared`.
+-- The piece that was taken where its fault is answered. For `PieceTellingLemmas`.
 pub taken_piece : (old new : Option (List ℕ)) (taken body : List ℕ) (f : PesFault)
     → Settles old new taken (value_at (drop 6 taken))
     → body ≡ drop 6 taken

@@ -2,25 +2,23 @@
 -- settled_NAME, and what a reader then tells, tells_NAME.
 use Rattle.std.proofs.Common.{◌≡◌, ◌≢◌, ℕ, ◌<◌, ◌≤◌, List, [], length, take, drop, Option, None}
 use Rattle.std.proofs.Common.{Some, Result, Ok, Err, refl, sym, ap, subst, ◌∙◌, append_assoc, arith}
-use Rattle.std.proofs.Common.{inr, length-append, length-take, length-drop, true}
+use Rattle.std.proofs.Common.{length-append, length-take, length-drop, true}
 use Rattle.std.proofs.lemmas.Bool.Decides.{nat_tests}
 use Rattle.std.proofs.lemmas.List.{take-append-drop, append-nil, take-take, drop-drop}
-use Rattle.std.proofs.lemmas.List.{length-take-le}
-use Rattle.std.specs.Prelude.{IfErr, IfOk, IfSome}
-use Rattle.std.specs.Io.KnownBytes.{Consumes, IsAtEnd, Keeps}
+use Rattle.std.specs.Prelude.{IfErr, IfOk}
+use Rattle.std.specs.Io.KnownBytes.{Consumes, IsAtEnd}
 use Rattle.sub_io.specs.Reading.{◌>>=◌, AreBytes}
 use Rattle.ttx_pes.specs.declared.fault.PesFault.{PesFault}
 use Rattle.ttx_pes.specs.declared.fault.PesFault.TheVariants as fault
-use Rattle.ttx_pes.specs.declared.progress.Progress.{Progress}
 use Rattle.ttx_pes.specs.declared.progress.Progress.TheVariants.{Reading}
 use Rattle.ttx_pes.specs.PesPacket.{PesValue, IsPesPacket}
 use Rattle.ttx_pes.specs.Reading.{most_packets, size_at, value_at, packet_at, answer_at, rest_after}
 use Rattle.ttx_pes.specs.Reading.{is_format_fault}
 use Rattle.ttx_pes.specs.Reader.{FailsWithin, TakesPesPacket, TakesRefused, TellsPacket}
 use Rattle.ttx_pes.specs.Comparing.{TakesDataField}
-use Rattle.ttx_pes.specs.Taking.{Settles, StopsBelow}
-use Rattle.ttx_pes.proofs.ReadingLemmas.{answer_full, answer_packet, packet_short, packet_size}
-use Rattle.ttx_pes.proofs.ReadingLemmas.{packet_cut, packet_parts, read_is_packet}
+use Rattle.ttx_pes.specs.Taking.{Settles}
+use Rattle.ttx_pes.proofs.ReadingLemmas.{answer_full, answer_packet}
+use Rattle.ttx_pes.proofs.ReadingLemmas.{packet_parts, read_is_packet}
 use Rattle.ttx_pes.proofs.ReaderLemmas.{left, nothing, packet_left, value_in}
 
 -- ---- where no packet is taken
@@ -46,34 +44,6 @@ too_many given old new bytes taken h told some full =
     grind (arith, nat_tests, left, answer_full, length-append)
 
 -- ---- what the bytes that were taken settle
-
--- Fewer than six bytes.
-pub short_settles : (old new : Option (List ℕ)) (taken : List ℕ)
-    → Consumes old new taken
-    → IsAtEnd new
-    → 0 < length taken
-    → length taken < 6
-    → Settles old new taken (Err fault.Truncated)
-short_settles old new taken h end some few = grind (arith, nat_tests, append-nil, packet_short)
-
--- The first four bytes or the length are wrong.
-pub size_settles : (old new : Option (List ℕ)) (taken : List ℕ) (f : PesFault)
-    → Consumes old new taken
-    → 6 ≤ length taken
-    → size_at (take 6 taken) ≡ Err f
-    → Settles old new taken (Err f)
-size_settles old new taken f h1 h2 h3 = grind (arith, nat_tests, packet_size, length-append)
-
--- The bytes end within the packet.
-pub cut_settles : (old new : Option (List ℕ)) (taken : List ℕ) (size : ℕ)
-    → Consumes old new taken
-    → IsAtEnd new
-    → 6 ≤ length taken
-    → length taken < size
-    → size_at (take 6 taken) ≡ Ok size
-    → Settles old new taken (Err fault.Truncated)
-cut_settles old new taken size h end le lt sized =
-    grind (arith, nat_tests, append-nil taken, packet_cut taken size le sized lt)
 
 -- The whole packet is there: its value, or its first fault.
 pub whole_settles : (old new : Option (List ℕ)) (taken : List ℕ)
@@ -130,7 +100,7 @@ settled_packet old new taken v h fit =
       consumed = h.consumed;
     }
 
--- A value that is settled, with its data field, bytes 39 on of the body. For `read_compared`.
+-- A value that is settled, with its data field, bytes 39 on of the body. For `PieceTellingLemmas`.
 pub settled_field : (old new : Option (List ℕ)) (taken body field : List ℕ) (v : PesValue)
     → Settles old new taken (Ok v)
     → AreBytes taken
@@ -142,7 +112,7 @@ settled_field old new taken body field v h fit same is = record {
   field_is = is ∙ ap (drop 39) same ∙ drop-drop 39 6 taken;
 }
 
--- What the first six bytes tell stays where more were taken after them. For `take_packet`.
+-- What the first six bytes tell stays where more were taken after them. For `read_piece`.
 pub size_kept : (got n : ℕ) (old new six : List ℕ) (r : Result ℕ PesFault)
     → 6 ≤ got
     → got ≤ n
@@ -154,28 +124,6 @@ size_kept got n old new six r le more kept is told =
     ap size_at (take-take 6 n new (omega arith) ∙ sym (take-take 6 got new le) ∙ ap (take 6) kept
     ∙ take-take 6 got old le ∙ sym is)
     ∙ told
-
--- ---- the source failed
-
--- Behind the first bytes, which tell the size. For `take_packet`.
-pub failed_second : (old mid new : Option (List ℕ)) (got size : ℕ) (room : List ℕ)
-    → Consumes old mid (take got room)
-    → 6 ≤ got
-    → got ≤ length room
-    → size_at (take 6 room) ≡ Ok size
-    → StopsBelow mid (take got room) new size
-    → FailsWithin old new
-failed_second old mid new got size room taken le fits sized s =
-    let held = length-take-le got room fits in
-    let head : take 6 s.taken ≡ take 6 room =
-    sym (take-take 6 (length (take got room)) s.taken (omega arith))
-    ∙ ap (take 6) s.from
-    ∙ take-take 6 got room le in
-    record {
-      bytes = s.taken;
-      consumed = s.takes old taken;
-      begun = inr (size, ap size_at head ∙ sized, s.few);
-    }
 
 -- ---- what is told of it
 
@@ -220,49 +168,3 @@ tells_settled given old new taken (Err f) h ne fit kind =
     let exact : (bytes : List ℕ) → old ≡ Some bytes → answer_at given bytes ≡ Err f =
     λ bytes. settled_answer given old new taken bytes (Err f) h ne in
     grind (arith, nat_tests, settled_answer, settled_refusal)
-
--- ---- the source read on before
-
--- Bytes that were taken then were taken since.
-Consumes-on : (x y z : Option (List ℕ)) (b : List ℕ) → Keeps x y → Consumes y z b → Consumes x z b
-Consumes-on x y z b h1 h2 = grind (arith, nat_tests)
-
--- A packet or a fault that a source tells then, where it told nothing before.
-given_on : (y z : Option (List ℕ)) (r : Result (Option PesValue) PesFault)
-    → IfOk r (λ given. IfSome given (TakesPesPacket y z))
-    → IfOk r (λ given. IfSome given (TakesPesPacket None z))
-given_on y z r h1 = grind (arith, nat_tests)
-
-refused_on : (y z : Option (List ℕ)) (r : Result (Option PesValue) PesFault)
-    → IfErr r (λ f. is_format_fault f ≡ true → TakesRefused y z f)
-    → IfErr r (λ f. is_format_fault f ≡ true → TakesRefused None z f)
-refused_on y z r h1 = grind (arith, nat_tests)
-
--- What is told of a packet then. For `read_next`.
-pub tells_on : (p : Progress) (x y z : Option (List ℕ)) (r : Result (Option PesValue) PesFault)
-    → Keeps x y
-    → TellsPacket p y z r
-    → TellsPacket p x z r
-tells_on p x y z r h1 h2 = grind (arith, nat_tests, given_on, left, refused_on, too_many)
-
--- Where it failed at that.
-pub tells_failed_on : (given : ℕ) (x y : Option (List ℕ))
-    → Keeps x y
-    → TellsPacket (Reading given) x y (Err fault.Read)
-tells_failed_on given x y h1 = grind (arith, nat_tests, tells_failed, Consumes-on)
-
--- What was taken of a packet.
-pub takes_on : (x y z : Option (List ℕ)) (v : PesValue) (field : List ℕ)
-    → Keeps x y
-    → TakesDataField y z v field
-    → TakesDataField x z v field
-takes_on x y z v field k t =
-    let p = t.packet in
-    record {
-      packet = record {
-        bytes = p.bytes;
-        is_packet = p.is_packet;
-        consumed = Consumes-on x y z p.bytes k p.consumed;
-      };
-      field_is = t.field_is;
-    }

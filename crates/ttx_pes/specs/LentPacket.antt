@@ -14,7 +14,7 @@ are_all_of count (Err f) = true
 unfoldable pub holds_packet : List ℕ → Bool
 holds_packet bytes = nat_le 6 (length bytes) && are_all_of (length bytes) (size_at (take 6 bytes))
 
--- Nothing that was told waits while the next PES packet is read: nothing may be held back, or the
--- packet is read of these bytes, which are lent.
-abbrev pub NothingWaits : Bool → List ℕ → Type 0
-NothingWaits is_waiting lent = (is_waiting ≡ false) ⊎ (holds_packet lent ≡ true)
+-- Nothing that was told waits while the next piece is read: nothing may be held back, or no device
+-- is asked for it.
+abbrev pub NothingWaits : Bool → Bool → Type 0
+NothingWaits is_waiting ready = (is_waiting ≡ false) ⊎ (ready ≡ true)

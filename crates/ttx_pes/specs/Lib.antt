@@ -11,5 +11,7 @@ pub mod Taking
 pub mod Comparing
 pub mod LentPacket
 pub mod Pieces
+pub mod Advancing
+pub mod PartOfPieces
 pub mod SentUnits
 pub mod PieceRange

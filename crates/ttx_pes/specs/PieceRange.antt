@@ -1,13 +1,9 @@
 -- Some of the pieces of a PES file, from one number to another, counted from 0: which bytes these
--- are, and what a source of them keeps.
-use Rattle.std.specs.Prelude.{◌≡◌, ℕ, zero, suc, ◌+◌, ◌-◌, ◌<◌, ◌≤◌, nat_le, nat_lt, if◌then◌else◌}
-use Rattle.std.specs.Prelude.{◌==◌, ◌||◌, ⊤}
+-- are.
+use Rattle.std.specs.Prelude.{◌≡◌, ℕ, zero, suc, ◌+◌, ◌-◌, nat_le, nat_lt, if◌then◌else◌, ◌==◌, ◌||◌}
 use Rattle.std.specs.Prelude.{List, [], ◌++◌, length, take, drop, Option, Some, None, option_map}
-use Rattle.std.specs.Io.KnownBytes.{prepend_known}
 use Rattle.std.specs.List.{concat}
 use Rattle.std.specs.Result.{result_ok}
-use Rattle.ttx_pes.specs.declared.range_source.Phase.{Phase}
-use Rattle.ttx_pes.specs.declared.range_source.Phase.TheVariants.{Passing, Between, Giving, Open}
 use Rattle.ttx_pes.specs.Pieces.{IsPiece}
 use Rattle.ttx_pes.specs.Reading.{size_at}
 
@@ -80,76 +76,12 @@ in_range r b = limited (most_of r) (behind_pieces r.first b)
 unfoldable pub first_index : PieceRangeValue → List ℕ → ℕ
 first_index r b = count_pieces r.first b
 
--- ---- what a source of them keeps
+-- ---- what is passed over
 
 -- The pieces before a range: how many were passed over, and how many are still to be.
 pub record AheadValue : Type 0 where
   pub passed : ℕ
   pub to_pass : ℕ
-
--- What is given of bytes, by how far a source has come.
-abbrev pub given_by_phase : Phase → ℕ → Option ℕ → List ℕ → List ℕ
-given_by_phase Passing to_pass left b = limited left (behind_pieces to_pass b)
-given_by_phase Between to_pass left b = limited left b
-given_by_phase (Giving k) to_pass left b = take k b ++ limited left (drop k b)
-given_by_phase Open to_pass left b = b
-
--- What is given where bytes are held, and the source inside tells those after them.
-abbrev pub told_of :
-    Phase → ℕ → Option ℕ → List ℕ → Option (List ℕ) → Option (List ℕ)
-told_of phase to_pass left held told =
-    option_map (given_by_phase phase to_pass left) (prepend_known held told)
-
--- What is lent of bytes that the source inside lends, by how far a source has come and what it
--- holds of its own: the rest of a piece, or all once all that comes is given.
-abbrev pub lent_of : Phase → List ℕ → List ℕ → List ℕ
-lent_of (Giving k) [] lent = take k lent
-lent_of Open [] lent = lent
-lent_of _ _ lent = []
-
--- The number of the first piece that is given, by how far a source has come.
-abbrev pub index_of : Phase → AheadValue → List ℕ → ℕ
-index_of Passing a b = a.passed + count_pieces a.to_pass b
-index_of _ a b = a.passed
-
--- That number, where bytes are held, and the source inside tells those after them.
-abbrev pub told_index : Phase → AheadValue → List ℕ → Option (List ℕ) → Option ℕ
-told_index phase a held told = option_map (index_of phase a) (prepend_known held told)
-
--- What was known of it is so still.
-abbrev pub KeepsIndex : Option ℕ → Option ℕ → Type 0
-KeepsIndex None new = ⊤
-KeepsIndex (Some n) new = new ≡ Some n
-
--- Nothing of the range was given yet.
-abbrev pub IsAhead : Phase → Type 0
-IsAhead Passing = ⊤
-IsAhead Between = ⊤
-IsAhead _ = ⊥
-
--- It is decided what is given next: bytes of a piece, or of all; or nothing, behind the range.
-abbrev pub IsDecided : Phase → Option ℕ → Type 0
-IsDecided Passing left = ⊥
-IsDecided Between left = left ≡ Some 0
-IsDecided (Giving k) left = 0 < k
-IsDecided Open left = ⊤
-
--- So many bytes are held at most of what comes next: its piece, or six while these tell of none.
-abbrev pub most_held : List ℕ → ℕ
-most_held held = by_piece (told_piece held) (λ size. size) 6
-
--- No byte is held behind the piece that comes next, or that is given.
-abbrev pub HoldsNoMore : Phase → List ℕ → Type 0
-HoldsNoMore Passing held = length held ≤ most_held held
-HoldsNoMore Between held = length held ≤ most_held held
-HoldsNoMore (Giving k) held = length held ≤ k
-HoldsNoMore Open held = ⊤
-
--- All of the range was given.
-abbrev pub IsAllGiven : Phase → Option ℕ → Type 0
-IsAllGiven Between left = left ≡ Some 0
-IsAllGiven (Giving k) left = (k ≡ 0) × (left ≡ Some 0)
-IsAllGiven _ left = ⊥
 
 -- ---- what that is, in a file that falls into pieces
 

@@ -1,33 +1,15 @@
 -- How the bytes of a packet are taken from a source, in few pulls: words of private clauses alone.
 use Rattle.std.specs.Prelude.{◌≡◌, ℕ, zero, suc, ◌+◌, ◌*◌, ◌/◌, ◌%◌, ◌<◌, ◌≤◌, List, [], ◌∷◌}
 use Rattle.std.specs.Prelude.{◌++◌, length, take, drop, slice_index, if◌then◌else◌, Bool, Option}
-use Rattle.std.specs.Prelude.{MatchResult, Ok, Result}
+use Rattle.std.specs.Prelude.{◌≢◌, true, false, Err, IfErr, OnOk, Ok, Result}
 use Rattle.std.specs.Io.KnownBytes.{Consumes, IsAtEnd}
-use Rattle.sub_io.specs.Reading.{◌>>=◌, AreBytes}
+use Rattle.sub_io.specs.Reading.{◌>>=◌}
 use Rattle.ttx_pes.specs.declared.fault.PesFault.{PesFault}
 use Rattle.ttx_pes.specs.DataUnit.{UnitValue, data_unit_size, is_teletext}
 use Rattle.ttx_pes.specs.PesPacket.{IsPesValue, PesValue, longest_packet, payload_size}
-use Rattle.ttx_pes.specs.Reading.{packet_at, size_at, units_at, value_at}
+use Rattle.ttx_pes.specs.Reading.{is_format_fault, packet_at, units_at}
+use Rattle.ttx_pes.specs.Reading.{value_at}
 use Rattle.ttx_pes.specs.SentUnits.{AreWithin, sent_units}
-
--- Where the bytes held were all that was taken since some time before, the bytes taken are so now.
-abbrev pub TakesOn : Option (List ℕ) → List ℕ → Option (List ℕ) → List ℕ → Type 0
-TakesOn old held new taken =
-    (before : Option (List ℕ)) → Consumes before old held → Consumes before new taken
-
--- No pull failed: of bytes that were held or lent, those that were taken stand in front of the
--- buffer, and the rest is lent still.
-abbrev pub TakesLent : {E : Type 0} → List ℕ → List ℕ → List ℕ → Result ℕ E → Type 0
-TakesLent whole lent buffer result =
-    MatchResult result (λ n. whole ≡ take n buffer ++ lent) (λ _. ⊥)
-
--- The source failed while fewer bytes than that were taken; they begin with those held.
-pub record StopsBelow (old : Option (List ℕ)) (held : List ℕ) (new : Option (List ℕ)) (least : ℕ)
-    : Type 0 where
-  pub taken : List ℕ
-  pub few : length taken < least
-  pub from : take (length held) taken ≡ held
-  pub takes : TakesOn old held new taken
 
 -- The bytes that were taken settle what is read of a packet: a value of them all, or a fault,
 -- whatever the source has to give after them.
@@ -106,23 +88,34 @@ pub record IsInRoom (field : List ℕ) (h : RoomValue) : Type 0 where
   pub all : AreAllPlaces field h.places
   pub value : IsPesValue (room_frame field h)
 
--- The bytes begin with the packet of that data field of which this is known, sent again with that
--- PTS.
-pub record IsSentAgain (field : List ℕ) (h : RoomValue) (bytes : List ℕ) (pts : ℕ) : Type 0 where
-  pub fit : AreBytes bytes
-  pub long : h.count + 45 ≤ length bytes
-  pub sized : size_at (take 6 bytes) ≡ Ok (h.count + 45)
-  pub value :
-      value_at (drop 6 (take (h.count + 45) bytes))
-      ≡ Ok (room_frame field (record h { pts = pts }))
-  pub field_is : drop 45 (take (h.count + 45) bytes) ≡ field
+-- A piece is the packet of that data field of which this is known, sent again with that PTS.
+pub record IsSentAgain (field : List ℕ) (h : RoomValue) (piece : List ℕ) (pts : ℕ) : Type 0 where
+  pub value : value_at (drop 6 piece) ≡ Ok (room_frame field (record h { pts = pts }))
+  pub field_is : drop 45 piece ≡ field
   pub known : IsInRoom field (record h { pts = pts })
-
--- The room of two in which the packet stands that is kept.
-abbrev pub kept_room : Bool → List ℕ → List ℕ → List ℕ
-kept_room in_second first second = if in_second then second else first
 
 -- A frame and the data field that it was read from, which is empty where none is kept.
 pub record KeptValue : Type 0 where
   pub frame : PesValue
   pub data_field : List ℕ
+
+-- A piece is kept: it is the PES packet of the frame, and its data field the one that was kept or
+-- another; or it is none, for this fault.
+pub record KeepsPiece
+    (old : KeptValue) (piece : List ℕ) (answer : Result Bool PesFault) (new : KeptValue)
+    : Type 0 where
+  pub value : OnOk answer (value_at (drop 6 piece) ≡ Ok new.frame)
+  pub field : OnOk answer (new.data_field ≡ drop 45 piece)
+  pub err : IfErr answer (λ fault. value_at (drop 6 piece) ≡ Err fault)
+  pub kind : IfErr answer (λ fault. is_format_fault fault ≡ true)
+  pub same : answer ≡ Ok true → new.data_field ≡ old.data_field
+  pub units : answer ≡ Ok true → new.frame.units ≡ old.frame.units
+  pub other : answer ≡ Ok false → new.data_field ≢ old.data_field
+
+-- The value of a piece is put into a frame; or it is no PES packet, for this fault.
+pub record ReadsValue
+    (old : PesValue) (piece : List ℕ) (answer : Result (Unit {0}) PesFault) (new : PesValue)
+    : Type 0 where
+  pub value : OnOk answer (value_at (drop 6 piece) ≡ Ok new)
+  pub err : IfErr answer (λ fault. value_at (drop 6 piece) ≡ Err fault)
+  pub kind : IfErr answer (λ fault. is_format_fault fault ≡ true)

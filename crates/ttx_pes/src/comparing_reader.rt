@@ -3,7 +3,6 @@ ghost use Rattle.std.specs.Prelude.{◌≡◌, ℕ, ◌+◌, ◌≤◌, ◌≢�
 ghost use Rattle.sub_io.specs.Device.{CanFail, CountsIf, failed};
 ghost use Rattle.ttx_pes.specs.Comparing.{as_given, behind_after, passed_over, TakesDataField};
 ghost use Rattle.ttx_pes.specs.Fault.{is_of_piece, is_read};
-ghost use Rattle.ttx_pes.specs.LentPacket.{holds_packet};
 ghost use Rattle.ttx_pes.specs.Pieces.{TakesPiece};
 ghost use Rattle.ttx_pes.specs.declared.comparing_reader.Compared.TheVariants.{Same, Other};
 ghost use Rattle.ttx_pes.specs.declared.progress.Progress.TheVariants.{Reading, AtEnd, Broken};
@@ -13,10 +12,11 @@ ghost use Rattle.ttx_pes.specs.Reader.{TellsPacket, given_frame, progress_after}
 
 use crate::fault::PesFault;
 use crate::kept_frame::KeptFrame;
+use crate::passing::{MOST_PACKETS, read_end};
+use crate::pieces::{Came, Pieces};
 use crate::progress::Progress;
 use crate::sent_units::SentUnits;
 use std::marker::Model;
-use sub_io::Source;
 
 /// What a `ComparingReader` has read.
 #[derive(Clone, Copy, Debug, PartialEq, Eq)]
@@ -63,6 +63,46 @@ impl Model for ComparingReader {
         × IfSome r.behind (λ given. given ≤ most_packets) };
 }
 
+// Reads the next piece, and compares it with the one that is kept.
+#[inline(always)]
+fn read_compared<P: Pieces>(
+    given: u32,
+    pieces: &mut P,
+    kept: &mut KeptFrame,
+) -> Result<Compared, PesFault>
+    requires count { CanFail (P.failure_count pieces.old) }
+    ensures tells { TellsPacket (Reading given) (P.remaining pieces.old) (P.left pieces.new)
+        (given_frame (as_given result) kept.new.frame) }
+    ensures taken { as_given result ≡ Ok true → TakesDataField (P.remaining pieces.old)
+        (P.left pieces.new) kept.new.frame kept.new.data_field }
+    ensures same { result ≡ Ok Same → kept.new.data_field ≡ kept.old.data_field }
+    ensures units { result ≡ Ok Same → kept.new.frame.units ≡ kept.old.frame.units }
+    ensures other { result ≡ Ok Other → kept.new.data_field ≢ kept.old.data_field }
+    ensures below { as_given result ≡ Ok true → given ≢ most_packets }
+    ensures piece { IfErr result (λ fault. is_of_piece fault ≡ true
+        → TakesPiece (P.remaining pieces.old) (P.left pieces.new) fault) }
+    ensures before_piece { IfErr result (λ fault. is_of_piece fault ≡ true
+        → given ≢ most_packets) }
+    ensures settled { as_given result ≡ Ok true → P.left pieces.new ≡ P.remaining pieces.new }
+    ensures piece_settled { IfErr result (λ fault. is_of_piece fault ≡ true
+        → P.left pieces.new ≡ P.remaining pieces.new) }
+    ensures ready { P.ready pieces.old ≡ true → failed is_read result ≡ false }
+    ensures device { P.device pieces.new ≡ P.device pieces.old }
+    ensures count { CountsIf P.failure_count pieces.old (failed is_read result) pieces.new }
+{
+    if given == MOST_PACKETS {
+        read_end(given, pieces)?;
+        return Ok(Compared::End);
+    }
+    match pieces.next(kept)? {
+        Came::End => Ok(Compared::End),
+        Came::Piece(Ok(true)) => Ok(Compared::Same),
+        Came::Piece(Ok(false)) => Ok(Compared::Other),
+        Came::Piece(Err(fault)) => Err(fault),
+        Came::Rest(fault) => Err(fault),
+    }
+}
+
 impl ComparingReader {
     /// A reader at the start of a file, with a frame of PTS 0 and no units.
     pub fn new() -> Self
@@ -106,12 +146,12 @@ impl ComparingReader {
     /// of a data field that is sent again were read before. After `Flags` to `LineOrder` exactly
     /// the packet's bytes were taken, and `pass_over` lets reading go on.
     #[inline(always)]
-    pub fn next<S: Source>(&mut self, source: &mut S) -> Result<Compared, PesFault>
-        requires { CanFail (S.failure_count source.old) }
-        ensures tells { TellsPacket self.old.progress (S.remaining source.old)
-            (S.remaining source.new) (given_frame (as_given result) self.new.frame) }
-        ensures taken { as_given result ≡ Ok true → TakesDataField (S.remaining source.old)
-            (S.remaining source.new) self.new.frame self.new.data_field }
+    pub fn next<P: Pieces>(&mut self, pieces: &mut P) -> Result<Compared, PesFault>
+        requires { CanFail (P.failure_count pieces.old) }
+        ensures tells { TellsPacket self.old.progress (P.remaining pieces.old)
+            (P.left pieces.new) (given_frame (as_given result) self.new.frame) }
+        ensures taken { as_given result ≡ Ok true → TakesDataField (P.remaining pieces.old)
+            (P.left pieces.new) self.new.frame self.new.data_field }
         ensures empty { as_given result ≢ Ok true → self.new.frame ≡ empty_value }
 
         // What is compared.
@@ -121,18 +161,23 @@ impl ComparingReader {
 
         // After the fault of a piece its bytes were taken.
         ensures piece { IfErr result (λ fault. is_of_piece fault ≡ true
-            → TakesPiece (S.remaining source.old) (S.remaining source.new) fault) }
+            → TakesPiece (P.remaining pieces.old) (P.left pieces.new) fault) }
         ensures behind { self.new.behind ≡ behind_after self.old.progress result }
 
         ensures progress { self.new.progress
             ≡ progress_after self.old.progress (given_frame (as_given result) self.new.frame) }
         ensures few { (given : ℕ) → self.new.progress ≡ Reading given → given ≤ most_packets }
         // After the end and after a fault nothing is taken.
-        ensures at_end { self.old.progress ≡ AtEnd → source.new ≡ source.old }
-        ensures broken { self.old.progress ≡ Broken → source.new ≡ source.old }
-        // Where the source lends the whole packet, it does not fail.
-        ensures lent { holds_packet (S.lent source.old) ≡ true → failed is_read result ≡ false }
-        ensures count { CountsIf S.failure_count source.old (failed is_read result) source.new }
+        ensures at_end { self.old.progress ≡ AtEnd → pieces.new ≡ pieces.old }
+        ensures broken { self.old.progress ≡ Broken → pieces.new ≡ pieces.old }
+        // What was read is taken where a packet is given, and after the fault of a piece.
+        ensures settled { as_given result ≡ Ok true → P.left pieces.new ≡ P.remaining pieces.new }
+        ensures piece_settled { IfErr result (λ fault. is_of_piece fault ≡ true
+            → P.left pieces.new ≡ P.remaining pieces.new) }
+        // Where no device is asked, none fails.
+        ensures ready { P.ready pieces.old ≡ true → failed is_read result ≡ false }
+        ensures device { P.device pieces.new ≡ P.device pieces.old }
+        ensures count { CountsIf P.failure_count pieces.old (failed is_read result) pieces.new }
     {
         self.behind = None;
         let given = match self.progress {
@@ -146,7 +191,7 @@ impl ComparingReader {
                 return Err(PesFault::Ended);
             }
         };
-        match self.kept.read_next(given, source) {
+        match read_compared(given, pieces, &mut self.kept) {
             Ok(Compared::End) => {
                 self.progress = Progress::AtEnd;
                 self.kept.clear();

@@ -4,7 +4,8 @@ ghost use Rattle.sub_io.specs.HandingOn.{HandsOnIfWaiting, HoldsWhileWaiting};
 ghost use Rattle.ttx_pes.specs.LentPacket.{NothingWaits, holds_packet};
 
 use crate::pes_header::size_of;
-use sub_io::{Live, Source, Stopped};
+use crate::pieces::Pieces;
+use sub_io::{Live, Stopped};
 
 /// Whether bytes that a source lends hold all that is read of the next PES packet: as many as its
 /// length field says (EN 300 472, PES_packet_length). Where the start code or the length is wrong
@@ -22,25 +23,24 @@ pub fn holds_packet(lent: &[u8]) -> bool
     }
 }
 
-/// Has a device hand on what it may hold back, before the next PES packet of a source is read:
-/// where the source does not lend all of it, the read may have to wait.
+/// Has a device hand on what it may hold back, before the next piece is read: where that asks a
+/// device, the read may have to wait.
 ///
 /// # Errors
 ///
 /// `Stopped` where the device can't.
-#[tactic(auto, using(crate::proofs::LentPacketLemmas::held_holds))]
 #[inline(always)]
-pub fn hand_on_first<S: Source, A: Live>(source: &S, device: &mut A) -> Result<(), Stopped>
+pub fn hand_on_first<P: Pieces, A: Live>(pieces: &P, device: &mut A) -> Result<(), Stopped>
     ensures call { HandsOnIfWaiting A.is_waiting A.is_handed_on device.old (is_ok result)
         device.new }
-    ensures ready { OnOk result (NothingWaits (A.is_waiting device.new) (S.lent source.now)) }
+    ensures ready { OnOk result (NothingWaits (A.is_waiting device.new) (P.ready pieces.now)) }
     ensures holds { HoldsWhileWaiting A.is_waiting A.held device.old
         → OnOk result (HoldsWhileWaiting A.is_waiting A.held device.new) }
 {
     if !device.waits() {
         return Ok(());
     }
-    if holds_packet(source.held()) {
+    if pieces.is_ready() {
         return Ok(());
     }
     device.hand_on()

@@ -19,19 +19,22 @@
 mod comparing_reader;
 mod data_unit;
 mod fault;
-mod held_bytes;
+mod file_pieces;
 mod kept_frame;
 mod laws;
 mod lent_packet;
+mod limited_pieces;
 mod line_numbers;
-mod numbered;
-mod packet_bytes;
+mod numbered_pieces;
+mod part_of_pieces;
+mod passing;
 mod pes_frame;
 mod pes_header;
 mod piece_range;
+mod piece_room;
+mod pieces;
 mod pieces_ahead;
 mod progress;
-mod range_source;
 mod reader;
 mod repeated_packet;
 mod room_packet;
@@ -44,20 +47,23 @@ mod writer;
 
 pub use comparing_reader::{Compared, ComparingReader};
 pub use fault::PesFault;
+pub use file_pieces::FilePieces;
 pub use laws::{
     law_of_answers, law_of_canonical_packet, law_of_grammar, law_of_line_order,
     law_of_numbered_frame, law_of_one_value, law_of_packet_value, law_of_pieces, law_of_ranges,
     law_of_reading, law_of_reading_back, law_of_refusal,
 };
 pub use lent_packet::{hand_on_first, holds_packet};
+pub use limited_pieces::LimitedPieces;
 pub use line_numbers::put_frame;
-pub use numbered::{FailedAt, Numbered};
-pub use packet_bytes::MOST_PACKETS;
+pub use numbered_pieces::{FailedAt, NumberedPieces};
+pub use part_of_pieces::PartOfPieces;
+pub use passing::{MOST_PACKETS, pass_pieces};
 pub use pes_frame::{MOST_UNITS, PesFrame};
 pub use pes_header::size_of;
 pub use piece_range::PieceRange;
+pub use pieces::{Came, Pieces, TakePiece};
 pub use progress::Progress;
-pub use range_source::RangeSource;
 pub use reader::PesReader;
 pub use repeated_packet::RepeatedPacket;
 pub use sent_units::SentUnits;

@@ -25,6 +25,7 @@ pub(crate) const LONGEST_PACKET: usize = 9 * PAYLOAD;
 /// # Errors
 ///
 /// `Start`, then `Length`.
+#[inline(always)]
 #[tactic(auto, unfolding(crate::specs::Reading::size_at))]
 pub fn size_of(head: &[u8; 6]) -> Result<usize, PesFault>
     ensures exact { size_at head.now ≡ result }

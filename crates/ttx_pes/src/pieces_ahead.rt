@@ -1,5 +1,5 @@
 //! The pieces before those that are read, counted.
-ghost use Rattle.std.specs.Prelude.{◌≡◌, ◌+◌, ◌-◌, ◌<◌};
+ghost use Rattle.std.specs.Prelude.{◌≡◌, ◌+◌, ◌-◌, ◌≤◌};
 
 use std::marker::Model;
 
@@ -43,15 +43,22 @@ impl PiecesAhead {
         self.to_pass
     }
 
-    // One was passed over.
-    pub(crate) fn count_one(&mut self)
-        requires { 0 < self.old.to_pass }
+    // So many were passed over.
+    pub(crate) fn count(&mut self, passed: u64)
+        requires { passed ≤ self.old.to_pass }
         ensures { self.new ≡ record {
-          passed = self.old.passed + 1;
-          to_pass = self.old.to_pass - 1;
+          passed = self.old.passed + passed;
+          to_pass = self.old.to_pass - passed;
         } }
     {
-        self.passed += 1;
-        self.to_pass -= 1;
+        self.passed += passed;
+        self.to_pass -= passed;
+    }
+
+    // None is to be passed over any more.
+    pub(crate) fn end(&mut self)
+        ensures { self.new ≡ record self.old { to_pass = 0 } }
+    {
+        self.to_pass = 0;
     }
 }

@@ -6,22 +6,24 @@ ghost use Rattle.ttx_pes.specs.declared.progress.Progress.TheVariants.{Reading, 
 ghost use Rattle.ttx_pes.specs.PesPacket.{empty_value, longest_packet, payload_size};
 ghost use Rattle.ttx_pes.specs.Reading.{value_at, is_format_fault, most_packets};
 ghost use Rattle.ttx_pes.specs.Reader.{TellsPacket, given_frame, progress_after};
+ghost use Rattle.ttx_pes.specs.Taking.{ReadsValue};
 
 use crate::data_unit::{DATA_UNIT, take_units};
 use crate::fault::PesFault;
-use crate::packet_bytes::{Room, body_of, take_packet};
+use crate::file_pieces::FilePieces;
+use crate::kept_frame::body_of_piece;
+use crate::passing::{MOST_PACKETS, read_end};
 use crate::pes_frame::PesFrame;
-use crate::pes_header::{LONGEST_PACKET, pts_of};
+use crate::pes_header::pts_of;
+use crate::pieces::{Came, Pieces, TakePiece};
 use crate::progress::Progress;
 use std::marker::Model;
 use sub_io::Source;
 
-/// Reads PES packets with Teletext units. It keeps how far it has come, and room for the bytes of
-/// one packet.
+/// Reads PES packets with Teletext units. It keeps how far it has come.
 #[derive(Drop)]
 pub struct PesReader {
     progress: Progress,
-    room: Room,
 }
 
 impl Model for PesReader {
@@ -51,24 +53,53 @@ fn read_value(body: &[u8], frame: &mut PesFrame) -> Result<(), PesFault>
     take_units(frame, blocks.len() / DATA_UNIT, blocks)
 }
 
-// Puts the next packet's value into the frame, `false` at the end of the source.
-fn read_packet<S: Source>(
+impl TakePiece for PesFrame {
+    // Whether it is a PES packet, or why it is none.
+    type Answer = Result<(), PesFault>;
+
+    ghost is_take = { ReadsValue };
+
+    // Puts the value of a piece into the frame.
+    fn take(&mut self, piece: &[u8]) -> Result<(), PesFault> {
+        read_value(body_of_piece(piece), self)
+    }
+}
+
+// Puts the next packet's value into the frame, `false` where none is left.
+fn read_packet<P: Pieces>(
     given: u32,
-    source: &mut S,
-    room: &mut Room,
+    pieces: &mut P,
     frame: &mut PesFrame,
 ) -> Result<bool, PesFault>
+    requires { CanFail (P.failure_count pieces.old) }
+    ensures tells { TellsPacket (Reading given) (P.remaining pieces.old) (P.left pieces.new)
+        (given_frame result frame.new) }
+    ensures below { result ≡ Ok true → given ≢ most_packets }
+    ensures device { P.device pieces.new ≡ P.device pieces.old }
+    ensures count { CountsIf P.failure_count pieces.old (failed is_read result) pieces.new }
+{
+    if given == MOST_PACKETS {
+        read_end(given, pieces)?;
+        return Ok(false);
+    }
+    match pieces.next(frame)? {
+        Came::End => Ok(false),
+        Came::Piece(Ok(())) => Ok(true),
+        Came::Piece(Err(fault)) => Err(fault),
+        Came::Rest(fault) => Err(fault),
+    }
+}
+
+// Puts the next packet's value into the frame, `false` at the end of the source.
+fn read_next<S: Source>(given: u32, source: &mut S, frame: &mut PesFrame) -> Result<bool, PesFault>
     requires { CanFail (S.failure_count source.old) }
     ensures tells { TellsPacket (Reading given) (S.remaining source.old) (S.remaining source.new)
         (given_frame result frame.new) }
     ensures below { result ≡ Ok true → given ≢ most_packets }
     ensures count { CountsIf S.failure_count source.old (failed is_read result) source.new }
 {
-    let Some(size) = take_packet(given, source, room)? else {
-        return Ok(false);
-    };
-    read_value(body_of(room, size), frame)?;
-    Ok(true)
+    let mut pieces = FilePieces::new(source);
+    read_packet(given, &mut pieces, frame)
 }
 
 impl PesReader {
@@ -78,7 +109,6 @@ impl PesReader {
     {
         PesReader {
             progress: Progress::Reading(0),
-            room: [0; LONGEST_PACKET],
         }
     }
 
@@ -148,7 +178,7 @@ impl PesReader {
                 return Err(PesFault::Ended);
             }
         };
-        match read_packet(given, source, &mut self.room, frame) {
+        match read_next(given, source, frame) {
             Ok(true) => {
                 self.progress = Progress::Reading(given + 1);
                 Ok(true)

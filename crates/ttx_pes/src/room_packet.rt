@@ -10,8 +10,8 @@ ghost use Rattle.ttx_pes.specs.Taking.{AreAllPlaces, HasUnits, IsFieldSize, IsIn
 ghost use Rattle.ttx_pes.specs.Taking.{field_in, room_frame, no_packet};
 
 use crate::fault::PesFault;
-use crate::packet_bytes::Room;
-use crate::pes_header::{is_start, length_of, pts_of};
+use crate::pes_header::pts_of;
+use crate::piece_room::Room;
 use crate::same_bytes::{begin_alike, is_same};
 use crate::same_heads::are_same_heads;
 use crate::sent_units::SentUnits;
@@ -66,19 +66,6 @@ fn find_places(places: &mut UnitPlaces, kept: &[u8], field: &[u8]) -> Result<(),
     }
     places.clear();
     take_places(places, field)
-}
-
-// Whether bytes begin as a packet of that size does.
-#[tactic(auto, unfolding(crate::specs::Reading::size_at))]
-fn begins_with_size(bytes: &[u8], size: usize) -> bool
-    requires short { size ≤ longest_packet }
-    requires whole { size % payload_size ≡ 0 }
-    ensures { result ≡ true → size_at (take 6 bytes.now) ≡ Ok size }
-{
-    let Some(head) = bytes.first_chunk() else {
-        return false;
-    };
-    is_start(head) && length_of(head) as usize + 6 == size
 }
 
 // Whether a data field is the one that is kept. One that is not is mostly another in its first
@@ -145,21 +132,19 @@ impl RoomPacket {
         self.repeats
     }
 
-    // The PTS of the packet that begins the bytes, if that is the one in the room, sent again: it
-    // is whole, has no fault, and the same data field.
+    // The PTS of a piece, if that is the packet in the room, sent again: it has no fault, and the
+    // same data field.
     #[inline(always)]
-    pub(crate) fn pts_again(&self, before: &Room, bytes: &[u8]) -> Option<u64>
+    pub(crate) fn pts_again(&self, before: &Room, piece: &[u8]) -> Option<u64>
         requires known { IsInRoom (field_in self.now.count before.now) self.now }
         requires size { IsFieldSize self.now.count }
         ensures again { IfSome result (λ pts.
-            IsSentAgain (field_in self.now.count before.now) self.now bytes.now pts) }
+            IsSentAgain (field_in self.now.count before.now) self.now piece.now pts) }
     {
-        let size = self.size();
-        if bytes.len() < size || !begins_with_size(bytes, size) {
+        if piece.len() != self.size() {
             return None;
         }
-        let (packet, _) = bytes.split_at(size);
-        let (_, body) = packet.split_at(6);
+        let (_, body) = piece.split_at(6);
         let (_, field) = body.split_at(39);
         if !is_same(field, self.field(before)) {
             return None;
@@ -204,6 +189,7 @@ impl RoomPacket {
         ensures count { OnOk result (self.new.count + 39 ≡ length body.now) }
         ensures same { IfOk result (λ same.
             (same ≡ true) ↔ (drop 39 body.now ≡ field_in self.old.count before.now)) }
+        ensures kept { result ≡ Ok true → self.new.count ≡ self.old.count }
         ensures units { result ≡ Ok true → sent_units (drop 39 body.now) self.new.places
             ≡ sent_units (field_in self.old.count before.now) self.old.places }
         ensures err { IfErr result (λ fault. value_at body.now ≡ Err fault) }

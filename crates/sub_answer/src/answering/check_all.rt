@@ -3,7 +3,7 @@ ghost use Rattle.std.specs.Prelude.{◌≡◌, ◌<◌, ◌≤◌, IfErr, OnOk, 
 ghost use Rattle.sub_io.specs.Device.{CountsIf, failed};
 ghost use Rattle.sub_io.specs.HandingOn.{HoldsWhileWaiting, KeepsTold};
 ghost use Rattle.sub_rules.specs.Fault.{is_pes_read};
-ghost use Rattle.sub_listing.specs.DeviceCall.{CanFail, CountsFault, sink_call, source_call};
+ghost use Rattle.sub_listing.specs.DeviceCall.{CanFail, CountsFault, read_call, sink_call, source_call};
 ghost use Rattle.sub_answer.specs.EveryFault.{AnswersAll, TellsBoth, TellsPes};
 ghost use Rattle.sub_listing.specs.EventLines.{most_counted};
 ghost use Rattle.sub_answer.specs.FaultListing.{faults_listing, last_listing};
@@ -17,13 +17,13 @@ ghost use Rattle.sub_listing.specs.FirstPacket.{first_number};
 use crate::answering::check::print_accepted;
 use std::alloc::Global;
 use stl_rows::{Drawing, Judging, LoadFault, law_of_loading, load_all};
-use sub_check::{Accepted, CheckFault, check_all};
+use sub_check::{Accepted, CheckFault, check_all_pieces};
 use sub_io::{Flush, LiveAudience, Sink, Source, Stopped, put_all};
 use sub_listing::{
-    FirstPacket, Line, Printer, Status, line_of_check, print_fault_line, push_decimal, push_text,
+    Line, Printer, Status, line_of_check, print_fault_line, push_decimal, push_text,
 };
 use sub_plan::Options;
-use ttx_pes::PesFault;
+use ttx_pes::{NumberedPieces, PesFault};
 
 /// Checks a PES file against a subtitle file, and prints a line for each place that is broken, and
 /// where a rule of a frame's end is so no more, as they are found, those of the subtitle file
@@ -33,30 +33,31 @@ use ttx_pes::PesFault;
 /// it; `pes` is not touched where that is not enough. `Done` where the files are accepted;
 /// `Refused` where a place is broken; `Fault` where a device failed or memory ran out, with its
 /// line last. Once `out` failed nothing more is read or printed.
-pub fn print_every_fault<N: FirstPacket<T>, S: Source, T: Source, K: Flush>(
+pub fn print_every_fault<S: Source, P: NumberedPieces, K: Flush>(
     alloc: Global,
     stl: &mut S,
-    pes: &mut T,
+    pes: &mut P,
     drawing: Drawing,
     options: &Options,
     out: &mut K,
 ) -> Status
     requires stl { CanFail (S.failure_count stl.old) }
-    requires pes { CanFail (T.failure_count pes.old) }
+    requires pes { CanFail (P.failure_count pes.old) }
     requires out { CanFail (K.failure_count out.old) }
     ensures all { AnswersAll drawing options.now
         (source_call S.remaining S.failure_count stl.old stl.new)
-        (source_call T.remaining T.failure_count pes.old pes.new)
-        (first_number N.number N.passed pes.old pes.new)
+        (read_call P.remaining P.left P.failure_count pes.old pes.new)
+        (first_number P.first P.passed pes.old pes.new)
         (pes.new ≡ pes.old)
         (sink_call K.contents K.failure_count out.old out.new) result }
     ensures stl_count { CountsFault S.failure_count stl.old result stl.new }
-    ensures pes_count { CountsFault T.failure_count pes.old result pes.new }
+    ensures device { P.device pes.new ≡ P.device pes.old }
+    ensures pes_count { CountsFault P.failure_count pes.old result pes.new }
     ensures out_count { CountsFault K.failure_count out.old result out.new }
     // Where the source of the PES file may have to ask its device, all that was told before is
     // handed on: each such call may fail, and where one did its line alone may be held back.
     ensures followed { K.held out.old ≡ 0
-        → T.failure_count pes.old < T.failure_count pes.new
+        → P.failure_count pes.old < P.failure_count pes.new
         → HoldsLastLine K.contents K.held K.is_push out.new }
 {
     law_of_loading();
@@ -67,7 +68,7 @@ pub fn print_every_fault<N: FirstPacket<T>, S: Source, T: Source, K: Flush>(
         waiting: false,
         first: 0,
     };
-    let answer = tell_every_fault::<N, S, T, K>(alloc, stl, pes, drawing, options, &mut printer);
+    let answer = tell_every_fault(alloc, stl, pes, drawing, options, &mut printer);
     let Printer {
         out,
         refused,
@@ -84,16 +85,16 @@ pub fn print_every_fault<N: FirstPacket<T>, S: Source, T: Source, K: Flush>(
 // Tells a printer what is broken in the subtitle file, and then in the PES file, where a
 // transmission is judged beside that. `None` where it is not, or the printer said stop, else what
 // was read of the PES file.
-fn tell_every_fault<N: FirstPacket<T>, S: Source, T: Source, K: Flush>(
+fn tell_every_fault<S: Source, P: NumberedPieces, K: Flush>(
     alloc: Global,
     stl: &mut S,
-    pes: &mut T,
+    pes: &mut P,
     drawing: Drawing,
     options: &Options,
     printer: &mut Printer<'_, K>,
 ) -> Result<Option<Accepted>, CheckFault>
     requires stl { CanFail (S.failure_count stl.old) }
-    requires pes { CanFail (T.failure_count pes.old) }
+    requires pes { CanFail (P.failure_count pes.old) }
     requires out { CanFail (K.failure_count printer.old.out.now) }
     requires goes_on { printer.old.failed ≡ false }
     requires still { printer.old.waiting ≡ false }
@@ -101,14 +102,15 @@ fn tell_every_fault<N: FirstPacket<T>, S: Source, T: Source, K: Flush>(
     ensures same { printer.new.out.ghost_name ≡ printer.old.out.ghost_name }
     ensures told { TellsBoth drawing options.now
         (source_call S.remaining S.failure_count stl.old stl.new)
-        (source_call T.remaining T.failure_count pes.old pes.new)
-        (first_number N.number N.passed pes.old pes.new)
+        (read_call P.remaining P.left P.failure_count pes.old pes.new)
+        (first_number P.first P.passed pes.old pes.new)
         (pes.new ≡ pes.old)
         (printer_value (K.contents printer.old.out.now) (K.failure_count printer.old.out.now)
         printer.old.refused printer.old.failed printer.old.first)
         (printer_value (K.contents printer.new.out.now) (K.failure_count printer.new.out.now)
         printer.new.refused printer.new.failed printer.new.first) result }
-    ensures count { CountsIf T.failure_count pes.old (failed is_pes_read result) pes.new }
+    ensures device { P.device pes.new ≡ P.device pes.old }
+    ensures count { CountsIf P.failure_count pes.old (failed is_pes_read result) pes.new }
     ensures asked { K.held printer.old.out.now ≡ 0
         → failed is_pes_read result ≡ true → K.held printer.new.out.now ≡ 0 }
 {
@@ -121,7 +123,7 @@ fn tell_every_fault<N: FirstPacket<T>, S: Source, T: Source, K: Flush>(
             if hand_on_told(printer).is_err() {
                 return Ok(None);
             }
-            tell_transmission::<N, T, K>(&judged.judging(), pes, options, printer)
+            tell_transmission(&judged.judging(), pes, options, printer)
         }
     }
 }
@@ -143,33 +145,34 @@ fn hand_on_told<A: LiveAudience<LoadFault>>(audience: &mut A) -> Result<(), Stop
 }
 
 // Tells a printer what is broken in the PES file, by what can be judged of the subtitle file.
-fn tell_transmission<N: FirstPacket<T>, T: Source, K: Flush>(
+fn tell_transmission<P: NumberedPieces, K: Flush>(
     judging: &Judging<'_>,
-    pes: &mut T,
+    pes: &mut P,
     options: &Options,
     printer: &mut Printer<'_, K>,
 ) -> Result<Option<Accepted>, CheckFault>
-    requires pes { CanFail (T.failure_count pes.old) }
+    requires pes { CanFail (P.failure_count pes.old) }
     requires out { CanFail (K.failure_count printer.old.out.now) }
     requires goes_on { printer.old.failed ≡ false }
     requires still { printer.old.waiting ≡ false }
     requires few { printer.old.refused ≤ most_counted }
     ensures same { printer.new.out.ghost_name ≡ printer.old.out.ghost_name }
     ensures told { TellsPes judging.now options.now
-        (source_call T.remaining T.failure_count pes.old pes.new)
-        (first_number N.number N.passed pes.old pes.new)
+        (read_call P.remaining P.left P.failure_count pes.old pes.new)
+        (first_number P.first P.passed pes.old pes.new)
         (printer_value (K.contents printer.old.out.now) (K.failure_count printer.old.out.now)
         printer.old.refused printer.old.failed printer.old.first)
         (printer_value (K.contents printer.new.out.now) (K.failure_count printer.new.out.now)
         printer.new.refused printer.new.failed printer.new.first) result }
-    ensures count { CountsIf T.failure_count pes.old (failed is_pes_read result) pes.new }
+    ensures device { P.device pes.new ≡ P.device pes.old }
+    ensures count { CountsIf P.failure_count pes.old (failed is_pes_read result) pes.new }
     ensures asked { K.held printer.old.out.now ≡ 0
         → failed is_pes_read result ≡ true → K.held printer.new.out.now ≡ 0 }
 {
-    match N::find(pes) {
+    match pes.find_first() {
         Ok(first) => {
             printer.first = first;
-            check_all(judging, pes, options, printer)
+            check_all_pieces(judging, pes, options, printer)
         }
         Err(at) => {
             printer.first = at.pes;

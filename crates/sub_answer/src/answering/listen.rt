@@ -3,19 +3,19 @@ ghost use Rattle.std.specs.Prelude.{◌≡◌, ℕ, ◌+◌, ◌<◌, slice_inde
 ghost use Rattle.ttx_page.specs.Page.{AreCodes};
 ghost use Rattle.sub_answer.specs.Answering.{AnswersListen, PrintsHeard};
 ghost use Rattle.sub_listing.specs.FirstPacket.{first_number};
-ghost use Rattle.sub_listing.specs.DeviceCall.{CanFail, CountsFault, sink_call, source_call};
+ghost use Rattle.sub_listing.specs.DeviceCall.{CanFail, CountsFault, read_call, sink_call};
 ghost use Rattle.sub_answer.specs.ListenListing.{IsOldPage, listen_line};
 ghost use Rattle.sub_listen.specs.Reception.{left_by};
 
-use sub_io::{Sink, Source};
-use sub_listen::{ListenFault, listen};
+use sub_io::Sink;
+use sub_listen::{ListenFault, listen_pieces};
 use sub_listing::{
-    FaultLine, FirstPacket, Kind, Status, line_of_check, line_of_failed_read, print_fault_line,
-    print_state,
+    FaultLine, Kind, Status, line_of_check, line_of_failed_read, print_fault_line, print_state,
 };
 use sub_request::{Listening, ReceiverKind};
 use sub_rules::FaultPlace;
 use ttx_page::{Blank, Keep, Page, Receiver};
+use ttx_pes::{NumberedPieces, Pieces};
 
 /// Runs the receiver that is asked for over the PES packets of a file up to TIME, and prints what
 /// it has heard and shows, or why the file is refused (`listen` of `sub_listen`).
@@ -24,83 +24,86 @@ use ttx_page::{Blank, Keep, Page, Receiver};
 /// printed before the last packet was heard. Where complete pages are asked for, what is printed is
 /// what is on its screen: a page comes onto it when a header of another page ends it. Else it has
 /// no screen.
-pub fn print_listening<N: FirstPacket<S>, S: Source, K: Sink>(
-    pes: &mut S,
+pub fn print_listening<P: NumberedPieces, K: Sink>(
+    pes: &mut P,
     listening: &Listening,
     out: &mut K,
 ) -> Status
-    requires first { CanFail (S.failure_count pes.old) }
+    requires first { CanFail (P.failure_count pes.old) }
     requires out { CanFail (K.failure_count out.old) }
     // Where the source tells its bytes and does not fail, they are read as frames, and what is
     // printed is the state of a receiver that heard what it gets of them, or the refusal. A source
     // that fails is told at the PES packet within which it failed, after what was heard.
     ensures exact { AnswersListen (left_by listening.now.receiver) listening.now
-        (source_call S.remaining S.failure_count pes.old pes.new)
-        (first_number N.number N.passed pes.old pes.new)
+        (read_call P.remaining P.left P.failure_count pes.old pes.new)
+        (first_number P.first P.passed pes.old pes.new)
         (sink_call K.contents K.failure_count out.old out.new) result }
-    ensures first_count { CountsFault S.failure_count pes.old result pes.new }
+    ensures device { P.device pes.new ≡ P.device pes.old }
+    ensures first_count { CountsFault P.failure_count pes.old result pes.new }
     ensures out_count { CountsFault K.failure_count out.old result out.new }
     ensures fault { result ≡ Status.Fault
-        → S.failure_count pes.old + K.failure_count out.old
-        < S.failure_count pes.new + K.failure_count out.new }
+        → P.failure_count pes.old + K.failure_count out.old
+        < P.failure_count pes.new + K.failure_count out.new }
 {
     match listening.receiver {
         // One that drops rows hears none with a byte of even parity.
         ReceiverKind::Keep | ReceiverKind::DropRow => {
-            print_state_of::<N, Keep, S, K>(pes, listening, out)
+            print_state_of::<Keep, P, K>(pes, listening, out)
         }
         // What one that begins anew does at a header, `listen` does with a receiver of any type.
         ReceiverKind::Blank | ReceiverKind::Anew => {
-            print_state_of::<N, Blank, S, K>(pes, listening, out)
+            print_state_of::<Blank, P, K>(pes, listening, out)
         }
     }
 }
 
 // The same with a receiver of this type.
-fn print_state_of<N: FirstPacket<S>, R: Receiver + Drop, S: Source, K: Sink>(
-    pes: &mut S,
+fn print_state_of<R: Receiver + Drop, P: NumberedPieces, K: Sink>(
+    pes: &mut P,
     listening: &Listening,
     out: &mut K,
 ) -> Status
-    requires first { CanFail (S.failure_count pes.old) }
+    requires first { CanFail (P.failure_count pes.old) }
     requires out { CanFail (K.failure_count out.old) }
     ensures exact { AnswersListen R.leaves listening.now
-        (source_call S.remaining S.failure_count pes.old pes.new)
-        (first_number N.number N.passed pes.old pes.new)
+        (read_call P.remaining P.left P.failure_count pes.old pes.new)
+        (first_number P.first P.passed pes.old pes.new)
         (sink_call K.contents K.failure_count out.old out.new) result }
-    ensures first_count { CountsFault S.failure_count pes.old result pes.new }
+    ensures device { P.device pes.new ≡ P.device pes.old }
+    ensures first_count { CountsFault P.failure_count pes.old result pes.new }
     ensures out_count { CountsFault K.failure_count out.old result out.new }
     ensures fault { result ≡ Status.Fault
-        → S.failure_count pes.old + K.failure_count out.old
-        < S.failure_count pes.new + K.failure_count out.new }
+        → P.failure_count pes.old + K.failure_count out.old
+        < P.failure_count pes.new + K.failure_count out.new }
 {
-    match N::find(pes) {
-        Ok(first) => print_heard::<R, S, K>(pes, first, listening, out),
+    match pes.find_first() {
+        Ok(first) => print_heard::<R, P, K>(pes, first, listening, out),
         Err(at) => print_fault_line(&line_of_failed_read(at), out),
     }
 }
 
 // The same from the first PES packet on, which has this number in its file.
-fn print_heard<R: Receiver + Drop, S: Source, K: Sink>(
-    pes: &mut S,
+fn print_heard<R: Receiver + Drop, P: Pieces, K: Sink>(
+    pes: &mut P,
     first: u64,
     listening: &Listening,
     out: &mut K,
 ) -> Status
-    requires first { CanFail (S.failure_count pes.old) }
+    requires first { CanFail (P.failure_count pes.old) }
     requires out { CanFail (K.failure_count out.old) }
     ensures exact { PrintsHeard R.leaves listening.now first
-        (source_call S.remaining S.failure_count pes.old pes.new)
+        (read_call P.remaining P.left P.failure_count pes.old pes.new)
         (sink_call K.contents K.failure_count out.old out.new) result }
-    ensures first_count { CountsFault S.failure_count pes.old result pes.new }
+    ensures device { P.device pes.new ≡ P.device pes.old }
+    ensures first_count { CountsFault P.failure_count pes.old result pes.new }
     ensures out_count { CountsFault K.failure_count out.old result out.new }
     ensures fault { result ≡ Status.Fault
-        → S.failure_count pes.old + K.failure_count out.old
-        < S.failure_count pes.new + K.failure_count out.new }
+        → P.failure_count pes.old + K.failure_count out.old
+        < P.failure_count pes.new + K.failure_count out.new }
 {
     let mut receiver = R::tune(listening.options.page(), old_page());
     let mut screen = None;
-    match listen(&mut receiver, &mut screen, pes, listening) {
+    match listen_pieces(&mut receiver, &mut screen, pes, listening) {
         Ok(()) => print_state(&receiver, &screen, listening.options.asks_complete(), out),
         Err(fault) => print_fault_line(&line_of_listen(fault).counted_from(first), out),
     }

@@ -11,17 +11,17 @@ returns-clause-ends g c = record {
   second_is = refl;
   file = _;
   file_is = record {
-    left = c.answer-status.new.file;
+    left = c.answer_over-status.new.file;
     call_is = refl;
     closed = c.close.ensures.call.device;
     held_is = c.close.ensures.call.held;
     written =
-        written_before c.args.request.now _ c.args.file.now.held c.answer-status.new.file.held
-        c.requires.file.1 c.answer-status.ensures.written;
+        written_before c.args.request.now _ c.args.file.now.held c.answer_over-status.new.file.held
+        c.requires.file.1 c.answer_over-status.ensures.written;
   };
-  status = c.answer-status.result;
+  status = c.answer_over-status.result;
   printed = lines_in g.O.Sink.contents g.O.HandOn.held_back g.O.Sink.failure_count
-      c.answer-status.new.out;
-  answers = c.answer-status.ensures.answers;
+      c.answer_over-status.new.out;
+  answers = c.answer_over-status.ensures.answers;
   handed_on = c.hand_on.ensures.lines;
 }

@@ -16,12 +16,12 @@ returns g c = record {
     (c.let_go_output.new.self, c.let_go_output.ensures, refl),
   );
   ends =
-      ends_weaker _ _ _ _ _ _ _ _ _ _ _ _ c.answer_part-status.ensures.ends
+      ends_weaker _ _ _ _ _ _ _ _ _ _ _ _ c.answer_recording-status.ensures.ends
       (λ input is. record {
         room = _;
         new = _;
         left_is = c.into_inner.ensures;
-        is_part = rw (c.part_asked.ensures, c.new-first.ensures, c.into_file.ensures) at is;
+        is_part = rw (c.part_asked-part.ensures, c.new-first.ensures, c.into_file.ensures) at is;
       })
       (λ input is. is) (λ is. refl)
       (λ first call is. record {
@@ -30,6 +30,6 @@ returns g c = record {
         left_is = c.into_inner-2.ensures;
         closed = rw (c.new-file.ensures, c.into_file-2.ensures) at is;
         whole = λ done.
-            rw (c.new-file.ensures, c.into_file-2.ensures) at (c.answer_part-status.ensures.done done);
+            rw (c.new-file.ensures, c.into_file-2.ensures) at (c.answer_recording-status.ensures.done done);
       });
 }

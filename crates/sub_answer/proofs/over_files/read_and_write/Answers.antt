@@ -17,7 +17,7 @@ returns g c = record {
     (c.let_go_output.new.self, c.let_go_output.ensures, refl),
   );
   ends =
-      ends_weaker _ _ _ _ _ _ _ _ _ _ _ _ c.answer_with_file-status.ensures.ends
+      ends_weaker _ _ _ _ _ _ _ _ _ _ _ _ c.answer_source-status.ensures.ends
       (λ input is. record {
         room = _;
         new = _;
@@ -27,7 +27,7 @@ returns g c = record {
             (whole_source
             (λ s. prepend_known s.held (g.D.Input.Source.remaining s.device))
             (λ s. g.D.Input.Source.failure_count s.device) c.new-first.result
-            c.answer_with_file-status.new.first input is);
+            c.answer_source-status.new.first input is);
       })
       (λ input is. is) (λ is. refl)
       (λ first call is. record {
@@ -36,6 +36,6 @@ returns g c = record {
         left_is = c.into_inner-2.ensures;
         closed = rw (c.new-file.ensures, c.into_file-2.ensures) at is;
         whole = λ done.
-            rw (c.new-file.ensures, c.into_file-2.ensures) at (c.answer_with_file-status.ensures.done done).0;
+            rw (c.new-file.ensures, c.into_file-2.ensures) at (c.answer_source-status.ensures.done done).0;
       });
 }

@@ -1,92 +1,28 @@
--- A source of a part, by how it was made: all_of_source, range_of_source, stream_of_source,
--- both_of_source.
-use Rattle.std.proofs.Common.{◌≡◌, ◌∙◌, ap, refl}
-use Rattle.std.specs.Prelude.{option_map}
-use Rattle.ttx_pes.specs.PieceRange.{first_index, in_range}
-use Rattle.mpeg_ts.specs.Stream.{SourceValue}
-use Rattle.sub_answer.specs.Answering.{InputCall}
+-- A part of a source, by how it was made: file_of_source, stream_of_source.
+use Rattle.std.proofs.Common.{ap, refl}
+use Rattle.mpeg_ts.specs.Recording.{RecordingValue}
 use Rattle.sub_answer.proofs.EndingLemmas.{ends_weaker}
-use Rattle.sub_answer.proofs.PartLemmas.{all_of_source, both_of_source, range_of_source}
-use Rattle.sub_answer.proofs.PartLemmas.{stream_of_source}
+use Rattle.sub_answer.proofs.PartLemmas.{file_of_source, stream_of_source}
 use Rattle.sub_answer.proofs.parts.answer_second_part.Goals as goal
 
-told_is : {a b : InputCall} → a ≡ b → a.call.told ≡ b.call.told
-told_is e = ap (λ (i : InputCall). i.call.told) e
-
-number_is : {a b : InputCall} → a ≡ b → a.number.told ≡ b.number.told
-number_is e = ap (λ (i : InputCall). i.number.told) e
-
-old_is : {a b : InputCall} → a ≡ b → a.call.old_count ≡ b.call.old_count
-old_is e = ap (λ (i : InputCall). i.call.old_count) e
-
-new_is : {a b : InputCall} → a ≡ b → a.call.new_count ≡ b.call.new_count
-new_is e = ap (λ (i : InputCall). i.call.new_count) e
-
-pub returns-in-None-None : goal.returns-in-None-None
-returns-in-None-None g c =
-    ends_weaker _ _ _ _ _ _ _ _ _ _ _ _ c.answer_pair-status.ensures
+pub returns-in-None : goal.returns-in-None
+returns-in-None g c =
+    ends_weaker _ _ _ _ _ _ _ _ _ _ _ _ c.answer_second_file-status.ensures
     (λ input is. is)
     (λ input is.
-    all_of_source g.T.Source.remaining g.T.Source.failure_count c.args.whole
-    c.answer_pair-status.new.second input c.args.part
-    c.in-None-None.is-0 c.in-None-None.is-1 is)
+    file_of_source g.T.Source.remaining g.T.Source.failure_count _ _ input c.args.part
+    c.in-None.is is)
     (λ is. is) (λ first call is. is)
 
-pub returns-in-None-Some : goal.returns-in-None-Some
-returns-in-None-Some g c =
-    ends_weaker _ _ _ _ _ _ _ _ _ _ _ _ c.answer_pair-status-in-None-Some.ensures
+pub returns-in-Some : goal.returns-in-Some
+returns-in-Some g c =
+    rw c.into_inner.ensures
+    (ends_weaker _ _ _ _ _ _ _ _ _ _ _ _ c.answer_second_range-status.ensures.ends
     (λ input is. is)
     (λ input is.
-    rw c.into_inner.ensures (
-    range_of_source g.T.Source.remaining g.T.Source.failure_count c.args.whole
-    c.answer_pair-status-in-None-Some.new.second.inner input
-    c.args.part c.in-None-Some.range c.in-None-Some.is-0 c.in-None-Some.is-1
-    (told_is is ∙ c.new-input.ensures.remaining) (number_is is ∙ c.new-input.ensures.first)
-    (old_is is ∙ c.new-input.ensures.count) (new_is is)))
-    (λ is. rw (c.into_inner.ensures, is, c.new-input.ensures.inner) refl)
-    (λ first call is. is)
-
-pub returns-in-Some-None : goal.returns-in-Some-None
-returns-in-Some-None g c =
-    ends_weaker _ _ _ _ _ _ _ _ _ _ _ _ c.answer_pair-status-in-Some-None.ensures
-    (λ input is. is)
-    (λ input is.
-    rw c.into_inner-in-Some-None.ensures (
-    stream_of_source g.T.Source.remaining g.T.Source.failure_count c.args.whole
-    c.answer_pair-status-in-Some-None.new.second.device input
-    c.args.part c.in-Some-None.stream
-    c.in-Some-None.is-0 c.in-Some-None.is-1
-    (told_is is ∙ c.new-input-in-Some-None.ensures.carried) (number_is is)
-    (old_is is
-    ∙ ap (λ (v : SourceValue g.row.T.Denot). g.T.Source.failure_count v.device)
-    c.new-input-in-Some-None.ensures.start)
-    (new_is is)))
-    (λ is. rw (c.into_inner-in-Some-None.ensures, is, c.new-input-in-Some-None.ensures.start) refl)
-    (λ first call is. is)
-
-pub returns-in-Some-Some : goal.returns-in-Some-Some
-returns-in-Some-Some g c =
-    ends_weaker _ _ _ _ _ _ _ _ _ _ _ _ c.answer_pair-status-in-Some-Some.ensures
-    (λ input is. is)
-    (λ input is.
-    rw (c.into_inner-in-Some-Some.ensures, c.into_inner-inside.ensures) (
-    both_of_source g.T.Source.remaining g.T.Source.failure_count c.args.whole
-    c.answer_pair-status-in-Some-Some.new.second.inner.device
-    input c.args.part c.in-Some-Some.stream c.in-Some-Some.range
-    c.in-Some-Some.is-0 c.in-Some-Some.is-1
-    (told_is is ∙ c.new-input-in-Some-Some.ensures.remaining
-    ∙ ap (option_map (in_range c.in-Some-Some.range)) c.new-carried.ensures.carried)
-    (number_is is ∙ c.new-input-in-Some-Some.ensures.first
-    ∙ ap (option_map (first_index c.in-Some-Some.range)) c.new-carried.ensures.carried)
-    (old_is is ∙ c.new-input-in-Some-Some.ensures.count
-    ∙ ap (λ (v : SourceValue g.row.T.Denot). g.T.Source.failure_count v.device)
+    stream_of_source g.T.Source.remaining g.T.Source.failure_count _ _ input _ _ _ _ _ c.args.part
+    c.in-Some.stream is c.in-Some.is c.new-carried.ensures.carried
+    (ap (λ (v : RecordingValue g.row.T.Denot). g.T.Source.failure_count v.device)
     c.new-carried.ensures.start)
-    (new_is is)))
-    (λ is. rw (
-      c.into_inner-in-Some-Some.ensures,
-      c.into_inner-inside.ensures,
-      is,
-      c.new-input-in-Some-Some.ensures.inner,
-      c.new-carried.ensures.start,
-    ) refl)
-    (λ first call is. is)
+    refl)
+    (λ is. rw (is, c.new-carried.ensures.start) refl) (λ first call is. is))

@@ -19,4 +19,4 @@ returns-clause-reads g c =
     }
 
 pub returns-clause-asked : goal.returns-clause-asked
-returns-clause-asked g c = waits_not _ _ _ c.requires.settled c.next_piece.ensures.lent
+returns-clause-asked g c = waits_not _ _ _ c.requires.settled c.next_piece.ensures.ready

@@ -31,6 +31,7 @@ pieces-init g c = record {
   reading = ap (λ (r : ComparingValue). r.progress) c.new-reader.ensures;
   taken = takes_no_pieces _;
   failures = refl;
+  device = refl;
   goes_on = refl;
   same = refl;
   keeps = (
@@ -81,7 +82,7 @@ returns-then-is_source_failure-clause-sent g c = λ pes pieces unread is bytes t
     let done : take pes pieces ≡ i.0 =
     ap (λ (n : ℕ). take n pieces) same ∙ at.1 in
     record {
-      behind = g.S.Source.remaining c.pieces.source;
+      behind = g.P.Pieces.remaining c.pieces.source;
       before =
           packets_taken bytes (frames_of i.0) i.1.rest pes _ _
           (i.1.taken (ap (λ (l : List Piece). length (frames_of l)) (sym done) ∙ sent ∙ same
@@ -197,6 +198,7 @@ pieces-preserved g c =
       reading = here.progress refl;
       taken = takes_more_pieces c.pieces.pes _ _ _ inv.taken (here.taken refl);
       failures = omega (arith, counted, inv.failures);
+      device = c.next_followed.ensures.device ∙ inv.device;
       goes_on = c.if-stage.false;
       same = more.0 ∙ c.next_followed.ensures.same ∙ inv.same;
       some =

@@ -20,8 +20,9 @@ abbrev pub invariant-pieces : goal.invariant-pieces
 invariant-pieces g l = record {
   few : l.pes ≤ most_packets;
   reading : l.reader.progress ≡ Reading l.pes;
-  taken : TakesPieces l.pes (g.S.Source.remaining l.fn.source) (g.S.Source.remaining l.source);
-  failures : g.S.Source.failure_count l.source ≡ g.S.Source.failure_count l.fn.source;
+  taken : TakesPieces l.pes (g.P.Pieces.remaining l.fn.source) (g.P.Pieces.remaining l.source);
+  failures : g.P.Pieces.failure_count l.source ≡ g.P.Pieces.failure_count l.fn.source;
+  device : g.P.Pieces.device l.source ≡ g.P.Pieces.device l.fn.source;
   goes_on : l.stage.latch.stopped ≡ false;
   same : l.stage.latch.device.ghost_name ≡ l.initial.stage.latch.device.ghost_name;
   some : TellsSome g.A.Audience.is_told l.fn.audience l.stage.latch.device.now;
@@ -36,10 +37,10 @@ invariant-pieces g l = record {
   room : AreFew l.pes l.checker.counts;
   told :
       (pieces : List Piece) (unread : Option Unread) (bytes : List ℕ)
-      → g.S.Source.remaining l.fn.source ≡ Some bytes
+      → g.P.Pieces.remaining l.fn.source ≡ Some bytes
       → ReadsPieces (clock_of l.options) 0 bytes pieces unread
       → (done : List Piece)
-      × ReadsOn l.options bytes pieces unread (g.S.Source.remaining l.source) l.pes done
+      × ReadsOn l.options bytes pieces unread (g.P.Pieces.remaining l.source) l.pes done
       × (last : List (List ℕ))
       × Tracks (task_beside l.fn.judging l.options unread) done last l.checker l.stage.relay
       × (l.passed ≡ false → last ≡ packets_of_units l.reader.frame.units)

@@ -4,7 +4,7 @@ use Rattle.std.proofs.Common.{◌∙◌, ◌+◌, ap, arith, if◌then◌else◌
 use Rattle.std.proofs.lemmas.Bool.{true≢false}
 use Rattle.std.specs.Io.KnownBytes.{Appends}
 use Rattle.sub_io.specs.Device.{AppendsPrefix}
-use Rattle.sub_listing.specs.DeviceCall.{sink_call, source_call}
+use Rattle.sub_listing.specs.DeviceCall.{read_call, sink_call}
 use Rattle.sub_listing.specs.Listing.{has_failed}
 use Rattle.sub_listing.proofs.ListingLemmas.{counts-fault, counts-status, front-cut, front-end}
 use Rattle.sub_listing.proofs.ListingLemmas.{front-kept, front-more, front-none, front-stopped}
@@ -15,6 +15,7 @@ pub pieces-init : goal.pieces-init
 pieces-init g c = record {
   ready = c.requires.ready;
   source = refl;
+  held = refl;
   same = refl;
   goes_on = c.requires.goes_on;
   holds = λ sound. sound;
@@ -37,8 +38,8 @@ returns-then-printer-clause-out_count g c =
       once = omega (arith, risen, out);
     }
 
-pub returns-then-printer-clause-source_count : goal.returns-then-printer-clause-source_count
-returns-then-printer-clause-source_count g c =
+pub returns-then-printer-clause-input_count : goal.returns-then-printer-clause-input_count
+returns-then-printer-clause-input_count g c =
     let same = c.next-end.ensures.cut_count c.if-printer.true in
     let source = c.pieces.invariant.source in
     record {
@@ -54,8 +55,8 @@ returns-then-printer-clause-listing g c =
     let risen =
     (stays.risen (λ same. true≢false (sym c.if-printer.true ∙ same ∙ before.goes_on))).1 in
     front-stopped (g.L.Lister.lists c.args.lister.now) (g.L.Lister.lists c.pieces.lister)
-    (source_call g.S.Source.remaining g.S.Source.failure_count c.args.source.now
-    c.next-end.new.source)
+    (read_call g.L.Lister.told g.L.Lister.left g.L.Lister.failure_count c.args.input.now
+    c.next-end.new.input)
     (sink_call g.K.Sink.contents g.K.Sink.failure_count c.args.printer.now.out.now
     c.next-end.new.printer.out.now)
     _ _ before.front (c.next-end.ensures.cut c.if-printer.true) stays.kept
@@ -83,8 +84,8 @@ returns-in-Err-clause-listing g c =
     let put = c.in-Err.ensures.count in
     front-cut (g.L.Lister.lists c.args.lister.now) (g.L.Lister.lists c.pieces.lister)
     (g.L.Lister.lists c.next-end.new.self)
-    (source_call g.S.Source.remaining g.S.Source.failure_count c.args.source.now
-    c.next-end.new.source)
+    (read_call g.L.Lister.told g.L.Lister.left g.L.Lister.failure_count c.args.input.now
+    c.next-end.new.input)
     (sink_call g.K.Sink.contents g.K.Sink.failure_count c.args.printer.now.out.now
     c.put.new.self.out.now)
     _ _ c.next-end.new.text.items c.next-end.result
@@ -109,8 +110,8 @@ returns-in-Err-clause-out_count g c =
       once = omega (arith, out, put);
     }
 
-pub returns-in-Err-clause-source_count : goal.returns-in-Err-clause-source_count
-returns-in-Err-clause-source_count g c =
+pub returns-in-Err-clause-input_count : goal.returns-in-Err-clause-input_count
+returns-in-Err-clause-input_count g c =
     counts-fault _ _ (has_failed c.next-end.result)
     (c.next-end.ensures.count c.if-printer.false
     ∙ ap (λ (n : ℕ). n + (if has_failed c.next-end.result then 1 else 0))
@@ -122,7 +123,7 @@ returns-in-Err-clause-fault g c = λ _.
     let out =
     c.next-end.ensures.stays.same (c.if-printer.false ∙ sym before.goes_on) ∙ before.out in
     let put = c.in-Err.ensures.count in
-    let source = (returns-in-Err-clause-source_count g c).risen in
+    let source = (returns-in-Err-clause-input_count g c).risen in
     omega (arith, out, put, source)
 
 -- ---- the last lines
@@ -136,8 +137,8 @@ returns-in-Some-clause-listing g c =
     let status = c.in-Some.status in
     front-end (g.L.Lister.lists c.args.lister.now) (g.L.Lister.lists c.pieces.lister)
     (g.L.Lister.lists c.next-end.new.self)
-    (source_call g.S.Source.remaining g.S.Source.failure_count c.args.source.now
-    c.next-end.new.source)
+    (read_call g.L.Lister.told g.L.Lister.left g.L.Lister.failure_count c.args.input.now
+    c.next-end.new.input)
     (sink_call g.K.Sink.contents g.K.Sink.failure_count c.args.printer.now.out.now
     c.put.new.self.out.now)
     _ _ c.next-end.new.text.items status
@@ -162,8 +163,8 @@ returns-in-Some-clause-out_count g c =
       once = omega (arith, out, put);
     }
 
-pub returns-in-Some-clause-source_count : goal.returns-in-Some-clause-source_count
-returns-in-Some-clause-source_count g c =
+pub returns-in-Some-clause-input_count : goal.returns-in-Some-clause-input_count
+returns-in-Some-clause-input_count g c =
     let status = c.in-Some.status in
     counts-status _ _ status
     (c.in-Some.ensures.count c.if-printer.false
@@ -192,6 +193,7 @@ pieces-preserved g c =
     record {
       ready = c.in_default.ensures.ready c.if-printer.false refl;
       source = omega (arith, source, counted);
+      held = c.next-end.ensures.held ∙ before.held;
       same = c.put.ensures.same ∙ c.next-end.ensures.same ∙ before.same;
       goes_on = c.in-Ok.ensures.failed ∙ c.if-printer.false;
       holds = λ sound still. absurd (true≢false (sym c.put.ensures.waits ∙ still));
@@ -200,7 +202,8 @@ pieces-preserved g c =
           front-more (g.L.Lister.lists c.args.lister.now) (g.L.Lister.lists c.pieces.lister)
           (g.L.Lister.lists c.next-end.new.self) _ _ _ _ _ _ c.next-end.new.text.items
           (front-kept _ _ _ _ _ _ _ before.front stays.kept)
-          (c.in_default.ensures.gives c.if-printer.false)
+          (rw (← c.in_default.ensures.settled c.if-printer.false refl)
+          (c.in_default.ensures.gives c.if-printer.false))
           (subst
           (Appends (g.K.Sink.contents c.next-end.new.printer.out.now)
           (g.K.Sink.contents c.put.new.self.out.now))

@@ -6,7 +6,8 @@ use Rattle.sub_listing.proofs.listing.list_to.Given as goal
 abbrev pub invariant-pieces : goal.invariant-pieces
 invariant-pieces g l = record {
   ready : g.L.Lister.ready l.lister;
-  source : g.S.Source.failure_count l.source ≡ g.S.Source.failure_count l.fn.source;
+  source : g.L.Lister.failure_count l.input ≡ g.L.Lister.failure_count l.fn.input;
+  held : g.L.Lister.device l.input ≡ g.L.Lister.device l.fn.input;
   same : l.printer.out.ghost_name ≡ l.fn.printer.out.ghost_name;
   goes_on : l.printer.failed ≡ false;
   holds :
@@ -16,7 +17,7 @@ invariant-pieces g l = record {
   out : g.K.Sink.failure_count l.printer.out.now ≡ g.K.Sink.failure_count l.fn.printer.out.now;
   front : IsFront
       (g.L.Lister.lists l.fn.lister) (g.L.Lister.lists l.lister)
-      (g.S.Source.remaining l.fn.source) (g.S.Source.remaining l.source)
+      (g.L.Lister.told l.fn.input) (g.L.Lister.told l.input)
       (g.K.Sink.contents l.fn.printer.out.now) (g.K.Sink.contents l.printer.out.now);
 }
 

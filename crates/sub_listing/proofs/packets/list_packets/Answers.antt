@@ -1,15 +1,15 @@
--- What is listed once the first PES packet was found, or the source failed before: prints_found,
+-- What is listed once the first PES packet was found, or the device failed before: prints_found,
 -- prints_failed.
 use Rattle.std.proofs.Common.{◌≡◌, ◌+◌, arith}
-use Rattle.sub_listing.specs.DeviceCall.{source_call}
+use Rattle.sub_listing.specs.DeviceCall.{read_call}
 use Rattle.sub_listing.proofs.FirstPacketLemmas.{prints_failed, prints_found}
 use Rattle.sub_listing.proofs.packets.list_packets.Goals as goal
 
 pub returns-in-Ok-clause-listing : goal.returns-in-Ok-clause-listing
 returns-in-Ok-clause-listing g c =
     let counted = c.in-Ok.ensures.count in
-    let same : g.S.Source.failure_count c.find.new.source
-    ≡ g.S.Source.failure_count c.args.source.now = omega (arith, counted) in
+    let same : g.P.Pieces.failure_count c.find_first.new.self
+    ≡ g.P.Pieces.failure_count c.args.pieces.now = omega (arith, counted) in
     prints_found _ c.in-Ok.first _ _ _ _ _ _ _ _ (λ n is. c.in-Ok.ensures.first n is)
     c.in-Ok.ensures.kept same
     (rw (c.new.ensures.start, c.new.ensures.first) at c.list.ensures.listing)
@@ -17,11 +17,11 @@ returns-in-Ok-clause-listing g c =
 pub returns-in-Err-clause-listing : goal.returns-in-Err-clause-listing
 returns-in-Err-clause-listing g c =
     let counted = c.in-Err.ensures.count in
-    let risen : g.S.Source.failure_count c.find.new.source
-    ≡ g.S.Source.failure_count c.args.source.now + 1 = omega (arith, counted) in
+    let risen : g.P.Pieces.failure_count c.find_first.new.self
+    ≡ g.P.Pieces.failure_count c.args.pieces.now + 1 = omega (arith, counted) in
     prints_failed _ c.in-Err.at.pes
-    (source_call g.S.Source.remaining g.S.Source.failure_count c.args.source.now
-    c.find.new.source)
+    (read_call g.P.Pieces.remaining g.P.Pieces.left g.P.Pieces.failure_count c.args.pieces.now
+    c.find_first.new.self)
     _ _ (λ n is. c.in-Err.ensures.before n is) c.in-Err.ensures.failed
-    (λ n is. c.in-Err.ensures.left n is) c.in-Err.ensures.kept risen
+    (λ n is. c.in-Err.ensures.left n is) c.in-Err.ensures.unread risen
     (rw c.line_of_failed_read.ensures at c.print_fault_line.ensures.printed)

@@ -1,5 +1,5 @@
 -- What the reader answers is the next piece, or that none is left: by PieceFileLemmas.
-use Rattle.std.proofs.Common.{◌≡◌, ◌∙◌, refl, ap, true, false, Some, List, ℕ, arith}
+use Rattle.std.proofs.Common.{◌≡◌, ◌∙◌, refl, sym, ap, true, false, Some, List, ℕ, arith}
 use Rattle.std.proofs.lemmas.Bool.Decides.{nat_tests}
 use Rattle.ttx_pes.specs.Fault.{is_of_piece}
 use Rattle.ttx_pes.proofs.PieceListLemmas.{behind_packet, behind_taken}
@@ -28,7 +28,21 @@ returns-else-not-is_of_piece-clause-exact g c = λ pieces unread bytes told fine
 pub returns-else-not-is_of_piece-clause-left : goal.returns-else-not-is_of_piece-clause-left
 returns-else-not-is_of_piece-clause-left g c = λ bytes told some.
     let kind : is_of_piece c.in-Err.fault ≡ true = grind (arith, nat_tests) in
-    behind_taken _ _ bytes c.in-Err.fault (c.in-Err.ensures.piece kind) told
+    sym (c.in-Err.ensures.piece_settled kind)
+    ∙ behind_taken _ _ bytes c.in-Err.fault (c.in-Err.ensures.piece kind) told
+
+pub returns-else-not-is_of_piece-clause-taken : goal.returns-else-not-is_of_piece-clause-taken
+returns-else-not-is_of_piece-clause-taken g c = λ some.
+    let kind : is_of_piece c.in-Err.fault ≡ true = grind (arith, nat_tests) in
+    let taken = c.in-Err.ensures.piece kind in
+    rw (← c.in-Err.ensures.piece_settled kind)
+    (record { bytes = taken.bytes; is_piece = taken.is_piece; consumed = taken.consumed })
+
+pub returns-else-not-is_of_piece-clause-settled :
+    goal.returns-else-not-is_of_piece-clause-settled
+returns-else-not-is_of_piece-clause-settled g c = λ some.
+    let kind : is_of_piece c.in-Err.fault ≡ true = grind (arith, nat_tests) in
+    c.in-Err.ensures.piece_settled kind
 
 pub returns-in-Ok-End-clause-exact : goal.returns-in-Ok-End-clause-exact
 returns-in-Ok-End-clause-exact g c = λ pieces unread bytes told fine reads.
@@ -44,12 +58,14 @@ returns-in-Ok-Same-clause-exact g c = λ pieces unread bytes told fine reads.
 
 pub returns-in-Ok-Same-clause-taken : goal.returns-in-Ok-Same-clause-taken
 returns-in-Ok-Same-clause-taken g c = λ some.
-    packet_taken _ _ _ _ (c.in-Ok-Same.ensures.taken (rw c.in-Ok-Same.field-0-is refl))
+    rw (← c.in-Ok-Same.ensures.settled (rw c.in-Ok-Same.field-0-is refl))
+    (packet_taken _ _ _ _ (c.in-Ok-Same.ensures.taken (rw c.in-Ok-Same.field-0-is refl)))
 
 pub returns-in-Ok-Same-clause-left : goal.returns-in-Ok-Same-clause-left
 returns-in-Ok-Same-clause-left g c = λ bytes told some.
     let tells = rw c.in-Ok-Same.field-0-is at c.in-Ok-Same.ensures.tells in
-    tells.left c.args.pes c.requires.reading bytes told
+    sym (c.in-Ok-Same.ensures.settled (rw c.in-Ok-Same.field-0-is refl))
+    ∙ tells.left c.args.pes c.requires.reading bytes told
     ∙ ap (λ (x : List ℕ). Some x) (behind_packet c.args.pes bytes c.next.new.self.frame
     (tells.exact c.args.pes c.requires.reading bytes told refl))
 
@@ -62,19 +78,23 @@ returns-in-Ok-Other-clause-exact g c = λ pieces unread bytes told fine reads.
 
 pub returns-in-Ok-Other-clause-taken : goal.returns-in-Ok-Other-clause-taken
 returns-in-Ok-Other-clause-taken g c = λ some.
-    packet_taken _ _ _ _ (c.in-Ok-Other.ensures.taken (rw c.in-Ok-Other.field-0-is refl))
+    rw (← c.in-Ok-Other.ensures.settled (rw c.in-Ok-Other.field-0-is refl))
+    (packet_taken _ _ _ _ (c.in-Ok-Other.ensures.taken (rw c.in-Ok-Other.field-0-is refl)))
 
 pub returns-in-Ok-Other-clause-left : goal.returns-in-Ok-Other-clause-left
 returns-in-Ok-Other-clause-left g c = λ bytes told some.
     let tells = rw c.in-Ok-Other.field-0-is at c.in-Ok-Other.ensures.tells in
-    tells.left c.args.pes c.requires.reading bytes told
+    sym (c.in-Ok-Other.ensures.settled (rw c.in-Ok-Other.field-0-is refl))
+    ∙ tells.left c.args.pes c.requires.reading bytes told
     ∙ ap (λ (x : List ℕ). Some x) (behind_packet c.args.pes bytes c.next.new.self.frame
     (tells.exact c.args.pes c.requires.reading bytes told refl))
 
 pub returns-in-Ok-Same-clause-sent : goal.returns-in-Ok-Same-clause-sent
 returns-in-Ok-Same-clause-sent g c = λ sending is.
+    rw (← c.in-Ok-Same.ensures.settled (rw c.in-Ok-Same.field-0-is refl))
     (c.in-Ok-Same.ensures.taken (rw c.in-Ok-Same.field-0-is refl)).packet
 
 pub returns-in-Ok-Other-clause-sent : goal.returns-in-Ok-Other-clause-sent
 returns-in-Ok-Other-clause-sent g c = λ sending is.
+    rw (← c.in-Ok-Other.ensures.settled (rw c.in-Ok-Other.field-0-is refl))
     (c.in-Ok-Other.ensures.taken (rw c.in-Ok-Other.field-0-is refl)).packet

@@ -6,7 +6,7 @@ use Rattle.sub_answer.proofs.answering.check.check_from.Goals as goal
 
 pub returns-in-Ok-clause-read : goal.returns-in-Ok-clause-read
 returns-in-Ok-clause-read g c = λ index is.
-    fails_packet_kept index _ _ _ c.in-Ok.ensures.kept (c.check.ensures.read index is)
+    fails_packet_kept index _ _ _ c.in-Ok.ensures.kept (c.check_pieces.ensures.read index is)
 
 pub returns-in-Err-clause-checked_by : goal.returns-in-Err-clause-checked_by
 returns-in-Err-clause-checked_by g c = λ bytes told.
@@ -15,4 +15,4 @@ returns-in-Err-clause-checked_by g c = λ bytes told.
 pub returns-in-Err-clause-read : goal.returns-in-Err-clause-read
 returns-in-Err-clause-read g c = λ index is.
     let first : index ≡ 0 = cc in
-    rw first (fails_first_packet _ _ c.in-Err.ensures.kept)
+    rw first (fails_first_packet _ _ c.in-Err.ensures.unread)

@@ -5,7 +5,7 @@ use Rattle.ttx_pes.specs.declared.fault.PesFault.TheVariants.{Read}
 use Rattle.sub_rules.specs.declared.fault.CheckFault.TheVariants as fault
 use Rattle.sub_listing.proofs.FirstPacketLemmas.{fails_first_piece, fails_piece_kept, told_kept}
 use Rattle.sub_rules.specs.declared.event.Event.{Event}
-use Rattle.sub_listing.specs.DeviceCall.{source_call}
+use Rattle.sub_listing.specs.DeviceCall.{read_call}
 use Rattle.sub_listing.specs.FirstPacket.{first_number}
 use Rattle.sub_listing.specs.Printer.{PrinterValue, PrintsEvent, printer_value}
 use Rattle.std.proofs.Common.{Option}
@@ -31,7 +31,7 @@ pub returns-in-Ok-clause-same : goal.returns-in-Ok-clause-same
 returns-in-Ok-clause-same g c =
     same_all (IsToldEvent g.K.Sink.contents g.K.Sink.failure_count g.K.Flush.held)
     (λ (p : Printer g.row.K.Denot). p.out.ghost_name) (λ s t x h. h.0) _ _
-    c.check_all.ensures.some
+    c.check_all_pieces.ensures.some
 
 pub returns-in-Ok-clause-told : goal.returns-in-Ok-clause-told
 returns-in-Ok-clause-told g c =
@@ -39,23 +39,23 @@ returns-in-Ok-clause-told g c =
     let start : Printer g.row.K.Denot = record c.args.printer.now { first = n } in
     let found = c.in-Ok.ensures in
     let counted = found.count in
-    let same : g.T.Source.failure_count c.find.new.source
-    ≡ g.T.Source.failure_count c.args.pes.now = omega (arith, counted) in
-    let e = c.check_all.ensures in
+    let same : g.P.Pieces.failure_count c.find_first.new.self
+    ≡ g.P.Pieces.failure_count c.args.pes.now = omega (arith, counted) in
+    let e = c.check_all_pieces.ensures in
     with_first _ _ _ _ (value_of g.K.Sink.contents g.K.Sink.failure_count c.args.printer.now) _ n _
     (after_pes (IsToldEvent g.K.Sink.contents g.K.Sink.failure_count g.K.Flush.held)
     (value_of g.K.Sink.contents g.K.Sink.failure_count) (λ s t x h. h.1)
     c.args.judging.now c.args.options.now
-    (source_call g.T.Source.remaining g.T.Source.failure_count c.args.pes.now
-    c.check_all.new.source)
-    (first_number g.N.FirstPacket.number g.N.FirstPacket.passed c.args.pes.now
-    c.check_all.new.source)
-    start c.check_all.new.audience c.requires.goes_on c.requires.few
+    (read_call g.P.Pieces.remaining g.P.Pieces.left g.P.Pieces.failure_count c.args.pes.now
+    c.check_all_pieces.new.source)
+    (first_number g.P.NumberedPieces.first g.P.NumberedPieces.passed c.args.pes.now
+    c.check_all_pieces.new.source)
+    start c.check_all_pieces.new.audience c.requires.goes_on c.requires.few
     (λ k is. inl (found.first k is))
-    c.check_all.result _ (has_stopped _ _)
+    c.check_all_pieces.result _ (has_stopped _ _)
     (λ holds quiet. still_goes _ _ _ c.requires.out holds quiet)
     e.some (λ bytes told. e.told bytes (told_kept _ _ bytes found.kept told))
-    (all_answers c.args.judging.now _ _ c.check_all.result
+    (all_answers c.args.judging.now _ _ c.check_all_pieces.result
     (λ programme is bytes told.
     e.first_by programme is bytes (told_kept _ _ bytes found.kept told))
     (λ programme is none zero bytes told.
@@ -65,7 +65,7 @@ returns-in-Ok-clause-told g c =
 
 pub returns-in-Ok-clause-asked : goal.returns-in-Ok-clause-asked
 returns-in-Ok-clause-asked g c = λ none.
-    error_fails _ _ _ (c.check_all.ensures.asked none)
+    error_fails _ _ _ (c.check_all_pieces.ensures.asked none)
 
 pub returns-in-Err-clause-told : goal.returns-in-Err-clause-told
 returns-in-Err-clause-told g c =
@@ -73,16 +73,16 @@ returns-in-Err-clause-told g c =
     let start : Printer g.row.K.Denot = record c.args.printer.now { first = n } in
     let found = c.in-Err.ensures in
     let counted = found.count in
-    let risen : g.T.Source.failure_count c.find.new.source
-    ≡ g.T.Source.failure_count c.args.pes.now + 1 = omega (arith, counted) in
+    let risen : g.P.Pieces.failure_count c.find_first.new.self
+    ≡ g.P.Pieces.failure_count c.args.pes.now + 1 = omega (arith, counted) in
     with_first _ _ _ _ (value_of g.K.Sink.contents g.K.Sink.failure_count c.args.printer.now) _ n _
     (after_pes (IsToldEvent g.K.Sink.contents g.K.Sink.failure_count g.K.Flush.held)
     (value_of g.K.Sink.contents g.K.Sink.failure_count) (λ s t x h. h.1)
     c.args.judging.now c.args.options.now
-    (source_call g.T.Source.remaining g.T.Source.failure_count c.args.pes.now c.find.new.source)
-    (first_number g.N.FirstPacket.number g.N.FirstPacket.passed c.args.pes.now c.find.new.source)
+    (read_call g.P.Pieces.remaining g.P.Pieces.left g.P.Pieces.failure_count c.args.pes.now c.find_first.new.self)
+    (first_number g.P.NumberedPieces.first g.P.NumberedPieces.passed c.args.pes.now c.find_first.new.self)
     start start c.requires.goes_on c.requires.few
-    (λ k is. inr (found.before k is, found.failed, found.left k is, (risen, found.kept)))
+    (λ k is. inr (found.before k is, found.failed, found.left k is, (risen, found.unread)))
     (Err (fault.Pes 0 Read)) false
     (λ fails. absurd (true≢false (sym fails ∙ c.requires.goes_on)))
     (λ holds quiet. refl)
@@ -90,4 +90,4 @@ returns-in-Err-clause-told g c =
     (λ bytes told. tells_none _ c.args.judging.now c.args.options.now bytes start)
     (λ bytes told programme is. tt) tt refl refl risen
     (λ index is.
-    let first : index ≡ 0 = cc in rw first (fails_first_piece _ _ found.kept)))
+    let first : index ≡ 0 = cc in rw first (fails_first_piece _ _ found.unread)))

@@ -1,15 +1,15 @@
 -- What is heard once the first PES packet was found, and where the source failed before:
 -- heard_kept, none_heard.
 use Rattle.std.proofs.Common.{◌≡◌, ◌+◌, arith, inl, inr}
-use Rattle.sub_listing.specs.DeviceCall.{source_call}
+use Rattle.sub_listing.specs.DeviceCall.{read_call}
 use Rattle.sub_answer.proofs.ListenListingLemmas.{heard_kept, none_heard}
 use Rattle.sub_answer.proofs.answering.listen.print_state_of.Goals as goal
 
 pub returns-in-Ok-clause-exact : goal.returns-in-Ok-clause-exact
 returns-in-Ok-clause-exact g c =
     let counted = c.in-Ok.ensures.count in
-    let same : g.S.Source.failure_count c.find.new.source
-    ≡ g.S.Source.failure_count c.args.pes.now = omega (arith, counted) in
+    let same : g.P.Pieces.failure_count c.find_first.new.self
+    ≡ g.P.Pieces.failure_count c.args.pes.now = omega (arith, counted) in
     record {
       number = c.in-Ok.first;
       starts = λ n is. inl (c.in-Ok.ensures.first n is);
@@ -21,8 +21,8 @@ returns-in-Ok-clause-exact g c =
 pub returns-in-Err-clause-exact : goal.returns-in-Err-clause-exact
 returns-in-Err-clause-exact g c =
     let counted = c.in-Err.ensures.count in
-    let risen : g.S.Source.failure_count c.find.new.source
-    ≡ g.S.Source.failure_count c.args.pes.now + 1 = omega (arith, counted) in
+    let risen : g.P.Pieces.failure_count c.find_first.new.self
+    ≡ g.P.Pieces.failure_count c.args.pes.now + 1 = omega (arith, counted) in
     record {
       number = c.in-Err.at.pes;
       starts = λ n is.
@@ -30,12 +30,12 @@ returns-in-Err-clause-exact g c =
             c.in-Err.ensures.before n is,
             c.in-Err.ensures.failed,
             c.in-Err.ensures.left n is,
-            (risen, c.in-Err.ensures.kept),
+            (risen, c.in-Err.ensures.unread),
           );
       heard =
           none_heard _ _ c.in-Err.at.pes
-          (source_call g.S.Source.remaining g.S.Source.failure_count c.args.pes.now
-          c.find.new.source)
-          _ _ c.in-Err.ensures.kept risen
+          (read_call g.P.Pieces.remaining g.P.Pieces.left g.P.Pieces.failure_count c.args.pes.now
+          c.find_first.new.self)
+          _ _ c.in-Err.ensures.unread risen
           (rw c.line_of_failed_read.ensures at c.print_fault_line.ensures.printed);
     }

@@ -1,0 +1,15 @@
+-- The PES packet that was found waits.
+use Rattle.std.proofs.Common.{◌≤◌, List, ℕ, arith, length, subst, take}
+use Rattle.ttx_pes.specs.Pieces.{IsPiece}
+use Rattle.mpeg_ts.proofs.joining.Joining.grow.Goals as goal
+
+pub invariant_of-self-in-Whole : goal.invariant_of-self-in-Whole
+invariant_of-self-in-Whole c =
+    let size = c.in-Whole.size in
+    record {
+      last = omega (arith, c.add.ensures.len);
+      room = λ e. absurd cc;
+      waits =
+          subst (λ (l : List ℕ). IsPiece (take size l) × (size ≤ length l)) c.as_slice.ensures
+          (c.find_packet.ensures.packet size c.in-Whole.is);
+    }

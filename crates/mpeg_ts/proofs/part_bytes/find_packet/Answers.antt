@@ -1,0 +1,13 @@
+-- The PES packet that bytes begin with is a piece: packet_found.
+use Rattle.std.proofs.Common.{◌∙◌}
+use Rattle.mpeg_ts.proofs.ReadyLemmas.{packet_found, refused_found}
+use Rattle.mpeg_ts.proofs.part_bytes.find_packet.Goals as goal
+
+pub returns-clause-packet : goal.returns-clause-packet
+returns-clause-packet c = λ size is.
+    packet_found c.args.bytes.now size c.found_at_front.ensures.fit
+    (c.found_at_front.ensures.found ∙ is)
+
+pub returns-clause-other : goal.returns-clause-other
+returns-clause-other c = λ fault is.
+    refused_found c.args.bytes.now fault (c.found_at_front.ensures.found ∙ is)

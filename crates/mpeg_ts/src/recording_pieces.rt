@@ -1,0 +1,176 @@
+//! The pieces that the packets of a PID carry: PES packets and marks.
+ghost use Rattle.std.specs.Prelude.{◌≡◌, Some, false, is_ok, option_map, true};
+ghost use Rattle.std.specs.Io.KnownBytes.{Consumes};
+ghost use Rattle.sub_io.specs.Asking.{Asks};
+ghost use Rattle.sub_io.specs.Device.{CanFail, CountsFailure};
+ghost use Rattle.sub_io.specs.Reading.{AreBytes};
+ghost use Rattle.ttx_pes.specs.Advancing.{Advances, lends_none};
+ghost use Rattle.ttx_pes.specs.Pieces.{IsPiece};
+ghost use Rattle.mpeg_ts.specs.Carried.{carried};
+ghost use Rattle.mpeg_ts.specs.PacketSize.{bytes_of};
+ghost use Rattle.mpeg_ts.specs.Recording.{at_start, left_of};
+ghost use Rattle.mpeg_ts.specs.Stream.{StreamValue, gives_some, is_some_ready};
+ghost use Rattle.mpeg_ts.specs.Stream.{still_given};
+
+use crate::stream::Stream;
+use crate::waiting::Next;
+use crate::{PacketSize, Pid};
+use std::marker::Model;
+use sub_io::{Failed, Source};
+use ttx_pes::{Came, FailedAt, NumberedPieces, Pieces, TakePiece};
+
+/// Gives the PES packets that the packets of one PID of a transport stream carry (ISO/IEC 13818-1),
+/// one after another. Where something is missing between two of them it gives a mark, 184 bytes
+/// that begin as a PES packet and are FF from byte 6 on (own).
+///
+/// It gives a PES packet before any byte behind its last packet is asked for, but the first byte
+/// of the next where that packet was found out of step; a mark as soon as it is known. It takes no
+/// memory beside its own.
+///
+/// Contracts see it as the source inside, what was read of it, and whether it was told that no
+/// piece begins what is left.
+#[derive(Drop)]
+pub struct RecordingPieces<S> {
+    inner: S,
+    stream: Stream,
+    // No piece begins what is left, and that was told.
+    is_over: bool,
+}
+
+impl<S> Model for RecordingPieces<S> {
+    ghost use Rattle.std.specs.Prelude.{◌≡◌, true};
+    ghost use Rattle.mpeg_ts.specs.Recording.{IsAtRest, RecordingValue};
+
+    ghost Value = { RecordingValue S };
+
+    ghost view = { λ r. record { device = r.inner; stream = r.stream; is_over = r.is_over } };
+
+    ghost invariant = { λ r. r.is_over ≡ true → IsAtRest r.stream };
+}
+
+impl<S: Source> RecordingPieces<S> {
+    /// The pieces of that PID, at the start of a recording, of which as many as 2^48 bytes are
+    /// read.
+    #[tactic(auto, using(crate::proofs::CarriedLemmas::carried_told))]
+    pub fn new(source: S, pid: Pid, packet_size: PacketSize) -> Self
+        ensures start { result ≡ at_start source pid (bytes_of packet_size) }
+        // What it gives is what the packets of the PID carry in the recording.
+        ensures carried { still_given result.stream (S.remaining result.device)
+            ≡ option_map (carried pid (bytes_of packet_size)) (S.remaining source) }
+    {
+        RecordingPieces {
+            inner: source,
+            stream: Stream::new(pid, packet_size),
+            is_over: false,
+        }
+    }
+
+    /// The bytes that no piece begins, once it was told that none does: they are all that is left.
+    /// No byte before that.
+    #[tactic(auto, using(crate::proofs::RecordingLemmas::rests))]
+    pub fn read(&self) -> &[u8]
+        ensures { Consumes (still_given self.now.stream (S.remaining self.now.device))
+            (left_of self.now.is_over (still_given self.now.stream (S.remaining self.now.device)))
+            result.now }
+    {
+        if self.is_over {
+            self.stream.bytes()
+        } else {
+            &[]
+        }
+    }
+
+    /// Takes these bytes.
+    #[tactic(auto, using(crate::proofs::RecordingLemmas::rests))]
+    pub fn pass_read(&mut self)
+        ensures all { still_given self.new.stream (S.remaining self.new.device)
+            ≡ left_of self.old.is_over (still_given self.old.stream (S.remaining self.old.device)) }
+        ensures over { self.new.is_over ≡ false }
+        ensures count { S.failure_count self.new.device ≡ S.failure_count self.old.device }
+    {
+        if self.is_over {
+            self.is_over = false;
+            self.stream.hand_over();
+        }
+    }
+
+    /// The source inside. What is ready is lost.
+    pub fn into_inner(self) -> S
+        ensures { result ≡ self.device }
+    {
+        let RecordingPieces { inner, .. } = self;
+        inner
+    }
+}
+
+impl<S: Source> Pieces for RecordingPieces<S> {
+    ghost remaining = { λ r. still_given r.stream (S.remaining r.device) };
+
+    ghost left = { λ r. left_of r.is_over (still_given r.stream (S.remaining r.device)) };
+
+    ghost failure_count = { λ r. S.failure_count r.device };
+
+    ghost ready = { λ r. is_some_ready r.stream };
+
+    /// Has a taker take a PES packet or a mark. It reads on where none is ready.
+    ///
+    /// # Errors
+    ///
+    /// `Failed` where the source inside fails.
+    #[tactic(auto, using(crate::proofs::RecordingLemmas::takes))]
+    #[inline(always)]
+    fn next<T: TakePiece>(&mut self, taker: &mut T) -> Result<Came<T::Answer>, Failed>
+        requires { CanFail (S.failure_count self.old.device) }
+        ensures came { Advances (still_given self.old.stream (S.remaining self.old.device))
+            (still_given self.new.stream (S.remaining self.new.device))
+            (left_of self.new.is_over (still_given self.new.stream (S.remaining self.new.device)))
+            T.is_take taker.old taker.new result }
+        ensures ready { is_some_ready self.old.stream ≡ true → is_ok result ≡ true }
+        // No byte is asked for behind those that give some: a PES packet or a mark.
+        ensures asks { (read : StreamValue) × Asks S.is_pull S.lent S.remaining
+            (gives_some self.old.stream) self.old.device (is_ok result)
+            (gives_some read) self.new.device }
+        ensures same { lends_none self.new ≡ lends_none self.old }
+        ensures count { CountsFailure
+            (S.failure_count self.old.device) result (S.failure_count self.new.device) }
+    {
+        self.is_over = false;
+        self.stream.read_on(&mut self.inner)?;
+        let next = self.stream.take_next();
+        match next {
+            Next::Nothing => Ok(Came::End),
+            Next::Rest(fault) => {
+                self.is_over = true;
+                Ok(Came::Rest(fault))
+            }
+            _ => Ok(Came::Piece(take_by(taker, self.stream.taken(next)))),
+        }
+    }
+
+    /// Whether one is ready.
+    #[inline(always)]
+    fn is_ready(&self) -> bool {
+        !self.stream.is_idle()
+    }
+}
+
+impl<S: Source> NumberedPieces for RecordingPieces<S> {
+    ghost first = { λ r. Some 0 };
+
+    ghost passed = { λ r. 0 };
+
+    /// The first one is that of the recording.
+    fn find_first(&mut self) -> Result<u64, FailedAt> {
+        Ok(0)
+    }
+}
+
+// Has a taker take a piece, which are bytes.
+#[inline(always)]
+fn take_by<T: TakePiece>(taker: &mut T, piece: &[u8]) -> T::Answer
+    requires { IsPiece piece.now }
+    ensures takes { T.is_take taker.old piece.now result taker.new }
+    ensures fit { AreBytes piece.now }
+{
+    taker.take(piece)
+}

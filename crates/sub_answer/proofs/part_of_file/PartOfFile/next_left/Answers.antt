@@ -1,0 +1,30 @@
+-- What comes, so many pieces at most: by LimitedLemmas.
+use Rattle.std.proofs.Common.{◌∙◌, ℕ, Option, Result, Ok, subst, sym}
+use Rattle.sub_io.specs.declared.source.Failed.{Failed}
+use Rattle.ttx_pes.specs.Advancing.{Advances, held_then, limited_behind, limited_told}
+use Rattle.ttx_pes.specs.declared.pieces.Came.{Came}
+use Rattle.ttx_pes.proofs.LimitedLemmas.{came_limited, over_limited}
+use Rattle.sub_answer.proofs.part_of_file.PartOfFile.next_left.Goals as goal
+
+pub returns-then-is_over-clause-came : goal.returns-then-is_over-clause-came
+returns-then-is_over-clause-came g c =
+    let pieces = c.args.self.now.pieces in
+    over_limited Failed g.T.TakePiece.is_take _ c.args.self.now.left
+    (held_then pieces.begun (g.S.Source.remaining pieces.source.now))
+    (g.S.Source.remaining pieces.source.now) (sym c.is_over.ensures ∙ c.if-is_over.true)
+
+pub returns-clause-came : goal.returns-clause-came
+returns-clause-came g c =
+    let left = c.args.self.now.left in
+    let before = c.args.self.now.pieces in
+    let after = c.next.new.self in
+    let old = held_then before.begun (g.S.Source.remaining before.source.now) in
+    let new = held_then after.begun (g.S.Source.remaining after.source.now) in
+    let behind = g.S.Source.remaining after.source.now in
+    subst (λ (l : Option ℕ).
+    Advances (limited_told left old) (limited_told l new) (limited_behind l new behind)
+    g.T.TakePiece.is_take c.args.taker.now c.next.new.taker
+    (let r : Result (Came _) Failed = Ok c.in_ok-came.came in r))
+    (sym c.left_after-self.ensures)
+    (came_limited Failed _ _ _ _ _ _ left c.in_ok-came.came
+    (sym c.is_over.ensures ∙ c.if-is_over.false) c.in_ok-came.ensures.came)

@@ -1,0 +1,59 @@
+-- What is told of the file as one value, and what `check` answers: AnsweredLemmas.
+use Rattle.std.proofs.Common.{drop, sym, take}
+use Rattle.std.proofs.lemmas.List.{take-append-drop}
+use Rattle.stl_rows.specs.Judged.{is_beside}
+use Rattle.sub_plan.specs.FrameTime.{clock_of}
+use Rattle.sub_rules.specs.FrameRules.{is_undecided_beside, task_beside}
+use Rattle.sub_rules.specs.Pieces.{piece_file_of}
+use Rattle.sub_checker.proofs.PieceWaysLemmas.{front_of}
+use Rattle.sub_check.proofs.AnsweredLemmas.{answers_at_once, answers_by, checked_first}
+use Rattle.sub_check.proofs.AnsweredLemmas.{programme_known, tells_events, tells_known}
+use Rattle.sub_trusted.proofs.TrustedOnAirLemmas.{law_of_trusted, law_of_trusted_known}
+use Rattle.sub_trusted.proofs.TrustedOnAirLemmas.{law_of_trusted_repeats}
+use Rattle.sub_check.proofs.checking.check_all_pieces.Goals as goal
+
+pub returns-clause-told : goal.returns-clause-told
+returns-clause-told g c = λ bytes told.
+    tells_events c.args.judging.now c.args.options.now bytes _ _ _ c.tell_pieces.result
+    (λ pieces unread reads. c.tell_pieces.ensures.exact pieces unread bytes told reads)
+
+pub returns-clause-first : goal.returns-clause-first
+returns-clause-first g c = λ programme is none at_once bytes told.
+    answers_at_once programme c.args.options.now bytes c.tell_pieces.result none at_once
+    (checked_first programme c.args.options.now bytes _ _ _ c.tell_pieces.result
+    c.tell_pieces.ensures.options
+    (programme_known _ programme is c.tell_pieces.ensures.programme)
+    (tells_known c.args.judging.now programme c.args.options.now bytes _ _ _ c.tell_pieces.result is
+    (λ pieces unread reads. c.tell_pieces.ensures.exact pieces unread bytes told reads)))
+
+pub returns-clause-first_by : goal.returns-clause-first_by
+returns-clause-first_by g c = λ programme is bytes told.
+    answers_by programme c.args.options.now bytes c.tell_pieces.result
+    (checked_first programme c.args.options.now bytes _ _ _ c.tell_pieces.result
+    c.tell_pieces.ensures.options
+    (programme_known _ programme is c.tell_pieces.ensures.programme)
+    (tells_known c.args.judging.now programme c.args.options.now bytes _ _ _ c.tell_pieces.result is
+    (λ pieces unread reads. c.tell_pieces.ensures.exact pieces unread bytes told reads)))
+
+pub returns-clause-trusted : goal.returns-clause-trusted
+returns-clause-trusted g c = λ none at_once bytes told from to there.
+    law_of_trusted c.args.judging.now.programme c.args.options.now _ (is_beside c.args.judging.now)
+    (is_undecided_beside c.args.judging.now) _ from to none at_once there
+
+pub returns-clause-trusted_by : goal.returns-clause-trusted_by
+returns-clause-trusted_by g c = λ bytes told from to there.
+    law_of_trusted_repeats c.args.judging.now.programme c.args.options.now _
+    (is_beside c.args.judging.now) (is_undecided_beside c.args.judging.now) _ from to
+    c.tell_pieces.ensures.programme there
+
+pub returns-clause-known : goal.returns-clause-known
+returns-clause-known g c = λ bytes told from to there frame first within near.
+    let file = piece_file_of (clock_of c.args.options.now) bytes in
+    law_of_trusted_known (task_beside c.args.judging.now c.args.options.now file.unread) file.pieces
+    from to there frame first within near
+
+pub returns-clause-begins : goal.returns-clause-begins
+returns-clause-begins g c = λ bytes told n.
+    let file = piece_file_of (clock_of c.args.options.now) bytes in
+    front_of (task_beside c.args.judging.now c.args.options.now file.unread) file.pieces
+    (take n file.pieces) (drop n file.pieces) (sym (take-append-drop n file.pieces))

@@ -1,0 +1,35 @@
+-- What is said of the pieces is said of the bytes of the source.
+use Rattle.std.proofs.Common.{ap, rules}
+use Rattle.sub_check.proofs.FileLemmas.{fails_at_piece}
+use Rattle.sub_check.proofs.checking_file.check_all.Goals as goal
+
+pub returns-clause-first : goal.returns-clause-first
+returns-clause-first g c = λ programme is none at_once bytes told.
+    c.check_all_pieces.ensures.first programme is none at_once bytes
+    (rw (c.new-pieces.ensures.none, c.new-pieces.ensures.now) told)
+
+pub returns-clause-first_by : goal.returns-clause-first_by
+returns-clause-first_by g c = λ programme is bytes told.
+    c.check_all_pieces.ensures.first_by programme is bytes
+    (rw (c.new-pieces.ensures.none, c.new-pieces.ensures.now) told)
+
+pub returns-clause-trusted : goal.returns-clause-trusted
+returns-clause-trusted g c = λ none at_once bytes told.
+    c.check_all_pieces.ensures.trusted none at_once bytes
+    (rw (c.new-pieces.ensures.none, c.new-pieces.ensures.now) told)
+
+pub returns-clause-trusted_by : goal.returns-clause-trusted_by
+returns-clause-trusted_by g c = λ bytes told.
+    c.check_all_pieces.ensures.trusted_by bytes
+    (rw (c.new-pieces.ensures.none, c.new-pieces.ensures.now) told)
+
+pub returns-clause-known : goal.returns-clause-known
+returns-clause-known g c = λ bytes told.
+    c.check_all_pieces.ensures.known bytes
+    (rw (c.new-pieces.ensures.none, c.new-pieces.ensures.now) told)
+
+pub returns-clause-read : goal.returns-clause-read
+returns-clause-read g c = λ pes is.
+    fails_at_piece _ _ _ _ _ c.new-pieces.ensures.none
+    (ap g.S.Source.remaining c.new-pieces.ensures.now) (search rules) pes
+    (c.check_all_pieces.ensures.read pes is)

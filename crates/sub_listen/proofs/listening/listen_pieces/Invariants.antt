@@ -1,0 +1,37 @@
+-- After so many PES packets the receiver ran through what it hears of their packets.
+use Rattle.std.proofs.Common.{◌≡◌, ◌*◌, ◌-◌, ◌≤◌, ℕ, List, Option, Some}
+use Rattle.ttx_page.specs.Screen.{display}
+use Rattle.ttx_pes.specs.PesPacket.{most_units}
+use Rattle.ttx_pes.specs.Reader.{TakesPackets}
+use Rattle.ttx_pes.specs.Reading.{most_packets}
+use Rattle.ttx_pes.specs.declared.progress.Progress.TheVariants.{Reading}
+use Rattle.stl_file.specs.TimeCode.{day}
+use Rattle.sub_plan.specs.FrameTime.{clock_of}
+use Rattle.sub_rules.specs.FrameRules.{Unread}
+use Rattle.sub_rules.specs.PesReading.{ReadsAs}
+use Rattle.sub_rules.specs.Transmission.{Transmission}
+use Rattle.sub_listen.proofs.WaysOutLemmas.{Reaches}
+use Rattle.sub_listen.proofs.listening.listen_pieces.Given as goal
+
+abbrev pub invariant-packets : goal.invariant-packets
+invariant-packets g l = record {
+  reading : l.reader.progress ≡ Reading l.index;
+  few_packets : l.index ≤ most_packets;
+  taken : TakesPackets l.index (g.P.Pieces.remaining l.fn.pes) (g.P.Pieces.remaining l.pes);
+  failures : g.P.Pieces.failure_count l.pes ≡ g.P.Pieces.failure_count l.fn.pes;
+  device : g.P.Pieces.device l.pes ≡ g.P.Pieces.device l.fn.pes;
+  tuned : g.R.Receiver.tuned_to l.receiver ≡ g.R.Receiver.tuned_to l.fn.receiver;
+  few : l.number ≤ most_units * l.index;
+  few_sent : l.sent ≤ most_units * l.index;
+  day : l.least ≤ day;
+  told :
+      (frames : Transmission) (unread : Option Unread) (bytes : List ℕ)
+      → g.P.Pieces.remaining l.fn.pes ≡ Some bytes
+      → ReadsAs (clock_of l.listening.options) 0 bytes frames unread
+      → Reaches g.R.Receiver.leaves l.listening frames unread (g.R.Receiver.tuned_to l.fn.receiver)
+      (display (g.R.Receiver.state l.fn.receiver) l.fn.screen) (g.P.Pieces.remaining l.pes)
+      l.index l.number l.sent l.least (display (g.R.Receiver.state l.receiver) l.screen);
+}
+
+abbrev pub decreases-packets : goal.decreases-packets
+decreases-packets g l = most_packets - l.index

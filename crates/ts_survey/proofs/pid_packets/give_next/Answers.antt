@@ -1,0 +1,13 @@
+-- What was taken stood first.
+use Rattle.ts_survey.proofs.pid_packets.give_next.Goals as goal
+
+pub returns : goal.returns
+returns g c =
+    let first = c.take_first-next.ensures.first in
+    record {
+      piece = c.taken.result.now;
+      joined = rw c.taken.ensures first.0;
+      same = first.1;
+      some = rw c.taken.ensures first.2;
+      taken = c.take.ensures;
+    }

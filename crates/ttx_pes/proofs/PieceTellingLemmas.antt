@@ -1,0 +1,195 @@
+-- What a reader tells of what came: tells_none, tells_rest, tells_kept.
+use Rattle.std.proofs.Common.{◌≡◌, ◌≢◌, ℕ, List, [], ◌++◌, length, take, drop, Option, None}
+use Rattle.std.proofs.Common.{Some, Bool, true, false, Result, Ok, Err, refl, sym, subst, ◌∙◌}
+use Rattle.std.proofs.Common.{arith, inl, inr}
+use Rattle.std.proofs.lemmas.Option.{same_Some}
+use Rattle.std.proofs.KnownBytes.{Consumes-kept, Consumes-nil}
+use Rattle.std.proofs.lemmas.Bool.{cases_lt, le-ltb}
+use Rattle.std.proofs.lemmas.Bool.Decides.{nat_tests}
+use Rattle.std.proofs.lemmas.List.{drop-drop}
+use Rattle.std.specs.Io.KnownBytes.{Consumes, IsAtEnd, Keeps}
+use Rattle.ttx_pes.specs.Advancing.{Advances, IsRest, TakesPieceBy, fault_of_size, rest_fault}
+use Rattle.ttx_pes.specs.Comparing.{TakesDataField}
+use Rattle.ttx_pes.specs.Fault.{is_of_piece, is_read}
+use Rattle.ttx_pes.specs.PesPacket.{PesValue}
+use Rattle.ttx_pes.specs.Pieces.{IsPiece, TakesPiece}
+use Rattle.ttx_pes.specs.Reader.{TellsPacket}
+use Rattle.ttx_pes.specs.Reading.{is_format_fault, most_packets, size_at, value_at}
+use Rattle.ttx_pes.specs.Taking.{KeepsPiece, KeptValue, ReadsValue, Settles}
+use Rattle.ttx_pes.specs.declared.fault.PesFault.{PesFault}
+use Rattle.ttx_pes.specs.declared.fault.PesFault.TheVariants as fault
+use Rattle.ttx_pes.specs.declared.pieces.Came.{Came}
+use Rattle.ttx_pes.specs.declared.pieces.Came.TheVariants.{Piece}
+use Rattle.ttx_pes.specs.declared.progress.Progress.TheVariants.{Reading}
+use Rattle.ttx_pes.proofs.PieceLemmas.{taken_piece}
+use Rattle.ttx_pes.proofs.PieceRoomLemmas.{piece_sized, rest_packet, rest_short}
+use Rattle.ttx_pes.proofs.TakingLemmas.{settled_field, settles_as, tells_end}
+use Rattle.ttx_pes.proofs.TakingLemmas.{tells_settled, tells_too_many, whole_settles}
+
+-- ---- which faults
+
+-- A fault of the format, of none of a piece, and of no device.
+abbrev pub IsOfRest : PesFault → Type 0
+IsOfRest f = (is_format_fault f ≡ true) × (is_of_piece f ≡ false) × (is_read f ≡ false)
+
+size_kind : (b : List ℕ) (f : PesFault) → size_at b ≡ Err f → IsOfRest f
+unfolding size_at
+size_kind b f e = grind (arith, nat_tests)
+
+cut_fault : (count size : ℕ) (f : PesFault)
+    → (let r : Result ℕ PesFault = Ok size in fault_of_size count r) ≡ Some f
+    → fault.Truncated ≡ f
+cut_fault count size f e = grind (arith, nat_tests)
+
+fault_kind : (count : ℕ) (b : List ℕ) (r : Result ℕ PesFault) (f : PesFault)
+    → size_at b ≡ r
+    → fault_of_size count r ≡ Some f
+    → IsOfRest f
+fault_kind count b (Ok size) f is e =
+    subst IsOfRest (cut_fault count size f e) (refl, refl, refl)
+fault_kind count b (Err g) f is e = subst IsOfRest (same_Some _ _ e) (size_kind b g is)
+
+-- That is the fault of bytes that no piece begins.
+pub rest_kind : (b : List ℕ) (f : PesFault) → rest_fault b ≡ Some f → IsOfRest f
+unfolding rest_fault
+rest_kind b f e = elim (cases_lt (length b) 6) [
+  | inl lt ↦
+      subst IsOfRest (same_Some _ _ (sym (rest_short b lt) ∙ e)) (refl, refl, refl)
+  | inr le ↦
+      fault_kind (length b) (take 6 b) (size_at (take 6 b)) f refl
+      (rw (le-ltb (length b) 6 le) at e)
+]
+
+pub shown_kind : (old left : Option (List ℕ)) (f : PesFault) → IsRest old left f → IsOfRest f
+shown_kind old left f r =
+    rest_kind (r.bytes ++ []) f (r.shows.all [] (λ end. refl))
+
+-- ---- what came
+
+module _ {T A : Type 0} (E : Type 0) (is_take : T → List ℕ → A → T → Type 0)
+    (old new left : Option (List ℕ)) (before after : T) (came : Came A)
+    (on : Advances old new left is_take before after (let r : Result (Came A) E = Ok came in r))
+  where
+    pub piece_came : (answer : A) → came ≡ Piece answer
+        → TakesPieceBy is_take old new before answer after × (left ≡ new)
+    piece_came answer is =
+        subst (λ (c : Came A).
+        Advances old new left is_take before after (let r : Result (Came A) E = Ok c in r)) is on
+
+-- ---- where no piece came
+
+pub tells_none : (given : ℕ) (old new left : Option (List ℕ))
+    → Keeps old new
+    → left ≡ new
+    → IsAtEnd new
+    → TellsPacket (Reading given) old left (Ok None)
+tells_none given old new left kept same end =
+    subst (λ (l : Option (List ℕ)). TellsPacket (Reading given) old l (Ok None)) (sym same)
+    (tells_end given old new [] (Consumes-kept old old new [] (Consumes-nil old) kept) refl end)
+
+pub tells_rest : (given : ℕ) (old left : Option (List ℕ)) (f : PesFault)
+    → given ≢ most_packets
+    → IsRest old left f
+    → TellsPacket (Reading given) old left (Err f)
+tells_rest given old left f ne r =
+    let settles : Settles old left r.bytes (Err f) = record {
+      consumed = r.consumed;
+      some = r.shows.some;
+      answer = λ rest end. rest_packet (r.bytes ++ rest) f (r.shows.all rest end);
+    } in
+    tells_settled given old left r.bytes (Err f) settles ne tt (shown_kind old left f r).0
+
+-- More than a day has frames.
+pub tells_rest_more : (given : ℕ) (old left : Option (List ℕ)) (f : PesFault)
+    → given ≡ most_packets
+    → IsRest old left f
+    → TellsPacket (Reading given) old left (Err fault.TooMany)
+tells_rest_more given old left f full r =
+    tells_too_many given old left r.bytes r.consumed r.shows.some full
+
+-- ---- where one came
+
+settles_piece : (old new : Option (List ℕ)) (p : List ℕ) → IsPiece p → Consumes old new p
+    → Settles old new p (value_at (drop 6 p))
+settles_piece old new p is consumed =
+    let s = piece_sized p is in
+    whole_settles old new p consumed (omega (arith, s.1)) s.0
+
+module _ {T A : Type 0} (is_take : T → List ℕ → A → T → Type 0) (given : ℕ)
+    (old new left : Option (List ℕ)) (before : T) (answer : A) (after : T)
+  where
+    pub tells_piece_more : given ≡ most_packets
+        → TakesPieceBy is_take old new before answer after
+        → left ≡ new
+        → TellsPacket (Reading given) old left (Err fault.TooMany)
+    tells_piece_more full t same =
+        let s = piece_sized t.bytes t.is_piece in
+        subst (λ (l : Option (List ℕ)). TellsPacket (Reading given) old l (Err fault.TooMany))
+        (sym same) (tells_too_many given old new t.bytes t.consumed (omega (arith, s.1)) full)
+
+module _ (given : ℕ) (old new left : Option (List ℕ)) (before after : KeptValue)
+    (ne : given ≢ most_packets)
+  where
+    -- It is a PES packet.
+    pub tells_kept : (same : Bool)
+        → TakesPieceBy KeepsPiece old new before (let r : Result Bool PesFault = Ok same in r) after
+        → left ≡ new
+        → TellsPacket (Reading given) old left (Ok (Some after.frame))
+        × TakesDataField old left after.frame after.data_field
+    tells_kept same t is =
+        let p = t.bytes in
+        let v = after.frame in
+        let settles : Settles old left p (Ok v) =
+        subst (λ (l : Option (List ℕ)). Settles old l p (Ok v)) (sym is)
+        (settles_as old new p (drop 6 p) (Ok v) (settles_piece old new p t.is_piece t.consumed) refl
+        t.takes.value) in (
+          tells_settled given old left p (Ok v) settles ne t.fit tt,
+          settled_field old left p (drop 6 p) after.data_field v settles t.fit refl
+              (t.takes.field ∙ sym (drop-drop 39 6 p)),
+        )
+
+    -- It is none.
+    pub tells_refused : (f : PesFault)
+        → TakesPieceBy KeepsPiece old new before (let r : Result Bool PesFault = Err f in r) after
+        → left ≡ new
+        → TellsPacket (Reading given) old left (Err f) × TakesPiece old left f
+    tells_refused f t is =
+        let p = t.bytes in
+        let s = piece_sized p t.is_piece in
+        let whole : Settles old left p (value_at (drop 6 p)) =
+        subst (λ (l : Option (List ℕ)). Settles old l p (value_at (drop 6 p))) (sym is)
+        (settles_piece old new p t.is_piece t.consumed) in (
+          tells_settled given old left p (Err f)
+              (settles_as old left p (drop 6 p) (Err f) whole refl t.takes.err) ne tt t.takes.kind,
+          taken_piece old left p (drop 6 p) f whole refl t.takes.err t.fit (omega (arith, s.1)) s.0,
+        )
+
+module _ (given : ℕ) (old new left : Option (List ℕ)) (before after : PesValue)
+    (ne : given ≢ most_packets)
+  where
+    -- Its value was read.
+    pub tells_read :
+        TakesPieceBy ReadsValue old new before (let r : Result (Unit {0}) PesFault = Ok tt in r)
+        after
+        → left ≡ new
+        → TellsPacket (Reading given) old left (Ok (Some after))
+    tells_read t is =
+        let p = t.bytes in
+        let settles : Settles old left p (Ok after) =
+        subst (λ (l : Option (List ℕ)). Settles old l p (Ok after)) (sym is)
+        (settles_as old new p (drop 6 p) (Ok after) (settles_piece old new p t.is_piece t.consumed)
+        refl t.takes.value) in
+        tells_settled given old left p (Ok after) settles ne t.fit tt
+
+    pub tells_unread : (f : PesFault)
+        → TakesPieceBy ReadsValue old new before (let r : Result (Unit {0}) PesFault = Err f in r)
+        after
+        → left ≡ new
+        → TellsPacket (Reading given) old left (Err f)
+    tells_unread f t is =
+        let p = t.bytes in
+        let whole : Settles old left p (value_at (drop 6 p)) =
+        subst (λ (l : Option (List ℕ)). Settles old l p (value_at (drop 6 p))) (sym is)
+        (settles_piece old new p t.is_piece t.consumed) in
+        tells_settled given old left p (Err f)
+        (settles_as old left p (drop 6 p) (Err f) whole refl t.takes.err) ne tt t.takes.kind

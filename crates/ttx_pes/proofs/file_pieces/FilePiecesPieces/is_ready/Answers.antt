@@ -1,0 +1,10 @@
+-- Bytes that are lent hold the next piece where those at their front do.
+use Rattle.std.proofs.Common.{◌∙◌, sym}
+use Rattle.ttx_pes.proofs.LentPacketLemmas.{held_holds}
+use Rattle.ttx_pes.proofs.PieceRoomLemmas.{lends_is}
+use Rattle.ttx_pes.proofs.file_pieces.FilePiecesPieces.is_ready.Goals as goal
+
+pub returns-then-is_empty : goal.returns-then-is_empty
+returns-then-is_empty g c = λ yes.
+    lends_is _ _ (c.is_empty.ensures c.if-is_empty.true)
+    (held_holds _ _ c.held.ensures.lent (sym c.holds_packet.ensures ∙ yes))

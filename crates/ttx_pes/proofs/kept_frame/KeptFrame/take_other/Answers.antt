@@ -1,0 +1,35 @@
+-- What is kept of a piece, in the room: by KeptFrameLemmas.
+use Rattle.std.proofs.Common.{◌∙◌, Bool, false, Ok, Result, arith, subst, sym}
+use Rattle.std.proofs.lemmas.Bool.{true≢false}
+use Rattle.ttx_pes.specs.Taking.{KeepsPiece, KeptValue}
+use Rattle.ttx_pes.specs.declared.fault.PesFault.{PesFault}
+use Rattle.ttx_pes.proofs.KeptFrameLemmas.{keeps_other, kept_in, none_known, other_field}
+use Rattle.ttx_pes.proofs.kept_frame.KeptFrame.take_other.Goals as goal
+
+pub invariant_of-self-in-Ok-false : goal.invariant_of-self-in-Ok-false
+invariant_of-self-in-Ok-false c =
+    let size = c.body_of_piece.ensures.size in
+    rw (other_field c.take.new.self c.put_in_room.new.room c.args.piece.now
+    c.body_of_piece.result.now c.body_of_piece.ensures.value c.put_in_room.ensures
+    c.in-Ok-false.ensures.count size
+    (omega (arith, size, c.body_of_piece.ensures.short, c.put_in_room.array_long)))
+    c.in-Ok-false.ensures.known
+
+pub invariant_of-self-in-Err : goal.invariant_of-self-in-Err
+invariant_of-self-in-Err c = rw c.clear.ensures none_known
+
+pub returns-in-Ok-false : goal.returns-in-Ok-false
+returns-in-Ok-false c =
+    let size = c.body_of_piece.ensures.size in
+    let same = c.in-Ok-false.ensures.same in
+    let there = other_field c.take.new.self c.put_in_room.new.room c.args.piece.now
+    c.body_of_piece.result.now c.body_of_piece.ensures.value c.put_in_room.ensures
+    c.in-Ok-false.ensures.count size
+    (omega (arith, size, c.body_of_piece.ensures.short, c.put_in_room.array_long)) in
+    subst (λ (k : KeptValue). KeepsPiece k c.args.piece.now
+    (let r : Result Bool PesFault = Ok false in r)
+    (kept_in c.take.new.self c.put_in_room.new.room)) c.self.view_is
+    (keeps_other c.self.inside.known c.take.new.self c.self.inside.room c.put_in_room.new.room
+    c.args.piece.now c.body_of_piece.result.now c.body_of_piece.ensures.value
+    c.in-Ok-false.ensures.value
+    (λ e. true≢false (sym (same.1 e) ∙ c.in-Ok-false.field-0-test)) there)

@@ -1,0 +1,146 @@
+-- What it is to take a piece, and which bytes are left where only so many may come.
+use Rattle.std.specs.Borrow.{GName}
+use Rattle.std.specs.Prelude.{◌≡◌, ℕ, zero, suc, ◌+◌, ◌-◌, ◌<◌, nat_lt, Bool, true, false, List, []}
+use Rattle.std.specs.Prelude.{Option, Some, None, Result, Ok, Err, length, take, if◌then◌else◌}
+use Rattle.std.specs.Prelude.{◌∷◌, ◌++◌, ◌≤◌, option_map}
+use Rattle.std.specs.Io.KnownBytes.{Consumes, IsAtEnd, Keeps, prepend_known}
+use Rattle.sub_io.specs.Reading.{AreBytes, IfTold}
+use Rattle.ttx_pes.specs.declared.fault.PesFault.{PesFault}
+use Rattle.ttx_pes.specs.declared.fault.PesFault.TheVariants.{Truncated}
+use Rattle.ttx_pes.specs.PieceRange.{behind_pieces, count_pieces, limited}
+use Rattle.ttx_pes.specs.Pieces.{IsPiece}
+use Rattle.ttx_pes.specs.LentPacket.{holds_packet}
+use Rattle.ttx_pes.specs.Reader.{FailsWithin, IsBegun}
+use Rattle.ttx_pes.specs.Reading.{size_at}
+use Rattle.ttx_pes.specs.declared.pieces.Came.{Came}
+use Rattle.ttx_pes.specs.declared.pieces.Came.TheVariants.{End, Piece, Rest}
+
+-- ---- one piece
+
+-- Why so many bytes are not all of a piece whose first six tell that size, if they are not.
+abbrev pub fault_of_size : ℕ → Result ℕ PesFault → Option PesFault
+fault_of_size count (Ok size) = if nat_lt count size then Some Truncated else None
+fault_of_size count (Err f) = Some f
+
+-- Why no piece begins these bytes, if none does.
+unfoldable pub rest_fault : List ℕ → Option PesFault
+rest_fault b =
+    if nat_lt (length b) 6 then Some Truncated else fault_of_size (length b) (size_at (take 6 b))
+
+-- Bytes that were read show why no piece begins those that were to come, whatever follows.
+pub record ShowRest (behind : Option (List ℕ)) (bytes : List ℕ) (f : PesFault) : Type 0 where
+  pub some : 0 < length bytes
+  pub all :
+      (more : List ℕ) → (IsAtEnd behind → more ≡ []) → rest_fault (bytes ++ more) ≡ Some f
+
+-- No piece begins the bytes for this fault, and those of them that were read show it.
+pub record IsRest (old behind : Option (List ℕ)) (f : PesFault) : Type 0 where
+  pub bytes : List ℕ
+  pub consumed : Consumes old behind bytes
+  pub shows : ShowRest behind bytes f
+
+-- The bytes that were taken are a piece, and a taker took it.
+pub record TakesPieceBy
+    {T A : Type 0} (is_take : T → List ℕ → A → T → Type 0) (old new : Option (List ℕ))
+    (before : T) (answer : A) (after : T)
+    : Type 0 where
+  pub bytes : List ℕ
+  pub is_piece : IsPiece bytes
+  pub fit : AreBytes bytes
+  pub consumed : Consumes old new bytes
+  pub takes : is_take before bytes answer after
+
+-- What came, by the bytes that were to come before, those that are to come then, and those that the
+-- device has still to give; and what a taker did that is called for a piece. A piece is taken
+-- whole. Where none came nothing is taken; where a read failed it failed within the next one.
+abbrev pub Advances : {T A E : Type 0}
+    → Option (List ℕ) → Option (List ℕ) → Option (List ℕ)
+    → (T → List ℕ → A → T → Type 0) → T → T → Result (Came A) E → Type 0
+Advances old new behind is_take before after (Ok End) =
+    Keeps old new × (behind ≡ new) × IsAtEnd new × (after ≡ before)
+Advances old new behind is_take before after (Ok (Piece answer)) =
+    TakesPieceBy is_take old new before answer after × (behind ≡ new)
+Advances old new behind is_take before after (Ok (Rest f)) =
+    Keeps old new × IsRest old behind f × (after ≡ before)
+Advances old new behind is_take before after (Err e) =
+    Keeps old new × FailsWithin old behind × (after ≡ before)
+
+-- It is not known of any that it asks no device.
+abbrev pub never_ready : {P : Type 0} → P → Bool
+never_ready pieces = false
+
+-- None holds its device by a reference.
+abbrev pub lends_none : {P : Type 0} → P → Option GName
+lends_none pieces = None
+
+-- ---- of a source
+
+-- The bytes that are held, and then those that a source tells.
+abbrev pub held_then : List ℕ → Option (List ℕ) → Option (List ℕ)
+held_then [] told = told
+held_then (x ∷ held) told = prepend_known (x ∷ held) told
+
+-- The source lends the next piece whole, or no piece is read further than it lends.
+abbrev pub lends_piece : List ℕ → List ℕ → Bool
+lends_piece [] lent = holds_packet lent
+lends_piece (x ∷ held) lent = false
+
+-- What these bytes are, which were read for one piece.
+abbrev pub AreRead : {E : Type 0} → Option (List ℕ) → List ℕ → Result (Came (Unit {0})) E → Type 0
+AreRead new bytes (Ok End) = (bytes ≡ []) × IsAtEnd new
+AreRead new bytes (Ok (Piece answer)) =
+    (6 ≤ length bytes) × (size_at (take 6 bytes) ≡ Ok (length bytes))
+AreRead new bytes (Ok (Rest f)) = ShowRest new bytes f
+AreRead new bytes (Err e) = IsBegun bytes
+
+-- These bytes were read for one piece.
+pub record ReadsPiece
+    {E : Type 0} (old new : Option (List ℕ)) (bytes : List ℕ) (result : Result (Came (Unit {0})) E)
+    : Type 0 where
+  pub consumed : Consumes old new bytes
+  pub are_read : AreRead new bytes result
+
+-- ---- several
+
+-- Of the first n pieces k were passed over: what is left to be passed over is what is left of all.
+abbrev pub HasPassed : ℕ → ℕ → Option (List ℕ) → Option (List ℕ) → Type 0
+HasPassed n k old new =
+    IfTold old (λ bytes. (rest : List ℕ)
+    × (new ≡ Some rest)
+    × (behind_pieces n bytes ≡ behind_pieces (n - k) rest)
+    × (count_pieces n bytes ≡ k + count_pieces (n - k) rest))
+
+-- The first n pieces were passed over, or all where there are fewer, and this is their number.
+abbrev pub Passes : ℕ → Option (List ℕ) → Option (List ℕ) → ℕ → Type 0
+Passes n old new passed =
+    IfTold old (λ bytes. (new ≡ Some (behind_pieces n bytes)) × (passed ≡ count_pieces n bytes))
+
+-- ---- so many at most
+
+-- No more may come.
+abbrev pub is_over : Option ℕ → Bool
+is_over None = false
+is_over (Some zero) = true
+is_over (Some (suc n)) = false
+
+-- One less may come.
+abbrev pub one_less : Option ℕ → Option ℕ
+one_less None = None
+one_less (Some zero) = Some zero
+one_less (Some (suc n)) = Some n
+
+-- How many may come then.
+abbrev pub left_after : {A : Type 0} → Option ℕ → Came A → Option ℕ
+left_after left End = left
+left_after left (Piece answer) = one_less left
+left_after left (Rest f) = None
+
+-- The bytes that are still to come.
+abbrev pub limited_told : Option ℕ → Option (List ℕ) → Option (List ℕ)
+limited_told None told = told
+limited_told (Some n) told = option_map (limited (Some n)) told
+
+-- The bytes that follow those that were read.
+abbrev pub limited_behind : Option ℕ → Option (List ℕ) → Option (List ℕ) → Option (List ℕ)
+limited_behind None told behind = behind
+limited_behind (Some n) told behind = option_map (limited (Some n)) told

@@ -1,0 +1,118 @@
+//! So many pieces at most.
+ghost use Rattle.std.specs.Prelude.{◌≡◌, ◌<◌, ◌≤◌, OnErr, OnOk, false, is_ok, true};
+ghost use Rattle.sub_io.specs.Device.{CanFail, CountsFailure};
+ghost use Rattle.ttx_pes.specs.Advancing.{Advances, HasPassed, Passes, is_over, limited_behind};
+ghost use Rattle.ttx_pes.specs.Advancing.{limited_told};
+ghost use Rattle.ttx_pes.specs.Advancing as specs;
+
+use crate::passing::pass_pieces;
+use crate::pieces::{Came, Pieces, TakePiece};
+use sub_io::Failed;
+
+/// Gives so many pieces at most of those that another gives; then nothing is left.
+#[derive(Drop)]
+pub struct LimitedPieces<P> {
+    inner: P,
+    // How many may still come; all where there is no number.
+    left: Option<u64>,
+}
+
+impl<P: Pieces> LimitedPieces<P> {
+    /// Those that `inner` gives, `left` at most; all of them where no number is given.
+    pub fn new(inner: P, left: Option<u64>) -> Self
+        ensures { result ≡ record { inner = inner; left = left } }
+    {
+        LimitedPieces { inner, left }
+    }
+
+    /// Passes over the first `n` pieces of those that are limited, or over all where there are
+    /// fewer, and answers how many it passed over, and whether the device failed then.
+    pub(crate) fn pass(&mut self, n: u64) -> (u64, Result<(), Failed>)
+        requires failures { CanFail (P.failure_count self.old.inner) }
+        ensures most { result.0 ≤ n }
+        ensures fewer { OnErr result.1 (result.0 < n) }
+        ensures passed { OnOk result.1
+            (Passes n (P.remaining self.old.inner) (P.remaining self.new.inner) result.0) }
+        ensures so_far { HasPassed n result.0
+            (P.remaining self.old.inner) (P.remaining self.new.inner) }
+        ensures limit { self.new.left ≡ self.old.left }
+        ensures same { P.device self.new.inner ≡ P.device self.old.inner }
+        ensures count { CountsFailure (P.failure_count self.old.inner) result.1
+            (P.failure_count self.new.inner) }
+    {
+        pass_pieces(n, &mut self.inner)
+    }
+
+    /// Who gives them.
+    pub fn into_inner(self) -> P
+        ensures { result ≡ self.inner }
+    {
+        let LimitedPieces { inner, .. } = self;
+        inner
+    }
+}
+
+impl<P: Pieces> Pieces for LimitedPieces<P> {
+    ghost remaining = { λ l. limited_told l.left (P.remaining l.inner) };
+
+    ghost left = { λ l. limited_behind l.left (P.remaining l.inner) (P.left l.inner) };
+
+    ghost failure_count = { λ l. P.failure_count l.inner };
+
+    ghost ready = { λ l. P.ready l.inner };
+
+    ghost device = { λ l. P.device l.inner };
+
+    #[inline(always)]
+    fn next<T: TakePiece>(&mut self, taker: &mut T) -> Result<Came<T::Answer>, Failed>
+        requires failures { CanFail (P.failure_count self.old.inner) }
+        // Once so many have come nothing is read.
+        ensures over { is_over self.old.left ≡ true → self.new ≡ self.old }
+        ensures came { Advances (limited_told self.old.left (P.remaining self.old.inner))
+            (limited_told self.new.left (P.remaining self.new.inner))
+            (limited_behind self.new.left (P.remaining self.new.inner) (P.left self.new.inner))
+            T.is_take taker.old taker.new result }
+        ensures ready { P.ready self.old.inner ≡ true → is_ok result ≡ true }
+        ensures same { P.device self.new.inner ≡ P.device self.old.inner }
+        ensures count { CountsFailure (P.failure_count self.old.inner) result
+            (P.failure_count self.new.inner) }
+    {
+        if is_over(self.left) {
+            return Ok(Came::End);
+        }
+        let came = self.inner.next(taker)?;
+        self.left = left_after(self.left, &came);
+        Ok(came)
+    }
+
+    fn is_ready(&self) -> bool {
+        self.inner.is_ready()
+    }
+}
+
+// No more may come.
+#[inline(always)]
+fn is_over(left: Option<u64>) -> bool
+    ensures { result ≡ is_over left }
+{
+    match left {
+        Some(left) => left == 0,
+        None => false,
+    }
+}
+
+// How many may come then. All that follows where no piece begins was to come.
+#[inline(always)]
+fn left_after<A>(left: Option<u64>, came: &Came<A>) -> Option<u64>
+    requires { is_over left ≡ false }
+    ensures { result ≡ specs.left_after left came.now }
+{
+    match came {
+        Came::End => left,
+        Came::Piece(_) => match left {
+            Some(left) => Some(left - 1),
+            None => None,
+        },
+        Came::Rest(_) => None,
+    }
+}

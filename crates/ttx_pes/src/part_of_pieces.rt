@@ -1,0 +1,131 @@
+//! Some of the pieces of a file or of a recording.
+ghost use Rattle.std.specs.Prelude.{◌≡◌, ◌≤◌, ℕ, IfErr, IfOk, OnErr, OnOk, Ok, Some, is_ok};
+ghost use Rattle.std.specs.Prelude.{option_map, true};
+ghost use Rattle.std.specs.Io.KnownBytes.{Keeps};
+ghost use Rattle.sub_io.specs.Device.{CanFail, CountsFailure};
+ghost use Rattle.ttx_pes.specs.Advancing.{Advances};
+ghost use Rattle.ttx_pes.specs.PartOfPieces.{part_left, part_number, part_ready, part_told};
+ghost use Rattle.ttx_pes.specs.PieceRange.{first_index, in_range};
+
+use crate::limited_pieces::LimitedPieces;
+use crate::numbered_pieces::{FailedAt, NumberedPieces};
+use crate::passing::pass_pieces;
+use crate::piece_range::PieceRange;
+use crate::pieces::{Came, Pieces, TakePiece};
+use crate::pieces_ahead::PiecesAhead;
+use sub_io::Failed;
+
+/// Gives the pieces of a range of those that another gives. Where there are fewer than go up to the
+/// last one of the range, it ends as that one does. Nothing behind the last one is asked for.
+#[derive(Drop)]
+pub struct PartOfPieces<P> {
+    inner: LimitedPieces<P>,
+    ahead: PiecesAhead,
+}
+
+impl<P: Pieces> PartOfPieces<P> {
+    /// Those of a range.
+    pub fn new(inner: P, range: PieceRange) -> Self
+        ensures told { part_told result.ahead.to_pass result.inner.left
+            (P.remaining result.inner.inner) ≡ option_map (in_range range) (P.remaining inner) }
+        ensures number { part_number result.ahead (P.remaining result.inner.inner)
+            ≡ option_map (first_index range) (P.remaining inner) }
+        ensures inner { result.inner.inner ≡ inner }
+    {
+        PartOfPieces {
+            inner: LimitedPieces::new(inner, range.most()),
+            ahead: PiecesAhead::new(range.first()),
+        }
+    }
+
+    /// Who gives them.
+    pub fn into_inner(self) -> P
+        ensures { result ≡ self.inner.inner }
+    {
+        let PartOfPieces { inner, .. } = self;
+        inner.into_inner()
+    }
+
+    // Passes over the pieces before those that it gives.
+    fn pass_others(&mut self) -> Result<u64, FailedAt>
+        requires failures { CanFail (P.failure_count self.old.inner.inner) }
+        ensures kept { Keeps
+            (part_told self.old.ahead.to_pass self.old.inner.left
+            (P.remaining self.old.inner.inner))
+            (part_told self.new.ahead.to_pass self.new.inner.left
+            (P.remaining self.new.inner.inner)) }
+        ensures first { (n : ℕ)
+            → part_number self.old.ahead (P.remaining self.old.inner.inner) ≡ Some n
+            → IfOk result (λ found. found ≡ n) }
+        ensures before { (n : ℕ)
+            → part_number self.old.ahead (P.remaining self.old.inner.inner) ≡ Some n
+            → IfErr result (λ at. at.pes ≤ n) }
+        ensures failed { IfErr result (λ at. at.pes ≡ self.new.ahead.passed) }
+        ensures left { (n : ℕ)
+            → part_number self.old.ahead (P.remaining self.old.inner.inner) ≡ Some n
+            → IfErr result (λ _.
+            part_number self.new.ahead (P.remaining self.new.inner.inner) ≡ Some n) }
+        ensures found { OnOk result (self.new.ahead.to_pass ≡ 0) }
+        ensures unread { OnErr result (Keeps
+            (part_told self.old.ahead.to_pass self.old.inner.left
+            (P.remaining self.old.inner.inner))
+            (part_left self.new.ahead.to_pass self.new.inner.left
+            (P.remaining self.new.inner.inner) (P.left self.new.inner.inner))) }
+        ensures none { self.old.ahead.to_pass ≡ 0
+            → (self.new ≡ self.old) × (result ≡ Ok self.old.ahead.passed) }
+        ensures same { P.device self.new.inner.inner ≡ P.device self.old.inner.inner }
+        ensures count { CountsFailure (P.failure_count self.old.inner.inner) result
+            (P.failure_count self.new.inner.inner) }
+    {
+        if self.ahead.to_pass() == 0 {
+            return Ok(self.ahead.passed());
+        }
+        let (passed, ended) = self.inner.pass(self.ahead.to_pass());
+        self.ahead.count(passed);
+        match ended {
+            Ok(()) => {
+                self.ahead.end();
+                Ok(self.ahead.passed())
+            }
+            Err(_) => Err(FailedAt {
+                pes: self.ahead.passed(),
+            }),
+        }
+    }
+}
+
+impl<P: Pieces> Pieces for PartOfPieces<P> {
+    ghost remaining = { λ p.
+        part_told p.ahead.to_pass p.inner.left (P.remaining p.inner.inner) };
+
+    ghost left = { λ p. part_left p.ahead.to_pass p.inner.left
+        (P.remaining p.inner.inner) (P.left p.inner.inner) };
+
+    ghost failure_count = { λ p. P.failure_count p.inner.inner };
+
+    ghost ready = { λ p. part_ready p.ahead.to_pass (P.ready p.inner.inner) };
+
+    ghost device = { λ p. P.device p.inner.inner };
+
+    #[inline(always)]
+    fn next<T: TakePiece>(&mut self, taker: &mut T) -> Result<Came<T::Answer>, Failed> {
+        if self.pass_others().is_err() {
+            return Err(Failed);
+        }
+        self.inner.next(taker)
+    }
+
+    fn is_ready(&self) -> bool {
+        self.ahead.to_pass() == 0 && self.inner.is_ready()
+    }
+}
+
+impl<P: Pieces> NumberedPieces for PartOfPieces<P> {
+    ghost first = { λ p. part_number p.ahead (P.remaining p.inner.inner) };
+
+    ghost passed = { λ p. p.ahead.passed };
+
+    fn find_first(&mut self) -> Result<u64, FailedAt> {
+        self.pass_others()
+    }
+}
