@@ -1,5 +1,5 @@
-//! Tests of the program's answers over recordings and ranges of PES packets, and of the files that a
-//! request opens. Nothing here is part of the product.
+//! Tests of the program's answers over recordings and ranges of PES packets, of the calls that take
+//! pieces, and of the files that a request opens. Nothing here is part of the product.
 //!
 //! They stand apart from those of other answers, since the tests of a crate are proved by one job.
 #![tactic(auto)]
@@ -14,6 +14,8 @@ mod files;
 mod files_in_memory;
 #[cfg(test)]
 mod lost_packets;
+#[cfg(test)]
+mod over_pieces;
 #[cfg(test)]
 mod pes_ranges;
 #[cfg(test)]

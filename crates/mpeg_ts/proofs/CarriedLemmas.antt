@@ -140,7 +140,7 @@ carried_given number distance recording =
     (good_payloads since all sound)
 
 -- The same, where the source tells its bytes.
-pub carried_told : (number distance : ℕ) (told : Option (List ℕ))
+pub carried_known : (number distance : ℕ) (told : Option (List ℕ))
     → still_given (start_of_stream number distance) told
     ≡ option_map (carried number distance) told
-carried_told number distance told = grind (arith, nat_tests, carried_given)
+carried_known number distance told = grind (arith, nat_tests, carried_given)

@@ -1,9 +1,10 @@
 pub mod CarriedLemmas
+pub mod GivenLemmas
 pub mod JoinedLemmas
 pub mod NoteLemmas
 pub mod OutcomeLemmas
 pub mod ReadyLemmas
 pub mod RecordingLemmas
-pub mod SourceLemmas
 pub mod StreamLemmas
+pub mod TakenBytesLemmas
 pub mod WindowLemmas

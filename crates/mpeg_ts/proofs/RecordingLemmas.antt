@@ -12,7 +12,7 @@ use Rattle.ttx_pes.specs.Reader.{FailsWithin}
 use Rattle.ttx_pes.specs.declared.fault.PesFault.{PesFault}
 use Rattle.ttx_pes.proofs.PieceRoomLemmas.{show_sized}
 use Rattle.mpeg_ts.specs.Carried.{mark}
-use Rattle.mpeg_ts.specs.Joining.{IsRefused, JoiningValue, TakesNext, handed_over, has_ended}
+use Rattle.mpeg_ts.specs.Joining.{IsRefused, JoiningValue, TakesNext, emptied, has_ended}
 use Rattle.mpeg_ts.specs.Joining.{taken_bytes}
 use Rattle.mpeg_ts.specs.Recording.{IsAtRest}
 use Rattle.mpeg_ts.specs.Stream.{StreamValue, given_of, still_given, stream_gives}
@@ -89,32 +89,33 @@ rest_left before told u v f keeps all refused ended = record {
 -- Nothing is given behind them.
 nothing_given : (v : StreamValue) (bytes : List ℕ)
     → has_ended v.joining.part ≡ true
-    → given_of (record v { joining = handed_over v.joining }) bytes ≡ []
+    → given_of (record v { joining = emptied v.joining }) bytes ≡ []
 unfolding stream_gives
 nothing_given v bytes ended = later_ended _ _ ended
 
--- They are all that was read of it. For `read`.
-pub rest_read : (told : Option (List ℕ)) (v : StreamValue)
+-- They are taken, and nothing is left. For `read_rest`.
+pub rest_taken : (told : Option (List ℕ)) (v w : StreamValue)
     → IsAtRest v
-    → Consumes (still_given v told) (option_map (λ bytes. []) (still_given v told)) v.joining.bytes
-rest_read None v rest = tt
-rest_read (Some xs) v rest = rest_given v xs rest.all rest.ended ∙ sym (append-nil v.joining.bytes)
+    → w ≡ record v { joining = emptied v.joining }
+    → Consumes (still_given v told) (still_given w told) v.joining.bytes
+    × IsAtEnd (still_given w told)
+rest_taken None v w rest is = (tt, tt)
+rest_taken (Some xs) v w rest is =
+    let none : given_of w xs ≡ [] =
+    ap (λ (s : StreamValue). given_of s xs) is ∙ nothing_given v xs rest.ended in (
+      rest_given v xs rest.all rest.ended
+          ∙ sym (append-nil v.joining.bytes)
+          ∙ ap (λ (l : List ℕ). v.joining.bytes ++ l) (sym none),
+      none,
+    )
 
--- They are taken, and nothing is left. For `pass_read`.
-pub rest_passed : (told : Option (List ℕ)) (v w : StreamValue)
-    → IsAtRest v
-    → w ≡ record v { joining = handed_over v.joining }
-    → still_given w told ≡ option_map (λ bytes. []) (still_given v told)
-rest_passed None v w rest is = refl
-rest_passed (Some xs) v w rest is =
-    ap Some (ap (λ (s : StreamValue). given_of s xs) is ∙ nothing_given v xs rest.ended)
+-- It stays so.
+pub rest_emptied : (v w : StreamValue) → IsAtRest v
+    → w ≡ record v { joining = emptied v.joining }
+    → IsAtRest w
+rest_emptied v w rest is = subst IsAtRest (sym is) (record { all = refl; ended = rest.ended })
 
--- Nothing was read of it.
-pub none_read : (told : Option (List ℕ)) → Consumes told told []
-none_read None = tt
-none_read (Some xs) = refl
-
-pub ruleset rests = (rest_read, rest_passed, none_read)
+pub ruleset rests = (rest_taken, rest_emptied)
 
 -- A read failed, and nothing was taken.
 pub none_taken : (old new : Option (List ℕ)) → Keeps old new → FailsWithin old new

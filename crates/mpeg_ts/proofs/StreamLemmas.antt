@@ -1,19 +1,18 @@
 -- Reading a recording for one PID: each item leaves what is still to be given as it was; main
 -- lemmas: stream_packet, stream_skipped, stream_end.
-use Rattle.std.proofs.Common.{◌≡◌, ◌≢◌, ℕ, zero, suc, ◌+◌, ◌-◌, ◌≤◌, ◌<◌, List, [], ◌∷◌, ◌++◌}
+use Rattle.std.proofs.Common.{◌≡◌, ℕ, zero, suc, ◌+◌, ◌-◌, ◌≤◌, ◌<◌, List, [], ◌∷◌, ◌++◌}
 use Rattle.std.proofs.Common.{length}
-use Rattle.std.proofs.Common.{take, drop, Option, Some, None, Bool, true, false, refl, sym, ap, ◌∙◌}
-use Rattle.std.proofs.Common.{arith, append_assoc, length-append, length-drop, drop-drop, rules}
-use Rattle.std.proofs.Common.{get_or, inl, length-take, length-take-le, take-append-drop}
+use Rattle.std.proofs.Common.{take, drop, Option, Some, Bool, true, false, refl, sym, ap, ◌∙◌}
+use Rattle.std.proofs.Common.{arith, append_assoc, length-append, length-drop, drop-drop}
+use Rattle.std.proofs.Common.{inl, length-take, length-take-le, take-append-drop}
 use Rattle.std.proofs.lemmas.Bool.Decides.{nat_tests}
-use Rattle.std.proofs.lemmas.List.{append-nil, drop-append-le, drop_all, get_or-take}
+use Rattle.std.proofs.lemmas.List.{drop-append-le, drop_all, get_or-take}
 use Rattle.std.proofs.lemmas.List.{take-take}
 use Rattle.std.proofs.Math.Seq.{drop-append-add, drop-append_seam, take-append-add}
-use Rattle.std.proofs.KnownBytes.{Keeps-trans, Keeps-refl}
 use Rattle.std.specs.Prelude.{◌&&◌, ◌||◌, ◌==◌, ◌%◌, ◌*◌, nat_lt, slice_index, if◌then◌else◌}
 use Rattle.std.specs.Io.KnownBytes.{Consumes, IsAtEnd, Keeps}
 use lib.Seq.{take-add, take-append-le}
-use Rattle.sub_io.specs.Asking.{Asks, asks_nothing, asks_on, asks_once}
+use Rattle.sub_io.specs.Asking.{Asks, asks_on, asks_once}
 use Rattle.sub_io.specs.Device.{PassesOver}
 use Rattle.sub_io.specs.Reading.{AreNext}
 use Rattle.sub_io.proofs.AskingLemmas.{asked_behind, asks_none, passed_lent}
@@ -23,7 +22,9 @@ use Rattle.mpeg_ts.specs.PacketsInStep.{Packet, Skipped, begins_packet, bytes_ne
 use Rattle.mpeg_ts.specs.Stream.{StreamValue, after_packet, after_skipped, bytes_ahead}
 use Rattle.mpeg_ts.specs.Stream.{given_of, gives_some, still_given, stream_gives}
 use Rattle.mpeg_ts.specs.TransportPacket.{packet_size, pid}
-use Rattle.mpeg_ts.specs.Window.{AsksUpTo, WindowValue, held_and_left, left_to_take, to_come}
+use Rattle.mpeg_ts.specs.TakenBytes.{TakesFront, takes_bytes}
+use Rattle.mpeg_ts.specs.Window.{AsksUpTo, WindowValue, held_and_left, left_to_take}
+use Rattle.mpeg_ts.proofs.TakenBytesLemmas.{takes_kept, takes_none, takes_on, takes_then}
 
 -- ---- items
 
@@ -305,10 +306,13 @@ index-ahead v bytes i h1 = grind (arith, nat_tests, ahead_held, index-append, le
 -- ---- `need`
 
 -- Bytes that were taken are still to be looked at.
-pub given-kept : (x y : Option (List ℕ)) (v : StreamValue) (w : WindowValue)
-    → Keeps (to_come v.window x) (to_come w y)
-    → Keeps (still_given v x) (still_given (record v { window = w }) y)
-given-kept x y v w h1 = grind (arith, nat_tests)
+pub given_takes : (x y : Option (List ℕ)) (v : StreamValue) (w : WindowValue)
+    → TakesFront (held_and_left v.window) (held_and_left w) x y
+    → TakesFront (given_of v) (given_of (record v { window = w })) x y
+given_takes x y v w (takes_bytes _ _ _ _ bytes consumed same) =
+    takes_bytes (given_of v) (given_of (record v { window = w })) x y bytes consumed
+    (λ more. ap (λ (l : List ℕ).
+    stream_gives v.distance v.number v.run v.in_step v.joining (drop v.lead l)) (same more))
 
 -- A byte that is skipped may be the last of a hole, which gives nothing.
 hole_gives : (j : JoiningValue) (more : List Note)
@@ -358,6 +362,15 @@ pub needs_packet : (distance : ℕ) (in_step : Bool)
     → 188 ≤ bytes_needed distance in_step
 needs_packet distance in_step h1 = grind (arith, nat_tests)
 
+-- Fewer bytes than are needed give nothing.
+pub cut_gives : (v : StreamValue)
+    → 188 ≤ v.distance
+    → v.joining.pending ≡ []
+    → length v.window.held < v.lead + bytes_needed v.distance v.in_step
+    → given_of v [] ≡ []
+cut_gives v h1 h2 h3 =
+    grind (arith, nat_tests, stream_short, needs_packet, length-append, length-drop, length-take)
+
 -- Where they are not there, nothing is left.
 pub need_end : (told : Option (List ℕ)) (v : StreamValue)
     → 188 ≤ v.distance
@@ -385,7 +398,7 @@ need_asks IsPull lent remaining v w before after ok count asks is near idle =
     (stream_short v.distance v.number v.run v.in_step v.joining (drop v.lead bytes)
     (omega (arith, is, length-drop v.lead bytes, needs_packet v.distance v.in_step near)) idle))
 
-pub ruleset needing = (given-kept, need_end, need_asks)
+pub ruleset needing = (given_takes, cut_gives, need_end, need_asks)
 
 -- ---- `begins_packet`
 
@@ -526,14 +539,16 @@ pub ruleset junk = (junk_passed, junk_given)
 -- ---- `step` and `read_on`
 
 -- What is left after an item, where it is known what stands next.
-pub item_kept : (before told : Option (List ℕ)) (u v w : StreamValue) (begins : Bool)
-    → Keeps (still_given u before) (still_given v told)
+pub item_takes : (before told : Option (List ℕ)) (u v w : StreamValue) (begins : Bool)
+    → TakesFront (given_of u) (given_of v) before told
     → ((bytes : List ℕ) → begins_packet v.distance v.in_step (bytes_ahead v bytes) ≡ begins)
     → ((bytes : List ℕ)
     → begins_packet v.distance v.in_step (bytes_ahead v bytes) ≡ begins
     → given_of w bytes ≡ given_of v bytes)
-    → Keeps (still_given u before) (still_given w told)
-item_kept before told u v w begins h1 h2 h3 = grind (arith, nat_tests)
+    → TakesFront (given_of u) (given_of w) before told
+item_takes before told u v w begins takes stands same =
+    takes_on (given_of u) (given_of v) (given_of w) before told takes
+    (λ more. same more (stands more))
 
 -- What was asked for it was asked for what comes then.
 pub item_asks : {D : Type 0} (IsPull : D → ℕ → Option ℕ → D → Type 0) (lent : D → List ℕ)
@@ -554,9 +569,9 @@ pub none_where_ended : (told : Option (List ℕ)) (v : StreamValue)
     → IsAtEnd (still_given v told)
 none_where_ended told v h1 h2 = grind (arith, nat_tests, stream_ended)
 
-pub ruleset steps = (item_kept, item_asks, asks_on, Keeps-trans)
+pub ruleset steps = (item_takes, item_asks, asks_on, takes_then)
 
-pub ruleset reads = (none_where_ended, asks_on, asks_none, Keeps-trans, Keeps-refl)
+pub ruleset reads = (none_where_ended, asks_on, asks_none, takes_then, takes_none, takes_kept)
 
 -- ---- giving
 
@@ -622,25 +637,20 @@ pub lent_passed : {D : Type 0} (IsPull : D → ℕ → Option ℕ → D → Type
     → IsPull before count (Some count) after
     → PassesOver (remaining before) count (remaining after)
     → ((bytes : List ℕ) → given_of w bytes ≡ given_of v (take count next ++ bytes))
-    → Keeps (still_given v (remaining before)) (still_given w (remaining after))
+    → TakesFront (given_of v) (given_of w) (remaining before) (remaining after)
     × Asks IsPull lent remaining (gives_some v) before true (gives_some w) after
 lent_passed IsPull lent remaining v w before after next count are front fits pull passed gives =
     let taken = take count next in
     let long : length taken ≡ count = length-take-le count next fits in
     let consumed = passed_lent (remaining before) (remaining after) next count are passed fits in (
-      kept (remaining before) (remaining after) consumed,
+      takes_bytes (given_of v) (given_of w) (remaining before) (remaining after) taken consumed
+          (λ more. sym (gives more)),
       asks_once (gives_some v) (gives_some w) before after count taken
           (inl (lent_within next (lent before) count front fits))
           (rw long pull) consumed
           (asked_behind taken (gives_some v) (gives_some w)
           (λ bytes. ap (λ (l : List ℕ). nat_lt 0 (length l)) (gives bytes))),
     )
-  where
-    kept : (x y : Option (List ℕ)) → Consumes x y (take count next)
-        → Keeps (still_given v x) (still_given w y)
-    kept None y consumed = tt
-    kept (Some xs) None consumed = absurd consumed
-    kept (Some xs) (Some ys) consumed = gives ys ∙ ap (given_of v) (sym consumed)
 
 -- A packet of another PID.
 unit_passed : (distance number : ℕ) (j : JoiningValue) (unit rest : List ℕ)
@@ -786,7 +796,8 @@ packet_given v w lent p bytes place count sum fits none few step run near packet
     gives rest =
         let unit = take v.distance (drop place lent) in
         let size : length unit ≡ v.distance =
-        omega (arith, sum, fits, length-take v.distance (drop place lent), length-drop place lent) in
+        omega
+        (arith, sum, fits, length-take v.distance (drop place lent), length-drop place lent) in
         let parts : take count lent ≡ take place lent ++ unit =
         ap (λ (n : ℕ). take n lent) sum ∙ take-add place v.distance lent in
         let front : p ≡ take 188 unit =
@@ -800,4 +811,4 @@ packet_given v w lent p bytes place count sum fits none few step run near packet
 
 pub ruleset others = other_passed
 
-pub ruleset skims = (asks_none, Keeps-refl)
+pub ruleset skims = (asks_none, takes_none)

@@ -1,15 +1,16 @@
--- The bytes that are taken from a source and looked at; main lemmas: window-pulled, left_at_end.
+-- The bytes that are taken from a source and looked at; main lemmas: window-takes, left_at_end.
 use Rattle.std.proofs.lemmas.Bool.Decides.{nat_tests}
 use Rattle.std.proofs.Common.{◌≡◌, ℕ, zero, suc, ◌+◌, ◌<◌, List, ◌++◌, length, take}
 use Rattle.std.proofs.Common.{Option, Some, None, refl, sym, ap, ◌∙◌, arith, append_assoc}
 use Rattle.std.proofs.Common.{Bool, true, false, ◌≤◌, inr, length-append, length-take}
 use Rattle.std.proofs.Math.Seq.{take-append-add}
-use Rattle.std.proofs.KnownBytes.{Keeps-trans, Keeps-refl}
 use Rattle.std.specs.Prelude.{option_map}
-use Rattle.std.specs.Io.KnownBytes.{Consumes, IsAtEnd, Keeps}
+use Rattle.std.specs.Io.KnownBytes.{Consumes, IsAtEnd}
 use Rattle.sub_io.specs.Asking.{asks_in_vain, asks_on, asks_once}
 use Rattle.sub_io.proofs.AskingLemmas.{asked_behind, asks_none}
-use Rattle.mpeg_ts.specs.Window.{AsksUpTo, WindowValue, held_and_left, left_to_take, to_come}
+use Rattle.mpeg_ts.specs.TakenBytes.{TakesFront, takes_bytes}
+use Rattle.mpeg_ts.specs.Window.{AsksUpTo, WindowValue, held_and_left, left_to_take}
+use Rattle.mpeg_ts.proofs.TakenBytesLemmas.{takes_failed, takes_none, takes_then}
 
 -- The window with these bytes, and so many to be taken.
 abbrev pub window : List ℕ → ℕ → WindowValue
@@ -25,25 +26,17 @@ asked_few held left room is_enough h1 bytes h2 =
     grind (arith, nat_tests, length-append, length-take)
 
 -- A piece of the bytes to come was taken.
-pub window-pulled : (x y : Option (List ℕ)) (held got : List ℕ) (left less n : ℕ)
+pub window-takes : (x y : Option (List ℕ)) (held got : List ℕ) (left less n : ℕ)
     → n ≡ length got
     → less + n ≡ left
     → Consumes x y got
-    → Keeps (to_come (window held left) x) (to_come (window (held ++ got) less) y)
-window-pulled None y held got left less n long is p = tt
-window-pulled (Some xs) None held got left less n long is p = absurd p
-window-pulled (Some xs) (Some ys) held got left less n long is p =
+    → TakesFront (held_and_left (window held left)) (held_and_left (window (held ++ got) less)) x y
+window-takes x y held got left less n long is consumed =
     let all : left ≡ length got + less = omega (arith, long, is) in
-    append_assoc held got (take less ys)
-    ∙ ap (λ l. held ++ l) (sym (take-append-add got ys less)
-    ∙ ap (λ k. take k (got ++ ys)) (sym all)
-    ∙ ap (take left) (sym p))
-
--- Nothing was taken.
-pub window-kept : (x y : Option (List ℕ)) (w : WindowValue)
-    → Keeps x y
-    → Keeps (to_come w x) (to_come w y)
-window-kept x y w h1 = grind (arith, nat_tests)
+    takes_bytes _ _ x y got consumed
+    (λ more. sym (append_assoc held got (take less more)
+    ∙ ap (λ l. held ++ l) (sym (take-append-add got more less)
+    ∙ ap (λ k. take k (got ++ more)) (sym all))))
 
 -- Nothing may be taken any more, or nothing is there.
 none_to_take : (n : ℕ) (told : Option (List ℕ))
@@ -127,6 +120,6 @@ pub window-none : {D : Type 0} (IsPull : D → ℕ → Option ℕ → D → Type
     → AsksUpTo IsPull lent remaining count w source true w source
 window-none IsPull lent remaining source w count = grind (arith, nat_tests, asks_none)
 
-pub ruleset pulling = (window-pulled, window-kept, window-asked, window-failed)
+pub ruleset pulling = (window-takes, takes_failed, window-asked, window-failed)
 
-pub ruleset filling = (left_at_end, window-on, window-none, Keeps-trans, Keeps-refl)
+pub ruleset filling = (left_at_end, window-on, window-none, takes_then, takes_none)

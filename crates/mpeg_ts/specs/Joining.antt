@@ -181,6 +181,10 @@ after_note v Hole = record v { has_break = true }
 abbrev pub handed_over : JoiningValue → JoiningValue
 handed_over v = record v { pending = [] }
 
+-- The same, and no byte is kept of it.
+abbrev pub emptied : JoiningValue → JoiningValue
+emptied v = record v { last = []; bytes = []; pending = [] }
+
 -- What notes give, where all that was ready has been given.
 unfoldable pub given_later : JoiningValue → List Note → List ℕ
 given_later v [] = []

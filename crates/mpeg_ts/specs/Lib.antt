@@ -7,5 +7,6 @@ pub mod Parts
 pub mod Pid
 pub mod Recording
 pub mod Stream
+pub mod TakenBytes
 pub mod TransportPacket
 pub mod Window

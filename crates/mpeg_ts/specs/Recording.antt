@@ -1,10 +1,7 @@
 -- The pieces of a recording: what was read of it, and whether more may come.
-use Rattle.std.specs.Prelude.{◌≡◌, ◌-◌, ◌≤◌, ℕ, Bool, true, false, List, [], length, drop}
-use Rattle.std.specs.Prelude.{Option, is_some, option_map}
-use Rattle.sub_io.specs.Asking.{Asks}
-use Rattle.mpeg_ts.specs.Joining.{IsWithin, has_ended, taken_bytes}
-use Rattle.mpeg_ts.specs.Stream.{StreamValue, gives_some, start_of_stream}
-use Rattle.mpeg_ts.specs.declared.waiting.Next.{Next}
+use Rattle.std.specs.Prelude.{◌≡◌, ℕ, Bool, true, false, List, [], Option, option_map}
+use Rattle.mpeg_ts.specs.Joining.{has_ended}
+use Rattle.mpeg_ts.specs.Stream.{StreamValue, start_of_stream}
 
 -- The source of a recording, what was read of it, and whether it was told that no piece begins what
 -- is left.
@@ -12,32 +9,6 @@ pub record RecordingValue (D : Type 0) : Type 0 where
   pub device : D
   pub stream : StreamValue
   pub is_over : Bool
-
--- The source of a recording, what was read of it, and the bytes that were taken of that and are
--- still to be given.
-pub record SourceValue (D : Type 0) : Type 0 where
-  pub device : D
-  pub stream : StreamValue
-  pub rest : List ℕ
-
--- Of what was taken so many last bytes are still to be given.
-pub record IsGiving (taken : Next) (left : ℕ) (bytes : List ℕ) : Type 0 where
-  pub within : IsWithin taken bytes
-  pub few : left ≤ length (taken_bytes taken bytes)
-
--- These.
-abbrev pub last_of : ℕ → List ℕ → List ℕ
-last_of left bytes = drop (length bytes - left) bytes
-
--- A pull, or a passing over: the source inside is asked for no byte behind those that give some.
-abbrev pub AsksInside :
-    {D : Type 0}
-    → (D → ℕ → Option ℕ → D → Type 0) → (D → List ℕ) → (D → Option (List ℕ))
-    → SourceValue D → ℕ → Option ℕ → SourceValue D → Type 0
-AsksInside IsPull lent remaining old count answer new =
-    (read : StreamValue)
-    × Asks IsPull lent remaining (gives_some old.stream) old.device (is_some answer)
-    (gives_some read) new.device
 
 -- At the start of a recording.
 abbrev pub at_start : {D : Type 0} → D → ℕ → ℕ → RecordingValue D

@@ -16,10 +16,6 @@ pub record WindowValue : Type 0 where
 abbrev pub held_and_left : WindowValue → List ℕ → List ℕ
 held_and_left w bytes = w.held ++ take w.left bytes
 
--- The same, where the source tells its bytes.
-abbrev pub to_come : WindowValue → Option (List ℕ) → Option (List ℕ)
-to_come w told = option_map (held_and_left w) told
-
 -- What may still be taken.
 abbrev pub left_to_take : WindowValue → Option (List ℕ) → Option (List ℕ)
 left_to_take w told = option_map (take w.left) told

@@ -3,8 +3,7 @@ ghost use Rattle.std.specs.Prelude.{◌≡◌, ◌≤◌, ◌↔◌, length, []}
 ghost use Rattle.std.specs.Prelude.{◌&&◌, false, true};
 ghost use Rattle.mpeg_ts.specs.GoodPackets.{Wrong, Hole, note_of};
 ghost use Rattle.mpeg_ts.specs.Joining.{IsWithin, TakesFirst, TakesNext, after_note, after_valid};
-ghost use Rattle.mpeg_ts.specs.Joining.{begun, gave_packet, given_after, gone_on, grown};
-ghost use Rattle.mpeg_ts.specs.Joining.{handed_over};
+ghost use Rattle.mpeg_ts.specs.Joining.{begun, emptied, gave_packet, given_after, gone_on, grown};
 ghost use Rattle.mpeg_ts.specs.Joining.{has_ended, holding, is_complete, link_after, mark_alone};
 ghost use Rattle.mpeg_ts.specs.Joining.{nothing_joined, remembering, repeats, taken_bytes};
 ghost use Rattle.mpeg_ts.specs.Parts.{is_break, is_unlinked};
@@ -426,16 +425,19 @@ impl Joining {
 
     // The bytes of the part.
     pub(crate) fn bytes(&self) -> &[u8]
-        ensures { result.now ≡ self.now.bytes }
+        ensures bytes { result.now ≡ self.now.bytes }
+        ensures most { length result.now ≤ 1840 }
     {
         self.bytes.as_slice()
     }
 
-    // All that was ready was given.
+    // All that was ready was given, and no byte is kept of it.
+    #[tactic(auto, using(crate::proofs::ReadyLemmas::idling))]
     pub(crate) fn hand_over(&mut self)
-        ensures { self.new ≡ handed_over self.old }
+        ensures { self.new ≡ emptied self.old }
     {
         self.waiting = Waiting::Nothing;
+        self.clear();
     }
 
     /// Takes what is given next of what is ready, whatever it is.

@@ -1,26 +1,25 @@
 //! Transport streams (ISO/IEC 13818-1), as far as the PES packets of one PID go.
 //!
-//! A source over any source of a transport stream: it gives the PES packets with Teletext that the
-//! packets of the PID carry, one after another, as if they stood in a file, and a mark where
-//! something is missing between two of them. So whatever reads PES packets reads them in a
-//! recording too. Stands on `sub_io` for the devices and on `ttx_pes` for the start and the length
-//! of a PES packet.
+//! Over any source of a transport stream: the PES packets with Teletext that the packets of the PID
+//! carry, one after another, as if they stood in a file, and a mark where something is missing
+//! between two of them. So whatever reads PES packets reads them in a recording too. Stands
+//! on `sub_io` for the devices and on `ttx_pes` for the pieces.
 //!
 //! ```text
 //! let pid = Pid::new(0x101).ok_or(..)?;
-//! let mut source = PesSource::new(recording, pid, PacketSize::Plain);
-//! while reader.next_into(&mut source, &mut frame)? {
+//! let mut pieces = RecordingPieces::new(recording, pid, PacketSize::Plain);
+//! while reader.next(&mut pieces)? != Compared::End {
 //!     ..
 //! }
 //! ```
 #![tactic(auto)]
 
 mod joining;
+mod laws;
 mod mark;
 mod packet_size;
 mod part_bytes;
 mod passing;
-mod pes_source;
 mod pid;
 mod recording_pieces;
 mod stream;
@@ -30,8 +29,8 @@ mod waiting;
 mod window;
 
 pub use joining::Joining;
+pub use laws::{law_of_calls, law_of_failed_read};
 pub use packet_size::PacketSize;
-pub use pes_source::PesSource;
 pub use pid::Pid;
 pub use recording_pieces::RecordingPieces;
 pub use survey_options::SurveyOptions;

@@ -44,7 +44,8 @@ impl PartBytes {
     // The bytes.
     #[inline(always)]
     pub(crate) fn as_slice(&self) -> &[u8]
-        ensures { result.now ≡ self.now }
+        ensures bytes { result.now ≡ self.now }
+        ensures most { length result.now ≤ 1840 }
     {
         let (bytes, _) = self.room.split_at(self.len);
         bytes

@@ -1,11 +1,11 @@
 //! Bytes that are passed over where they stand: packets of other PIDs, and bytes that belong to no
 //! packet.
 ghost use Rattle.std.specs.Prelude.{◌≡◌, ◌+◌, ◌<◌, ◌≤◌, List, ℕ, [], ◌++◌, drop, take, length};
-ghost use Rattle.std.specs.Prelude.{false, slice_index, true};
+ghost use Rattle.std.specs.Prelude.{false, true};
 ghost use Rattle.mpeg_ts.specs.GoodPackets.{hole_size};
 ghost use Rattle.mpeg_ts.specs.Joining.{JoiningValue, has_ended};
 ghost use Rattle.mpeg_ts.specs.Stream.{BeginsPacket, stream_gives};
-ghost use Rattle.mpeg_ts.specs.TransportPacket.{pid, sync_byte};
+ghost use Rattle.mpeg_ts.specs.TransportPacket.{pid};
 
 use crate::transport_packet::{PACKET, SYNC_BYTE, pid_of};
 
@@ -21,6 +21,10 @@ pub(crate) fn packet_in(bytes: &[u8], place: usize) -> &[u8; PACKET]
 
 // The place behind the packets of other PIDs that stand in the bytes from a place on: that of a
 // packet of the PID, of a byte that is no sync byte, or of fewer bytes than the distance.
+//
+// Not inlined: nearly all of a multiplex is passed over here, and a loop of its own keeps what it
+// needs in registers.
+#[inline(never)]
 #[tactic(auto, using(crate::proofs::StreamLemmas::others))]
 pub(crate) fn place_behind_others(bytes: &[u8], from: usize, distance: usize, number: u16) -> usize
     requires from { from ≤ length bytes.now }
@@ -33,8 +37,12 @@ pub(crate) fn place_behind_others(bytes: &[u8], from: usize, distance: usize, nu
         → stream_gives distance number 0 true joining rest
         ≡ stream_gives distance number 0 true joining (drop from (take result bytes.now ++ rest)) }
 {
+    if bytes.len() < distance {
+        return from;
+    }
+    let last = bytes.len() - distance;
     let mut at = from;
-    while bytes.len() - at >= distance {
+    while at <= last {
         let (_, unit) = bytes.split_at(at);
         if unit[0] != SYNC_BYTE || unit_pid(unit) == number {
             return at;

@@ -1,23 +1,24 @@
 //! The pieces that the packets of a PID carry: PES packets and marks.
-ghost use Rattle.std.specs.Prelude.{◌≡◌, Some, false, is_ok, option_map, true};
-ghost use Rattle.std.specs.Io.KnownBytes.{Consumes};
+ghost use Rattle.std.specs.Prelude.{◌≡◌, ◌≤◌, [], Some, false, is_ok, length, option_map, take};
+ghost use Rattle.std.specs.Prelude.{true};
 ghost use Rattle.sub_io.specs.Asking.{Asks};
 ghost use Rattle.sub_io.specs.Device.{CanFail, CountsFailure};
 ghost use Rattle.sub_io.specs.Reading.{AreBytes};
-ghost use Rattle.ttx_pes.specs.Advancing.{Advances, lends_none};
+ghost use Rattle.ttx_pes.specs.Advancing.{Advances, lends_none, tells_rest};
 ghost use Rattle.ttx_pes.specs.Pieces.{IsPiece};
 ghost use Rattle.mpeg_ts.specs.Carried.{carried};
 ghost use Rattle.mpeg_ts.specs.PacketSize.{bytes_of};
 ghost use Rattle.mpeg_ts.specs.Recording.{at_start, left_of};
-ghost use Rattle.mpeg_ts.specs.Stream.{StreamValue, gives_some, is_some_ready};
+ghost use Rattle.mpeg_ts.specs.Stream.{StreamValue, given_of, gives_some, is_some_ready};
 ghost use Rattle.mpeg_ts.specs.Stream.{still_given};
+ghost use Rattle.mpeg_ts.specs.TakenBytes.{GivesOn};
 
 use crate::stream::Stream;
 use crate::waiting::Next;
 use crate::{PacketSize, Pid};
 use std::marker::Model;
 use sub_io::{Failed, Source};
-use ttx_pes::{Came, FailedAt, NumberedPieces, Pieces, TakePiece};
+use ttx_pes::{Came, FailedAt, NumberedPieces, Pieces, REST_ROOM, TakePiece};
 
 /// Gives the PES packets that the packets of one PID of a transport stream carry (ISO/IEC 13818-1),
 /// one after another. Where something is missing between two of them it gives a mark, 184 bytes
@@ -51,7 +52,7 @@ impl<S> Model for RecordingPieces<S> {
 impl<S: Source> RecordingPieces<S> {
     /// The pieces of that PID, at the start of a recording, of which as many as 2^48 bytes are
     /// read.
-    #[tactic(auto, using(crate::proofs::CarriedLemmas::carried_told))]
+    #[tactic(auto, using(crate::proofs::CarriedLemmas::carried_known))]
     pub fn new(source: S, pid: Pid, packet_size: PacketSize) -> Self
         ensures start { result ≡ at_start source pid (bytes_of packet_size) }
         // What it gives is what the packets of the PID carry in the recording.
@@ -62,35 +63,6 @@ impl<S: Source> RecordingPieces<S> {
             inner: source,
             stream: Stream::new(pid, packet_size),
             is_over: false,
-        }
-    }
-
-    /// The bytes that no piece begins, once it was told that none does: they are all that is left.
-    /// No byte before that.
-    #[tactic(auto, using(crate::proofs::RecordingLemmas::rests))]
-    pub fn read(&self) -> &[u8]
-        ensures { Consumes (still_given self.now.stream (S.remaining self.now.device))
-            (left_of self.now.is_over (still_given self.now.stream (S.remaining self.now.device)))
-            result.now }
-    {
-        if self.is_over {
-            self.stream.bytes()
-        } else {
-            &[]
-        }
-    }
-
-    /// Takes these bytes.
-    #[tactic(auto, using(crate::proofs::RecordingLemmas::rests))]
-    pub fn pass_read(&mut self)
-        ensures all { still_given self.new.stream (S.remaining self.new.device)
-            ≡ left_of self.old.is_over (still_given self.old.stream (S.remaining self.old.device)) }
-        ensures over { self.new.is_over ≡ false }
-        ensures count { S.failure_count self.new.device ≡ S.failure_count self.old.device }
-    {
-        if self.is_over {
-            self.is_over = false;
-            self.stream.hand_over();
         }
     }
 
@@ -110,6 +82,8 @@ impl<S: Source> Pieces for RecordingPieces<S> {
 
     ghost failure_count = { λ r. S.failure_count r.device };
 
+    ghost is_rest = { λ r. r.is_over };
+
     ghost ready = { λ r. is_some_ready r.stream };
 
     /// Has a taker take a PES packet or a mark. It reads on where none is ready.
@@ -125,7 +99,13 @@ impl<S: Source> Pieces for RecordingPieces<S> {
             (still_given self.new.stream (S.remaining self.new.device))
             (left_of self.new.is_over (still_given self.new.stream (S.remaining self.new.device)))
             T.is_take taker.old taker.new result }
+        ensures rest { tells_rest result ≡ true → self.new.is_over ≡ true }
         ensures ready { is_some_ready self.old.stream ≡ true → is_ok result ≡ true }
+        // What was taken of the recording gives what came, whatever follows,
+        ensures gives { GivesOn self.old.stream self.new.stream
+            (S.remaining self.old.device) (S.remaining self.new.device) }
+        // and nothing more where a read failed.
+        ensures cut { is_ok result ≡ false → given_of self.new.stream [] ≡ [] }
         // No byte is asked for behind those that give some: a PES packet or a mark.
         ensures asks { (read : StreamValue) × Asks S.is_pull S.lent S.remaining
             (gives_some self.old.stream) self.old.device (is_ok result)
@@ -147,6 +127,16 @@ impl<S: Source> Pieces for RecordingPieces<S> {
         }
     }
 
+    /// The bytes that no piece begins are all that is left: the part of its first packet.
+    #[tactic(auto, using(crate::proofs::RecordingLemmas::rests))]
+    fn read_rest(&mut self, room: &mut [u8; REST_ROOM]) -> Result<usize, Failed> {
+        let bytes = self.stream.bytes();
+        let count = bytes.len();
+        put_in_front(room, bytes);
+        self.stream.hand_over();
+        Ok(count)
+    }
+
     /// Whether one is ready.
     #[inline(always)]
     fn is_ready(&self) -> bool {
@@ -163,6 +153,15 @@ impl<S: Source> NumberedPieces for RecordingPieces<S> {
     fn find_first(&mut self) -> Result<u64, FailedAt> {
         Ok(0)
     }
+}
+
+// Puts bytes in front of the room.
+fn put_in_front(room: &mut [u8; REST_ROOM], bytes: &[u8])
+    requires { length bytes.now ≤ length room.old }
+    ensures { take (length bytes.now) room.new ≡ bytes.now }
+{
+    let (front, _) = room.split_at_mut(bytes.len());
+    front.copy_from_slice(bytes);
 }
 
 // Has a taker take a piece, which are bytes.

@@ -1,17 +1,17 @@
 //! Reading a recording for one PID: its packets in step, and what they give.
 ghost use Rattle.std.specs.Prelude.{◌≡◌, ◌+◌, ◌-◌, ◌^◌, ◌<◌, ◌≤◌, ◌↔◌, List, ℕ, [], drop};
 ghost use Rattle.std.specs.Prelude.{◌≢◌, take, length};
-ghost use Rattle.std.specs.Prelude.{Ok, false, is_ok, slice_index, true};
+ghost use Rattle.std.specs.Prelude.{Ok, false, is_ok, true};
 ghost use Rattle.std.specs.Io.KnownBytes.{IsAtEnd, Keeps};
 ghost use Rattle.sub_io.specs.Asking.{Asks};
 ghost use Rattle.sub_io.specs.Device.{CanFail, CountsFailure};
 ghost use Rattle.mpeg_ts.specs.GoodPackets.{hole_size};
-ghost use Rattle.mpeg_ts.specs.Joining.{IsWithin, JoiningValue, TakesFirst, TakesNext};
-ghost use Rattle.mpeg_ts.specs.Joining.{handed_over, has_ended, taken_bytes};
+ghost use Rattle.mpeg_ts.specs.Joining.{IsWithin, TakesNext, emptied, has_ended, taken_bytes};
 ghost use Rattle.mpeg_ts.specs.PacketSize.{bytes_of};
 ghost use Rattle.mpeg_ts.specs.PacketsInStep.{begins_packet, bytes_needed, lead_size};
 ghost use Rattle.mpeg_ts.specs.Stream.{after_packet, after_skipped, bytes_ahead, bytes_at_most};
 ghost use Rattle.mpeg_ts.specs.Stream.{given_of, gives_some, start_of_stream, still_given};
+ghost use Rattle.mpeg_ts.specs.TakenBytes.{TakesFront};
 
 use crate::joining::Joining;
 use crate::passing::{begins_unit, junk_size, packet_in, place_behind_others};
@@ -99,8 +99,9 @@ impl Stream {
     fn need<S: Source>(&mut self, source: &mut S) -> Result<bool, Failed>
         requires count { CanFail (S.failure_count source.old) }
         requires idle { self.old.joining.pending ≡ [] }
-        ensures keeps { Keeps (still_given self.old (S.remaining source.old))
-            (still_given self.new (S.remaining source.new)) }
+        ensures takes { TakesFront (given_of self.old) (given_of self.new)
+            (S.remaining source.old) (S.remaining source.new) }
+        ensures cut { is_ok result ≡ false → given_of self.new [] ≡ [] }
         ensures there { result ≡ Ok true → self.new.lead
             + bytes_needed self.new.distance self.new.in_step ≤ length self.new.window.held }
         ensures packet { result ≡ Ok true → self.new.lead + 188 ≤ length self.new.window.held }
@@ -283,8 +284,9 @@ impl Stream {
         requires count { CanFail (S.failure_count source.old) }
         requires idle { self.old.joining.pending ≡ [] }
         requires going { has_ended self.old.joining.part ≡ false }
-        ensures keeps { Keeps (still_given self.old (S.remaining source.old))
-            (still_given self.new (S.remaining source.new)) }
+        ensures takes { TakesFront (given_of self.old) (given_of self.new)
+            (S.remaining source.old) (S.remaining source.new) }
+        ensures cut { is_ok result ≡ false → given_of self.new [] ≡ [] }
         ensures end { result ≡ Ok false
             → IsAtEnd (still_given self.new (S.remaining source.new)) }
         ensures fewer { result ≡ Ok true → bytes_at_most self.new < bytes_at_most self.old }
@@ -314,8 +316,8 @@ impl Stream {
         requires count { CanFail (S.failure_count source.old) }
         requires idle { self.old.joining.pending ≡ [] }
         requires going { has_ended self.old.joining.part ≡ false }
-        ensures kept { Keeps (still_given self.old (S.remaining source.old))
-            (still_given self.new (S.remaining source.new))
+        ensures kept { TakesFront (given_of self.old) (given_of self.new)
+            (S.remaining source.old) (S.remaining source.new)
             × Asks S.is_pull S.lent S.remaining
             (gives_some self.old) source.old true (gives_some self.new) source.new }
         ensures fewer { result ≡ true → bytes_at_most self.new < bytes_at_most self.old }
@@ -362,6 +364,9 @@ impl Stream {
     #[tactic(auto, using(crate::proofs::StreamLemmas::reads))]
     pub(crate) fn read_on<S: Source>(&mut self, source: &mut S) -> Result<(), Failed>
         requires { CanFail (S.failure_count source.old) }
+        ensures takes { TakesFront (given_of self.old) (given_of self.new)
+            (S.remaining source.old) (S.remaining source.new) }
+        ensures cut { is_ok result ≡ false → given_of self.new [] ≡ [] }
         ensures keeps { Keeps (still_given self.old (S.remaining source.old))
             (still_given self.new (S.remaining source.new)) }
         ensures ready { self.old.joining.pending ≢ [] → result ≡ Ok tt }
@@ -383,8 +388,9 @@ impl Stream {
     #[tactic(auto, using(crate::proofs::StreamLemmas::reads))]
     fn read_more<S: Source>(&mut self, source: &mut S) -> Result<(), Failed>
         requires { CanFail (S.failure_count source.old) }
-        ensures keeps { Keeps (still_given self.old (S.remaining source.old))
-            (still_given self.new (S.remaining source.new)) }
+        ensures takes { TakesFront (given_of self.old) (given_of self.new)
+            (S.remaining source.old) (S.remaining source.new) }
+        ensures cut { is_ok result ≡ false → given_of self.new [] ≡ [] }
         ensures end { result ≡ Ok tt → self.new.joining.pending ≡ []
             → IsAtEnd (still_given self.new (S.remaining source.new)) }
         ensures asks { Asks S.is_pull S.lent S.remaining
@@ -420,26 +426,17 @@ impl Stream {
 
     // The bytes of the part.
     pub(crate) fn bytes(&self) -> &[u8]
-        ensures { result.now ≡ self.now.joining.bytes }
+        ensures bytes { result.now ≡ self.now.joining.bytes }
+        ensures most { length result.now ≤ 1840 }
     {
         self.joining.bytes()
     }
 
-    // All that was ready was given.
+    // All that was ready was given, and no byte is kept of it.
     pub(crate) fn hand_over(&mut self)
-        ensures { self.new ≡ record self.old { joining = handed_over self.old.joining } }
+        ensures { self.new ≡ record self.old { joining = emptied self.old.joining } }
     {
         self.joining.hand_over();
-    }
-
-    // Takes what is given next of what is ready, whatever it is.
-    #[inline(always)]
-    pub(crate) fn take_first(&mut self) -> Next
-        ensures first { TakesFirst self.old.joining result self.new.joining }
-        ensures within { IsWithin result self.new.joining.bytes }
-        ensures same { self.new ≡ record self.old { joining = self.new.joining } }
-    {
-        self.joining.take_first()
     }
 
     // The bytes of what was taken.

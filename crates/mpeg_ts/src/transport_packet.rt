@@ -1,5 +1,5 @@
 //! The fields of a transport packet (ISO/IEC 13818-1, 2.4.3.2 to 2.4.3.5).
-ghost use Rattle.std.specs.Prelude.{◌≡◌, ◌≤◌, ◌==◌, length, false, true, slice_index};
+ghost use Rattle.std.specs.Prelude.{◌≡◌, ◌≤◌, ◌==◌, length, false, true};
 ghost use Rattle.mpeg_ts.specs.TransportPacket.{announces_jump, begins, counter, has_adaptation};
 ghost use Rattle.mpeg_ts.specs.TransportPacket.{has_payload, is_wrong, payload, pid};
 

@@ -1,9 +1,10 @@
 //! The bytes of a recording that were taken and are to be looked at.
 ghost use Rattle.std.specs.Prelude.{◌≡◌, ◌+◌, ◌-◌, ◌<◌, ◌≤◌, [], drop, length, Ok, IfOk, IsErr};
 ghost use Rattle.std.specs.Prelude.{false, is_ok, true};
-ghost use Rattle.std.specs.Io.KnownBytes.{IsAtEnd, Keeps};
+ghost use Rattle.std.specs.Io.KnownBytes.{IsAtEnd};
 ghost use Rattle.sub_io.specs.Device.{CanFail, CountsFailure};
-ghost use Rattle.mpeg_ts.specs.Window.{AsksUpTo, left_to_take, to_come, window_size};
+ghost use Rattle.mpeg_ts.specs.TakenBytes.{TakesFront};
+ghost use Rattle.mpeg_ts.specs.Window.{AsksUpTo, held_and_left, left_to_take, window_size};
 
 use arrayvec::ArrayVec;
 use std::marker::Model;
@@ -95,8 +96,8 @@ impl Window {
         requires count { CanFail (S.failure_count source.old) }
         requires room { length self.old.held + room ≤ window_size }
         requires left { room ≤ self.old.left }
-        ensures keeps { Keeps (to_come self.old (S.remaining source.old))
-            (to_come self.new (S.remaining source.new)) }
+        ensures takes { TakesFront (held_and_left self.old) (held_and_left self.new)
+            (S.remaining source.old) (S.remaining source.new) }
         ensures more { IfOk result (λ n. length self.new.held ≡ length self.old.held + n) }
         ensures left { IfOk result (λ n. self.new.left + n ≡ self.old.left) }
         ensures bound { IfOk result (λ n. n ≤ room) }
@@ -125,9 +126,10 @@ impl Window {
     ) -> Result<bool, Failed>
         requires count { CanFail (S.failure_count source.old) }
         requires room { count ≤ window_size }
-        ensures keeps { Keeps (to_come self.old (S.remaining source.old))
-            (to_come self.new (S.remaining source.new)) }
+        ensures takes { TakesFront (held_and_left self.old) (held_and_left self.new)
+            (S.remaining source.old) (S.remaining source.new) }
         ensures there { result ≡ Ok true → count ≤ length self.new.held }
+        ensures cut { is_ok result ≡ false → length self.new.held < count }
         ensures few { result ≡ Ok false → length self.new.held < count }
         ensures end { result ≡ Ok false
             → IsAtEnd (left_to_take self.new (S.remaining source.new)) }

@@ -1,4 +1,5 @@
-//! Tests of the program's other answers, over devices in memory. Nothing here is part of the product.
+//! Tests of the program's other answers, over devices in memory. Nothing here is part of the
+//! product.
 //!
 //! They stand apart from the tests of the libraries, of checks, of words and of files, since the
 //! tests of a crate are proved by one job.

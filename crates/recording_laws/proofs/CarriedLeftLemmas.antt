@@ -12,7 +12,7 @@ use Rattle.mpeg_ts.specs.GoodPackets.{GoodPackets, Note, good_after, nothing_sin
 use Rattle.mpeg_ts.specs.Parts.{outcomes_of}
 use Rattle.mpeg_ts.specs.TransportPacket.{counter, payload}
 use Rattle.recording_laws.specs.Losses.{AreLosses, Fate, Fated, IsFate, IsSpoiled, any_wrong}
-use Rattle.recording_laws.specs.Losses.{left_of}
+use Rattle.recording_laws.specs.Losses.{recorded_of}
 use Rattle.recording_laws.specs.Losses.{sent_packet, units_left}
 use Rattle.recording_laws.specs.Multiplex.{AreInSequence, AreNextCarriers, AreRecordedUnits}
 use Rattle.recording_laws.specs.Multiplex.{Carrier}
@@ -50,7 +50,7 @@ left-unit : (distance number : ℕ) (unit : List ℕ) (fate : Fate) (sent left :
     → (sent ≡ []) ⊎ (length unit ≡ distance)
     → (sent ≡ [] → left ≡ [])
     → AreRecordedUnits distance left
-    → AreRecordedUnits distance (left_of unit fate ++ left)
+    → AreRecordedUnits distance (recorded_of unit fate ++ left)
 left-unit distance number unit fate sent left h1 h2 h3 h4 h5 =
     grind (arith, nat_tests, spoiled-unit)
 
@@ -66,7 +66,7 @@ left-units distance number (f ∷ fs) each fates =
 -- What is left of a unit is not longer.
 length-left_of : (distance number : ℕ) (unit : List ℕ) (fate : Fate)
     → IsFate distance number unit fate
-    → length (concat (left_of unit fate)) ≤ length unit
+    → length (concat (recorded_of unit fate)) ≤ length unit
 length-left_of distance number unit fate h1 = grind (arith, nat_tests, length-append)
 
 -- Nor are all.
@@ -80,8 +80,8 @@ length-left distance number (f ∷ fs) fates =
     omega (
       arith,
       length-append f.unit (concat (map (λ (f : Fated). f.unit) fs)),
-      ap length (concat-append (left_of f.unit f.fate) (units_left fs)),
-      length-append (concat (left_of f.unit f.fate)) (concat (units_left fs)),
+      ap length (concat-append (recorded_of f.unit f.fate) (units_left fs)),
+      length-append (concat (recorded_of f.unit f.fate)) (concat (units_left fs)),
     )
 
 -- What is noted of the units that are left.

@@ -10,7 +10,7 @@ use Rattle.std.proofs.lemmas.List.{append-nil}
 use Rattle.std.proofs.lemmas.List.Folds.{list_any-append}
 use Rattle.mpeg_ts.specs.GoodPackets.{Note, Since, good_after, is_repeat, linked, with_good}
 use Rattle.recording_laws.specs.Losses.{Fate, Fated, IsFate, any_kept, any_wrong, is_as_sent}
-use Rattle.recording_laws.specs.Losses.{is_made_wrong, left_of, sent_packet}
+use Rattle.recording_laws.specs.Losses.{is_made_wrong, recorded_of, sent_packet}
 use Rattle.recording_laws.specs.Multiplex.{Carrier, IsCarrier, IsRepetition, announces, is_quiet}
 use Rattle.recording_laws.specs.Multiplex.{IsRecordedUnit, items_of_carrier, packet_in}
 use Rattle.recording_laws.proofs.CarrierLemmas.{good-packet, good-quiet, good-repeat}
@@ -43,7 +43,7 @@ or-true a = grind (arith, nat_tests)
 module _ (distance number : ℕ) where
   -- What is noted of what is left of a unit.
   abbrev pub heard_left : Fated → List Note
-  heard_left f = flat_map (λ u. noted number (packet_in distance u)) (left_of f.unit f.fate)
+  heard_left f = flat_map (λ u. noted number (packet_in distance u)) (recorded_of f.unit f.fate)
 
   -- What is known of a unit: what may have become of it, and that no jump is announced in it.
   pub record IsLeft (f : Fated) : Type 0 where
@@ -57,7 +57,7 @@ module _ (distance number : ℕ) where
       → IsFate distance number unit fate
       → is_as_sent fate ≡ false
       → good_after (since_loss good again wrong)
-      (flat_map (λ u. noted number (packet_in distance u)) (left_of unit fate) ++ ns)
+      (flat_map (λ u. noted number (packet_in distance u)) (recorded_of unit fate) ++ ns)
       ≡ good_after (since_loss good again (wrong || is_made_wrong fate)) ns
   unfolding good_after
   good-lost good again wrong unit fate ns h1 h2 = grind (arith, nat_tests, or-false, or-true)
@@ -69,7 +69,7 @@ module _ (distance number : ℕ) where
       → announces number (packet_in distance unit) ≡ false
       → is_quiet number (packet_in distance unit) ≡ true
       → good_after (since_loss good again wrong)
-      (flat_map (λ u. noted number (packet_in distance u)) (left_of unit fate) ++ ns)
+      (flat_map (λ u. noted number (packet_in distance u)) (recorded_of unit fate) ++ ns)
       ≡ good_after (since_loss good again (wrong || is_made_wrong fate)) ns
   good-quiet-left good again wrong unit fate ns h1 h2 h3 =
       grind (arith, nat_tests, append-nil, noted, good-quiet, since_quiet, or-false, good-lost)
@@ -95,7 +95,7 @@ module _ (distance number : ℕ) where
   -- What is noted of a unit that is there as it was sent.
   pub heard-kept : (unit : List ℕ) (fate : Fate)
       → is_as_sent fate ≡ true
-      → flat_map (λ u. noted number (packet_in distance u)) (left_of unit fate)
+      → flat_map (λ u. noted number (packet_in distance u)) (recorded_of unit fate)
       ≡ noted number (packet_in distance unit)
   heard-kept unit fate h1 = grind (arith, nat_tests, append-nil, noted)
 

@@ -40,14 +40,14 @@ abbrev pub any_wrong : List Fated → Bool
 any_wrong units = list_any (λ f. is_made_wrong f.fate) units
 
 -- What is there of a unit.
-abbrev pub left_of : List ℕ → Fate → List (List ℕ)
-left_of unit Kept = unit ∷ []
-left_of unit LeftOut = []
-left_of unit (MadeWrong other) = other ∷ []
+abbrev pub recorded_of : List ℕ → Fate → List (List ℕ)
+recorded_of unit Kept = unit ∷ []
+recorded_of unit LeftOut = []
+recorded_of unit (MadeWrong other) = other ∷ []
 
 -- The units that are there.
 abbrev pub units_left : List Fated → List (List ℕ)
-units_left units = flat_map (λ f. left_of f.unit f.fate) units
+units_left units = flat_map (λ f. recorded_of f.unit f.fate) units
 
 -- A unit of the PID was made wrong: as when transport_error_indicator or one bit of
 -- transport_scrambling_control was set in it. Its first byte and its PID are what they were; other

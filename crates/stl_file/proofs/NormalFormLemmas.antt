@@ -13,7 +13,7 @@ use Rattle.stl_file.specs.declared.fault.StlFault.{StlFault}
 use Rattle.stl_file.specs.declared.fault.NormalFault.{NormalFault}
 use Rattle.stl_file.specs.declared.fault.NormalFault.TheVariants.{Refused, Write}
 use Rattle.stl_file.specs.Tti.{is_kept, most_blocks}
-use Rattle.stl_file.specs.SubtitleBlocks.{IsBlock, AreLinked, IsRest, AreBlocksOf}
+use Rattle.stl_file.specs.SubtitleBlocks.{IsBlock, AreLinked, AreSubtitleBlocks, AreBlocksOf}
 use Rattle.stl_file.specs.Reader.{ReaderValue, findings_for, gsi_of, outcome_from, outcome_of}
 use Rattle.stl_file.specs.Reader.{opened_at}
 use Rattle.stl_file.specs.Scope.{whole}
@@ -53,7 +53,7 @@ each_append (x ∷ xs) ys h k = (h.0, each_append xs ys h.1 k)
 -- The subtitles of a file have blocks of their own, and no more than the file has.
 respelled : (ss : List SubtitleValue) (gs : List (List (List ℕ)))
     → AllZip AreBlocksOf ss gs
-    → IsRest whole (length (groups_of gs)) (all_blocks ss) ss
+    → AreSubtitleBlocks whole (length (groups_of gs)) (all_blocks ss) ss
 respelled [] gs h = grind (arith, nat_tests)
 respelled (s ∷ ss) [] h = absurd h
 respelled (s ∷ ss) (g ∷ gs) h =
@@ -78,8 +78,8 @@ respelled (s ∷ ss) (g ∷ gs) h =
 
 -- The blocks that are made for the subtitles of a file are those of a file.
 own_rest : (bs : List (List ℕ)) (ts : List SubtitleValue)
-    → IsRest whole most_blocks bs ts
-    → IsRest whole most_blocks (all_blocks ts) ts
+    → AreSubtitleBlocks whole most_blocks bs ts
+    → AreSubtitleBlocks whole most_blocks (all_blocks ts) ts
 own_rest bs ts r =
     let own = respelled ts r.groups (rw (all_inside r.groups) at r.are_of) in
     record {

@@ -1,5 +1,5 @@
--- `IsRest`: bytes are read without a fault exactly when they are blocks of subtitles; main lemmas:
--- read_complete, read_sound.
+-- `AreSubtitleBlocks`: bytes are read without a fault exactly when they are blocks of subtitles;
+-- main lemmas: read_complete, read_sound.
 use Rattle.std.proofs.Common.{◌≡◌, ℕ, false, true, cond, List, [], ◌∷◌, ◌++◌, length, refl, sym}
 use Rattle.std.proofs.Common.{ap, ◌∙◌, append_assoc, arith, take, drop, Option, Some, None, Result}
 use Rattle.std.proofs.Common.{Ok, Err, subst, zero, suc, ◌+◌, ◌-◌, ◌<◌, ◌≤◌, length-append, inl}
@@ -14,7 +14,8 @@ use Rattle.stl_file.specs.declared.fault.StlFault.{StlFault}
 use Rattle.stl_file.specs.Tti.{is_kept, ebn, sgn, sn, text_of, is_passed_block}
 use Rattle.stl_file.specs.Scope.{begins_outside, is_inside, is_outside}
 use Rattle.stl_file.specs.declared.scope.Scope.{Scope}
-use Rattle.stl_file.specs.SubtitleBlocks.{IsBlock, AreLinked, AreOutside, IsRest, AreBlocksOf}
+use Rattle.stl_file.specs.SubtitleBlocks.{IsBlock, AreLinked, AreOutside, AreSubtitleBlocks}
+use Rattle.stl_file.specs.SubtitleBlocks.{AreBlocksOf}
 use Rattle.stl_file.specs.Subtitle.{SubtitleValue}
 use Rattle.stl_file.specs.NormalForm.{Judged, subtitles_of, cons_all}
 use Rattle.stl_file.specs.Reading.{Begun, BlockStep, More, Give, Findings, closed, findings_after}
@@ -191,7 +192,7 @@ groups_give scope ((b ∷ others) ∷ gs) ss room out are le =
 
 -- The blocks of a file from where a subtitle may begin give its subtitles and no fault.
 pub read_complete : (scope : Scope) (bs : List (List ℕ)) (room : ℕ) (ss : List SubtitleValue)
-    → IsRest scope room bs ss
+    → AreSubtitleBlocks scope room bs ss
     → read_at scope room None (concat bs) ≡ Ok ss
 read_complete scope bs room ss r =
     let few : length (groups_of r.groups) ≤ room =

@@ -5,7 +5,7 @@ use Rattle.std.specs.Prelude.{◌≡◌, ℕ, List, ◌++◌}
 use Rattle.std.specs.List.{concat}
 use Rattle.stl_file.specs.Tti.{most_blocks}
 use Rattle.stl_file.specs.Subtitle.{SubtitleValue}
-use Rattle.stl_file.specs.SubtitleBlocks.{IsRest}
+use Rattle.stl_file.specs.SubtitleBlocks.{AreSubtitleBlocks}
 use Rattle.stl_file.specs.Gsi.{IsGsiFor}
 use Rattle.stl_file.specs.Scope.{whole}
 use Rattle.stl_file.specs.declared.scope.Scope.{Scope}
@@ -15,7 +15,7 @@ pub record IsFileFor (scope : Scope) (s g : List ℕ) (ts : List SubtitleValue) 
   pub gsi : IsGsiFor scope.takes_open g
   pub blocks : List (List ℕ)
   pub bytes : s ≡ g ++ concat blocks
-  pub rest : IsRest scope most_blocks blocks ts
+  pub rest : AreSubtitleBlocks scope most_blocks blocks ts
 
 -- They are a file for Teletext with these subtitles in all.
 abbrev pub IsFile : List ℕ → List ℕ → List SubtitleValue → Type 0

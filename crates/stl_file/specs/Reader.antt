@@ -14,7 +14,7 @@ use Rattle.stl_file.specs.Scope.{whole}
 use Rattle.stl_file.specs.declared.scope.Scope.{Scope}
 use Rattle.stl_file.specs.Tti.{most_blocks, is_kept}
 use Rattle.stl_file.specs.Subtitle.{SubtitleValue}
-use Rattle.stl_file.specs.SubtitleBlocks.{IsBlock, AreBlocksOf, IsRest}
+use Rattle.stl_file.specs.SubtitleBlocks.{IsBlock, AreBlocksOf, AreSubtitleBlocks}
 use Rattle.stl_file.specs.Reading.{Begun, Findings, breaks, findings_from, finds, no_more, refuses}
 use Rattle.stl_file.specs.Reading.{Outcome, ends, fails, gives, stopped}
 use Rattle.stl_file.specs.File.{IsFileFor}
@@ -62,7 +62,7 @@ outcome_with r rest (Ok (Some s)) = gives s r.block (outcome_left r rest)
 
 -- The answer is the first thing that was left to be given, with its block, and what comes after it
 -- is what is left now.
-pub record GivesNext
+pub record GivesNextSubtitle
     (old : ReaderValue) (bytes : List ℕ) (new : ReaderValue) (now : Option (List ℕ))
     (result : Result (Option SubtitleValue) StlFault)
     : Type 0 where
@@ -129,7 +129,7 @@ pub record Refuses (from to : ℕ) (old new : Option (List ℕ)) (f : StlFault) 
       → (is_cut f ≡ true → more ≡ [])
       → (bs : List (List ℕ))
       → (ts : List SubtitleValue)
-      → IsRest whole (most_blocks - from) bs ts
+      → AreSubtitleBlocks whole (most_blocks - from) bs ts
       → concat bs ≡ bytes ++ more
       → ⊥
 

@@ -72,7 +72,9 @@ pub record AreOutside (scope : Scope) (bs : List (List ℕ)) : Type 0 where
 -- The blocks of a file from a place on where a subtitle may begin, `most` at most: where the
 -- passed blocks are taken out, groups of blocks are left, one subtitle after the other. Those that
 -- are outside are taken out too, and the others are those of these subtitles.
-pub record IsRest (scope : Scope) (most : ℕ) (bs : List (List ℕ)) (ts : List SubtitleValue) : Type 0
+pub record AreSubtitleBlocks
+    (scope : Scope) (most : ℕ) (bs : List (List ℕ)) (ts : List SubtitleValue)
+    : Type 0
   where
     pub each : AllByRecursion IsBlock bs
     pub few : length bs ≤ most

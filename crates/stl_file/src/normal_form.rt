@@ -1,7 +1,7 @@
 //! The normal form of a subtitle file: its subtitles in the fewest blocks, and the counts of them.
 
 ghost use Rattle.std.specs.Prelude.{◌≡◌, ◌≢◌, ◌+◌, ◌<◌, ◌≤◌, ◌++◌, length, true};
-ghost use Rattle.std.specs.Prelude.{if◌then◌else◌, IfErr, IfOk, Ok, is_ok};
+ghost use Rattle.std.specs.Prelude.{IfErr, IfOk, Ok, is_ok};
 ghost use Rattle.std.specs.List.{concat};
 ghost use Rattle.sub_io.specs.Device.{CanFail, CountsFailure, CountsIf, Writes, failed};
 ghost use Rattle.stl_file.specs.declared.fault.NormalFault.TheVariants.{Write};

@@ -1,17 +1,17 @@
 //! Reading a subtitle file from a source, one subtitle after the other (EBU Tech 3264).
 
-ghost use Rattle.std.specs.Prelude.{◌≡◌, ◌≢◌, ◌↔◌, ◌+◌, ◌-◌, ◌<◌, ◌≤◌, if◌then◌else◌, drop, ℕ};
+ghost use Rattle.std.specs.Prelude.{◌≡◌, ◌≢◌, ◌↔◌, ◌+◌, ◌-◌, ◌<◌, ◌≤◌, drop, ℕ};
 ghost use Rattle.std.specs.Prelude.{List, length};
 ghost use Rattle.std.specs.Prelude.{false, true, None, Some, Ok, Err, IfErr, IfNone, IfOk, IfSome};
 ghost use Rattle.std.specs.Prelude.{option_map};
 ghost use Rattle.std.specs.Io.KnownBytes.{Consumes};
 ghost use Rattle.sub_io.specs.Device.{CanFail, CountsIf, failed};
-ghost use Rattle.sub_io.specs.Reading.{IfTold};
+ghost use Rattle.sub_io.specs.Reading.{IfKnown};
 ghost use Rattle.stl_file.specs.declared.fault.StlFault.TheVariants.{Ended};
 ghost use Rattle.stl_file.specs.Fault.{is_format, is_file_read};
 ghost use Rattle.stl_file.specs.Gsi.{IsGsi, IsGsiFor};
 ghost use Rattle.stl_file.specs.Reader.{block_after, block_by, gsi_of, opened_at, FailsReading};
-ghost use Rattle.stl_file.specs.Reader.{HasPlace, GivesNext, Refuses, RefusesOpening};
+ghost use Rattle.stl_file.specs.Reader.{HasPlace, GivesNextSubtitle, Refuses, RefusesOpening};
 ghost use Rattle.stl_file.specs.Reader.{RefusesOpeningFor, TakesPassed};
 ghost use Rattle.stl_file.specs.Reader.{TakesSubtitle, given_subtitle, progress_after_answer};
 ghost use Rattle.stl_file.specs.Reading.{begun_in, passed_by};
@@ -63,12 +63,12 @@ impl StlReader {
     pub fn open<S: Source>(source: &mut S) -> Result<StlReader, StlFault>
         requires { CanFail (S.failure_count source.old) }
         // Where the source tells its bytes and does not fail, they decide the answer.
-        ensures exact { IfTold (S.remaining source.old) (λ bytes.
+        ensures exact { IfKnown (S.remaining source.old) (λ bytes.
             failed is_file_read result ≡ false → opened_at bytes ≡ result) }
         // The GSI block alone is taken.
         ensures taken { IfOk result (λ reader. IsGsi reader.gsi
             × Consumes (S.remaining source.old) (S.remaining source.new) reader.gsi) }
-        ensures left { IfTold (S.remaining source.old) (λ bytes.
+        ensures left { IfKnown (S.remaining source.old) (λ bytes.
             IfOk result (λ reader. S.remaining source.new ≡ Some (drop 1024 bytes))) }
         ensures start { IfOk result (λ reader.
             (reader.block ≡ 0) × (reader.progress ≡ Reading)) }
@@ -134,9 +134,9 @@ impl StlReader {
         requires { CanFail (S.failure_count source.old) }
         // Where the source tells its bytes and does not fail, they decide the answer, its block and
         // what is left.
-        ensures exact { IfTold (S.remaining source.old) (λ bytes.
+        ensures exact { IfKnown (S.remaining source.old) (λ bytes.
             failed is_file_read result ≡ false →
-            GivesNext self.old bytes self.new (S.remaining source.new) result) }
+            GivesNextSubtitle self.old bytes self.new (S.remaining source.new) result) }
 
         // A subtitle is that of the blocks that were taken, with the passed blocks before and
         // inside them.
@@ -194,9 +194,9 @@ impl StlReader {
         requires { CanFail (S.failure_count source.old) }
         // Where the source tells its bytes and does not fail, they decide the answer, its block and
         // what is left.
-        ensures exact { IfTold (S.remaining source.old) (λ bytes.
+        ensures exact { IfKnown (S.remaining source.old) (λ bytes.
             failed is_file_read result ≡ false →
-            GivesNext self.old bytes self.new (S.remaining source.new)
+            GivesNextSubtitle self.old bytes self.new (S.remaining source.new)
             (given_subtitle result subtitle.new)) }
 
         // A subtitle is that of the blocks that were taken, with the passed blocks before and
@@ -259,11 +259,11 @@ impl StlReader {
 // Reads a file's GSI block and takes nothing after it.
 pub(crate) fn read_gsi<S: Source>(source: &mut S, scope: Scope) -> Result<Gsi, StlFault>
     requires { CanFail (S.failure_count source.old) }
-    ensures exact { IfTold (S.remaining source.old) (λ bytes.
+    ensures exact { IfKnown (S.remaining source.old) (λ bytes.
         failed is_file_read result ≡ false → gsi_of scope.takes_open bytes ≡ result) }
     ensures taken { IfOk result (λ gsi. IsGsiFor scope.takes_open gsi
         × Consumes (S.remaining source.old) (S.remaining source.new) gsi) }
-    ensures left { IfTold (S.remaining source.old) (λ bytes.
+    ensures left { IfKnown (S.remaining source.old) (λ bytes.
         IfOk result (λ gsi. S.remaining source.new ≡ Some (drop 1024 bytes))) }
     ensures refused { IfErr result (λ fault. is_format fault ≡ true →
         RefusesOpeningFor scope (S.remaining source.old) (S.remaining source.new) fault) }

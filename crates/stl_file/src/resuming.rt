@@ -4,14 +4,14 @@ ghost use Rattle.std.specs.Prelude.{◌≡◌, ◌≢◌, ◌<◌, false, true, 
 ghost use Rattle.std.specs.Prelude.{drop, length, option_map, ℕ};
 ghost use Rattle.std.specs.Io.KnownBytes.{Consumes};
 ghost use Rattle.sub_io.specs.Device.{CanFail, CountsIf, failed};
-ghost use Rattle.sub_io.specs.Reading.{IfTold};
+ghost use Rattle.sub_io.specs.Reading.{IfKnown};
 ghost use Rattle.stl_file.specs.declared.fault.StlFault.TheVariants.{Ended};
 ghost use Rattle.stl_file.specs.declared.progress.Progress.TheVariants.{Reading};
 ghost use Rattle.stl_file.specs.Fault.{is_format, is_file_read};
 ghost use Rattle.stl_file.specs.Gsi.{IsGsiFor};
 ghost use Rattle.stl_file.specs.Reader.{FailsReading, HasPlace, RefusesOpeningFor};
 ghost use Rattle.stl_file.specs.Reading.{passed_by};
-ghost use Rattle.stl_file.specs.Resuming.{IsOfFirst, LeadsOn, begun_at, found_of, progress_found};
+ghost use Rattle.stl_file.specs.Resuming.{IsOfFirst, LeadsOn, begun_at, progress_found};
 
 use crate::fault::StlFault;
 use crate::progress::Progress;
@@ -75,12 +75,12 @@ impl ResumingReader {
     pub fn open<S: Source>(source: &mut S, scope: Scope) -> Result<ResumingReader, StlFault>
         requires { CanFail (S.failure_count source.old) }
         // Where the source tells its bytes and does not fail, they decide the answer.
-        ensures exact { IfTold (S.remaining source.old) (λ bytes.
+        ensures exact { IfKnown (S.remaining source.old) (λ bytes.
             failed is_file_read result ≡ false → begun_at scope bytes ≡ result) }
         // The GSI block alone is taken.
         ensures taken { IfOk result (λ reader. (gsi : List ℕ) × IsGsiFor scope.takes_open gsi
             × Consumes (S.remaining source.old) (S.remaining source.new) gsi) }
-        ensures left { IfTold (S.remaining source.old) (λ bytes.
+        ensures left { IfKnown (S.remaining source.old) (λ bytes.
             IfOk result (λ reader. S.remaining source.new ≡ Some (drop 1024 bytes))) }
         ensures start { IfOk result (λ reader. reader
             ≡ record { scope = scope; block = 0; progress = Reading; refused = None }) }

@@ -3,7 +3,7 @@ use Rattle.std.specs.Prelude.{◌≡◌, ℕ, ◌<◌, ◌≤◌, ◌&&◌, nat_
 use Rattle.std.specs.Prelude.{◌∷◌, ◌++◌, length, map, take, Option, Some, None, ◌⊎◌}
 use Rattle.std.specs.List.{filter, list_all}
 use Rattle.std.specs.Io.KnownBytes.{Consumes}
-use Rattle.sub_io.specs.Reading.{IfTold}
+use Rattle.sub_io.specs.Reading.{IfKnown}
 use Rattle.sub_io.specs.Telling.{Tells}
 use Rattle.stl_file.specs.declared.fault.StlFault.TheVariants.{Ended, Read, Unfinished}
 use Rattle.stl_file.specs.Reader.{block_of_byte, findings_for}
@@ -94,7 +94,7 @@ pub record FailsTelling
   pub consumed : Consumes old new bytes
   pub block_is : block ≡ block_of_byte (length bytes)
   pub told :
-      IfTold old
+      IfKnown old
       (λ all. Tells IsTold told_old told_new
       (filter (is_told_before block) (faults drawing all)))
 

@@ -128,8 +128,8 @@ unfoldable pub is_undecided_in : JudgedValue → ℕ → Bool
 is_undecided_in j frame = is_undecided (all_of j) frame
 
 -- Another one stands somewhere: something of the file is refused.
-abbrev pub is_beside : JudgedValue → Bool
-is_beside j = j.is_before_other || list_any (λ bit. bit) j.behind_other
+abbrev pub has_refused : JudgedValue → Bool
+has_refused j = j.is_before_other || list_any (λ bit. bit) j.behind_other
 
 -- A programme of a file in which nothing is refused.
 abbrev pub known : ProgrammeValue → JudgedValue

@@ -3,7 +3,7 @@ use Rattle.std.specs.Prelude.{◌≡◌, ℕ, ◌⊎◌, List, [], ◌∷◌, Re
 use Rattle.std.specs.Prelude.{Option, Some, None, length, map, true, ◌++◌}
 use Rattle.std.specs.List.{AllByRecursion, concat}
 use Rattle.std.specs.Io.KnownBytes.{Consumes}
-use Rattle.sub_io.specs.Reading.{IfTold}
+use Rattle.sub_io.specs.Reading.{IfKnown}
 use Rattle.stl_file.specs.declared.fault.StlFault.TheVariants.{Read, Unfinished}
 use Rattle.stl_file.specs.File.{IsFileFor}
 use Rattle.stl_file.specs.Gsi.{gsi_size}
@@ -73,7 +73,7 @@ pub record FailsLoading (drawing : Drawing) (old new : Option (List ℕ)) (block
   pub bytes : List ℕ
   pub consumed : Consumes old new bytes
   pub block_is : block ≡ block_of_byte (length bytes)
-  pub none : IfTold old (λ all. NoneBefore drawing all block)
+  pub none : IfKnown old (λ all. NoneBefore drawing all block)
 
 -- Bytes are loaded as a programme exactly where they are a subtitle file whose subtitles are in
 -- order, disjoint and drawable; the programme holds these. So `load` refuses no such file but for

@@ -3,7 +3,7 @@
 ghost use Rattle.std.specs.Prelude.{◌≡◌, ◌⊎◌, [], ◌∷◌, map, true, false, IfErr, IfOk};
 ghost use Rattle.std.specs.Prelude.{IfSome, None, Ok, OnErr, OnOk, is_err, is_none};
 ghost use Rattle.sub_io.specs.Device.{CanFail, CountsIf, failed};
-ghost use Rattle.sub_io.specs.Reading.{IfTold};
+ghost use Rattle.sub_io.specs.Reading.{IfKnown};
 ghost use Rattle.sub_io.specs.Telling.{Tells, TellsSome, first_alone};
 ghost use Rattle.stl_file.specs.declared.fault.StlFault.TheVariants.{Read};
 ghost use Rattle.stl_file.specs.Fault as stl;
@@ -62,18 +62,18 @@ pub fn load_all<S: Source, D: Audience<LoadFault>>(
     requires count { CanFail (S.failure_count source.old) }
     requires listens { D.has_stopped audience.old ≡ false }
     // Where the source tells its bytes, they decide what is judged by and what was told.
-    ensures exact { IfTold (S.remaining source.old) (λ bytes. IfOk result (λ found.
+    ensures exact { IfKnown (S.remaining source.old) (λ bytes. IfOk result (λ found.
         IfSome found (JudgesBy (drawing_within national layout scope) bytes))) }
-    ensures told_all { IfTold (S.remaining source.old) (λ bytes. IfOk result (λ found.
+    ensures told_all { IfKnown (S.remaining source.old) (λ bytes. IfOk result (λ found.
         IfSome found (λ _. Tells D.is_told audience.old audience.new
         (faults (drawing_within national layout scope) bytes)))) }
-    ensures told { IfTold (S.remaining source.old) (λ bytes. result ≡ Ok None →
+    ensures told { IfKnown (S.remaining source.old) (λ bytes. result ≡ Ok None →
         TellsFaults D.is_told audience.old audience.new (D.has_stopped audience.new)
         (faults (drawing_within national layout scope) bytes)) }
-    ensures not_judged { IfTold (S.remaining source.old) (λ bytes. result ≡ Ok None →
+    ensures not_judged { IfKnown (S.remaining source.old) (λ bytes. result ≡ Ok None →
         (D.has_stopped audience.new ≡ true)
         ⊎ (judges (drawing_within national layout scope) bytes ≡ false)) }
-    ensures memory { IfTold (S.remaining source.old) (λ bytes. IfErr result (λ f.
+    ensures memory { IfKnown (S.remaining source.old) (λ bytes. IfErr result (λ f.
         f.kind ≡ Memory → WantsMemory (drawing_within national layout scope) bytes
         D.is_told audience.old audience.new f.block)) }
 
@@ -119,16 +119,16 @@ pub fn load_all_in<A: Allocator + Copy, S: Source, D: Audience<LoadFault>>(
 ) -> Result<Option<Kept<A>>, LoadFault>
     requires count { CanFail (S.failure_count source.old) }
     requires listens { D.has_stopped audience.old ≡ false }
-    ensures exact { IfTold (S.remaining source.old) (λ bytes. IfOk result (λ found.
+    ensures exact { IfKnown (S.remaining source.old) (λ bytes. IfOk result (λ found.
         IfSome found (λ kept. JudgesBy drawing bytes (judged_with drawing kept)))) }
-    ensures told_all { IfTold (S.remaining source.old) (λ bytes. IfOk result (λ found.
+    ensures told_all { IfKnown (S.remaining source.old) (λ bytes. IfOk result (λ found.
         IfSome found (λ _. Tells D.is_told audience.old audience.new (faults drawing bytes)))) }
-    ensures told { IfTold (S.remaining source.old) (λ bytes. result ≡ Ok None →
+    ensures told { IfKnown (S.remaining source.old) (λ bytes. result ≡ Ok None →
         TellsFaults D.is_told audience.old audience.new (D.has_stopped audience.new)
         (faults drawing bytes)) }
-    ensures not_judged { IfTold (S.remaining source.old) (λ bytes. result ≡ Ok None →
+    ensures not_judged { IfKnown (S.remaining source.old) (λ bytes. result ≡ Ok None →
         (D.has_stopped audience.new ≡ true) ⊎ (judges drawing bytes ≡ false)) }
-    ensures memory { IfTold (S.remaining source.old) (λ bytes. IfErr result (λ f.
+    ensures memory { IfKnown (S.remaining source.old) (λ bytes. IfErr result (λ f.
         f.kind ≡ Memory
         → WantsMemory drawing bytes D.is_told audience.old audience.new f.block)) }
     ensures programme { IfOk result (λ found.

@@ -2,7 +2,7 @@
 
 ghost use Rattle.std.specs.Prelude.{◌≡◌};
 ghost use Rattle.std.specs.List.{list_any};
-ghost use Rattle.stl_rows.specs.Judged.{LawOfKnown, is_beside, is_undecided_in, known};
+ghost use Rattle.stl_rows.specs.Judged.{LawOfKnown, has_refused, is_undecided_in, known};
 ghost use Rattle.stl_rows.specs.Keeping.{judged_with};
 ghost use Rattle.stl_rows.specs.Programme.{IsProgramme};
 
@@ -117,8 +117,8 @@ impl<'a> Judging<'a> {
     }
 
     /// Whether another subtitle stands somewhere: something of the file is refused.
-    pub fn is_beside(&self) -> bool
-        ensures { result ≡ is_beside self.now }
+    pub fn has_refused(&self) -> bool
+        ensures { result ≡ has_refused self.now }
     {
         self.is_before_other || is_one_set(self.behind_other)
     }

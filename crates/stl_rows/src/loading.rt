@@ -2,7 +2,7 @@
 
 ghost use Rattle.std.specs.Prelude.{◌≡◌, ◌≢◌, Err, IfErr, IfOk, Ok, true};
 ghost use Rattle.sub_io.specs.Device.{CanFail, CountsIf, failed};
-ghost use Rattle.sub_io.specs.Reading.{IfTold};
+ghost use Rattle.sub_io.specs.Reading.{IfKnown};
 ghost use Rattle.stl_file.specs.declared.fault.StlFault.TheVariants.{Ended};
 ghost use Rattle.stl_rows.specs.Fault.{is_load_read};
 ghost use Rattle.stl_rows.specs.Layout.{drawing_within};
@@ -44,10 +44,10 @@ pub fn load<S: Source>(
 ) -> Result<Programme, LoadFault>
     requires { CanFail (S.failure_count source.old) }
     // Where the source tells its bytes, they decide the programme and the fault.
-    ensures exact { IfTold (S.remaining source.old) (λ bytes.
+    ensures exact { IfKnown (S.remaining source.old) (λ bytes.
         IfOk result (λ programme.
         loaded (drawing_within national layout scope) bytes ≡ Ok programme)) }
-    ensures fault { IfTold (S.remaining source.old) (λ bytes.
+    ensures fault { IfKnown (S.remaining source.old) (λ bytes.
         IfErr result (λ f.
         TellsFault (drawing_within national layout scope) bytes f.block f.kind)) }
     ensures never { IfErr result (λ f. f.kind ≢ File Ended) }
@@ -80,9 +80,9 @@ pub fn load_in<A: Allocator + Copy, S: Source>(
     drawing: Drawing,
 ) -> Result<Cues<A>, LoadFault>
     requires { CanFail (S.failure_count source.old) }
-    ensures exact { IfTold (S.remaining source.old) (λ bytes. IfOk result (λ v.
+    ensures exact { IfKnown (S.remaining source.old) (λ bytes. IfOk result (λ v.
         loaded drawing bytes ≡ Ok (record { drawing = drawing; records = v }))) }
-    ensures fault { IfTold (S.remaining source.old) (λ bytes. IfErr result (λ f.
+    ensures fault { IfKnown (S.remaining source.old) (λ bytes. IfErr result (λ f.
         TellsFault drawing bytes f.block f.kind)) }
     ensures never { IfErr result (λ f. f.kind ≢ File Ended) }
     ensures programme { IfOk result (λ v. IsProgramme drawing v) }

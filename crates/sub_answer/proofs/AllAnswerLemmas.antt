@@ -10,7 +10,7 @@ use Rattle.std.specs.Io.KnownBytes.{Appends}
 use Rattle.std.proofs.KnownBytes.{Appends-trans}
 use Rattle.sub_io.proofs.DeviceLemmas.{AppendsPrefix-first, AppendsPrefix-second}
 use Rattle.sub_io.specs.Device.{AppendsPrefix, RisesIf, failed}
-use Rattle.sub_io.specs.Reading.{IfTold}
+use Rattle.sub_io.specs.Reading.{IfKnown}
 use Rattle.stl_rows.specs.EveryFault.{faults, load_fault}
 use Rattle.stl_rows.specs.Judged.{JudgedValue}
 use Rattle.stl_rows.specs.Loading.{LawOfLoading, loaded}
@@ -27,7 +27,7 @@ use Rattle.sub_check.proofs.RuleToldLemmas.{first_of_rule}
 use Rattle.sub_check.proofs.FirstToldLemmas.{of_rule}
 use Rattle.sub_rules.specs.declared.event.Event.TheVariants.{Ended, PassedUntil, Told, Trusted}
 use Rattle.sub_rules.specs.Fault.{is_failure}
-use Rattle.sub_checker.specs.declared.telling.Accepted.{Accepted}
+use Rattle.sub_checker.specs.declared.accepted.Accepted.{Accepted}
 use Rattle.sub_rules.specs.declared.event.Event.{Event}
 use Rattle.sub_rules.specs.declared.fault.CheckFault.{CheckFault}
 use Rattle.sub_rules.specs.declared.fault.CheckFault.TheVariants as fault
@@ -121,7 +121,7 @@ answer-fails first events answer ended is = grind (arith, nat_tests, never-fault
 memory-last : (drawing : Drawing) (options : OptionsValue) (told pes old new : Option (List ℕ))
     (first : ℕ) (events : List Event) (answer : Result (Option Accepted) CheckFault) (block : ℕ)
     → answer ≡ Err (fault.Subtitles (load_fault block load.Memory))
-    → IfTold told (λ file. AreListed drawing options file pes events answer)
+    → IfKnown told (λ file. AreListed drawing options file pes events answer)
     → Appends old new (all_listing first events answer).text
     → PrintsMemoryLast drawing told old new
 memory-last drawing options told pes old new first events answer block memory listed text = (
@@ -254,7 +254,7 @@ answers_end
       ends = status-told drawing options stl pes (sink old.contents old.count end end_count)
           (all_listing t.number t.events t.answer) status t.answer _ printed t.sources
           (λ none at_once runs file heard bytes known.
-          done-exactly drawing options file bytes pes.told t.number t.events t.answer _ known runs
+          done-exactly drawing options file bytes pes.known t.number t.events t.answer _ known runs
           t.ended
           (t.listed file heard)
           (λ a is.
@@ -263,7 +263,7 @@ answers_end
           ((rw is at (t.checked holds file heard bytes known)) p loads).1 none at_once))
           (accepted-loads drawing options file bytes loading))
           (λ runs file heard bytes known.
-          done-exactly drawing options file bytes pes.told t.number t.events t.answer _ known runs
+          done-exactly drawing options file bytes pes.known t.number t.events t.answer _ known runs
           t.ended
           (t.listed file heard)
           (λ a is.
@@ -272,7 +272,8 @@ answers_end
           (accepted-loads_by drawing options file bytes loading))
           (answer-fails t.number t.events t.answer t.ended)
           (λ block memory text.
-          memory-last drawing options stl.told pes.told old.contents end t.number t.events t.answer
+          memory-last drawing options stl.known pes.known old.contents end t.number t.events
+          t.answer
           block memory t.listed text);
     }
 

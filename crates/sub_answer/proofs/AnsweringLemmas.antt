@@ -6,7 +6,7 @@ use Rattle.std.proofs.Common.{ap, arith, refl, sym, subst, Bool}
 use Rattle.std.proofs.lemmas.Bool.{true≢false}
 use Rattle.std.specs.Io.KnownBytes.{Appends}
 use Rattle.sub_io.specs.Device.{RisesIf, failed}
-use Rattle.sub_io.specs.Reading.{IfTold}
+use Rattle.sub_io.specs.Reading.{IfKnown}
 use Rattle.ttx_pes.specs.Reader.{FailsAtPacket}
 use Rattle.stl_file.specs.declared.fault.StlFault.TheVariants as stl
 use Rattle.stl_rows.specs.declared.fault.LoadFault.{LoadFault}
@@ -22,7 +22,7 @@ use Rattle.ttx_pes.specs.declared.fault.PesFault.TheVariants as pes_fault
 use Rattle.sub_answer.proofs.FailedReadLemmas.{no_events}
 use Rattle.sub_rules.specs.Fault.{is_failure, is_failure_kind, is_pes_read}
 use Rattle.sub_rules.specs.Fault.{is_subtitle_fault}
-use Rattle.sub_checker.specs.declared.telling.Accepted.{Accepted}
+use Rattle.sub_checker.specs.declared.accepted.Accepted.{Accepted}
 use Rattle.sub_rules.specs.declared.fault.CheckFault.{CheckFault}
 use Rattle.sub_rules.specs.declared.fault.CheckFault.TheVariants as fault
 use Rattle.sub_answer.specs.Answering.{AnswersCheck, verdict}
@@ -115,10 +115,10 @@ pub as_answered :
     → LawOfLoading
     → PrintsOrFails out (verdict number answer) status
     → (failed is_subtitle_fault answer ≡ false → StartsAt first pes number)
-    → TellsSources (FailsLoading drawing stl.told stl.left)
-    (λ index. FailsAtPacket index pes.told pes.left)
+    → TellsSources (FailsLoading drawing stl.known stl.left)
+    (λ index. FailsAtPacket index pes.known pes.left)
     Untouched (failed is_subtitle_fault answer) stl pes answer
-    → IfTold stl.told (λ file. AreChecked drawing options file pes.told answer)
+    → IfKnown stl.known (λ file. AreChecked drawing options file pes.known answer)
     → AnswersCheck drawing options stl pes first Untouched out status
 as_answered
     drawing options stl pes first Untouched out status number answer loading printed starts

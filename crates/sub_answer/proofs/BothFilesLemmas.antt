@@ -7,7 +7,7 @@ use Rattle.std.proofs.lemmas.Bool.{true≢false}
 use Rattle.std.proofs.lemmas.Bool.Decides.{nat_tests}
 use Rattle.std.specs.Io.KnownBytes.{Appends}
 use Rattle.sub_io.specs.Device.{failed}
-use Rattle.sub_io.specs.Reading.{IfTold}
+use Rattle.sub_io.specs.Reading.{IfKnown}
 use Rattle.ttx_pes.specs.declared.fault.PesFault.TheVariants as pes_fault
 use Rattle.stl_file.specs.declared.fault.StlFault.TheVariants as stl
 use Rattle.stl_rows.specs.Fault.{is_read_kind}
@@ -22,7 +22,7 @@ use Rattle.sub_rules.specs.Fault.{is_failure, is_failure_kind, is_pes_read, is_s
 use Rattle.sub_rules.specs.Fault.{is_subtitle_fault}
 use Rattle.sub_rules.specs.declared.fault.CheckFault.{CheckFault}
 use Rattle.sub_rules.specs.declared.fault.CheckFault.TheVariants as fault
-use Rattle.sub_checker.specs.declared.telling.Accepted.{Accepted}
+use Rattle.sub_checker.specs.declared.accepted.Accepted.{Accepted}
 use Rattle.sub_check.specs.CheckedFiles.{IsAccepted, IsAcceptedBy, IsChecked, IsCheckedBy}
 use Rattle.sub_check.proofs.FilesLemmas.{accepted-loads, accepted-loads_by, as_accepted}
 use Rattle.sub_check.proofs.FilesLemmas.{as_accepted_by, of_accepted, of_accepted_by}
@@ -141,12 +141,12 @@ pub status-told :
     → (IsFalse options.keeps
     → options.within ≡ 0
     → listing.status ≢ Fault
-    → IfTold stl.told (λ file.
-    IfTold pes.told (λ bytes.
+    → IfKnown stl.known (λ file.
+    IfKnown pes.known (λ bytes.
     (listing.status ≡ Done) ↔ IsAccepted drawing options file bytes)))
     → (listing.status ≢ Fault
-    → IfTold stl.told (λ file.
-    IfTold pes.told (λ bytes.
+    → IfKnown stl.known (λ file.
+    IfKnown pes.known (λ bytes.
     (listing.status ≡ Done) ↔ IsAcceptedBy drawing options file bytes)))
     → (listing.status ≡ Fault → failed is_failure answer ≡ true)
     → ((block : ℕ)

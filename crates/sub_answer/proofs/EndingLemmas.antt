@@ -1,22 +1,23 @@
--- How a run ends, of devices of which less is said: ends_weaker; what it has written before its
--- source failed: written_before.
+-- How a run ends, of devices of which less is said: ends_weaker; what it has written and handed on
+-- before its source failed: written_before, followed_before.
 use Rattle.std.proofs.lemmas.Bool.Decides.{nat_tests}
 use Rattle.std.proofs.Common.{arith}
-use Rattle.std.proofs.Common.{◌≡◌, ap, refl, subst, ℕ, List, [], ◌∷◌, ◌++◌}
+use Rattle.std.proofs.Common.{◌≡◌, ◌∙◌, ap, refl, subst, ℕ, List, [], ◌∷◌, ◌++◌}
 use Rattle.std.proofs.Common.{Bool, Option, Some, false, true, if◌then◌else◌, length, sym}
 use Rattle.std.specs.Prelude.{⊤}
 use Rattle.std.proofs.lemmas.Bool.{true≢false}
-use Rattle.sub_answer.specs.Answering.{Answers, InputCall, WritesBefore, first_input, input_call}
-use Rattle.sub_answer.specs.Answering.{reads_pieces}
+use Rattle.sub_answer.specs.Answering.{Answers, HandsOnBefore, InputCall, WritesBefore, fails}
+use Rattle.sub_answer.specs.Answering.{first_input, input_call, reads_pieces}
 use Rattle.sub_answer.specs.Part.{IsPartOf, whole_file}
 use Rattle.sub_answer.proofs.BothFilesLemmas.{sources-untouched}
 use Rattle.sub_files.specs.FileCalls.{CallsInTurn, FileCall}
 use Rattle.sub_listing.specs.DeviceCall.{SinkCall}
+use Rattle.sub_listing.specs.LastLine.{HoldsLastLine}
 use Rattle.sub_listing.specs.declared.status.Status.{Status}
 use Rattle.sub_request.specs.declared.request.Request.{Request}
 use Rattle.sub_request.specs.declared.request.Request.TheVariants as ask
 use Rattle.ttx_pes.specs.Advancing.{held_then}
-use Rattle.sub_answer.specs.Ending.{EndsWith, IsEmptySource, Lines}
+use Rattle.sub_answer.specs.Ending.{EndsWith, HoldsLineAlone, IsEmptySource, Lines, lines_in}
 
 -- What is answered, by another word for that the second source was not touched.
 untouched :
@@ -29,7 +30,7 @@ untouched request first second Untouched Other file out status other is =
     grind (arith, nat_tests, sources-untouched)
 
 -- What is answered where the first input of the request is a source. For `answer`.
-pub answers_beside :
+pub answers_second :
     (request : Request) (first second pieces : InputCall) (Untouched Other : Type 0)
     (file out : SinkCall) (status : Status)
     → reads_pieces request ≡ false
@@ -37,7 +38,7 @@ pub answers_beside :
     → (Untouched → Other)
     → Answers request (first_input request first pieces) pieces Untouched file out status
     → Answers request first second Other file out status
-answers_beside request first second pieces Untouched Other file out status source same other is =
+answers_second request first second pieces Untouched Other file out status source same other is =
     untouched request first second Untouched Other file out status other
     (subst (λ (p : InputCall). Answers request first p Untouched file out status) same
     (subst (λ (b : Bool). Answers request (if b then pieces else first) pieces Untouched file out
@@ -55,19 +56,19 @@ first_pieces request source pieces is =
     subst (λ (b : Bool). (if b then pieces else source) ≡ pieces) (sym is) refl
 
 either_empty : (b : Bool) (source pieces : InputCall)
-    → source.call.told ≡ Some []
-    → pieces.call.told ≡ Some []
-    → (if b then pieces else source).call.told ≡ Some []
+    → source.call.known ≡ Some []
+    → pieces.call.known ≡ Some []
+    → (if b then pieces else source).call.known ≡ Some []
 either_empty true source pieces h1 h2 = h2
 either_empty false source pieces h1 h2 = h1
 
 pub first_empty : (request : Request) (source pieces input : InputCall)
     → input ≡ first_input request source pieces
-    → source.call.told ≡ Some []
-    → pieces.call.told ≡ Some []
-    → input.call.told ≡ Some []
+    → source.call.known ≡ Some []
+    → pieces.call.known ≡ Some []
+    → input.call.known ≡ Some []
 first_empty request source pieces input is h1 h2 =
-    subst (λ (i : InputCall). i.call.told ≡ Some []) (sym is)
+    subst (λ (i : InputCall). i.call.known ≡ Some []) (sym is)
     (either_empty (reads_pieces request) source pieces h1 h2)
 
 -- The pieces of a source that gives nothing. For `answer_alone`.
@@ -78,8 +79,8 @@ told_nothing held bytes none empty = rw (none, empty) refl
 -- An input that gives nothing.
 abbrev nothing : InputCall
 nothing = record {
-  call = record { told = Some []; left = Some []; old_count = 0; new_count = 0 };
-  number = record { told = Some 0; left = Some 0; passed = 0 };
+  call = record { known = Some []; left = Some []; old_count = 0; new_count = 0 };
+  number = record { known = Some 0; left = Some 0; passed = 0 };
 }
 
 -- What a request that reads pieces answers, whatever the second input is.
@@ -91,9 +92,9 @@ any_second :
     → Answers request first other Other file out status
 any_second (ask.Packets pes) first second other U V file out status reads is = is
 any_second (ask.Listen pes listening) first second other U V file out status reads is = is
-any_second (ask.Extract recording pes stream) first second other U V file out status reads is =
+any_second (ask.Extract recording pes stream) first second other U V file out status reads is = is
+any_second ask.Help first second other U V file out status reads is =
     absurd (true≢false (sym reads))
-any_second ask.Help first second other U V file out status reads is = absurd (true≢false (sym reads))
 any_second (ask.Packet bytes) first second other U V file out status reads is =
     absurd (true≢false (sym reads))
 any_second (ask.Show stl) first second other U V file out status reads is =
@@ -111,69 +112,242 @@ any_second
 any_second (ask.Survey recording options) first second other U V file out status reads is =
     absurd (true≢false (sym reads))
 
+-- What it hands on before does not hang on the second input either.
+any_second_followed :
+    (request : Request) (First Second Other IsAlone : Type 0)
+    → reads_pieces request ≡ true
+    → HandsOnBefore request First Second IsAlone
+    → HandsOnBefore request First Other IsAlone
+any_second_followed (ask.Packets pes) First Second Other IsAlone reads is = is
+any_second_followed (ask.Listen pes listening) First Second Other IsAlone reads is = tt
+any_second_followed (ask.Extract recording pes stream) First Second Other IsAlone reads is = tt
+any_second_followed ask.Help First Second Other IsAlone reads is = tt
+any_second_followed (ask.Packet bytes) First Second Other IsAlone reads is = tt
+any_second_followed (ask.Show stl) First Second Other IsAlone reads is = tt
+any_second_followed (ask.Normal input output) First Second Other IsAlone reads is = tt
+any_second_followed
+    (ask.Schedule stl pes options serial national layout scope) First Second Other IsAlone reads
+    is =
+    tt
+any_second_followed
+    (ask.Check stl pes options national layout scope all) First Second Other IsAlone reads is =
+    absurd (true≢false (sym reads))
+any_second_followed (ask.Survey recording options) First Second Other IsAlone reads is = is
+
 -- How a run ends that reads pieces alone. For `answer_pieces`.
 pub ends_alone :
-    (request : Request) (IsFirst IsSecond IsFirst' : InputCall → Type 0) (Untouched : Type 0)
+    {IsAlone : Lines → Type 0} (request : Request)
+    (IsFirst IsSecond IsFirst' : InputCall → Type 0) (Untouched : Type 0)
     (IsFile : InputCall → SinkCall → Type 0) (old new : Lines) (result : Status)
     → reads_pieces request ≡ true
-    → EndsWith request IsFirst IsSecond Untouched IsFile old new result
+    → EndsWith request IsFirst IsSecond Untouched IsFile IsAlone old new result
     → ((call : InputCall) → IsFirst call → IsFirst' call)
-    → EndsWith request IsFirst' IsEmptySource ⊤ IsFile old new result
-ends_alone request IsFirst IsSecond IsFirst' Untouched IsFile old new result reads is first = record {
-  first = is.first;
-  first_is = first is.first is.first_is;
-  second = nothing;
-  second_is = refl;
-  file = is.file;
-  file_is = is.file_is;
-  status = is.status;
-  printed = is.printed;
-  answers =
-      any_second request is.first is.second nothing Untouched ⊤ is.file _ is.status reads
-      is.answers;
-  handed_on = is.handed_on;
-}
+    → EndsWith request IsFirst' IsEmptySource ⊤ IsFile IsAlone old new result
+ends_alone
+    request IsFirst IsSecond IsFirst' Untouched IsFile old new result reads is first = record {
+      first = is.first;
+      first_is = first is.first is.first_is;
+      second = nothing;
+      second_is = refl;
+      file = is.file;
+      file_is = is.file_is;
+      status = is.status;
+      printed = is.printed;
+      answers =
+          any_second request is.first is.second nothing Untouched ⊤ is.file _ is.status reads
+          is.answers;
+      followed =
+          λ none.
+          any_second_followed request (fails is.first) (fails is.second) (fails nothing) _ reads
+          (is.followed none);
+      handed_on = is.handed_on;
+    }
 
 -- How a run ends, of devices of which less is said.
 pub ends_weaker :
-    (request : Request) (IsFirst IsSecond IsFirst' IsSecond' : InputCall → Type 0)
+    {IsAlone : Lines → Type 0} (request : Request)
+    (IsFirst IsSecond IsFirst' IsSecond' : InputCall → Type 0)
     (Untouched Untouched' : Type 0) (IsFile IsFile' : InputCall → SinkCall → Type 0)
     (old new : Lines) (result : Status)
-    → EndsWith request IsFirst IsSecond Untouched IsFile old new result
+    → EndsWith request IsFirst IsSecond Untouched IsFile IsAlone old new result
     → ((call : InputCall) → IsFirst call → IsFirst' call)
     → ((call : InputCall) → IsSecond call → IsSecond' call)
     → (Untouched → Untouched')
     → ((first : InputCall) (call : SinkCall) → IsFile first call → IsFile' first call)
-    → EndsWith request IsFirst' IsSecond' Untouched' IsFile' old new result
+    → EndsWith request IsFirst' IsSecond' Untouched' IsFile' IsAlone old new result
 ends_weaker
     request IsFirst IsSecond IsFirst' IsSecond' Untouched Untouched' IsFile IsFile' old new result
-    is first second other file =
-    grind (arith, nat_tests, untouched)
+    is first second other file = record {
+      first = is.first;
+      first_is = first is.first is.first_is;
+      second = is.second;
+      second_is = second is.second is.second_is;
+      file = is.file;
+      file_is = file is.first is.file is.file_is;
+      status = is.status;
+      printed = is.printed;
+      answers =
+          untouched request is.first is.second Untouched Untouched' is.file _ is.status other
+          is.answers;
+      followed = is.followed;
+      handed_on = is.handed_on;
+    }
 
 -- A list of no bytes.
 none_of : (held : List ℕ) → length held ≡ 0 → held ≡ []
 none_of [] is = refl
 none_of (byte ∷ more) is = grind (arith, nat_tests)
 
+-- What is handed on before, by other words for which source failed and what is held back.
+hands_on_so :
+    (request : Request) (First First' Second Second' IsAlone IsAlone' : Type 0)
+    → (First' → First)
+    → (Second' → Second)
+    → (IsAlone → IsAlone')
+    → HandsOnBefore request First Second IsAlone
+    → HandsOnBefore request First' Second' IsAlone'
+hands_on_so (ask.Packets pes) F F' S S' A A' first second alone is =
+    λ fails. alone (is (first fails))
+hands_on_so (ask.Survey recording options) F F' S S' A A' first second alone is =
+    λ fails. alone (is (first fails))
+hands_on_so
+    (ask.Check stl pes options national layout scope true) F F' S S' A A' first second alone is =
+    λ fails. alone (is (second fails))
+hands_on_so
+    (ask.Check stl pes options national layout scope false) F F' S S' A A' first second alone is =
+    tt
+hands_on_so ask.Help F F' S S' A A' first second alone is = tt
+hands_on_so (ask.Packet bytes) F F' S S' A A' first second alone is = tt
+hands_on_so (ask.Show stl) F F' S S' A A' first second alone is = tt
+hands_on_so (ask.Normal input output) F F' S S' A A' first second alone is = tt
+hands_on_so
+    (ask.Schedule stl pes options serial national layout scope) F F' S S' A A' first second alone
+    is =
+    tt
+hands_on_so (ask.Listen pes listening) F F' S S' A A' first second alone is = tt
+hands_on_so (ask.Extract recording pes stream) F F' S S' A A' first second alone is = tt
+
+-- What is written before, likewise.
+writes_so :
+    (request : Request) (First First' None None' : Type 0)
+    → (First' → First)
+    → (None → None')
+    → WritesBefore request First None
+    → WritesBefore request First' None'
+writes_so (ask.Extract recording pes stream) F F' N N' first none is =
+    λ fails. none (is (first fails))
+writes_so ask.Help F F' N N' first none is = tt
+writes_so (ask.Packet bytes) F F' N N' first none is = tt
+writes_so (ask.Packets pes) F F' N N' first none is = tt
+writes_so (ask.Show stl) F F' N N' first none is = tt
+writes_so (ask.Normal input output) F F' N N' first none is = tt
+writes_so (ask.Schedule stl pes options serial national layout scope) F F' N N' first none is = tt
+writes_so (ask.Check stl pes options national layout scope all) F F' N N' first none is = tt
+writes_so (ask.Listen pes listening) F F' N N' first none is = tt
+writes_so (ask.Survey recording options) F F' N N' first none is = tt
+
 -- What is written before, of a buffer by the bytes that it holds. For `answer_and_hand_on`.
 pub written_before :
     (request : Request) (Fails : Type 0) (old new : List ℕ)
     → old ≡ []
-    → (length old ≡ 0 → WritesBefore request Fails (length new ≡ 0))
+    → WritesBefore request Fails (length old ≡ 0 → length new ≡ 0)
     → WritesBefore request Fails (new ≡ [])
-written_before (ask.Extract recording pes stream) Fails old new none is =
-    λ fails. none_of new (is (ap length none) fails)
-written_before ask.Help Fails old new none is = tt
-written_before (ask.Packet bytes) Fails old new none is = tt
-written_before (ask.Packets pes) Fails old new none is = tt
-written_before (ask.Show stl) Fails old new none is = tt
-written_before (ask.Normal input output) Fails old new none is = tt
-written_before
-    (ask.Schedule stl pes options serial national layout scope) Fails old new none is =
-    tt
-written_before (ask.Check stl pes options national layout scope all) Fails old new none is = tt
-written_before (ask.Listen pes listening) Fails old new none is = tt
-written_before (ask.Survey recording options) Fails old new none is = tt
+written_before request Fails old new none is =
+    writes_so request Fails Fails _ _ (λ f. f) (λ so. none_of new (so (ap length none))) is
+
+-- That an input failed, said of the same one by another word.
+fails_so : (input other : InputCall) → input ≡ other → fails other → fails input
+fails_so input other same is = subst (λ (i : InputCall). fails i) (sym same) is
+
+-- What is handed on and written before, where the first input of the request is a source, or gives
+-- pieces. For `answer`.
+pub followed_beside :
+    (request : Request) (first pieces : InputCall) (SecondFails None IsAlone : Type 0)
+    → reads_pieces request ≡ false
+    → (SecondFails → fails pieces)
+    → HandsOnBefore request (fails (first_input request first pieces)) (fails pieces)
+    (None → IsAlone)
+    → None
+    → HandsOnBefore request (fails first) SecondFails IsAlone
+followed_beside request first pieces SecondFails None IsAlone source second is none =
+    hands_on_so request _ _ _ _ _ _ (fails_so _ _ (first_source request first pieces source))
+    second (λ so. so none) is
+
+pub written_beside :
+    (request : Request) (first pieces : InputCall) (Before None : Type 0)
+    → reads_pieces request ≡ false
+    → WritesBefore request (fails (first_input request first pieces)) (Before → None)
+    → Before
+    → WritesBefore request (fails first) None
+written_beside request first pieces Before None source is none =
+    writes_so request _ _ _ _ (fails_so _ _ (first_source request first pieces source))
+    (λ so. so none) is
+
+-- What is handed on before, where the request reads pieces, whatever the second source does.
+followed_pieces :
+    (request : Request) (Second Other None IsAlone First : Type 0)
+    → reads_pieces request ≡ true
+    → HandsOnBefore request First Second (None → IsAlone)
+    → None
+    → HandsOnBefore request First Other IsAlone
+followed_pieces request Second Other None IsAlone First reads is none =
+    hands_on_so request First First Other Other (None → IsAlone) IsAlone (λ f. f) (λ f. f)
+    (λ so. so none) (any_second_followed request First Second Other (None → IsAlone) reads is)
+
+pub followed_of_pieces :
+    (request : Request) (source pieces : InputCall) (FirstFails Second None IsAlone : Type 0)
+    → reads_pieces request ≡ true
+    → (FirstFails → fails pieces)
+    → HandsOnBefore request (fails (first_input request source pieces)) (fails pieces)
+    (None → IsAlone)
+    → None
+    → HandsOnBefore request FirstFails Second IsAlone
+followed_of_pieces request source pieces FirstFails Second None IsAlone reads first is none =
+    followed_pieces request (fails pieces) Second None IsAlone FirstFails reads
+    (hands_on_so request _ _ _ _ _ _
+    (λ f. fails_so _ _ (first_pieces request source pieces reads) (first f)) (λ f. f) (λ so. so) is)
+    none
+
+pub written_of_pieces :
+    (request : Request) (source pieces : InputCall) (FirstFails Before None : Type 0)
+    → reads_pieces request ≡ true
+    → (FirstFails → fails pieces)
+    → WritesBefore request (fails (first_input request source pieces)) (Before → None)
+    → Before
+    → WritesBefore request FirstFails None
+written_of_pieces request source pieces FirstFails Before None reads first is none =
+    writes_so request _ _ _ _
+    (λ f. fails_so _ _ (first_pieces request source pieces reads) (first f)) (λ so. so none) is
+
+-- What is handed on before, of lines by the bytes that they hold back. For `answer_and_hand_on`.
+pub followed_before :
+    {O : Type 0} (contents : O → Option (List ℕ)) (held_back : O → List ℕ)
+    (held failure_count : O → ℕ)
+    (IsPush : O → List ℕ → Option ℕ → O → Type 0) (old new : O)
+    → ((o : O) → held o ≡ length (held_back o))
+    → (request : Request) (First Second : Type 0)
+    → HandsOnBefore request First Second
+    (held old ≡ 0 → HoldsLastLine contents held IsPush new)
+    → held_back old ≡ []
+    → HandsOnBefore request First Second
+    (HoldsLineAlone contents held_back failure_count IsPush
+    (lines_in contents held_back failure_count new))
+followed_before
+    contents held_back held failure_count IsPush old new law request First Second is none =
+    hands_on_so request First First Second Second _ _ (λ f. f) (λ f. f)
+    (λ so.
+    let last = so (law old ∙ ap length none) in
+    record {
+      sink = new;
+      lines_are = refl;
+      last = record {
+        before = last.before;
+        settled = sym (law last.before) ∙ last.settled;
+        told = last.told;
+        line = last.line;
+      };
+    })
+    is
 
 -- A source of which all is read, from its first PES packet on.
 pub whole_source : {D : Type 0} (remaining : D → Option (List ℕ)) (failure_count : D → ℕ)

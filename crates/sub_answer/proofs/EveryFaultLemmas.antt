@@ -8,7 +8,7 @@ use Rattle.std.proofs.lemmas.Bool.{true≢false}
 use Rattle.std.specs.Prelude.{◌⊎◌, ◌||◌, not, is_err, IfErr}
 use Rattle.std.specs.List.{filter}
 use Rattle.sub_io.specs.Device.{RisesIf}
-use Rattle.sub_io.specs.Reading.{IfTold}
+use Rattle.sub_io.specs.Reading.{IfKnown}
 use Rattle.sub_io.specs.Telling.{Tells, TellsInTurn, TellsSome}
 use Rattle.ttx_pes.specs.declared.fault.PesFault.TheVariants as pes_fault
 use Rattle.stl_file.specs.declared.fault.StlFault.TheVariants as stl_fault
@@ -27,7 +27,7 @@ use Rattle.sub_plan.specs.Options.{OptionsValue}
 use Rattle.sub_check.specs.CheckedFiles.{first_answer}
 use Rattle.sub_rules.specs.Fault.{is_failure_kind}
 use Rattle.sub_rules.specs.Pieces.{FailsAtPiece}
-use Rattle.sub_checker.specs.declared.telling.Accepted.{Accepted}
+use Rattle.sub_checker.specs.declared.accepted.Accepted.{Accepted}
 use Rattle.sub_rules.specs.declared.event.Event.{Event}
 use Rattle.sub_rules.specs.declared.fault.CheckFault.{CheckFault}
 use Rattle.sub_rules.specs.declared.fault.CheckFault.TheVariants as fault
@@ -71,9 +71,9 @@ module _ {D : Type 0} (IsTold : D → LoadFault → D → Type 0) (value : D →
       → (value new).failed ≡ false
       → Tells IsTold old new items
       → RisesIf stl.old_count (is_read_kind kind) stl.new_count
-      → (is_read_kind kind ≡ true → FailsAtBlock stl.told stl.left block)
+      → (is_read_kind kind ≡ true → FailsAtBlock stl.known stl.left block)
       → is_failure_kind kind ≡ true
-      → IfTold stl.told (λ file.
+      → IfKnown stl.known (λ file.
       AreListedBefore drawing file (subtitle_events items) block kind)
       → TellsBoth drawing options stl pes first Untouched (value old) (value new)
       (Err (fault.Subtitles (load_fault block kind)))
@@ -88,7 +88,7 @@ module _ {D : Type 0} (IsTold : D → LoadFault → D → Type 0) (value : D →
       stl_count = count;
       pes_count = pes_count;
       stl_read = λ f is.
-          subst (λ (g : LoadFault). is_load_read g ≡ true → FailsAtBlock stl.told stl.left g.block)
+          subst (λ (g : LoadFault). is_load_read g ≡ true → FailsAtBlock stl.known stl.left g.block)
           (named _ f is) fails;
       pes_read = λ index is. cc;
       before = λ is. untouched;
@@ -105,12 +105,12 @@ module _ {D : Type 0} (IsTold : D → LoadFault → D → Type 0) (value : D →
       → (value new).failed ≡ false
       → TellsSome IsTold old new
       → RisesIf stl.old_count (is_load_read (load_fault block load.Memory)) stl.new_count
-      → IfTold stl.told (λ file. WantsMemory drawing file IsTold old new block)
+      → IfKnown stl.known (λ file. WantsMemory drawing file IsTold old new block)
       → TellsBoth drawing options stl pes first Untouched (value old) (value new)
       (Err (fault.Subtitles (load_fault block load.Memory)))
   at_memory block quiet some count wants =
       let items =
-      decided (Tells IsTold old new) stl.told
+      decided (Tells IsTold old new) stl.known
       (λ file. filter (is_told_before block) (faults drawing file)) some.items some.told
       (λ file told. (wants file told).told) in
       ended_at block load.Memory items.0 quiet items.1 count
@@ -123,12 +123,12 @@ module _ {D : Type 0} (IsTold : D → LoadFault → D → Type 0) (value : D →
       → TellsSome IsTold old new
       → RisesIf stl.old_count (is_load_read (load_fault block (load.File stl_fault.Read)))
       stl.new_count
-      → FailsTelling drawing stl.told stl.left IsTold old new block
+      → FailsTelling drawing stl.known stl.left IsTold old new block
       → TellsBoth drawing options stl pes first Untouched (value old) (value new)
       (Err (fault.Subtitles (load_fault block (load.File stl_fault.Read))))
   at_read block quiet some count f =
       let items =
-      decided (Tells IsTold old new) stl.told
+      decided (Tells IsTold old new) stl.known
       (λ file. filter (is_told_before block) (faults drawing file)) some.items some.told f.told in
       ended_at block (load.File stl_fault.Read) items.0 quiet items.1 count
       (λ is. record { bytes = f.bytes; consumed = f.consumed; block_is = f.block_is }) refl
@@ -140,10 +140,10 @@ module _ {D : Type 0} (IsTold : D → LoadFault → D → Type 0) (value : D →
       → (kind ≡ load.Memory) ⊎ (kind ≡ load.File stl_fault.Read)
       → TellsSome IsTold old new
       → RisesIf stl.old_count (is_load_read (load_fault block kind)) stl.new_count
-      → IfTold stl.told (λ file.
+      → IfKnown stl.known (λ file.
       kind ≡ load.Memory → WantsMemory drawing file IsTold old new block)
       → (is_load_read (load_fault block kind) ≡ true
-      → FailsTelling drawing stl.told stl.left IsTold old new block)
+      → FailsTelling drawing stl.known stl.left IsTold old new block)
       → TellsBoth drawing options stl pes first Untouched (value old) (value new)
       (Err (fault.Subtitles (load_fault block kind)))
   after_error block kind quiet kinds some count memory read =
@@ -174,15 +174,15 @@ module _ {D : Type 0} (IsTold : D → LoadFault → D → Type 0) (value : D →
   pub after_faults : (stopped : Bool)
       → ((value new).failed ≡ false → (value new).count ≡ (value old).count → stopped ≡ false)
       → TellsOfFile IsTold old new
-      → IfTold stl.told (λ file. TellsFaults IsTold old new stopped (faults drawing file))
-      → IfTold stl.told (λ file. (stopped ≡ true) ⊎ (judges drawing file ≡ false))
+      → IfKnown stl.known (λ file. TellsFaults IsTold old new stopped (faults drawing file))
+      → IfKnown stl.known (λ file. (stopped ≡ true) ⊎ (judges drawing file ≡ false))
       → RisesIf stl.old_count false stl.new_count
       → TellsBoth drawing options stl pes first Untouched (value old) (value new) (Ok None)
   after_faults stopped quiet some told unjudged count =
       let here = printed some.faults some.told in
       let items =
       decided (λ (fs : List LoadFault). PrintsEvents (value old) (subtitle_events fs) (value new)
-      × (0 < length fs)) stl.told (faults drawing) some.faults (here, some.some)
+      × (0 < length fs)) stl.known (faults drawing) some.faults (here, some.some)
       (λ file heard. prints-faults (faults drawing file) stopped (value new).failed refl
       (λ holds. quiet holds (here.put_count holds)) (told file heard)) in
       record {
@@ -217,7 +217,7 @@ module _ {D : Type 0} (IsTold : D → LoadFault → D → Type 0) (value : D →
       → (value new).failed ≡ true
       → Tells IsTold old new fs
       → 0 < length fs
-      → IfTold stl.told (λ file. fs ≡ faults drawing file)
+      → IfKnown stl.known (λ file. fs ≡ faults drawing file)
       → RisesIf stl.old_count false stl.new_count
       → TellsBoth drawing options stl pes first Untouched (value old) (value new) (Ok None)
   after_unhanded fs failing told some are count = record {
@@ -291,8 +291,8 @@ module _ (drawing : Drawing) (options : OptionsValue) (stl pes : SourceCall) (fi
     (goes : mid.failed ≡ false)
     (before : PrintsEvents old (subtitle_events fs) mid)
     (stl_count : RisesIf stl.old_count false stl.new_count)
-    (by : IfTold stl.told (λ file. JudgesBy drawing file judged))
-    (are : IfTold stl.told (λ file. fs ≡ faults drawing file)) where
+    (by : IfKnown stl.known (λ file. JudgesBy drawing file judged))
+    (are : IfKnown stl.known (λ file. fs ≡ faults drawing file)) where
   -- All lines of the one and then of the other.
   both_printed : (number : ℕ) (events : List Event)
       → PrintsEvents (record mid { first = number }) events new
@@ -303,9 +303,9 @@ module _ (drawing : Drawing) (options : OptionsValue) (stl pes : SourceCall) (fi
 
   -- What is listed then.
   both_listed : (events : List Event) (answer : Result Accepted ℕ)
-      → IfTold pes.told (λ bytes. AreListedOfPes judged options bytes events answer)
-      → IfTold stl.told (λ file.
-      IsListedOf drawing options file pes.told (subtitle_events fs ++ events) answer)
+      → IfKnown pes.known (λ bytes. AreListedOfPes judged options bytes events answer)
+      → IfKnown stl.known (λ file.
+      IsListedOf drawing options file pes.known (subtitle_events fs ++ events) answer)
   both_listed events answer listed file heard = record {
     judged = judged;
     by = by file heard;
@@ -316,12 +316,12 @@ module _ (drawing : Drawing) (options : OptionsValue) (stl pes : SourceCall) (fi
 
   -- Where the file gives a programme nothing was told of it, and all of it is known.
   verdict : (events : List Event) (a : Accepted)
-      → IfTold pes.told (λ bytes.
+      → IfKnown pes.known (λ bytes.
       (programme : ProgrammeValue)
       → judged ≡ known programme
       → IsAnswer programme options bytes (first_answer events a))
-      → IfTold stl.told (λ file.
-      IfTold pes.told (λ bytes.
+      → IfKnown stl.known (λ file.
+      IfKnown pes.known (λ bytes.
       (programme : ProgrammeValue)
       → loaded drawing file ≡ Ok programme
       → IsAnswer programme options bytes (first_answer (subtitle_events fs ++ events) a)))
@@ -377,7 +377,7 @@ module _ (drawing : Drawing) (options : OptionsValue) (stl pes : SourceCall) (fi
           stl_read = λ f e. cc;
           pes_read = λ index e.
               let at : n ≡ index = cc in
-              subst (λ (m : ℕ). FailsAtPiece m pes.told pes.left) at (t.read n is);
+              subst (λ (m : ℕ). FailsAtPiece m pes.known pes.left) at (t.read n is);
           before = λ e. cc;
         };
         ended = refl;

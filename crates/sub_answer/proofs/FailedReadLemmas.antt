@@ -15,9 +15,9 @@ use Rattle.sub_plan.specs.Options.{OptionsValue}
 use Rattle.sub_check.specs.CheckedFiles.{TellsEvents}
 use Rattle.sub_check.specs.CheckedFiles.{events_of_first_by, events_of_first_pieces}
 use Rattle.sub_rules.specs.Fault.{is_pes_read}
-use Rattle.sub_rules.specs.PieceEvents.{all_announced, events_of_pieces, marks_of_each}
+use Rattle.sub_rules.specs.PieceEvents.{all_announced, events_of_pieces, steps_of_each}
 use Rattle.sub_rules.specs.Trusted.{told_after}
-use Rattle.sub_checker.specs.declared.telling.Accepted.{Accepted}
+use Rattle.sub_checker.specs.declared.accepted.Accepted.{Accepted}
 use Rattle.sub_rules.specs.declared.event.Event.{Event}
 use Rattle.sub_rules.specs.declared.fault.CheckFault.{CheckFault}
 use Rattle.sub_rules.specs.declared.fault.CheckFault.TheVariants as fault
@@ -32,13 +32,13 @@ use Rattle.sub_listing.specs.Printer.{PrinterValue}
 -- Nothing is told of no piece.
 pub no_events : (programme : ProgrammeValue) (options : OptionsValue) (bytes : List ℕ)
     → events_of_first_pieces programme options bytes 0 ≡ []
-unfolding events_of_pieces all_announced told_after marks_of_each
+unfolding events_of_pieces all_announced told_after steps_of_each
 no_events programme options bytes = refl
 
 -- Nor beside what is refused of the subtitle file.
 no_events_by : (judged : JudgedValue) (options : OptionsValue) (bytes : List ℕ)
     → events_of_first_by judged options bytes 0 ≡ []
-unfolding events_of_pieces all_announced told_after marks_of_each
+unfolding events_of_pieces all_announced told_after steps_of_each
 no_events_by judged options bytes = refl
 
 -- The source failed before its first PES packet was found. For `tell_transmission`.

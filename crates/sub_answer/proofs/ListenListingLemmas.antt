@@ -16,7 +16,7 @@ use Rattle.sub_listing.specs.FirstPacket.{FirstNumber}
 use Rattle.sub_listing.specs.Faults.{check_line}
 use Rattle.sub_listing.specs.Listing.{PrintsOrFails, fault_listing}
 use Rattle.sub_listing.specs.FaultLine.{counted_from}
-use Rattle.sub_listing.proofs.FirstPacketLemmas.{fails_first_packet, fails_packet_kept, told_kept}
+use Rattle.sub_listing.proofs.FirstPacketLemmas.{fails_first_packet, fails_packet_kept, known_kept}
 use Rattle.sub_answer.specs.Answering.{AnswersListen, PrintsHeard}
 use Rattle.sub_listing.specs.DeviceCall.{SinkCall, SourceCall}
 use Rattle.sub_listing.specs.declared.status.Status.{Status}
@@ -57,13 +57,13 @@ pub heard_kept : (leaves : ℕ → ℕ) (l : Listening) (number : ℕ) (old mid 
     → Keeps old mid
     → mid_count ≡ old_count
     → PrintsHeard leaves l number
-    (record { told = mid; left = left; old_count = mid_count; new_count = new_count }) out status
+    (record { known = mid; left = left; old_count = mid_count; new_count = new_count }) out status
     → PrintsHeard leaves l number
-    (record { told = old; left = left; old_count = old_count; new_count = new_count }) out status
+    (record { known = old; left = left; old_count = old_count; new_count = new_count }) out status
 heard_kept leaves l number old mid left old_count mid_count new_count out status kept same heard =
     record {
       exact = λ frames unread bytes told reads none.
-          let known = told_kept old mid bytes kept told in
+          let known = known_kept old mid bytes kept told in
           let printed = heard.exact frames unread bytes known reads (none ∙ sym same) in (
             printed.0,
             subst (λ (t : Option (List ℕ)).
@@ -79,7 +79,7 @@ heard_kept leaves l number old mid left old_count mid_count new_count out status
               is = failed.1.is;
               place = fails_packet_kept failed.1.index old mid left kept failed.1.place;
               heard = λ frames unread bytes told.
-                  failed.1.heard frames unread bytes (told_kept old mid bytes kept told);
+                  failed.1.heard frames unread bytes (known_kept old mid bytes kept told);
             },
             failed.2,
           );
@@ -88,7 +88,7 @@ heard_kept leaves l number old mid left old_count mid_count new_count out status
 -- The source failed before that. For `print_listening`.
 pub none_heard : (leaves : ℕ → ℕ) (l : Listening) (number : ℕ) (pes : SourceCall) (out : SinkCall)
     (status : Status)
-    → Keeps pes.told pes.left
+    → Keeps pes.known pes.left
     → pes.new_count ≡ pes.old_count + 1
     → PrintsOrFails out (fault_listing (counted_from number (check_line (check.Pes 0 Read)))) status
     → PrintsHeard leaves l number pes out status
@@ -99,7 +99,7 @@ none_heard leaves l number pes out status kept risen printed = record {
     record {
       index = 0;
       is = refl;
-      place = fails_first_packet pes.told pes.left kept;
+      place = fails_first_packet pes.known pes.left kept;
       heard = λ frames unread bytes told reads i few. absurd (omega (arith, few));
     },
     printed,

@@ -21,7 +21,7 @@ use Rattle.sub_listing.specs.declared.status.Status.TheVariants.{Done, Fault}
 use Rattle.sub_answer.specs.Answering.{InputCall}
 use Rattle.sub_answer.specs.Ending.{EndsOver, EndsWith, FilesLeft, HandsOnHeldLines, IsSourceOf}
 use Rattle.sub_answer.specs.Ending.{Lines, devices_of, let_go}
-use Rattle.sub_answer.specs.FilesInMemory.{LawOfFilesInMemory, told_of_memory}
+use Rattle.sub_answer.specs.FilesInMemory.{LawOfFilesInMemory, known_of_memory}
 use Rattle.sub_answer.specs.Part.{part_asked, through_range, through_stream, whole_file}
 use Rattle.sub_answer.specs.declared.part.Part.{Part}
 
@@ -46,8 +46,8 @@ both_opened stl pes before after calls more opened made opens = grind (arith, na
 
 -- What is told of all of a file in memory, or of a part of it, in the calls of an answer.
 read_told : (part : Part) (file : List ℕ) (left : Option (List ℕ)) (input : InputCall)
-    → IsSourceOf told_of_memory part (Some file) left input
-    → input.call.told ≡ through_range part.range (through_stream part.stream (Some file))
+    → IsSourceOf known_of_memory part (Some file) left input
+    → input.call.known ≡ through_range part.range (through_stream part.stream (Some file))
 read_told part file None input is = absurd is
 read_told part file (Some left) input is = is.is_part.told
 
@@ -69,15 +69,16 @@ Tells _ file bytes status = ⊤
 
 tells :
     (request : Request) (file bytes : List ℕ) (stl_left pes_left : Option (List ℕ))
-    (Untouched : Type 0) (IsFile : InputCall → SinkCall → Type 0) (old new : Lines) (result : Status)
-    → EndsWith request (IsSourceOf told_of_memory whole_file (Some file) stl_left)
-    (IsSourceOf told_of_memory (part_asked request) (Some bytes) pes_left) Untouched IsFile old new
-    result
+    (Untouched : Type 0) (IsFile : InputCall → SinkCall → Type 0) (IsAlone : Lines → Type 0)
+    (old new : Lines) (result : Status)
+    → EndsWith request (IsSourceOf known_of_memory whole_file (Some file) stl_left)
+    (IsSourceOf known_of_memory (part_asked request) (Some bytes) pes_left) Untouched IsFile IsAlone
+    old new result
     → result ≢ Fault
     → Tells request file bytes result
 tells
     (ask.Check stl pes options national layout scope true) file bytes stl_left pes_left Untouched
-    IsFile old new result e runs =
+    IsFile IsAlone old new result e runs =
     λ read read_is.
     let same = same_status e.printed new e.status result e.handed_on runs in
     subst
@@ -87,7 +88,7 @@ tells
     (read_told _ bytes pes_left e.second e.second_is ∙ read_is) (λ fails. runs (same ∙ fails)))
 tells
     (ask.Check stl pes options national layout scope false) file bytes stl_left pes_left Untouched
-    IsFile old new result e runs =
+    IsFile IsAlone old new result e runs =
     λ read read_is.
     let same = same_status e.printed new e.status result e.handed_on runs in
     subst
@@ -95,34 +96,36 @@ tells
     (sym same)
     (e.answers.ends.done_by file (read_told whole_file file stl_left e.first e.first_is) read
     (read_told _ bytes pes_left e.second e.second_is ∙ read_is) (λ fails. runs (same ∙ fails)))
-tells ask.Help _ _ _ _ _ _ _ _ _ _ _ = tt
-tells (ask.Packet packet) _ _ _ _ _ _ _ _ _ _ _ = tt
-tells (ask.Packets pes) _ _ _ _ _ _ _ _ _ _ _ = tt
-tells (ask.Show stl) _ _ _ _ _ _ _ _ _ _ _ = tt
-tells (ask.Normal input output) _ _ _ _ _ _ _ _ _ _ _ = tt
-tells (ask.Schedule stl pes options serial national layout scope) _ _ _ _ _ _ _ _ _ _ _ = tt
-tells (ask.Listen pes listening) _ _ _ _ _ _ _ _ _ _ _ = tt
-tells (ask.Extract recording pes stream) _ _ _ _ _ _ _ _ _ _ _ = tt
-tells (ask.Survey recording options) _ _ _ _ _ _ _ _ _ _ _ = tt
+tells ask.Help _ _ _ _ _ _ _ _ _ _ _ _ = tt
+tells (ask.Packet packet) _ _ _ _ _ _ _ _ _ _ _ _ = tt
+tells (ask.Packets pes) _ _ _ _ _ _ _ _ _ _ _ _ = tt
+tells (ask.Show stl) _ _ _ _ _ _ _ _ _ _ _ _ = tt
+tells (ask.Normal input output) _ _ _ _ _ _ _ _ _ _ _ _ = tt
+tells (ask.Schedule stl pes options serial national layout scope) _ _ _ _ _ _ _ _ _ _ _ _ = tt
+tells (ask.Listen pes listening) _ _ _ _ _ _ _ _ _ _ _ _ = tt
+tells (ask.Extract recording pes stream) _ _ _ _ _ _ _ _ _ _ _ _ = tt
+tells (ask.Survey recording options) _ _ _ _ _ _ _ _ _ _ _ _ = tt
 
 -- Two files that were opened are read.
 over_both :
     (request : Request) (opened : Opened (List ℕ) Written) (first second : List ℕ)
-    (left : FilesLeft (List ℕ) Written) (old new : Lines) (result : Status)
+    (left : FilesLeft (List ℕ) Written) (IsAlone : Lines → Type 0) (old new : Lines)
+    (result : Status)
     → opened ≡ ReadBoth first second
-    → EndsOver told_of_memory (λ was is. is ≡ was) request (devices_of (part_asked request) opened)
-    left old new result
-    → EndsOver told_of_memory (λ was is. is ≡ was) request
-    (devices_of (part_asked request) (ReadBoth first second)) left old new result
-over_both request opened first second left old new result opened_is ends = grind (arith, nat_tests)
+    → EndsOver known_of_memory (λ was is. is ≡ was) request (devices_of (part_asked request) opened)
+    left IsAlone old new result
+    → EndsOver known_of_memory (λ was is. is ≡ was) request
+    (devices_of (part_asked request) (ReadBoth first second)) left IsAlone old new result
+over_both request opened first second left IsAlone old new result opened_is ends =
+    grind (arith, nat_tests)
 
 -- What is there once is the same.
 same_bytes :
     (told : Option (List ℕ)) (a b : List ℕ) → told ≡ Some a → told ≡ Some b → a ≡ b
 same_bytes told a b one other = let e = sym one ∙ other in cc
 
-pub law_of_files_in_memory : LawOfFilesInMemory
-law_of_files_in_memory
+pub law_of_files_in_memory : (IsAlone : Lines → Type 0) → LawOfFilesInMemory IsAlone
+law_of_files_in_memory IsAlone
     (ask.Check stl pes options national layout scope all) before after old new status h runs =
     λ file bytes read file_is bytes_is read_is.
     let o = both_opened stl.now pes.name.now before after h.opened.calls (let_go h.left) h.files
@@ -131,21 +134,25 @@ law_of_files_in_memory
     (λ f. (status ≡ Done) ↔ IsAcceptedBy (drawing_within national layout scope) options f read)
     (same_bytes _ o.first file o.first_is file_is)
     (tells (ask.Check stl pes options national layout scope all) o.first o.second h.left.first
-    h.left.second _ _ old new status
+    h.left.second _ _ IsAlone old new status
     (over_both (ask.Check stl pes options national layout scope all) h.files o.first o.second h.left
-    old new status o.opened_is h.ends)
+    IsAlone old new status o.opened_is h.ends)
     runs read
     (ap (λ b. through_range pes.range (through_stream pes.stream (Some b)))
     (same_bytes _ o.second bytes o.second_is bytes_is)
     ∙ read_is))
-law_of_files_in_memory ask.Help before after old new status h runs = tt
-law_of_files_in_memory (ask.Packet packet) before after old new status h runs = tt
-law_of_files_in_memory (ask.Packets pes) before after old new status h runs = tt
-law_of_files_in_memory (ask.Show stl) before after old new status h runs = tt
-law_of_files_in_memory (ask.Normal input output) before after old new status h runs = tt
-law_of_files_in_memory
+law_of_files_in_memory IsAlone ask.Help before after old new status h runs = tt
+law_of_files_in_memory IsAlone (ask.Packet packet) before after old new status h runs = tt
+law_of_files_in_memory IsAlone (ask.Packets pes) before after old new status h runs = tt
+law_of_files_in_memory IsAlone (ask.Show stl) before after old new status h runs = tt
+law_of_files_in_memory IsAlone (ask.Normal input output) before after old new status h runs = tt
+law_of_files_in_memory IsAlone
     (ask.Schedule stl pes options serial national layout scope) before after old new status h runs =
     tt
-law_of_files_in_memory (ask.Listen pes listening) before after old new status h runs = tt
-law_of_files_in_memory (ask.Extract recording pes stream) before after old new status h runs = tt
-law_of_files_in_memory (ask.Survey recording options) before after old new status h runs = tt
+law_of_files_in_memory IsAlone (ask.Listen pes listening) before after old new status h runs = tt
+law_of_files_in_memory IsAlone
+    (ask.Extract recording pes stream) before after old new status h runs =
+    tt
+law_of_files_in_memory IsAlone
+    (ask.Survey recording options) before after old new status h runs =
+    tt

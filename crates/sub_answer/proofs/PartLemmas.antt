@@ -1,8 +1,7 @@
 -- A part of what a source gives, by how it was made. Main lemmas: all_of_source, file_of_source,
 -- stream_of_source, all_of_pieces, range_of_pieces, all_of_file.
 use Rattle.std.proofs.lemmas.Bool.Decides.{nat_tests}
-use Rattle.std.proofs.Common.{◌≡◌, ◌∙◌, ap, arith, refl, sym, ℕ, List, Option, Some, None, true, false}
-use Rattle.std.proofs.lemmas.Bool.{true≢false}
+use Rattle.std.proofs.Common.{◌≡◌, ◌∙◌, ap, arith, ℕ, List, Option, Some, None, true, false}
 use Rattle.std.specs.Prelude.{◌⊎◌, option_map}
 use Rattle.mpeg_ts.specs.Carried.{carried}
 use Rattle.mpeg_ts.specs.PacketSize.{bytes_of}
@@ -10,7 +9,7 @@ use Rattle.ttx_pes.specs.PieceRange.{PieceRangeValue, first_index, in_range}
 use Rattle.sub_request.specs.declared.pes_packets.TransportStream.{TransportStream}
 use Rattle.sub_request.specs.declared.request.Request.{Request}
 use Rattle.sub_answer.specs.Answering.{InputCall, pieces_call, reads_pieces, whole_call}
-use Rattle.sub_answer.specs.Part.{IsPartOf, IsRangeOf, number_in, through_range, through_stream}
+use Rattle.sub_answer.specs.Part.{IsPartOf, IsRangeOf, number_in, through_range}
 use Rattle.sub_answer.specs.Part.{whole_file}
 use Rattle.sub_answer.specs.declared.part.Part.{Part}
 use Rattle.sub_answer.proofs.EndingLemmas.{whole_source}
@@ -26,30 +25,6 @@ module _ {D : Type 0} (remaining : D → Option (List ℕ)) (failure_count : D �
       → input ≡ whole_call remaining failure_count old left
       → IsPartOf p remaining failure_count old left input
   all_of_source request p fits none is = grind (arith, nat_tests, whole_source)
-
-  -- All that a file gives, or what a transport stream carries.
-  pub whole_of_source : (p : Part)
-      → p.stream ≡ None
-      → p.range ≡ None
-      → input ≡ whole_call remaining failure_count old left
-      → IsPartOf p remaining failure_count old left input
-  whole_of_source p stream range is = grind (arith, nat_tests, whole_source)
-
-  pub carried_of_source : (p : Part) (s : TransportStream)
-      → p.stream ≡ Some s
-      → p.range ≡ None
-      → input.call.told ≡ option_map (carried s.pid (bytes_of s.packet_size)) (remaining old)
-      → input.number.told ≡ Some 0
-      → input.call.old_count ≡ failure_count old
-      → input.call.new_count ≡ failure_count left
-      → IsPartOf p remaining failure_count old left input
-  carried_of_source p s stream range told number old_count new_count = record {
-    told = rw (stream, range) told;
-    number = rw range number;
-    old_count = old_count;
-    new_count = new_count;
-    left_is = λ whole. let none = ap (λ (q : Part). q.stream) whole in absurd cc;
-  }
 
   -- A range of a file.
   pub file_of_source : (p : Part)
@@ -91,8 +66,8 @@ module _ {P : Type 0} (given behind : P → Option (List ℕ)) (count : P → �
       → input ≡ pieces_call given behind count first passed before after
       → IsRangeOf None given behind count before after input
   all_of_pieces first passed start is = record {
-    told = ap (λ (i : InputCall). i.call.told) is;
-    number = ap (λ (i : InputCall). i.number.told) is ∙ start;
+    told = ap (λ (i : InputCall). i.call.known) is;
+    number = ap (λ (i : InputCall). i.number.known) is ∙ start;
     old_count = ap (λ (i : InputCall). i.call.old_count) is;
     new_count = ap (λ (i : InputCall). i.call.new_count) is;
     left_is = λ none. ap (λ (i : InputCall). i.call.left) is;
@@ -101,14 +76,14 @@ module _ {P : Type 0} (given behind : P → Option (List ℕ)) (count : P → �
   -- Those of a range, by what is told of who gives these.
   pub range_of_pieces : (part : InputCall) (r : PieceRangeValue)
       → input ≡ part
-      → part.call.told ≡ option_map (in_range r) (given before)
-      → part.number.told ≡ option_map (first_index r) (given before)
+      → part.call.known ≡ option_map (in_range r) (given before)
+      → part.number.known ≡ option_map (first_index r) (given before)
       → part.call.old_count ≡ count before
       → part.call.new_count ≡ count after
       → IsRangeOf (Some r) given behind count before after input
   range_of_pieces part r is told number old_count new_count = record {
-    told = ap (λ (i : InputCall). i.call.told) is ∙ told;
-    number = ap (λ (i : InputCall). i.number.told) is ∙ number;
+    told = ap (λ (i : InputCall). i.call.known) is ∙ told;
+    number = ap (λ (i : InputCall). i.number.known) is ∙ number;
     old_count = ap (λ (i : InputCall). i.call.old_count) is ∙ old_count;
     new_count = ap (λ (i : InputCall). i.call.new_count) is ∙ new_count;
     left_is = λ none. absurd cc;
@@ -118,16 +93,16 @@ module _ {P : Type 0} (given behind : P → Option (List ℕ)) (count : P → �
 pub all_of_file : {D : Type 0} (remaining : D → Option (List ℕ)) (failure_count : D → ℕ)
     (old new : D) (input part : InputCall)
     → input ≡ part
-    → part.call.told ≡ remaining old
-    → part.number.told ≡ Some 0
+    → part.call.known ≡ remaining old
+    → part.number.known ≡ Some 0
     → part.call.old_count ≡ failure_count old
     → part.call.new_count ≡ failure_count new
     → part.call.left ≡ remaining new
     → IsRangeOf None remaining remaining failure_count old new input
 all_of_file remaining failure_count old new input part is told number old_count new_count left =
     record {
-      told = ap (λ (i : InputCall). i.call.told) is ∙ told;
-      number = ap (λ (i : InputCall). i.number.told) is ∙ number;
+      told = ap (λ (i : InputCall). i.call.known) is ∙ told;
+      number = ap (λ (i : InputCall). i.number.known) is ∙ number;
       old_count = ap (λ (i : InputCall). i.call.old_count) is ∙ old_count;
       new_count = ap (λ (i : InputCall). i.call.new_count) is ∙ new_count;
       left_is = λ none. ap (λ (i : InputCall). i.call.left) is ∙ left;

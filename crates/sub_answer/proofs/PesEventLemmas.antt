@@ -7,7 +7,7 @@ use Rattle.std.proofs.lemmas.Bool.{true≢false}
 use Rattle.std.proofs.lemmas.Bool.Decides.{nat_tests}
 use Rattle.std.specs.Prelude.{IfOk, IfErr, IfSome, IsFalse, is_none}
 use Rattle.sub_io.specs.Device.{RisesIf, failed}
-use Rattle.sub_io.specs.Reading.{IfTold}
+use Rattle.sub_io.specs.Reading.{IfKnown}
 use Rattle.sub_io.specs.Telling.{Tells, TellsSome}
 use Rattle.ttx_packet.specs.PageId.{PageIdValue}
 use Rattle.ttx_pes.specs.declared.fault.PesFault.TheVariants as pes_fault
@@ -19,14 +19,14 @@ use Rattle.sub_check.specs.CheckedFiles.{IsChecked, IsCheckedBy, TellsEvents}
 use Rattle.sub_check.specs.CheckedFiles.{all_events_by}
 use Rattle.sub_check.specs.CheckedFiles.{all_events_of, events_of_first_by, first_answer}
 use Rattle.sub_check.specs.CheckedFiles.{frames_read}
-use Rattle.sub_checker.specs.Telling.{CountsRead}
+use Rattle.sub_checker.specs.ReadCounts.{CountsRead}
 use Rattle.sub_rules.specs.Events.{latest}
 use Rattle.sub_rules.specs.Fault.{is_pes_read}
 use Rattle.sub_rules.specs.FrameRules.{frame_at, packets_before}
 use Rattle.sub_rules.specs.PacketRules.{header_count}
 use Rattle.sub_rules.specs.Pieces.{FailsAtPiece, piece_file_of}
 use Rattle.sub_rules.specs.Transmission.{Transmission}
-use Rattle.sub_checker.specs.declared.telling.Accepted.{Accepted}
+use Rattle.sub_checker.specs.declared.accepted.Accepted.{Accepted}
 use Rattle.sub_rules.specs.declared.event.Event.{Event}
 use Rattle.sub_rules.specs.declared.fault.CheckFault.{CheckFault}
 use Rattle.sub_rules.specs.declared.fault.CheckFault.TheVariants as fault
@@ -42,8 +42,8 @@ use Rattle.sub_listing.proofs.PrinterLemmas.{prints_all}
 -- Where a source tells its bytes, these decide what else is something.
 pub decided : {A : Type 0} (Q : A → Type 0) (told : Option (List ℕ)) (given : List ℕ → A) (some : A)
     → Q some
-    → IfTold told (λ bytes. Q (given bytes))
-    → (x : A) × Q x × IfTold told (λ bytes. x ≡ given bytes)
+    → IfKnown told (λ bytes. Q (given bytes))
+    → (x : A) × Q x × IfKnown told (λ bytes. x ≡ given bytes)
 decided Q None given some holds told = (some, holds, λ bytes heard. cc)
 decided Q (Some bytes) given some holds told =
     (given bytes, told bytes refl, λ other heard. let same : bytes ≡ other = cc in ap given same)
@@ -98,15 +98,15 @@ pub all_answers : (judged : JudgedValue) (options : OptionsValue) (pes : Option 
     (r : Result (Option Accepted) CheckFault)
     → ((programme : ProgrammeValue)
     → judged ≡ known programme
-    → IfTold pes (λ bytes. IfOk r (λ counts. IfSome counts (λ a. IsCheckedBy programme options
+    → IfKnown pes (λ bytes. IfOk r (λ counts. IfSome counts (λ a. IsCheckedBy programme options
     bytes (first_answer (all_events_of programme options bytes) a)))))
     → ((programme : ProgrammeValue)
     → judged ≡ known programme
     → IsFalse options.keeps
     → options.within ≡ 0
-    → IfTold pes (λ bytes. IfOk r (λ counts. IfSome counts (λ a. IsChecked programme options
+    → IfKnown pes (λ bytes. IfOk r (λ counts. IfSome counts (λ a. IsChecked programme options
     bytes (first_answer (all_events_of programme options bytes) a)))))
-    → IfTold pes (λ bytes.
+    → IfKnown pes (λ bytes.
     (programme : ProgrammeValue)
     → judged ≡ known programme
     → IfOk r (λ counts. IfSome counts (λ a. IsAnswer programme options
@@ -143,12 +143,12 @@ module _ {D : Type 0} (IsTold : D → Event → D → Type 0) (value : D → Pri
       → is_pes_read f ≡ true
       → (value new).failed ≡ false
       → TellsSome IsTold old new
-      → IfTold pes.told (λ bytes. TellsEvents judged options bytes IsTold old new (Err f))
+      → IfKnown pes.known (λ bytes. TellsEvents judged options bytes IsTold old new (Err f))
       → RisesIf pes.old_count (is_pes_read f) pes.new_count
       → ((index : ℕ)
       → (let r : Result (Option Accepted) CheckFault = Err f in r)
       ≡ Err (fault.Pes index pes_fault.Read)
-      → FailsAtPiece index pes.told pes.left)
+      → FailsAtPiece index pes.known pes.left)
       → TellsPes judged options pes first (value old) (value new) (Err f)
   after_pes_error f is quiet some told count fails = go (read_at f is).0 (read_at f is).1
     where
@@ -156,14 +156,14 @@ module _ {D : Type 0} (IsTold : D → Event → D → Type 0) (value : D → Pri
           → TellsPes judged options pes first (value old) (value new) (Err f)
       go n same =
           let events =
-          decided (λ (es : List Event). Tells IsTold old new es) pes.told
+          decided (λ (es : List Event). Tells IsTold old new es) pes.known
           (λ bytes. events_of_first_by judged options bytes n) some.items some.told
           (λ bytes heard.
           let here = told bytes heard in
           let at : here.0 ≡ n = let e = here.2 in cc in
           subst (λ (m : ℕ). Tells IsTold old new
           (events_of_first_by judged options bytes m)) at here.3) in
-          let are : IfTold pes.told (λ bytes.
+          let are : IfKnown pes.known (λ bytes.
           (n ≤ length (piece_file_of (clock_of options) bytes).pieces)
           × (events.0 ≡ events_of_first_by judged options bytes n)) =
           λ bytes heard.
@@ -184,7 +184,7 @@ module _ {D : Type 0} (IsTold : D → Event → D → Type 0) (value : D → Pri
                 count;
             read = λ m e.
                 let at : n ≡ m = cc in
-                subst (λ (k : ℕ). FailsAtPiece k pes.told pes.left) at
+                subst (λ (k : ℕ). FailsAtPiece k pes.known pes.left) at
                 (fails n
                 (ap (λ g. let r : Result (Option Accepted) CheckFault = Err g in r) same));
             cut = λ failing. absurd (true≢false (sym failing ∙ quiet));
@@ -197,10 +197,10 @@ module _ {D : Type 0} (IsTold : D → Event → D → Type 0) (value : D → Pri
       → PrintsEvents (value old) items (value new)
       → ((value new).failed ≡ false → Ok (Some a) ≡ given)
       → RisesIf pes.old_count false pes.new_count
-      → IfTold pes.told (λ bytes. (items ≡ all_events_by judged options bytes)
+      → IfKnown pes.known (λ bytes. (items ≡ all_events_by judged options bytes)
       × CountsRead options.page (frames_read options bytes) a)
       → ((value new).failed ≡ false
-      → IfTold pes.told (λ bytes.
+      → IfKnown pes.known (λ bytes.
       (programme : ProgrammeValue)
       → judged ≡ known programme
       → IsAnswer programme options bytes (first_answer items a)))
@@ -225,9 +225,9 @@ module _ {D : Type 0} (IsTold : D → Event → D → Type 0) (value : D → Pri
   -- The PES file was read.
   after_all : (given : Accepted)
       → TellsSome IsTold old new
-      → IfTold pes.told (λ bytes. TellsEvents judged options bytes IsTold old new
+      → IfKnown pes.known (λ bytes. TellsEvents judged options bytes IsTold old new
       (Ok (Some given)))
-      → IfTold pes.told (λ bytes.
+      → IfKnown pes.known (λ bytes.
       (programme : ProgrammeValue)
       → judged ≡ known programme
       → IsAnswer programme options bytes
@@ -236,7 +236,7 @@ module _ {D : Type 0} (IsTold : D → Event → D → Type 0) (value : D → Pri
       → TellsPes judged options pes first (value old) (value new) (Ok (Some given))
   after_all given some told first_is count =
       let events =
-      decided (λ (es : List Event). Tells IsTold old new es) pes.told
+      decided (λ (es : List Event). Tells IsTold old new es) pes.known
       (all_events_by judged options) some.items some.told (λ bytes heard. (told bytes heard).0)
       in
       read_pes events.0 given (Ok (Some given)) (put events.0 events.1) (λ holds. refl) count
@@ -249,7 +249,7 @@ module _ {D : Type 0} (IsTold : D → Event → D → Type 0) (value : D → Pri
   -- The sink failed.
   after_stop : (value new).failed ≡ true
       → TellsSome IsTold old new
-      → IfTold pes.told (λ bytes. TellsEvents judged options bytes IsTold old new (Ok None))
+      → IfKnown pes.known (λ bytes. TellsEvents judged options bytes IsTold old new (Ok None))
       → RisesIf pes.old_count false pes.new_count
       → TellsPes judged options pes first (value old) (value new) (Ok None)
   after_stop failing some told count =
@@ -257,7 +257,7 @@ module _ {D : Type 0} (IsTold : D → Event → D → Type 0) (value : D → Pri
       some_counts options.page (frames_read options bytes) (length (frames_read options bytes)) refl
       in
       let events =
-      decided (λ (x : List Event × Accepted). PrintsEvents (value old) x.0 (value new)) pes.told
+      decided (λ (x : List Event × Accepted). PrintsEvents (value old) x.0 (value new)) pes.known
       (λ bytes. (all_events_by judged options bytes, (counts bytes).0))
       (some.items, record { frames = 0; transmissions = 0 }) (put some.items some.told)
       (λ bytes heard.
@@ -278,8 +278,8 @@ module _ {D : Type 0} (IsTold : D → Event → D → Type 0) (value : D → Pri
       → ((value new).failed ≡ true → stopped ≡ true)
       → ((value new).failed ≡ false → (value new).count ≡ (value old).count → stopped ≡ false)
       → TellsSome IsTold old new
-      → IfTold pes.told (λ bytes. TellsEvents judged options bytes IsTold old new r)
-      → IfTold pes.told (λ bytes.
+      → IfKnown pes.known (λ bytes. TellsEvents judged options bytes IsTold old new r)
+      → IfKnown pes.known (λ bytes.
       (programme : ProgrammeValue)
       → judged ≡ known programme
       → IfOk r (λ counts. IfSome counts (λ a. IsAnswer programme options
@@ -290,7 +290,7 @@ module _ {D : Type 0} (IsTold : D → Event → D → Type 0) (value : D → Pri
       → RisesIf pes.old_count (failed is_pes_read r) pes.new_count
       → ((index : ℕ)
       → r ≡ Err (fault.Pes index pes_fault.Read)
-      → FailsAtPiece index pes.told pes.left)
+      → FailsAtPiece index pes.known pes.left)
       → TellsPes judged options pes first (value old) (value new) r
   after_pes (Ok (Some a)) stopped stops quiet some told first_is is goes_on only count fails =
       after_all a some told first_is count

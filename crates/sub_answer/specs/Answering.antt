@@ -2,7 +2,7 @@
 use Rattle.std.specs.Prelude.{◌≡◌, ◌≢◌, ◌<◌, ⊤, ℕ, Bool, true, false, List, Option, Result, Err}
 use Rattle.std.specs.Prelude.{Ok, Some, codes, if◌then◌else◌}
 use Rattle.sub_io.specs.Device.{failed}
-use Rattle.sub_io.specs.Reading.{IfTold}
+use Rattle.sub_io.specs.Reading.{IfKnown}
 use Rattle.ttx_pes.specs.Reader.{FailsAtPacket}
 use Rattle.stl_rows.specs.Loading.{FailsLoading}
 use Rattle.stl_rows.specs.declared.layout.Drawing.{Drawing}
@@ -16,7 +16,7 @@ use Rattle.sub_listen.specs.Run.{FailsListening}
 use Rattle.sub_rules.specs.PesReading.{ReadsAs}
 use Rattle.sub_listen.specs.Reception.{left_by}
 use Rattle.sub_rules.specs.Transmission.{Transmission}
-use Rattle.sub_checker.specs.declared.telling.Accepted.{Accepted}
+use Rattle.sub_checker.specs.declared.accepted.Accepted.{Accepted}
 use Rattle.sub_rules.specs.declared.fault.CheckFault.{CheckFault}
 use Rattle.sub_request.specs.declared.listening.Listening.{Listening}
 use Rattle.sub_listen.specs.declared.listening.ListenFault.{ListenFault}
@@ -73,8 +73,8 @@ pub record AnswersCheck
   -- That a source failed is told at the block of the byte that was asked for, and no fault comes
   -- before it, or at the PES packet within which it failed.
   pub sources :
-      TellsSources (FailsLoading drawing stl.told stl.left)
-      (λ index. FailsAtPacket index pes.told pes.left)
+      TellsSources (FailsLoading drawing stl.known stl.left)
+      (λ index. FailsAtPacket index pes.known pes.left)
       Untouched (failed is_subtitle_fault answer) stl pes answer
   -- Where the files tell their bytes, these decide it. What is accepted is robust, with lost rows
   -- too: every receiver shows each due page within the repeat bound, but for cells whose byte was
@@ -82,9 +82,10 @@ pub record AnswersCheck
   -- for, it is on their screens. Where frames are allowed within which the page has to be whole,
   -- each due page is shown so at the end of one of them. A subtitle file that gives no programme is
   -- refused.
-  pub checked : IfTold stl.told (λ file. AreChecked drawing options file pes.told answer)
+  pub checked : IfKnown stl.known (λ file. AreChecked drawing options file pes.known answer)
   pub ends :
-      TellsStatus drawing options stl pes out (PrintsMemory drawing stl.told out.old out.new) status
+      TellsStatus drawing options stl pes out (PrintsMemory drawing stl.known out.old out.new)
+      status
 
 -- It is printed what a receiver shows that heard the frames of the PES file, and leaves this code
 -- in a cell whose byte has even parity; or the refusal. The first PES packet has the number `first`
@@ -95,18 +96,18 @@ pub record PrintsHeard
     : Type 0 where
   pub exact :
       (frames : Transmission) (unread : Option Unread)
-      → IfTold pes.told (λ bytes.
+      → IfKnown pes.known (λ bytes.
       ReadsAs (clock_of listening.options) 0 bytes frames unread
       → pes.new_count ≡ pes.old_count
       → (listing : Listing)
-      × Listens leaves listening first frames unread pes.told pes.left listing
+      × Listens leaves listening first frames unread pes.known pes.left listing
       × PrintsOrFails out listing status)
   -- That the source failed is told at the PES packet within which it failed, and where nothing that
   -- was read before is refused.
   pub read :
       pes.new_count ≢ pes.old_count
       → (f : ListenFault)
-      × FailsListening listening pes.told pes.left f
+      × FailsListening listening pes.known pes.left f
       × PrintsOrFails out (fault_listing (counted_from first (listen_line f))) status
 
 -- `listen` prints that. `first` is the number that the first PES packet has in its file.
@@ -154,10 +155,11 @@ pieces_call remaining left failure_count number passed old new = record {
 abbrev pub fails : InputCall → Type 0
 fails input = input.call.old_count < input.call.new_count
 
--- The first input of the request gives pieces: PES packets are listed or heard.
+-- The first input of the request gives pieces: PES packets are listed, heard or written.
 abbrev pub reads_pieces : Request → Bool
 reads_pieces (ask.Packets pes) = true
 reads_pieces (ask.Listen pes listening) = true
+reads_pieces (ask.Extract recording pes stream) = true
 reads_pieces _ = false
 
 -- The first input of the request, of a source and of one that gives pieces.
@@ -213,3 +215,23 @@ HandsOnBefore _ FirstFails SecondFails IsAlone = ⊤
 abbrev pub WritesBefore : Request → Type 0 → Type 0 → Type 0
 WritesBefore (ask.Extract recording pes stream) FirstFails HoldsNothing = FirstFails → HoldsNothing
 WritesBefore _ FirstFails HoldsNothing = ⊤
+
+-- A request was answered over a source and one that gives pieces. `Untouched` says that no byte of
+-- the pieces was read, `HoldsNothing` that the file holds nothing back, `IsAlone` that the lines
+-- hold back that of a fault alone.
+pub record AnswersOver
+    (request : Request) (source pieces : InputCall) (Untouched : Type 0) (file out : SinkCall)
+    (HoldsNothing IsAlone : Type 0) (status : Status)
+    : Type 0 where
+  -- What is printed and written of what the devices tell, command by command.
+  pub answers :
+      Answers request (first_input request source pieces) pieces Untouched file out status
+  -- Where the source of a recording may have to ask its device, all that was written before is with
+  -- the device of the file.
+  pub written :
+      WritesBefore request (fails (first_input request source pieces)) HoldsNothing
+  -- Where the source of the PES file or recording may have to ask its device, all that was told
+  -- before is with the device of the lines: each such call may fail, and where one did the line of
+  -- its failure alone may be held back.
+  pub followed :
+      HandsOnBefore request (fails (first_input request source pieces)) (fails pieces) IsAlone

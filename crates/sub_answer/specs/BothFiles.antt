@@ -1,7 +1,7 @@
 -- What the answers to `check` and to `check --all` both say of a subtitle file and a PES file.
 use Rattle.std.specs.Prelude.{◌≡◌, ◌≢◌, ◌↔◌, ℕ, Bool, true, IsFalse, Result, Err}
 use Rattle.sub_io.specs.Device.{RisesIf, failed}
-use Rattle.sub_io.specs.Reading.{IfTold}
+use Rattle.sub_io.specs.Reading.{IfKnown}
 use Rattle.ttx_pes.specs.declared.fault.PesFault.TheVariants.{Read}
 use Rattle.stl_rows.specs.Fault.{is_load_read}
 use Rattle.stl_rows.specs.declared.fault.LoadFault.{LoadFault}
@@ -42,13 +42,13 @@ pub record TellsStatus
   pub done :
       IsFalse options.keeps
       → options.within ≡ 0
-      → IfTold stl.told (λ file.
-      IfTold pes.told (λ bytes.
+      → IfKnown stl.known (λ file.
+      IfKnown pes.known (λ bytes.
       status ≢ Fault
       → (status ≡ Done) ↔ IsAccepted drawing options file bytes))
   pub done_by :
-      IfTold stl.told (λ file.
-      IfTold pes.told (λ bytes.
+      IfKnown stl.known (λ file.
+      IfKnown pes.known (λ bytes.
       status ≢ Fault
       → (status ≡ Done) ↔ IsAcceptedBy drawing options file bytes))
   -- It is `Fault` only where a device failed, or want of memory is printed.

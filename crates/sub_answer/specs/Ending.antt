@@ -1,8 +1,10 @@
 -- How a run ends that answers a request over its files: what was answered, what was handed on, and
 -- the status.
-use Rattle.std.specs.Prelude.{◌≡◌, ◌⊎◌, ℕ, ◌+◌, ◌<◌, List, [], ◌∷◌, ◌++◌, Option, Some, None, false}
+use Rattle.std.specs.Prelude.{◌≡◌, ◌⊎◌, ℕ, ◌+◌, ◌<◌, List, [], ◌∷◌, ◌++◌, length, Option, Some}
+use Rattle.std.specs.Prelude.{None, false}
 use Rattle.std.specs.Io.KnownBytes.{Keeps, append_known, prepend_known}
 use Rattle.sub_io.specs.Buffered.{HandsOn, HeldBack, ReadAhead, failures_and_refused}
+use Rattle.sub_io.specs.Calls.{HoldsBack}
 use Rattle.sub_request.specs.Files.{files_of}
 use Rattle.sub_request.specs.declared.files.FileNames.{FileNames}
 use Rattle.sub_request.specs.declared.files.FileNames.TheVariants as names
@@ -16,10 +18,11 @@ use Rattle.sub_files.specs.declared.opening.Opened.TheVariants.{Extract, Nothing
 use Rattle.sub_files.specs.declared.opening.Opened.TheVariants.{ReadPes, ReadStl, Write}
 use Rattle.sub_listing.specs.DeviceCall.{SinkCall, sink_call}
 use Rattle.sub_listing.specs.Faults.{usage_line}
+use Rattle.sub_listing.specs.LastLine.{HoldsLastLine}
 use Rattle.sub_listing.specs.Listing.{PrintsOrFails, fault_listing}
 use Rattle.sub_listing.specs.declared.status.Status.{Status}
 use Rattle.sub_listing.specs.declared.status.Status.TheVariants.{Done, Fault}
-use Rattle.sub_answer.specs.Answering.{Answers, InputCall, WritesBefore}
+use Rattle.sub_answer.specs.Answering.{Answers, HandsOnBefore, InputCall, WritesBefore, fails}
 use Rattle.sub_answer.specs.Part.{IsPartOf, part_asked, whole_file}
 use Rattle.sub_answer.specs.declared.part.Part.{Part}
 
@@ -35,6 +38,10 @@ abbrev pub lines_in : {O : Type 0}
     → (O → Option (List ℕ)) → (O → List ℕ) → (O → ℕ) → O → Lines
 lines_in contents held_back failure_count o =
     record { taken = contents o; held = held_back o; count = failure_count o }
+
+-- As many bytes are held back as are counted.
+abbrev pub CountsHeld : {O : Type 0} → (O → ℕ) → (O → List ℕ) → Type 0
+CountsHeld {O} held held_back = (o : O) → held o ≡ length (held_back o)
 
 -- A buffer, by what is told of the sink inside and how often that has failed.
 abbrev pub lines_of : {D : Type 0} → (D → Option (List ℕ)) → (D → ℕ) → HeldBack D → Lines
@@ -60,6 +67,26 @@ pub record HandsOnHeldLines (old : Lines) (status : Status) (new : Lines) (resul
       ((result ≡ status) × (new.held ≡ []) × (new.count ≡ old.count))
       ⊎ ((result ≡ Fault) × (new.count ≡ old.count + 1))
 
+-- All that was printed before the line of a fault was handed on, and since then this line alone was
+-- put: of nothing else is a byte held back. Said of a sink by what it has taken, what it holds back
+-- of that, how often it has failed and which pushes go so.
+pub record HoldsLineAlone
+    {O : Type 0} (contents : O → Option (List ℕ)) (held_back : O → List ℕ) (failure_count : O → ℕ)
+    (IsPush : O → List ℕ → Option ℕ → O → Type 0) (lines : Lines)
+    : Type 0 where
+  pub sink : O
+  pub lines_are : lines ≡ lines_in contents held_back failure_count sink
+  pub last : HoldsLastLine contents (λ o. length (held_back o)) IsPush sink
+
+-- The same of a buffer, by what is told of the sink inside, how often that has failed and which
+-- pushes into it go so.
+abbrev pub BufferHoldsLineAlone :
+    {D : Type 0}
+    → (D → Option (List ℕ)) → (D → ℕ) → (D → List ℕ → Option ℕ → D → Type 0) → Lines → Type 0
+BufferHoldsLineAlone contents failure_count IsPush =
+    HoldsLineAlone (λ k. append_known (contents k.device) k.held) (λ k. k.held)
+    (λ k. failures_and_refused (failure_count k.device) k.refused) (HoldsBack IsPush)
+
 -- No byte is held back, and no call has failed since.
 pub record HoldsNothing
     {O : Type 0} (held_back : O → List ℕ) (failure_count : O → ℕ) (old new : O) : Type 0 where
@@ -77,10 +104,11 @@ pub record HandsOnBeside
 
 -- A request was answered, of sources and a file that are so in their calls, the file beside that of
 -- the first source, and then the lines were handed on. `Untouched` says that no byte of the second
--- source was read.
+-- source was read, and `IsAlone` of lines that all but the line of a fault was handed on.
 pub record EndsWith
     (request : Request) (IsFirst IsSecond : InputCall → Type 0) (Untouched : Type 0)
-    (IsFile : InputCall → SinkCall → Type 0) (old new : Lines) (result : Status)
+    (IsFile : InputCall → SinkCall → Type 0) (IsAlone : Lines → Type 0) (old new : Lines)
+    (result : Status)
     : Type 0 where
   pub first : InputCall
   pub first_is : IsFirst first
@@ -99,11 +127,16 @@ pub record EndsWith
         new_count = printed.count;
       })
       status
+  -- Where the source of the PES file or recording may have to ask its device, all that was told
+  -- before is with the device of the lines: each such call may fail, and where one did the line of
+  -- its failure alone may be held back.
+  pub followed :
+      old.held ≡ [] → HandsOnBefore request (fails first) (fails second) (IsAlone printed)
   pub handed_on : HandsOnHeldLines printed status new result
 
 -- The source has nothing to give.
 abbrev pub IsEmptySource : InputCall → Type 0
-IsEmptySource input = input.call.told ≡ Some []
+IsEmptySource input = input.call.known ≡ Some []
 
 -- The file had taken nothing before.
 abbrev pub IsEmptyFile : InputCall → SinkCall → Type 0
@@ -160,17 +193,17 @@ pub record IsWrittenTo
 
 -- What is told of files that are read and of those that are written: the bytes that they have still
 -- to give, and those that they have taken; and how often they have failed.
-pub record ToldOfFiles (I O : Type 0) : Type 0 where
+pub record KnownOfFiles (I O : Type 0) : Type 0 where
   pub remaining : I → Option (List ℕ)
   pub reads_failed : I → ℕ
   pub contents : O → Option (List ℕ)
   pub writes_failed : O → ℕ
 
 -- What is told of them, one after another.
-abbrev pub told_of_files :
+abbrev pub known_of_files :
     {I O : Type 0}
-    → (I → Option (List ℕ)) → (I → ℕ) → (O → Option (List ℕ)) → (O → ℕ) → ToldOfFiles I O
-told_of_files remaining reads_failed contents writes_failed = record {
+    → (I → Option (List ℕ)) → (I → ℕ) → (O → Option (List ℕ)) → (O → ℕ) → KnownOfFiles I O
+known_of_files remaining reads_failed contents writes_failed = record {
   remaining = remaining;
   reads_failed = reads_failed;
   contents = contents;
@@ -180,22 +213,22 @@ told_of_files remaining reads_failed contents writes_failed = record {
 -- A source is this part of this file, which is left so, or an empty one where none was opened for
 -- it.
 abbrev pub IsSourceOf :
-    {I O : Type 0} → ToldOfFiles I O → Part → (opened left : Option I) → InputCall → Type 0
-IsSourceOf told part (Some file) (Some left) =
-    IsReadFrom part told.remaining told.reads_failed file left
-IsSourceOf told part None None = IsEmptySource
-IsSourceOf told part opened left = λ input. ⊥
+    {I O : Type 0} → KnownOfFiles I O → Part → (opened left : Option I) → InputCall → Type 0
+IsSourceOf known part (Some file) (Some left) =
+    IsReadFrom part known.remaining known.reads_failed file left
+IsSourceOf known part None None = IsEmptySource
+IsSourceOf known part opened left = λ input. ⊥
 
 -- The file of a request is the one that was created, which is left so, or an empty one where none
 -- was.
 abbrev pub IsSinkOf :
     {I O : Type 0}
-    → ToldOfFiles I O → (O → O → Type 0) → Request → Status → (created left : Option O) → InputCall
+    → KnownOfFiles I O → (O → O → Type 0) → Request → Status → (created left : Option O) → InputCall
     → SinkCall → Type 0
-IsSinkOf told IsClose request result (Some file) (Some left) =
-    IsWrittenTo told.contents told.writes_failed IsClose request result file left
-IsSinkOf told IsClose request result None None = IsEmptyFile
-IsSinkOf told IsClose request result created left = λ first call. ⊥
+IsSinkOf known IsClose request result (Some file) (Some left) =
+    IsWrittenTo known.contents known.writes_failed IsClose request result file left
+IsSinkOf known IsClose request result None None = IsEmptyFile
+IsSinkOf known IsClose request result created left = λ first call. ⊥
 
 -- The sources of a request and its file, of those that were opened and created, and which part of
 -- its first source is read.
@@ -260,37 +293,39 @@ let_go left = input_before left.first (input_before left.second (output_alone le
 -- which the request reads a part; where no byte of it was read, it is left as it was opened.
 abbrev pub EndsOver :
     {I O : Type 0}
-    → ToldOfFiles I O → (O → O → Type 0) → Request → Devices I O → FilesLeft I O → Lines → Lines
-    → Status → Type 0
-EndsOver told IsClose request devices left old new result =
-    EndsWith request (IsSourceOf told devices.part devices.first left.first)
-    (IsSourceOf told (part_asked request) devices.second left.second)
+    → KnownOfFiles I O → (O → O → Type 0) → Request → Devices I O → FilesLeft I O
+    → (Lines → Type 0) → Lines → Lines → Status → Type 0
+EndsOver known IsClose request devices left IsAlone old new result =
+    EndsWith request (IsSourceOf known devices.part devices.first left.first)
+    (IsSourceOf known (part_asked request) devices.second left.second)
     (left.second ≡ devices.second)
-    (IsSinkOf told IsClose request result devices.file left.file) old new result
+    (IsSinkOf known IsClose request result devices.file left.file) IsAlone old new result
 
 -- A request was answered over devices, and then the files were let go as that left them, by the
 -- calls that were made.
 pub record EndsAndLetsGo
-    {I O : Type 0} (AreMade : List (FileCall I O) → Type 0) (told : ToldOfFiles I O)
-    (IsClose : O → O → Type 0) (request : Request) (devices : Devices I O) (old new : Lines)
-    (result : Status)
+    {I O : Type 0} (AreMade : List (FileCall I O) → Type 0) (known : KnownOfFiles I O)
+    (IsClose : O → O → Type 0) (request : Request) (devices : Devices I O)
+    (IsAlone : Lines → Type 0) (old new : Lines) (result : Status)
     : Type 0 where
   pub left : FilesLeft I O
   pub are_let_go : AreMade (let_go left)
-  pub ends : EndsOver told IsClose request devices left old new result
+  pub ends : EndsOver known IsClose request devices left IsAlone old new result
 
 -- The files that a request names were opened, it was answered over them, and the lines were handed
 -- on; then the files were let go as they were left. These are all the calls that were made.
 pub record Ends
-    {I O : Type 0} (AreMade : List (FileCall I O) → Type 0) (told : ToldOfFiles I O)
-    (IsClose : O → O → Type 0) (request : Request) (old new : Lines) (result : Status)
+    {I O : Type 0} (AreMade : List (FileCall I O) → Type 0) (known : KnownOfFiles I O)
+    (IsClose : O → O → Type 0) (request : Request) (IsAlone : Lines → Type 0) (old new : Lines)
+    (result : Status)
     : Type 0 where
   pub files : Opened I O
   pub left : FilesLeft I O
   pub opened :
       OpensBy (λ calls. AreMade (calls ++ let_go left)) (files_of request) (Some files)
   pub ends :
-      EndsOver told IsClose request (devices_of (part_asked request) files) left old new result
+      EndsOver known IsClose request (devices_of (part_asked request) files) left IsAlone old new
+      result
 
 -- The line of a fault was printed, and then handed on.
 pub record Says (fault : UsageFault) (old new : Lines) (result : Status) : Type 0 where

@@ -4,7 +4,7 @@ use Rattle.std.specs.Prelude.{Option, Some, None, Result, Ok, Err, IfErr, IsFals
 use Rattle.std.specs.List.{filter}
 use Rattle.std.specs.Io.KnownBytes.{Appends, Consumes}
 use Rattle.sub_io.specs.Device.{RisesIf}
-use Rattle.sub_io.specs.Reading.{IfTold}
+use Rattle.sub_io.specs.Reading.{IfKnown}
 use Rattle.ttx_pes.specs.declared.fault.PesFault.TheVariants.{Read}
 use Rattle.stl_file.specs.Reader.{block_of_byte, findings_for}
 use Rattle.stl_rows.specs.EveryFault.{EndsSubtitleAfter, faults, is_told_before}
@@ -19,10 +19,10 @@ use Rattle.sub_plan.specs.FrameTime.{clock_of}
 use Rattle.sub_plan.specs.Options.{OptionsValue}
 use Rattle.sub_check.specs.CheckedFiles.{IsChecked, IsCheckedBy, all_events_by}
 use Rattle.sub_check.specs.CheckedFiles.{events_of_first_by, first_answer, frames_read}
-use Rattle.sub_checker.specs.Telling.{CountsRead}
+use Rattle.sub_checker.specs.ReadCounts.{CountsRead}
 use Rattle.sub_rules.specs.Fault.{is_failure, is_subtitle_fault}
 use Rattle.sub_rules.specs.Pieces.{FailsAtPiece, piece_file_of}
-use Rattle.sub_checker.specs.declared.telling.Accepted.{Accepted}
+use Rattle.sub_checker.specs.declared.accepted.Accepted.{Accepted}
 use Rattle.sub_rules.specs.declared.event.Event.{Event}
 use Rattle.sub_rules.specs.declared.fault.CheckFault.{CheckFault}
 use Rattle.sub_rules.specs.declared.fault.CheckFault.TheVariants.{Pes, Subtitles}
@@ -77,7 +77,7 @@ pub record IsListedOf
   pub by : JudgesBy drawing file judged
   pub more : List Event
   pub both : events ≡ subtitle_events (faults drawing file) ++ more
-  pub listed : IfTold pes (λ bytes. AreListedOfPes judged options bytes more answer)
+  pub listed : IfKnown pes (λ bytes. AreListedOfPes judged options bytes more answer)
 
 -- These are the events of a subtitle file and of a PES file: all faults of the one, and then all
 -- events of the other, where that is judged.
@@ -96,9 +96,9 @@ AreListed drawing options file pes events (Err f) = ⊥
 
 -- The source of a subtitle file failed at the block of the byte that was asked for: the first one
 -- after those that were taken.
-pub record FailsAtBlock (told left : Option (List ℕ)) (block : ℕ) : Type 0 where
+pub record FailsAtBlock (known left : Option (List ℕ)) (block : ℕ) : Type 0 where
   pub bytes : List ℕ
-  pub consumed : Consumes told left bytes
+  pub consumed : Consumes known left bytes
   pub block_is : block ≡ block_of_byte (length bytes)
 
 -- The answer is that of `check` for the bytes of a PES file, by whatever options; and where each
@@ -124,12 +124,12 @@ IsVerdict drawing options file bytes events answer = ⊤
 -- Want of memory is printed, after the lines of these faults of the subtitle file.
 abbrev pub PrintsMemoryLast :
     Drawing → Option (List ℕ) → Option (List ℕ) → Option (List ℕ) → Type 0
-PrintsMemoryLast drawing told old new =
+PrintsMemoryLast drawing known old new =
     (first : ℕ)
     × (events : List Event)
     × (block : ℕ)
     × Appends old new (event_lines first events ++ line_of (load_line Memory block))
-    × IfTold told (λ file. AreListedBefore drawing file events block Memory)
+    × IfKnown known (λ file. AreListedBefore drawing file events block Memory)
 
 -- An answer by what was read of the PES file: all of it, or its source failed at this piece.
 abbrev pub read_answer : Result Accepted ℕ → Result (Option Accepted) CheckFault
@@ -149,17 +149,17 @@ pub record TellsPes
   pub starts : StartsAt first pes number
   pub prints : PrintsEvents (record old { first = number }) events new
   pub count : RisesIf pes.old_count (is_err answer) pes.new_count
-  pub read : (n : ℕ) → answer ≡ Err n → FailsAtPiece n pes.told pes.left
+  pub read : (n : ℕ) → answer ≡ Err n → FailsAtPiece n pes.known pes.left
   pub cut : new.failed ≡ true → IsOk answer
   -- Where nothing of the subtitle file is refused, the first event decides what `check` answers.
   pub checked :
       new.failed ≡ false
-      → IfTold pes.told (λ bytes.
+      → IfKnown pes.known (λ bytes.
       (programme : ProgrammeValue) (a : Accepted)
       → judged ≡ known programme
       → answer ≡ Ok a
       → IsAnswer programme options bytes (first_answer events a))
-  pub listed : IfTold pes.told (λ bytes. AreListedOfPes judged options bytes events answer)
+  pub listed : IfKnown pes.known (λ bytes. AreListedOfPes judged options bytes events answer)
 
 -- The answer tells so of the sources of both files: that one failed is told at the block of the
 -- byte that was asked for, or at the piece within which it failed. Where the subtitle file is
@@ -167,7 +167,7 @@ pub record TellsPes
 abbrev pub TellsBothSources :
     SourceCall → SourceCall → Type 0 → Result (Option Accepted) CheckFault → Type 0
 TellsBothSources stl pes Untouched answer =
-    TellsSources (FailsAtBlock stl.told stl.left) (λ index. FailsAtPiece index pes.told pes.left)
+    TellsSources (FailsAtBlock stl.known stl.left) (λ index. FailsAtPiece index pes.known pes.left)
     Untouched (is_of_subtitles answer) stl pes answer
 
 -- What a printer was told of the events of both files, and the answer, which is the one that was
@@ -188,13 +188,13 @@ pub record TellsBoth
   pub unjudged :
       new.failed ≡ false
       → answer ≡ Ok None
-      → IfTold stl.told (λ file. judges drawing file ≡ false)
+      → IfKnown stl.known (λ file. judges drawing file ≡ false)
   pub checked :
       new.failed ≡ false
-      → IfTold stl.told (λ file.
-      IfTold pes.told (λ bytes. IsVerdict drawing options file bytes events answer))
+      → IfKnown stl.known (λ file.
+      IfKnown pes.known (λ bytes. IsVerdict drawing options file bytes events answer))
   pub listed :
-      IfTold stl.told (λ file. AreListed drawing options file pes.told events answer)
+      IfKnown stl.known (λ file. AreListed drawing options file pes.known events answer)
 
 -- `check --all` tells events, and has one answer; the bytes of both files decide them. `first` is
 -- the number that the first PES packet has in its file; `Untouched` says that no byte of the PES
@@ -213,18 +213,18 @@ pub record AnswersAll
   pub sources : TellsBothSources stl pes Untouched answer
   -- Where the files tell their bytes, these decide the events.
   pub listed :
-      IfTold stl.told (λ file. AreListed drawing options file pes.told events answer)
+      IfKnown stl.known (λ file. AreListed drawing options file pes.known events answer)
   -- The PES file is left unread only where no transmission is judged by the subtitle file.
   pub unjudged :
       status ≢ Fault
       → answer ≡ Ok None
-      → IfTold stl.told (λ file. judges drawing file ≡ false)
+      → IfKnown stl.known (λ file. judges drawing file ≡ false)
   -- Failing devices and want of memory aside, the answer of `check` that goes with the events is
   -- one of the bytes of both files.
   pub checked :
       status ≢ Fault
-      → IfTold stl.told (λ file.
-      IfTold pes.told (λ bytes. IsVerdict drawing options file bytes events answer))
+      → IfKnown stl.known (λ file.
+      IfKnown pes.known (λ bytes. IsVerdict drawing options file bytes events answer))
   pub ends :
-      TellsStatus drawing options stl pes out (PrintsMemoryLast drawing stl.told out.old out.new)
+      TellsStatus drawing options stl pes out (PrintsMemoryLast drawing stl.known out.old out.new)
       status

@@ -2,7 +2,7 @@
 -- read has the number `first` in its file.
 use Rattle.std.specs.Prelude.{ℕ, ◌==◌, min, List, ◌++◌, codes, decimal, Option, Some, None}
 use Rattle.std.specs.Prelude.{Result, Ok, Err, if◌then◌else◌}
-use Rattle.sub_checker.specs.declared.telling.Accepted.{Accepted}
+use Rattle.sub_checker.specs.declared.accepted.Accepted.{Accepted}
 use Rattle.sub_rules.specs.declared.event.Event.{Event}
 use Rattle.sub_rules.specs.declared.fault.CheckFault.{CheckFault}
 use Rattle.sub_listing.specs.EventLines.{event_lines, most_counted, refusals}

@@ -9,13 +9,13 @@ use Rattle.sub_files.specs.MemoryFiles.{IsMemoryCall, MemFilesValue, bytes_at}
 use Rattle.sub_check.specs.CheckedFiles.{IsAcceptedBy}
 use Rattle.sub_listing.specs.declared.status.Status.{Status}
 use Rattle.sub_listing.specs.declared.status.Status.TheVariants.{Done, Fault}
-use Rattle.sub_answer.specs.Ending.{Ends, Lines, ToldOfFiles, told_of_files}
+use Rattle.sub_answer.specs.Ending.{Ends, KnownOfFiles, Lines, known_of_files}
 use Rattle.sub_answer.specs.Part.{through_range, through_stream}
 
 -- What such files tell: each all its bytes.
-abbrev pub told_of_memory : ToldOfFiles (List ℕ) Written
-told_of_memory =
-    told_of_files (λ left. Some left) (λ left. 0) (λ file. Some file.bytes)
+abbrev pub known_of_memory : KnownOfFiles (List ℕ) Written
+known_of_memory =
+    known_of_files (λ left. Some left) (λ left. 0) (λ file. Some file.bytes)
     (λ file. file.failure_count)
 
 -- The status of a check is `Done` exactly where the bytes of the subtitle file that it names, and
@@ -30,13 +30,13 @@ TellsAccepted (ask.Check stl pes options national layout scope all) files status
     ↔ IsAcceptedBy (drawing_within national layout scope) options subtitles read
 TellsAccepted _ files status = ⊤
 
--- Where a request was answered over files in memory, as `open_and_answer` says, its status tells
--- that, failing output and want of memory aside.
+-- Where a request was answered over files in memory, as `open_and_answer` says, whatever standard
+-- output is, its status tells that, failing output and want of memory aside.
 -- So what is said of the bytes of files is said of some that are there.
-abbrev pub LawOfFilesInMemory : Type 0
-LawOfFilesInMemory =
+abbrev pub LawOfFilesInMemory : (Lines → Type 0) → Type 0
+LawOfFilesInMemory IsAlone =
     (request : Request) (before after : MemFilesValue) (old new : Lines) (status : Status)
-    → Ends (CallsInTurn IsMemoryCall before after) told_of_memory (λ was is. is ≡ was) request
-    old new status
+    → Ends (CallsInTurn IsMemoryCall before after) known_of_memory (λ was is. is ≡ was) request
+    IsAlone old new status
     → status ≢ Fault
     → TellsAccepted request before status

@@ -46,13 +46,13 @@ listing_of first asks_complete end (Err f) = fault_listing (counted_from first (
 -- the refusal.
 pub record Listens
     (leaves : ℕ → ℕ) (l : Listening) (first : ℕ) (frames : Transmission) (unread : Option Unread)
-    (told left : Option (List ℕ)) (listing : Listing)
+    (known left : Option (List ℕ)) (listing : Listing)
     : Type 0 where
   pub old_page : Rows
   pub is_old : IsOldPage old_page
   pub end : Display
   pub result : Result (Unit {0}) ListenFault
   pub hears :
-      HearsFile leaves l frames unread told left l.options.page (tuned_with old_page) end result
+      HearsFile leaves l frames unread known left l.options.page (tuned_with old_page) end result
   pub listing_is : listing ≡ listing_of first l.options.asks_complete end result
   pub page_is : IfOk result (λ _. IsSeenWhole l.options.asks_complete end)

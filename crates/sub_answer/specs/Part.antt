@@ -3,6 +3,8 @@
 use Rattle.std.specs.Prelude.{◌≡◌, ℕ, List, Option, Some, None, option_map}
 use Rattle.mpeg_ts.specs.Carried.{carried}
 use Rattle.mpeg_ts.specs.PacketSize.{bytes_of}
+use Rattle.ttx_pes.specs.Advancing.{held_then}
+use Rattle.ttx_pes.specs.PartOfPieces.{part_number}
 use Rattle.ttx_pes.specs.PieceRange.{PieceRangeValue, first_index, in_range}
 use Rattle.sub_request.specs.declared.pes_packets.TransportStream.{TransportStream}
 use Rattle.sub_request.specs.declared.request.Request.{Request}
@@ -38,6 +40,12 @@ abbrev pub number_in : Option PieceRangeValue → Option (List ℕ) → Option �
 number_in None told = Some 0
 number_in (Some r) told = option_map (first_index r) told
 
+-- The number of the first piece that is given of a file, where so many were passed over and so many
+-- are still to be, by what is held of the next one and what the source has still to give.
+abbrev pub number_behind : ℕ → ℕ → List ℕ → Option (List ℕ) → Option ℕ
+number_behind passed to_pass held told =
+    part_number (record { passed = passed; to_pass = to_pass }) (held_then held told)
+
 -- A source of this part of what another one gives, in a call which leaves that so, by what is told
 -- of that one and how often it has failed.
 pub record IsPartOf
@@ -45,24 +53,24 @@ pub record IsPartOf
     (whole left : D) (input : InputCall)
     : Type 0 where
   pub told :
-      input.call.told
+      input.call.known
       ≡ through_range part.range (through_stream part.stream (remaining whole))
   pub number :
-      input.number.told
+      input.number.known
       ≡ number_in part.range (through_stream part.stream (remaining whole))
   pub old_count : input.call.old_count ≡ failure_count whole
   pub new_count : input.call.new_count ≡ failure_count left
   -- Where that is all, the same is left of both.
   pub left_is : part ≡ whole_file → input.call.left ≡ remaining left
 
--- Pieces of a range of those that another one gives, or all, in a call which leaves that so, by what
--- is told of that one, what its device has still to give, and how often that has failed.
+-- Pieces of a range of those that another one gives, or all, in a call which leaves that so, by
+-- what is told of that one, what its device has still to give, and how often that has failed.
 pub record IsRangeOf
     {D : Type 0} (range : Option PieceRangeValue) (remaining left : D → Option (List ℕ))
     (failure_count : D → ℕ) (old new : D) (input : InputCall)
     : Type 0 where
-  pub told : input.call.told ≡ through_range range (remaining old)
-  pub number : input.number.told ≡ number_in range (remaining old)
+  pub told : input.call.known ≡ through_range range (remaining old)
+  pub number : input.number.known ≡ number_in range (remaining old)
   pub old_count : input.call.old_count ≡ failure_count old
   pub new_count : input.call.new_count ≡ failure_count new
   pub left_is : range ≡ None → input.call.left ≡ left new

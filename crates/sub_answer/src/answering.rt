@@ -9,9 +9,8 @@ mod listen;
 mod survey;
 
 ghost use Rattle.std.specs.Prelude.{◌≡◌, ◌+◌, ◌<◌, false, true};
-ghost use Rattle.sub_answer.specs.Answering.{Answers, HandsOnBefore, WritesBefore, fails};
-ghost use Rattle.sub_answer.specs.Answering.{first_input, pieces_call, reads_pieces, takes_memory};
-ghost use Rattle.sub_answer.specs.Answering.{whole_call};
+ghost use Rattle.sub_answer.specs.Answering.{Answers, AnswersOver, HandsOnBefore, WritesBefore};
+ghost use Rattle.sub_answer.specs.Answering.{pieces_call, reads_pieces, takes_memory, whole_call};
 ghost use Rattle.sub_listing.specs.DeviceCall.{CanFail, CountsFault, sink_call};
 ghost use Rattle.sub_listing.specs.Faults.{usage_line};
 ghost use Rattle.sub_request.specs.Files.{files_of, reads_one, reads_two, writes_one};
@@ -36,8 +35,8 @@ use ttx_pes::{FilePieces, NumberedPieces};
 ///
 /// `first` is the subtitle file or the only input, `second` the PES file of a check, `file` the
 /// file to be written and `out` the standard output. Of PES packets the source gives those of a
-/// file, all of them. Devices that the request does not name are not touched. `Fault` where a device failed, or where memory ran out; what was printed until then
-/// stays.
+/// file, all of them. Devices that the request does not name are not touched. `Fault` where a
+/// device failed, or where memory ran out; what was printed until then stays.
 pub fn answer<S: Source, T: Source, F: Flush, K: Flush>(
     alloc: Global,
     request: &Request<'_>,
@@ -105,12 +104,12 @@ pub fn answer<S: Source, T: Source, F: Flush, K: Flush>(
     answer_over(alloc, request, first, &mut pieces, file, out)
 }
 
-/// Whether the first input of a request gives pieces: PES packets are listed or heard.
+/// Whether the first input of a request gives pieces: PES packets are listed, heard or written.
 pub fn reads_pieces(request: &Request<'_>) -> bool
     ensures { result ≡ reads_pieces request.now }
 {
     match request {
-        Request::Packets { .. } | Request::Listen { .. } => true,
+        Request::Packets { .. } | Request::Listen { .. } | Request::Extract { .. } => true,
         _ => false,
     }
 }
@@ -118,8 +117,9 @@ pub fn reads_pieces(request: &Request<'_>) -> bool
 /// Answers a request that `Request::parse` gave, as `answer` does, over those PES packets that the
 /// request reads: of a file or of a recording, all of them or some.
 ///
-/// `first` is the subtitle file, or what is reported on or written of a recording, and `pes` gives
-/// the PES packets that are listed, heard or checked. Devices that the request does not name are not touched. `Fault` where a device failed, or where memory ran out; what was printed until then
+/// `first` is the subtitle file, or the recording that is reported on, and `pes` gives the PES
+/// packets that are listed, heard, checked or written. Devices that the request does not name are
+/// not touched. `Fault` where a device failed, or where memory ran out; what was printed until then
 /// stays.
 pub fn answer_over<S: Source, P: NumberedPieces, F: Flush, K: Flush>(
     alloc: Global,
@@ -134,15 +134,16 @@ pub fn answer_over<S: Source, P: NumberedPieces, F: Flush, K: Flush>(
     requires file { CanFail (F.failure_count file.old) }
     requires out { CanFail (K.failure_count out.old) }
 
-    // What is printed and written of what the devices tell, command by command.
-    ensures answers { Answers request.now
-        (first_input request.now
+    // What is printed and written of what the devices tell, command by command; and that it is
+    // handed on before a source may have to ask its device for more.
+    ensures answers { AnswersOver request.now
         (whole_call S.remaining S.failure_count first.old first.new)
-        (pieces_call P.remaining P.left P.failure_count P.first P.passed pes.old pes.new))
         (pieces_call P.remaining P.left P.failure_count P.first P.passed pes.old pes.new)
         (pes.new ≡ pes.old)
         (sink_call F.contents F.failure_count file.old file.new)
-        (sink_call K.contents K.failure_count out.old out.new) result }
+        (sink_call K.contents K.failure_count out.old out.new)
+        (F.held file.old ≡ 0 → F.held file.new ≡ 0)
+        (K.held out.old ≡ 0 → HoldsLastLine K.contents K.held K.is_push out.new) result }
 
     // Devices that are not named stay as they are.
     ensures first { reads_pieces request.now ≡ true → first.new ≡ first.old }
@@ -162,24 +163,6 @@ pub fn answer_over<S: Source, P: NumberedPieces, F: Flush, K: Flush>(
     ensures held { writes_one (files_of request.now) ≡ true
         → result ≡ Status.Done
         → F.held file.new ≡ 0 }
-
-    // Where the source of the PES file or recording may have to ask its device, all that was told
-    // before is with the device of `out`: each such call may fail, and where one did the line of
-    // its failure alone may be held back.
-    ensures followed { K.held out.old ≡ 0 → HandsOnBefore request.now
-        (fails (first_input request.now
-        (whole_call S.remaining S.failure_count first.old first.new)
-        (pieces_call P.remaining P.left P.failure_count P.first P.passed pes.old pes.new)))
-        (P.failure_count pes.old < P.failure_count pes.new)
-        (HoldsLastLine K.contents K.held K.is_push out.new) }
-
-    // Where the source of a recording may have to ask its device, all that was written before is
-    // with the device of `file`.
-    ensures written { F.held file.old ≡ 0 → WritesBefore request.now
-        (fails (first_input request.now
-        (whole_call S.remaining S.failure_count first.old first.new)
-        (pieces_call P.remaining P.left P.failure_count P.first P.passed pes.old pes.new)))
-        (F.held file.new ≡ 0) }
 
     // The status of a command that takes no memory is `Fault` only where a device failed.
     ensures fault { takes_memory request.now ≡ false
@@ -222,7 +205,7 @@ pub fn answer_over<S: Source, P: NumberedPieces, F: Flush, K: Flush>(
             }
         }
         Request::Listen { listening, .. } => print_listening(pes, listening, out),
-        Request::Extract { .. } => extract_packets(first, file, out),
+        Request::Extract { .. } => extract_packets(pes, file, out),
         Request::Survey { options, .. } => print_survey(alloc, *options, first, out),
     }
 }

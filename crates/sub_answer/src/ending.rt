@@ -6,7 +6,8 @@ ghost use Rattle.std.specs.Prelude.{◌≡◌, ⊤, false, true, []};
 ghost use Rattle.sub_io.specs.Buffered.{HandsOn, failures_and_refused};
 ghost use Rattle.sub_io.specs.Device.{CanFail};
 ghost use Rattle.sub_answer.specs.Answering.{first_input, pieces_call, reads_pieces, whole_call};
-ghost use Rattle.sub_answer.specs.Ending.{EndsWith, HandsOnBeside, HoldsNothing, IsClosedAfter};
+ghost use Rattle.sub_answer.specs.Ending.{BufferHoldsLineAlone, EndsWith, HandsOnBeside};
+ghost use Rattle.sub_answer.specs.Ending.{HoldsLineAlone, HoldsNothing, IsClosedAfter};
 ghost use Rattle.sub_answer.specs.Ending.{IsEmptyFile, IsEmptySource, Says, lines_in, lines_of};
 
 use crate::answering::{answer_over, say};
@@ -25,6 +26,7 @@ pub fn answer_alone<K: Sink>(
 ) -> Status
     requires { failures_and_refused (K.failure_count out.old.device) out.old.refused ≡ 0 }
     ensures { EndsWith request.now IsEmptySource IsEmptySource ⊤ IsEmptyFile
+        (BufferHoldsLineAlone K.contents K.failure_count K.is_push)
         (lines_of K.contents K.failure_count out.old)
         (lines_of K.contents K.failure_count out.new) result }
 {
@@ -51,6 +53,7 @@ pub fn answer_pair<S: Source, P: NumberedPieces, K: Sink>(
         (λ input. input
         ≡ pieces_call P.remaining P.left P.failure_count P.first P.passed pes.old pes.new)
         (pes.new ≡ pes.old) IsEmptyFile
+        (BufferHoldsLineAlone K.contents K.failure_count K.is_push)
         (lines_of K.contents K.failure_count out.old)
         (lines_of K.contents K.failure_count out.new) result }
     ensures device { P.device pes.new ≡ P.device pes.old }
@@ -79,6 +82,7 @@ pub fn answer_source<S: Source, F: Close, O: HandOn<F>>(
         (λ input. input ≡ whole_call S.remaining S.failure_count first.old first.new)
         IsEmptySource ⊤
         (IsClosedAfter F.contents F.failure_count F.is_close request.now file.old file.new)
+        (HoldsLineAlone O.contents O.held_back O.failure_count O.is_push)
         (lines_in O.contents O.held_back O.failure_count out.old)
         (lines_in O.contents O.held_back O.failure_count out.new) result }
     ensures done { result ≡ Status.Done → HandsOn F.failure_count file.old file.new
@@ -109,6 +113,7 @@ pub fn answer_pieces<P: NumberedPieces, F: Close, O: HandOn<F>>(
         ≡ pieces_call P.remaining P.left P.failure_count P.first P.passed pes.old pes.new)
         IsEmptySource ⊤
         (IsClosedAfter F.contents F.failure_count F.is_close request.now file.old file.new)
+        (HoldsLineAlone O.contents O.held_back O.failure_count O.is_push)
         (lines_in O.contents O.held_back O.failure_count out.old)
         (lines_in O.contents O.held_back O.failure_count out.new) result }
     ensures device { P.device pes.new ≡ P.device pes.old }
@@ -145,6 +150,7 @@ fn answer_and_hand_on<S: Source, P: NumberedPieces, F: Close, O: HandOn<F>>(
         ≡ pieces_call P.remaining P.left P.failure_count P.first P.passed pes.old pes.new)
         (pes.new ≡ pes.old)
         (IsClosedAfter F.contents F.failure_count F.is_close request.now file.old file.new)
+        (HoldsLineAlone O.contents O.held_back O.failure_count O.is_push)
         (lines_in O.contents O.held_back O.failure_count out.old)
         (lines_in O.contents O.held_back O.failure_count out.new) result }
     ensures device { P.device pes.new ≡ P.device pes.old }

@@ -1,9 +1,10 @@
 //! Hands on the lines that are held back, once the file of a run is closed.
 ghost use Rattle.std.specs.Prelude.{◌≡◌, ℕ, List, true};
+ghost use Rattle.std.proofs.Common.{refl};
 ghost use Rattle.sub_io.specs.Buffered.{HeldBack, failures_and_refused};
 ghost use Rattle.sub_io.specs.Device.{CanFail};
 ghost use Rattle.sub_listing.specs.declared.status.Status.{Status};
-ghost use Rattle.sub_answer.specs.Ending.{HandsOnHeldLines, lines_in, lines_of};
+ghost use Rattle.sub_answer.specs.Ending.{CountsHeld, HandsOnHeldLines, lines_in, lines_of};
 
 use sub_io::{BufferedSink, Close, Flush, Sink};
 use sub_listing::Status;
@@ -29,10 +30,15 @@ pub trait HandOn<F: Close>: Flush {
         ensures lines { HandsOnHeldLines
             (lines_in Self.contents held_back Self.failure_count self.old) status
             (lines_in Self.contents held_back Self.failure_count self.new) result };
+
+    // As many bytes are held back as a sink says of itself.
+    ghost held_is: { CountsHeld Self.held held_back };
 }
 
 impl<F: Close, K: Sink> HandOn<F> for BufferedSink<'_, K> {
     ghost held_back = { λ k. k.held };
+
+    ghost held_is = { λ k. refl };
 
     ghost is_handed_on = { λ old file status new result.
         F.is_closed file.device ≡ true };

@@ -6,14 +6,14 @@ ghost use Rattle.sub_request.specs.Files.{files_of};
 ghost use Rattle.sub_files.specs.FileCalls.{CallsInTurn};
 ghost use Rattle.sub_files.specs.Opening.{AreUnused, IsUnopened};
 ghost use Rattle.sub_answer.specs.Answering.{reads_pieces};
-ghost use Rattle.sub_answer.specs.Ending.{Ends, Fits, EndsAndLetsGo, EndsWith, IsEmptyFile};
-ghost use Rattle.sub_answer.specs.Ending.{IsEmptySource, devices_of, lines_of, source_and_file};
-ghost use Rattle.sub_answer.specs.Ending.{sources, told_of_files};
+ghost use Rattle.sub_answer.specs.Ending.{BufferHoldsLineAlone, Ends, EndsAndLetsGo, EndsWith};
+ghost use Rattle.sub_answer.specs.Ending.{Fits, IsEmptyFile, IsEmptySource, devices_of};
+ghost use Rattle.sub_answer.specs.Ending.{known_of_files, lines_of, source_and_file, sources};
 ghost use Rattle.sub_answer.specs.Part as specs;
 
 use crate::ending::{answer_alone, answer_source};
 use crate::part::{Part, part_asked, whole_file};
-use crate::parts::{answer_part, answer_recording, answer_second_part};
+use crate::parts::{answer_part, answer_second_part};
 use std::alloc::Global;
 use sub_files::{CreatedFile, FileSystem, Opened, PesFile, StlFile, open, room, size_of_rooms};
 use sub_io::{BufferedSink, BufferedSource, MemSink, Sink};
@@ -36,9 +36,10 @@ pub fn open_and_answer<D: FileSystem, K: Sink>(
 ) -> Result<Status, UsageFault>
     requires { failures_and_refused (K.failure_count out.old.device) out.old.refused ≡ 0 }
     ensures ends { IfOk result (Ends (CallsInTurn D.is_call files.old files.new)
-        (told_of_files D.Input.remaining D.Input.failure_count
+        (known_of_files D.Input.remaining D.Input.failure_count
         D.Output.contents D.Output.failure_count)
         D.Output.is_close request.now
+        (BufferHoldsLineAlone K.contents K.failure_count K.is_push)
         (lines_of K.contents K.failure_count out.old)
         (lines_of K.contents K.failure_count out.new)) }
     ensures unanswered { IfErr result (λ _. out.new ≡ out.old) }
@@ -73,9 +74,10 @@ fn answer_opened<D: FileSystem, K: Sink>(
     requires unused { AreUnused D.Input.failure_count D.Output.failure_count opened }
     requires fits { Fits (files_of request.now) opened }
     ensures { EndsAndLetsGo (CallsInTurn D.is_call files.old files.new)
-        (told_of_files D.Input.remaining D.Input.failure_count
+        (known_of_files D.Input.remaining D.Input.failure_count
         D.Output.contents D.Output.failure_count)
         D.Output.is_close request.now (devices_of (specs.part_asked request.now) opened)
+        (BufferHoldsLineAlone K.contents K.failure_count K.is_push)
         (lines_of K.contents K.failure_count out.old)
         (lines_of K.contents K.failure_count out.new) result }
 {
@@ -107,6 +109,7 @@ fn read_nothing<K: Sink>(
 ) -> Status
     requires { failures_and_refused (K.failure_count out.old.device) out.old.refused ≡ 0 }
     ensures { EndsWith request.now IsEmptySource IsEmptySource ⊤ IsEmptyFile
+        (BufferHoldsLineAlone K.contents K.failure_count K.is_push)
         (lines_of K.contents K.failure_count out.old)
         (lines_of K.contents K.failure_count out.new) result }
 {
@@ -128,9 +131,10 @@ fn read_one<D: FileSystem, K: Sink>(
     requires out { failures_and_refused (K.failure_count out.old.device) out.old.refused ≡ 0 }
     requires unused { D.Input.failure_count file ≡ 0 }
     ensures { EndsAndLetsGo (CallsInTurn D.is_call files.old files.new)
-        (told_of_files D.Input.remaining D.Input.failure_count
+        (known_of_files D.Input.remaining D.Input.failure_count
         D.Output.contents D.Output.failure_count)
         D.Output.is_close request.now (sources part (Some file) None)
+        (BufferHoldsLineAlone K.contents K.failure_count K.is_push)
         (lines_of K.contents K.failure_count out.old)
         (lines_of K.contents K.failure_count out.new) result }
 {
@@ -157,9 +161,10 @@ fn read_both<D: FileSystem, K: Sink>(
     requires out { failures_and_refused (K.failure_count out.old.device) out.old.refused ≡ 0 }
     requires unused { (D.Input.failure_count stl ≡ 0) × (D.Input.failure_count pes ≡ 0) }
     ensures { EndsAndLetsGo (CallsInTurn D.is_call files.old files.new)
-        (told_of_files D.Input.remaining D.Input.failure_count
+        (known_of_files D.Input.remaining D.Input.failure_count
         D.Output.contents D.Output.failure_count)
         D.Output.is_close request.now (sources specs.whole_file (Some stl) (Some pes))
+        (BufferHoldsLineAlone K.contents K.failure_count K.is_push)
         (lines_of K.contents K.failure_count out.old)
         (lines_of K.contents K.failure_count out.new) result }
 {
@@ -195,9 +200,10 @@ fn read_and_write<D: FileSystem, K: Sink>(
     requires out { failures_and_refused (K.failure_count out.old.device) out.old.refused ≡ 0 }
     requires unused { (D.Input.failure_count stl ≡ 0) × (D.Output.failure_count output ≡ 0) }
     ensures { EndsAndLetsGo (CallsInTurn D.is_call files.old files.new)
-        (told_of_files D.Input.remaining D.Input.failure_count
+        (known_of_files D.Input.remaining D.Input.failure_count
         D.Output.contents D.Output.failure_count)
         D.Output.is_close request.now (source_and_file specs.whole_file stl output)
+        (BufferHoldsLineAlone K.contents K.failure_count K.is_push)
         (lines_of K.contents K.failure_count out.old)
         (lines_of K.contents K.failure_count out.new) result }
 {
@@ -221,16 +227,16 @@ fn read_and_extract<D: FileSystem, K: Sink>(
     rooms: &mut [u8],
     out: &mut BufferedSink<'_, K>,
 ) -> Status
-    requires reads { reads_pieces request.now ≡ false }
-    requires all { (specs.part_asked request.now).range ≡ None }
+    requires reads { reads_pieces request.now ≡ true }
     requires rooms { 2 ≤ length rooms.old }
     requires out { failures_and_refused (K.failure_count out.old.device) out.old.refused ≡ 0 }
     requires unused { (D.Input.failure_count recording ≡ 0) × (D.Output.failure_count output ≡ 0) }
     ensures { EndsAndLetsGo (CallsInTurn D.is_call files.old files.new)
-        (told_of_files D.Input.remaining D.Input.failure_count
+        (known_of_files D.Input.remaining D.Input.failure_count
         D.Output.contents D.Output.failure_count)
         D.Output.is_close request.now
         (source_and_file (specs.part_asked request.now) recording output)
+        (BufferHoldsLineAlone K.contents K.failure_count K.is_push)
         (lines_of K.contents K.failure_count out.old)
         (lines_of K.contents K.failure_count out.new) result }
 {
@@ -239,7 +245,7 @@ fn read_and_extract<D: FileSystem, K: Sink>(
     let first = BufferedSource::new(recording.into_file(), room);
     let mut file = BufferedSink::new(output.into_file(), other);
     let part = part_asked(request);
-    let (status, first) = answer_recording(alloc, request, part, first, &mut file, out);
+    let (status, first) = answer_part(alloc, request, part, first, &mut file, out);
     files.let_go_input(first.into_inner());
     files.let_go_output(file.into_inner());
     status

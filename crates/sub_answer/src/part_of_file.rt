@@ -4,13 +4,15 @@ ghost use Rattle.std.specs.Prelude.{is_ok, true};
 ghost use Rattle.std.specs.Io.KnownBytes.{Keeps};
 ghost use Rattle.sub_io.specs.Device.{CanFail, CountsFailure};
 ghost use Rattle.ttx_pes.specs.Advancing.{Advances, held_then, is_over, lends_piece};
-ghost use Rattle.ttx_pes.specs.Advancing.{limited_behind, limited_told};
+ghost use Rattle.ttx_pes.specs.Advancing.{limited_behind, limited_known, limited_rest, tells_rest};
 ghost use Rattle.ttx_pes.specs.Advancing as specs;
-ghost use Rattle.ttx_pes.specs.PartOfPieces.{part_left, part_number, part_ready, part_told};
-ghost use Rattle.ttx_pes.specs.PieceRange.{AheadValue};
+ghost use Rattle.ttx_pes.specs.PartOfPieces.{part_known, part_left, part_ready, part_rest};
+ghost use Rattle.sub_answer.specs.Part.{number_behind};
 
 use sub_io::{Failed, Source};
-use ttx_pes::{Came, FailedAt, FilePieces, NumberedPieces, Pieces, TakePiece, pass_pieces};
+use ttx_pes::{
+    Came, FailedAt, FilePieces, NumberedPieces, Pieces, REST_ROOM, TakePiece, pass_pieces,
+};
 
 /// Gives the pieces of a range of a PES file, as `PartOfPieces` does of any that give pieces: so
 /// that it is known which source is read.
@@ -31,27 +33,32 @@ impl<'a, S: Source> PartOfFile<'a, S> {
     fn pass_others(&mut self) -> Result<u64, FailedAt>
         requires failures { CanFail (S.failure_count self.old.pieces.source.now) }
         ensures kept { Keeps
-            (part_told self.old.to_pass self.old.left
+            (part_known self.old.to_pass self.old.left
             (held_then self.old.pieces.begun (S.remaining self.old.pieces.source.now)))
-            (part_told self.new.to_pass self.new.left
+            (part_known self.new.to_pass self.new.left
             (held_then self.new.pieces.begun (S.remaining self.new.pieces.source.now))) }
         ensures first { (n : ℕ)
-            → part_number (let ahead : AheadValue = record { passed = self.old.passed; to_pass = self.old.to_pass } in ahead) (held_then self.old.pieces.begun (S.remaining self.old.pieces.source.now)) ≡ Some n
+            → number_behind self.old.passed self.old.to_pass self.old.pieces.begun
+            (S.remaining self.old.pieces.source.now) ≡ Some n
             → IfOk result (λ found. found ≡ n) }
         ensures before { (n : ℕ)
-            → part_number (let ahead : AheadValue = record { passed = self.old.passed; to_pass = self.old.to_pass } in ahead) (held_then self.old.pieces.begun (S.remaining self.old.pieces.source.now)) ≡ Some n
+            → number_behind self.old.passed self.old.to_pass self.old.pieces.begun
+            (S.remaining self.old.pieces.source.now) ≡ Some n
             → IfErr result (λ at. at.pes ≤ n) }
         ensures failed { IfErr result (λ at. at.pes ≡ self.new.passed) }
         ensures left { (n : ℕ)
-            → part_number (let ahead : AheadValue = record { passed = self.old.passed; to_pass = self.old.to_pass } in ahead) (held_then self.old.pieces.begun (S.remaining self.old.pieces.source.now)) ≡ Some n
+            → number_behind self.old.passed self.old.to_pass self.old.pieces.begun
+            (S.remaining self.old.pieces.source.now) ≡ Some n
             → IfErr result (λ _.
-            part_number (let ahead : AheadValue = record { passed = self.new.passed; to_pass = self.new.to_pass } in ahead) (held_then self.new.pieces.begun (S.remaining self.new.pieces.source.now)) ≡ Some n) }
+            number_behind self.new.passed self.new.to_pass self.new.pieces.begun
+            (S.remaining self.new.pieces.source.now) ≡ Some n) }
         ensures found { OnOk result (self.new.to_pass ≡ 0) }
         ensures unread { OnErr result (Keeps
-            (part_told self.old.to_pass self.old.left
+            (part_known self.old.to_pass self.old.left
             (held_then self.old.pieces.begun (S.remaining self.old.pieces.source.now)))
             (part_left self.new.to_pass self.new.left
-            (held_then self.new.pieces.begun (S.remaining self.new.pieces.source.now)) (S.remaining self.new.pieces.source.now))) }
+            (held_then self.new.pieces.begun (S.remaining self.new.pieces.source.now))
+            (S.remaining self.new.pieces.source.now))) }
         ensures none { self.old.to_pass ≡ 0
             → (self.new ≡ self.old) × (result ≡ Ok self.old.passed) }
         ensures same { self.new.pieces.source.ghost_name ≡ self.old.pieces.source.ghost_name }
@@ -78,14 +85,15 @@ impl<'a, S: Source> PartOfFile<'a, S> {
     fn next_left<T: TakePiece>(&mut self, taker: &mut T) -> Result<Came<T::Answer>, Failed>
         requires failures { CanFail (S.failure_count self.old.pieces.source.now) }
         ensures came { Advances
-            (limited_told self.old.left
+            (limited_known self.old.left
             (held_then self.old.pieces.begun (S.remaining self.old.pieces.source.now)))
-            (limited_told self.new.left
+            (limited_known self.new.left
             (held_then self.new.pieces.begun (S.remaining self.new.pieces.source.now)))
             (limited_behind self.new.left
             (held_then self.new.pieces.begun (S.remaining self.new.pieces.source.now))
             (S.remaining self.new.pieces.source.now))
             T.is_take taker.old taker.new result }
+        ensures rest { tells_rest result ≡ true → limited_rest self.new.left true ≡ true }
         ensures ready { lends_piece self.old.pieces.begun (S.lent self.old.pieces.source.now)
             ≡ true → is_ok result ≡ true }
         ensures ahead { (self.new.to_pass ≡ self.old.to_pass)
@@ -129,7 +137,7 @@ fn left_after<A>(left: Option<u64>, came: &Came<A>) -> Option<u64>
 }
 
 impl<S: Source> Pieces for PartOfFile<'_, S> {
-    ghost remaining = { λ p. part_told p.to_pass p.left
+    ghost remaining = { λ p. part_known p.to_pass p.left
         (held_then p.pieces.begun (S.remaining p.pieces.source.now)) };
 
     ghost left = { λ p. part_left p.to_pass p.left
@@ -137,6 +145,8 @@ impl<S: Source> Pieces for PartOfFile<'_, S> {
         (S.remaining p.pieces.source.now) };
 
     ghost failure_count = { λ p. S.failure_count p.pieces.source.now };
+
+    ghost is_rest = { λ p. part_rest p.to_pass p.left true };
 
     ghost ready = { λ p. part_ready p.to_pass
         (lends_piece p.pieces.begun (S.lent p.pieces.source.now)) };
@@ -151,15 +161,18 @@ impl<S: Source> Pieces for PartOfFile<'_, S> {
         self.next_left(taker)
     }
 
+    fn read_rest(&mut self, room: &mut [u8; REST_ROOM]) -> Result<usize, Failed> {
+        self.pieces.read_rest(room)
+    }
+
     fn is_ready(&self) -> bool {
         self.to_pass == 0 && self.pieces.is_ready()
     }
 }
 
 impl<S: Source> NumberedPieces for PartOfFile<'_, S> {
-    ghost first = { λ p. part_number
-        (let ahead : AheadValue = record { passed = p.passed; to_pass = p.to_pass } in ahead)
-        (held_then p.pieces.begun (S.remaining p.pieces.source.now)) };
+    ghost first = { λ p.
+        number_behind p.passed p.to_pass p.pieces.begun (S.remaining p.pieces.source.now) };
 
     ghost passed = { λ p. p.passed };
 

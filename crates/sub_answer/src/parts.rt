@@ -4,8 +4,9 @@ ghost use Rattle.std.specs.Prelude.{◌≡◌, ◌⊎◌, ⊤, None, Some, [], f
 ghost use Rattle.sub_io.specs.Buffered.{HandsOn, failures_and_refused};
 ghost use Rattle.sub_io.specs.Device.{CanFail};
 ghost use Rattle.sub_answer.specs.Answering.{reads_pieces, whole_call};
-ghost use Rattle.sub_answer.specs.Ending.{EndsWith, IsClosedAfter, IsEmptyFile, IsEmptySource};
-ghost use Rattle.sub_answer.specs.Ending.{lines_in, lines_of};
+ghost use Rattle.sub_answer.specs.Ending.{BufferHoldsLineAlone, EndsWith, HoldsLineAlone};
+ghost use Rattle.sub_answer.specs.Ending.{IsClosedAfter, IsEmptyFile, IsEmptySource, lines_in};
+ghost use Rattle.sub_answer.specs.Ending.{lines_of};
 ghost use Rattle.sub_answer.specs.Part.{IsPartOf, IsRangeOf, whole_file};
 
 use crate::answering::reads_pieces;
@@ -13,7 +14,7 @@ use crate::ending::{answer_pair, answer_pieces, answer_source};
 use crate::handing_on::HandOn;
 use crate::part::Part;
 use crate::part_of_file::PartOfFile;
-use mpeg_ts::{PesSource, RecordingPieces};
+use mpeg_ts::RecordingPieces;
 use std::alloc::Global;
 use sub_io::{BufferedSink, Close, Sink, Source};
 use sub_listing::Status;
@@ -38,6 +39,7 @@ pub fn answer_part<S: Source + Drop, F: Close, O: HandOn<F>>(
     ensures ends { EndsWith request.now (IsPartOf part S.remaining S.failure_count whole result.1)
         IsEmptySource ⊤
         (IsClosedAfter F.contents F.failure_count F.is_close request.now file.old file.new)
+        (HoldsLineAlone O.contents O.held_back O.failure_count O.is_push)
         (lines_in O.contents O.held_back O.failure_count out.old)
         (lines_in O.contents O.held_back O.failure_count out.new) result.0 }
     ensures done { result.0 ≡ Status.Done → HandsOn F.failure_count file.old file.new }
@@ -61,44 +63,6 @@ pub fn answer_part<S: Source + Drop, F: Close, O: HandOn<F>>(
     }
 }
 
-/// Answers a request that reads a source and no PES packets one by one, of a file or of all that the
-/// packets of a PID carry, and may write a file; gives the source back as that left it.
-pub fn answer_recording<S: Source + Drop, F: Close, O: HandOn<F>>(
-    alloc: Global,
-    request: &Request<'_>,
-    part: Part,
-    whole: S,
-    file: &mut BufferedSink<'_, F>,
-    out: &mut O,
-) -> (Status, S)
-    requires reads { reads_pieces request.now ≡ false }
-    requires all { part.range ≡ None }
-    requires first { CanFail (S.failure_count whole) }
-    requires file { (failures_and_refused (F.failure_count file.old.device) file.old.refused ≡ 0)
-        × (file.old.held ≡ []) }
-    requires out { O.failure_count out.old ≡ 0 }
-    ensures ends { EndsWith request.now (IsPartOf part S.remaining S.failure_count whole result.1)
-        IsEmptySource ⊤
-        (IsClosedAfter F.contents F.failure_count F.is_close request.now file.old file.new)
-        (lines_in O.contents O.held_back O.failure_count out.old)
-        (lines_in O.contents O.held_back O.failure_count out.new) result.0 }
-    ensures done { result.0 ≡ Status.Done → HandsOn F.failure_count file.old file.new }
-{
-    let Part { stream, range: _ } = part;
-    let mut whole = whole;
-    match stream {
-        None => {
-            let status = answer_source(alloc, request, &mut whole, file, out);
-            (status, whole)
-        }
-        Some(stream) => {
-            let mut first = PesSource::new(whole, stream.pid, stream.packet_size);
-            let status = answer_source(alloc, request, &mut first, file, out);
-            (status, first.into_inner())
-        }
-    }
-}
-
 // Answers a request that reads PES packets of a range, or all, of a file.
 fn answer_file<S: Source, F: Close, O: HandOn<F>>(
     alloc: Global,
@@ -117,6 +81,7 @@ fn answer_file<S: Source, F: Close, O: HandOn<F>>(
         (IsRangeOf range S.remaining S.remaining S.failure_count whole.old whole.new)
         IsEmptySource ⊤
         (IsClosedAfter F.contents F.failure_count F.is_close request.now file.old file.new)
+        (HoldsLineAlone O.contents O.held_back O.failure_count O.is_push)
         (lines_in O.contents O.held_back O.failure_count out.old)
         (lines_in O.contents O.held_back O.failure_count out.new) result }
     ensures done { result ≡ Status.Done → HandsOn F.failure_count file.old file.new }
@@ -157,6 +122,7 @@ fn answer_range<P: NumberedPieces + Drop, F: Close, O: HandOn<F>>(
         (IsRangeOf range P.remaining P.left P.failure_count pieces result.1)
         IsEmptySource ⊤
         (IsClosedAfter F.contents F.failure_count F.is_close request.now file.old file.new)
+        (HoldsLineAlone O.contents O.held_back O.failure_count O.is_push)
         (lines_in O.contents O.held_back O.failure_count out.old)
         (lines_in O.contents O.held_back O.failure_count out.new) result.0 }
     ensures device { P.device result.1 ≡ P.device pieces }
@@ -193,6 +159,7 @@ pub fn answer_second_part<S: Source, T: Source + Drop, K: Sink>(
     ensures { EndsWith request.now
         (λ input. input ≡ whole_call S.remaining S.failure_count first.old first.new)
         (IsPartOf part T.remaining T.failure_count whole result.1) (result.1 ≡ whole) IsEmptyFile
+        (BufferHoldsLineAlone K.contents K.failure_count K.is_push)
         (lines_of K.contents K.failure_count out.old)
         (lines_of K.contents K.failure_count out.new) result.0 }
 {
@@ -228,6 +195,7 @@ fn answer_second_file<S: Source, T: Source, K: Sink>(
         (λ input. input ≡ whole_call S.remaining S.failure_count first.old first.new)
         (IsRangeOf range T.remaining T.remaining T.failure_count whole.old whole.new)
         (whole.new ≡ whole.old) IsEmptyFile
+        (BufferHoldsLineAlone K.contents K.failure_count K.is_push)
         (lines_of K.contents K.failure_count out.old)
         (lines_of K.contents K.failure_count out.new) result }
 {
@@ -267,6 +235,7 @@ fn answer_second_range<S: Source, P: NumberedPieces + Drop, K: Sink>(
         (λ input. input ≡ whole_call S.remaining S.failure_count first.old first.new)
         (IsRangeOf range P.remaining P.left P.failure_count pieces result.1)
         (result.1 ≡ pieces) IsEmptyFile
+        (BufferHoldsLineAlone K.contents K.failure_count K.is_push)
         (lines_of K.contents K.failure_count out.old)
         (lines_of K.contents K.failure_count out.new) result.0 }
     ensures device { P.device result.1 ≡ P.device pieces }

@@ -5,7 +5,7 @@ use Rattle.sub_rules.specs.Fault.{is_failure}
 use Rattle.sub_rules.specs.declared.fault.CheckFault.{CheckFault}
 use Rattle.sub_laws.proofs.DelayOfFilesLemmas.{carries_longer}
 use Rattle.sub_laws.proofs.RepeatLemmas.{law_of_longer_repeats}
-use Rattle.sub_checker.specs.declared.telling.Accepted.{Accepted}
+use Rattle.sub_checker.specs.declared.accepted.Accepted.{Accepted}
 use Rattle.sub_check.specs.AcceptedWithin.{LawOfAcceptedWithinMore}
 
 -- What is accepted is no failure. Also for AcceptedKeepingLemmas.

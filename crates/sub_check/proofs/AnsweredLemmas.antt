@@ -12,13 +12,13 @@ use Rattle.sub_plan.specs.FrameTime.{clock_of}
 use Rattle.sub_plan.specs.Options.{OptionsValue, IsOptions}
 use Rattle.sub_rules.specs.Events.{first_told}
 use Rattle.sub_rules.specs.Fault.{is_pes_read}
-use Rattle.sub_rules.specs.FrameRules.{Unread, task_beside, task_of}
+use Rattle.sub_rules.specs.FrameRules.{Unread, criteria_of, criteria_of_judged}
 use Rattle.sub_rules.specs.Pieces.{Piece, ReadsPieces}
 use Rattle.sub_rules.specs.Pieces.{piece_file_of}
 use Rattle.sub_rules.specs.declared.event.Event.{Event}
 use Rattle.sub_rules.specs.declared.fault.CheckFault.{CheckFault}
-use Rattle.sub_checker.specs.PieceTelling.{TellsPieces}
-use Rattle.sub_checker.specs.declared.telling.Accepted.{Accepted}
+use Rattle.sub_checker.specs.PesFileEvents.{TellsPieces}
+use Rattle.sub_checker.specs.declared.accepted.Accepted.{Accepted}
 use Rattle.sub_check.specs.CheckedFiles.{IsChecked, IsCheckedBy, TellsEvents, all_events_of}
 use Rattle.sub_check.specs.CheckedFiles.{answer_by, first_answer}
 use Rattle.sub_check.specs.FirstTold.{IsRuleFault}
@@ -93,7 +93,8 @@ pub checked_first :
     → IsProgramme programme.drawing programme.records
     → ((pieces : List Piece) (unread : Option Unread)
     → ReadsPieces (clock_of options) 0 bytes pieces unread
-    → TellsPieces (task_of programme options unread) (clock_of options) bytes pieces IsTold old new
+    → TellsPieces (criteria_of programme options unread) (clock_of options) bytes pieces IsTold old
+    new
     r)
     → IfOk r (λ counts. IfSome counts (λ a. IsAnswered programme options bytes
     (first_answer (all_events_of programme options bytes) a)))
@@ -133,7 +134,8 @@ pub tells_events :
     (r : Result (Option Accepted) CheckFault)
     → ((pieces : List Piece) (unread : Option Unread)
     → ReadsPieces (clock_of options) 0 bytes pieces unread
-    → TellsPieces (task_beside judged options unread) (clock_of options) bytes pieces IsTold old new
+    → TellsPieces (criteria_of_judged judged options unread) (clock_of options) bytes pieces IsTold
+    old new
     r)
     → TellsEvents judged options bytes IsTold old new r
 tells_events judged options bytes IsTold old new (Ok (Some a)) told =
@@ -153,14 +155,17 @@ pub tells_known :
     → judged ≡ known programme
     → ((pieces : List Piece) (unread : Option Unread)
     → ReadsPieces (clock_of options) 0 bytes pieces unread
-    → TellsPieces (task_beside judged options unread) (clock_of options) bytes pieces IsTold old new
+    → TellsPieces (criteria_of_judged judged options unread) (clock_of options) bytes pieces IsTold
+    old new
     r)
     → (pieces : List Piece) (unread : Option Unread)
     → ReadsPieces (clock_of options) 0 bytes pieces unread
-    → TellsPieces (task_of programme options unread) (clock_of options) bytes pieces IsTold old new
+    → TellsPieces (criteria_of programme options unread) (clock_of options) bytes pieces IsTold old
+    new
     r
 tells_known judged programme options bytes IsTold old new r is told pieces unread reads =
-    subst (λ (j : JudgedValue). TellsPieces (task_beside j options unread) (clock_of options) bytes
+    subst (λ (j : JudgedValue). TellsPieces (criteria_of_judged j options unread) (clock_of options)
+    bytes
     pieces IsTold old new r) is (told pieces unread reads)
 
 -- Such a programme is one that `check` takes.

@@ -8,7 +8,7 @@ use Rattle.std.proofs.lemmas.List.{length-replicate}
 use Rattle.std.proofs.lemmas.Bool.{true≢false}
 use Rattle.std.specs.List.{AllByRecursion}
 use Rattle.sub_io.specs.Device.{failed}
-use Rattle.sub_io.specs.Reading.{IfTold}
+use Rattle.sub_io.specs.Reading.{IfKnown}
 use Rattle.stl_rows.specs.Programme.{IsProgramme, ProgrammeValue}
 use Rattle.ttx_pes.specs.PesPacket.{IsPesPacket, IsPesValue, PesValue, canonical_packet}
 use Rattle.ttx_pes.specs.PesPacket.{empty_value}
@@ -18,11 +18,11 @@ use Rattle.sub_plan.specs.FrameTime.{clock_of}
 use Rattle.sub_plan.specs.Options.{OptionsValue, IsOptions}
 use Rattle.sub_check.specs.CheckedFiles.{all_events_of, events_of_first_pieces}
 use Rattle.sub_check.specs.FirstTold.{KeepsFirstFault}
-use Rattle.sub_checker.specs.PieceTelling.{TellsPieces}
+use Rattle.sub_checker.specs.PesFileEvents.{TellsPieces}
 use Rattle.sub_rules.specs.Events.{first_told}
-use Rattle.sub_rules.specs.FrameRules.{Unread, task_of}
+use Rattle.sub_rules.specs.FrameRules.{Unread, criteria_of}
 use Rattle.sub_rules.specs.Pieces.{FailsAtPiece, Piece, ReadsPieces, frames_of, piece_file_of}
-use Rattle.sub_checker.specs.declared.telling.Accepted.{Accepted}
+use Rattle.sub_checker.specs.declared.accepted.Accepted.{Accepted}
 use Rattle.sub_rules.specs.declared.fault.CheckFault.{CheckFault}
 use Rattle.sub_check.proofs.FirstToldLemmas.{kept_is}
 use Rattle.sub_check.proofs.ReadOnLemmas.{all_are_sent, first_of_taken}
@@ -38,7 +38,8 @@ abbrev TellsFirst : ProgrammeValue → OptionsValue → List ℕ → Option Chec
 TellsFirst programme options bytes empty kept r =
     (pieces : List Piece) (unread : Option Unread)
     → ReadsPieces (clock_of options) 0 bytes pieces unread
-    → TellsPieces (task_of programme options unread) (clock_of options) bytes pieces KeepsFirstFault
+    → TellsPieces (criteria_of programme options unread) (clock_of options) bytes pieces
+    KeepsFirstFault
     empty kept r
 
 module _ (programme : ProgrammeValue) (options : OptionsValue) (bytes : List ℕ) where
@@ -146,8 +147,8 @@ pub fails_at_packet : (programme : ProgrammeValue) (options : OptionsValue)
     → is_some kept ≡ false
     → f ≡ fault.Pes pes Pes.Read
     → FailsAtPiece pes old new
-    → IfTold old (λ bytes. TellsFirst programme options bytes empty kept (Err f))
-    → IfTold old (λ bytes.
+    → IfKnown old (λ bytes. TellsFirst programme options bytes empty kept (Err f))
+    → IfKnown old (λ bytes.
     length (frames_of (take pes (piece_file_of (clock_of options) bytes).pieces)) ≡ pes
     → FailsAtPacket pes old new)
     → FailsAtPacket pes old new

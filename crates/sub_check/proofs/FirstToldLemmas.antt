@@ -14,9 +14,9 @@ use Rattle.stl_rows.specs.Programme.{ProgrammeValue}
 use Rattle.sub_plan.specs.FrameTime.{clock_of}
 use Rattle.sub_plan.specs.Options.{OptionsValue}
 use Rattle.sub_check.specs.FirstTold.{IsRuleFault, KeepsFirstFault, is_of_rule}
-use Rattle.sub_checker.specs.declared.telling.Accepted.{Accepted}
+use Rattle.sub_checker.specs.declared.accepted.Accepted.{Accepted}
 use Rattle.sub_rules.specs.Events.{broken_cell, first_told, unread_fault}
-use Rattle.sub_rules.specs.FrameRules.{Task, Unread, task_of}
+use Rattle.sub_rules.specs.FrameRules.{Criteria, Unread, criteria_of}
 use Rattle.sub_rules.specs.FrameRules.Unread.{BadPacket, NoFrame}
 use Rattle.sub_rules.specs.PesReading.{file_at, pes_file_of}
 use Rattle.sub_rules.specs.Pieces.{PesFileValue, joined, piece_file_of}
@@ -82,7 +82,7 @@ kept_is new (PassedUntil f ∷ xs) named (mid, keeps, rest) =
 -- ---- a wrong cell
 
 -- Where a wrong cell is told, what is so of each that is found broken is so of it.
-module _ (g : Task) (frames : Transmission) (packets_whole : EachPacket IsPacket frames)
+module _ (g : Criteria) (frames : Transmission) (packets_whole : EachPacket IsPacket frames)
     (IsSo : ℕ → ℕ → ℕ → Type 0)
     (so : (n f : ℕ) (x : ℕ × ℕ) → IsReadTo g frames n f → broken_cell g frames n f ≡ Some x
     → IsSo f x.0 x.1) where
@@ -149,9 +149,9 @@ module _ (programme : ProgrammeValue) (options : OptionsValue) (bytes : List ℕ
   different_of_first frame row column e =
       let pieces = piece_file_of (clock_of options) bytes in
       let frames = joined options.within file.frames in
-      so_of_events (task_of programme options pieces.unread) frames file_whole
+      so_of_events (criteria_of programme options pieces.unread) frames file_whole
       (λ f row column. IsDifferentEverywhere programme options frames f row column)
       (λ n f x read broken.
       different_everywhere programme options pieces.unread frames n f read x broken)
       frame row column
-      (content_first frame row column (task_of programme options pieces.unread) pieces.pieces e)
+      (content_first frame row column (criteria_of programme options pieces.unread) pieces.pieces e)

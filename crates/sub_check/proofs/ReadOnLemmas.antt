@@ -7,15 +7,15 @@ use Rattle.stl_rows.specs.Programme.{ProgrammeValue}
 use Rattle.sub_plan.specs.FrameTime.{Clock, clock_of}
 use Rattle.sub_plan.specs.Options.{OptionsValue}
 use Rattle.sub_rules.specs.Events.{first_told}
-use Rattle.sub_rules.specs.FrameRules.{Unread, task_of}
+use Rattle.sub_rules.specs.FrameRules.{Unread, criteria_of}
 use Rattle.sub_rules.specs.PesReading.{ReadsAs, file_at}
-use Rattle.sub_rules.specs.PieceEvents.{marks_of_each}
+use Rattle.sub_rules.specs.PieceEvents.{steps_of_each}
 use Rattle.sub_rules.specs.Pieces.{PesFileValue, Piece, frames_of, piece_file_of, read_until_passed}
 use Rattle.sub_rules.specs.Pieces.Piece.{Passed, Sent}
 use Rattle.sub_rules.specs.Transmission.{Transmission}
 use Rattle.sub_rules.specs.declared.event.Event.{Event}
 use Rattle.sub_rules.specs.declared.fault.CheckFault.{CheckFault}
-use Rattle.sub_rules.proofs.MarkEventLemmas.{first_of_two}
+use Rattle.sub_rules.proofs.StepEventLemmas.{first_of_two}
 use Rattle.sub_rules.proofs.PieceEventLemmas.{announced_first}
 use Rattle.sub_laws.proofs.UntoldLemmas.{each_sent, first_none}
 use Rattle.sub_check.specs.CheckedFiles.{events_of_first_pieces}
@@ -68,9 +68,9 @@ pub all_are_sent : (programme : ProgrammeValue) (options : OptionsValue) (bytes 
 unfolding events_of_pieces
 all_are_sent programme options bytes n l none =
     let file = piece_file_of (clock_of options) bytes in
-    let g = task_of programme options file.unread in
+    let g = criteria_of programme options file.unread in
     let done = take n file.pieces in
-    let marks = marks_of_each g [] 0 done in
+    let steps = steps_of_each g [] 0 done in
     each_sent g [] 0 done
-    ((first_none [] marks).0 (sym (announced_first (told_after [] marks)) ∙ none))
+    ((first_none [] steps).0 (sym (announced_first (told_after [] steps)) ∙ none))
     ∙ length-take-le n file.pieces l

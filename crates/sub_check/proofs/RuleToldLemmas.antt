@@ -13,24 +13,24 @@ use Rattle.sub_rules.specs.Events.{closing_events, end_events, endings}
 use Rattle.sub_rules.specs.Events.{first_header_events, first_told, nothing_stands, order_events}
 use Rattle.sub_rules.specs.Events.{packet_fault, rest_events, standing_at, unread_fault}
 use Rattle.sub_rules.specs.Fault.{fault_at_pes}
-use Rattle.sub_rules.specs.FrameRules.{Task, Unread, end_frame, task_of}
+use Rattle.sub_rules.specs.FrameRules.{Criteria, Unread, criteria_of, end_frame}
 use Rattle.sub_rules.specs.FrameRules.Unread.{BadPacket, NoFrame}
-use Rattle.sub_rules.specs.PieceEvents.{all_of_pieces, closing_of_pieces}
-use Rattle.sub_rules.specs.PieceEvents.{marks_of_each, marks_of_pieces, sent_by_pieces}
-use Rattle.sub_rules.specs.PieceEvents.{told_of_pieces, told_of_unread}
+use Rattle.sub_rules.specs.PieceEvents.{all_of_pieces, closing_of_pieces, sent_by_pieces}
+use Rattle.sub_rules.specs.PieceEvents.{steps_of_each, steps_of_pieces, told_of_pieces}
+use Rattle.sub_rules.specs.PieceEvents.{told_of_unread}
 use Rattle.sub_rules.specs.Pieces.{Piece, PieceFileValue, piece_file_of}
 use Rattle.sub_rules.specs.Pieces.Piece.{Passed, Sent}
 use Rattle.sub_rules.specs.Transmission.{Transmission}
-use Rattle.sub_rules.specs.Trusted.Mark.{AtPes, Closes, Says}
+use Rattle.sub_rules.specs.Trusted.CheckStep.{AtPes, Closes, Says}
 use Rattle.sub_rules.specs.declared.event.Event.{Event}
 use Rattle.sub_rules.specs.declared.event.Event.TheVariants.{Told}
 use Rattle.sub_rules.specs.declared.fault.CheckFault.{CheckFault}
 use Rattle.sub_rules.specs.declared.packet_rule.PacketRule.{PacketRule}
 use Rattle.sub_rules.proofs.EndRuleLemmas.{end_any}
 use Rattle.sub_rules.proofs.PieceEventLemmas.{all_first, announced_first}
-use Rattle.sub_laws.proofs.MarkTestLemmas.{FramesPass, PassedPass, Passes, before_passes, both_pass}
-use Rattle.sub_laws.proofs.MarkTestLemmas.{each_passes, first_fine, says_bad, says_pass, tells_bad}
-use Rattle.sub_laws.proofs.MarkTestLemmas.{told_fine}
+use Rattle.sub_laws.proofs.StepTestLemmas.{FramesPass, PassedPass, Passes, before_passes, both_pass}
+use Rattle.sub_laws.proofs.StepTestLemmas.{each_passes, first_fine, says_bad, says_pass, tells_bad}
+use Rattle.sub_laws.proofs.StepTestLemmas.{told_fine}
 use Rattle.sub_laws.proofs.ReadFileLemmas.{ArePiecesSound, IsOfBytes, IsSoundPiece}
 use Rattle.sub_laws.proofs.ReadFileLemmas.{file_pieces_sound}
 use Rattle.sub_check.specs.CheckedFiles.{all_events_of, events_of_first_pieces}
@@ -59,17 +59,17 @@ end_own old before new f =
 rule_own : (r : PacketRule) (frame k : ℕ) → foreign (Told (packet_fault r frame k)) ≡ false
 rule_own r frame k = grind (arith, nat_tests)
 
-order_own : (g : Task) (frames : Transmission) (i : ℕ)
+order_own : (g : Criteria) (frames : Transmission) (i : ℕ)
     → list_any foreign (order_events g frames i) ≡ false
 unfolding order_events
 order_own g frames i = grind (arith, nat_tests)
 
-header_own : (g : Task) (frames : Transmission) (i : ℕ)
+header_own : (g : Criteria) (frames : Transmission) (i : ℕ)
     → list_any foreign (first_header_events g frames i) ≡ false
 unfolding first_header_events
 header_own g frames i = grind (arith, nat_tests)
 
-frames_own : (g : Task) → FramesPass (says_bad is_foreign at_any) g
+frames_own : (g : Criteria) → FramesPass (says_bad is_foreign at_any) g
 frames_own g = record {
   at_pes = λ n. refl;
   begins = λ f. refl;
@@ -110,7 +110,7 @@ first_sound zero pieces sound = tt
 first_sound (suc n) [] sound = tt
 first_sound (suc n) (p ∷ pieces) sound = (sound.0, first_sound n pieces sound.1)
 
-module _ (g : Task) (left : (f : PesFault) → g.unread ≡ Some (BadPacket f) → IsOfBytes f) where
+module _ (g : Criteria) (left : (f : PesFault) → g.unread ≡ Some (BadPacket f) → IsOfBytes f) where
   left_own : (pes : ℕ) (o : Option Unread) → g.unread ≡ o
       → foreign (Told (unread_fault pes o)) ≡ false
   left_own pes None is = refl
@@ -155,7 +155,7 @@ module _ (g : Task) (left : (f : PesFault) → g.unread ≡ Some (BadPacket f) �
   pieces_own pieces sound =
       let frames = sent_by_pieces g pieces in
       let closing = closing_of_pieces g frames (length pieces) (length frames) in
-      told_fine is_foreign at_any [] (marks_of_pieces g pieces)
+      told_fine is_foreign at_any [] (steps_of_pieces g pieces)
       (both_pass (says_bad is_foreign at_any)
       (before_passes (says_bad is_foreign at_any) g (frames_own g) pieces
       (λ pes. passed_own pes pieces sound))
@@ -185,7 +185,7 @@ module _ (programme : ProgrammeValue) (options : OptionsValue) (bytes : List ℕ
       → is_of_rule f ≡ true
   unfolding all_of_pieces
   first_of_rule f is =
-      let g = task_of programme options file.unread in
+      let g = criteria_of programme options file.unread in
       not_foreign f
       (first_fine is_foreign at_any (told_of_pieces g file.pieces) f
       (pieces_own g sound.fault file.pieces sound.each)
@@ -197,12 +197,12 @@ module _ (programme : ProgrammeValue) (options : OptionsValue) (bytes : List ℕ
       → is_of_rule f ≡ true
   unfolding events_of_pieces
   front_of_rule n f is =
-      let g = task_of programme options file.unread in
+      let g = criteria_of programme options file.unread in
       let done = take n file.pieces in
-      let marks = marks_of_each g [] 0 done in
+      let steps = steps_of_each g [] 0 done in
       not_foreign f
-      (first_fine is_foreign at_any (told_after [] marks) f
-      (told_fine is_foreign at_any [] marks
+      (first_fine is_foreign at_any (told_after [] steps) f
+      (told_fine is_foreign at_any [] steps
       (each_passes (says_bad is_foreign at_any) g (frames_own g) [] 0 done
       (passed_own 0 done (first_sound n file.pieces sound.each))).none)
-      (sym (announced_first (told_after [] marks)) ∙ is))
+      (sym (announced_first (told_after [] steps)) ∙ is))

@@ -20,7 +20,7 @@ use Rattle.sub_plan.specs.Options.{OptionsValue, IsOptions}
 use Rattle.sub_plan.specs.Schedule.{plan}
 use Rattle.sub_rules.specs.Events.{first_told}
 use Rattle.sub_rules.specs.Fault.{is_pes_read}
-use Rattle.sub_rules.specs.FrameRules.{Task, task_of}
+use Rattle.sub_rules.specs.FrameRules.{Criteria, criteria_of}
 use Rattle.sub_rules.specs.Good.{Good}
 use Rattle.sub_rules.specs.PesFrames.{Carries, CarriesBy, IsReadAs}
 use Rattle.sub_rules.specs.PesReading.{pes_file_of}
@@ -32,9 +32,9 @@ use Rattle.sub_rules.specs.WrongContent.{IsWrongEverywhere}
 use Rattle.sub_rules.specs.declared.fault.CheckFault.{CheckFault}
 use Rattle.sub_rules.specs.declared.fault.CheckFault.TheVariants as fault
 use Rattle.sub_rules.proofs.JoinedLemmas.{joined-within, joined_after-read}
-use Rattle.sub_checker.specs.PieceTelling.{IsReadOn}
-use Rattle.sub_checker.specs.Telling.{CountsRead}
-use Rattle.sub_checker.specs.declared.telling.Accepted.{Accepted}
+use Rattle.sub_checker.specs.PesFileEvents.{IsReadOn}
+use Rattle.sub_checker.specs.ReadCounts.{CountsRead}
+use Rattle.sub_checker.specs.declared.accepted.Accepted.{Accepted}
 use Rattle.sub_laws.specs.OnScreen.{Complete}
 use Rattle.sub_laws.specs.Planned.{planned}
 use Rattle.sub_laws.proofs.ContentLemmas.{wrong_everywhere}
@@ -60,7 +60,7 @@ use Rattle.sub_check.proofs.ReadOnLemmas.{read_whole}
 abbrev pub IsAllRead : ProgrammeValue → OptionsValue → List ℕ → Accepted → Type 0
 IsAllRead programme options bytes a =
     let file = piece_file_of (clock_of options) bytes in
-    IsReadOn (task_of programme options file.unread) (clock_of options) bytes file.pieces a
+    IsReadOn (criteria_of programme options file.unread) (clock_of options) bytes file.pieces a
 
 -- What the steps show of a file that is read: no refusal is told of what is accepted, and a refusal
 -- is told first.
@@ -85,8 +85,8 @@ module _ (programme : ProgrammeValue) (options : OptionsValue) (is : IsOptions o
   abbrev file : PieceFileValue
   file = piece_file_of (clock_of options) bytes
 
-  abbrev g : Task
-  g = task_of programme options file.unread
+  abbrev g : Criteria
+  g = criteria_of programme options file.unread
 
   abbrev sent : Transmission
   sent = frames_read options bytes

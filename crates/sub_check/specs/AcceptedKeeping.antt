@@ -9,7 +9,7 @@ use Rattle.sub_plan.specs.Options.{OptionsValue}
 use Rattle.sub_rules.specs.Fault.{is_failure}
 use Rattle.sub_rules.specs.Transmission.{EachPacket, Transmission}
 use Rattle.sub_rules.specs.declared.fault.CheckFault.{CheckFault}
-use Rattle.sub_checker.specs.declared.telling.Accepted.{Accepted}
+use Rattle.sub_checker.specs.declared.accepted.Accepted.{Accepted}
 use Rattle.sub_check.specs.CheckedFiles.{AreAcceptedBy, MeanWithin}
 
 -- The same options, by which repeats may keep the page.

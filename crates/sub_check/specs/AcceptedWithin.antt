@@ -6,7 +6,7 @@ use Rattle.sub_plan.specs.Options.{OptionsValue}
 use Rattle.sub_rules.specs.Fault.{is_failure}
 use Rattle.sub_rules.specs.declared.fault.CheckFault.{CheckFault}
 use Rattle.sub_laws.specs.DelayOfFiles.{within_frames}
-use Rattle.sub_checker.specs.declared.telling.Accepted.{Accepted}
+use Rattle.sub_checker.specs.declared.accepted.Accepted.{Accepted}
 use Rattle.sub_check.specs.CheckedFiles.{AreAcceptedBy}
 
 -- Where the bytes of a subtitle file and of a PES file are accepted within some frames, or within

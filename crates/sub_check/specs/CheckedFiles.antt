@@ -3,7 +3,7 @@ use Rattle.std.specs.Prelude.{◌≡◌, ◌≢◌, ◌↔◌, ℕ, ◌≤◌, l
 use Rattle.std.specs.Prelude.{Option, Some, None, All, Contains, IsOk, Result, Ok, Err, IfOk, IfErr}
 use Rattle.std.specs.Prelude.{IfSome, IsFalse, IsTrue, ◌+◌, ◌++◌, flat_map, ⊤}
 use Rattle.sub_io.specs.Device.{failed}
-use Rattle.sub_io.specs.Reading.{IfTold}
+use Rattle.sub_io.specs.Reading.{IfKnown}
 use Rattle.ttx_pes.specs.declared.fault.PesFault.TheVariants.{Read}
 use Rattle.stl_file.specs.File.{IsFileFor}
 use Rattle.stl_file.specs.Subtitle.{SubtitleValue}
@@ -18,7 +18,7 @@ use Rattle.sub_plan.specs.Schedule.{plan}
 use Rattle.sub_io.specs.Telling.{Tells, TellsPrefix}
 use Rattle.ttx_packet.specs.PageId.{PageIdValue}
 use Rattle.sub_rules.specs.Events.{first_told}
-use Rattle.sub_rules.specs.FrameRules.{is_undecided_beside, task_beside, task_of}
+use Rattle.sub_rules.specs.FrameRules.{criteria_of, criteria_of_judged, is_due_undecided}
 use Rattle.sub_rules.specs.PacketRules.{header_count}
 use Rattle.sub_rules.specs.Transmission.{SentFrame, first_frame, last_frame, Transmission}
 use Rattle.sub_rules.specs.declared.event.Event.{Event}
@@ -37,8 +37,8 @@ use Rattle.sub_laws.specs.UndueContent.{IsDifferentEverywhere}
 use Rattle.sub_rules.specs.PieceEvents.{all_of_pieces, events_of_pieces}
 use Rattle.sub_rules.specs.Pieces.{frames_of, joined, piece_file_of}
 use Rattle.sub_rules.specs.WrongContent.{IsWrongEverywhere}
-use Rattle.sub_checker.specs.Telling.{CountsRead}
-use Rattle.sub_checker.specs.declared.telling.Accepted.{Accepted}
+use Rattle.sub_checker.specs.ReadCounts.{CountsRead}
+use Rattle.sub_checker.specs.declared.accepted.Accepted.{Accepted}
 use Rattle.sub_rules.specs.declared.fault.CheckFault.{CheckFault}
 use Rattle.sub_rules.specs.declared.fault.CheckFault.TheVariants as fault
 
@@ -151,7 +151,7 @@ pub record AreAcceptedBy
 abbrev pub all_events_of : ProgrammeValue → OptionsValue → List ℕ → List Event
 all_events_of programme options bytes =
     let file = piece_file_of (clock_of options) bytes in
-    all_of_pieces (task_of programme options file.unread) file.pieces
+    all_of_pieces (criteria_of programme options file.unread) file.pieces
 
 -- The frames that are sent by its pieces, within frames those of PES packets of one frame as one.
 abbrev pub frames_read : OptionsValue → List ℕ → Transmission
@@ -162,7 +162,7 @@ frames_read options bytes =
 abbrev pub events_of_first_pieces : ProgrammeValue → OptionsValue → List ℕ → ℕ → List Event
 events_of_first_pieces programme options bytes n =
     let file = piece_file_of (clock_of options) bytes in
-    events_of_pieces (task_of programme options file.unread) (take n file.pieces)
+    events_of_pieces (criteria_of programme options file.unread) (take n file.pieces)
 
 -- What is told of the bytes of a PES file, checked against a programme by options, whatever these
 -- are. A refusal of the subtitle file, which is then want of memory or its failing source, tells
@@ -275,11 +275,11 @@ pub record AreChecked
       → loaded drawing file ≡ Ok programme
       → IsFalse options.keeps
       → options.within ≡ 0
-      → IfTold pes (λ bytes. IsChecked programme options bytes answer)
+      → IfKnown pes (λ bytes. IsChecked programme options bytes answer)
   pub checked_by :
       (programme : ProgrammeValue)
       → loaded drawing file ≡ Ok programme
-      → IfTold pes (λ bytes. IsCheckedBy programme options bytes answer)
+      → IfKnown pes (λ bytes. IsCheckedBy programme options bytes answer)
 
 -- The answer of `check` by what is told first: these counts where it is nothing.
 abbrev pub answer_by : Option CheckFault → Accepted → Result Accepted CheckFault
@@ -297,13 +297,13 @@ first_answer events a = answer_by (first_told events) a
 abbrev pub all_events_by : JudgedValue → OptionsValue → List ℕ → List Event
 all_events_by judged options bytes =
     let file = piece_file_of (clock_of options) bytes in
-    all_of_pieces (task_beside judged options file.unread) file.pieces
+    all_of_pieces (criteria_of_judged judged options file.unread) file.pieces
 
 -- What is told of its first n pieces.
 abbrev pub events_of_first_by : JudgedValue → OptionsValue → List ℕ → ℕ → List Event
 events_of_first_by judged options bytes n =
     let file = piece_file_of (clock_of options) bytes in
-    events_of_pieces (task_beside judged options file.unread) (take n file.pieces)
+    events_of_pieces (criteria_of_judged judged options file.unread) (take n file.pieces)
 
 -- Frames that are told as trusted may stay on air as they are, whatever is on air elsewhere: in the
 -- part of the transmission in which frames rise, receivers recover there.
@@ -312,7 +312,7 @@ TellsWhatMayStay judged options bytes =
     let file = piece_file_of (clock_of options) bytes in
     (from to : ℕ)
     → Contains (all_events_by judged options bytes) (Trusted from to)
-    → StaysAsRead (task_beside judged options file.unread) file.pieces from to
+    → StaysAsRead (criteria_of_judged judged options file.unread) file.pieces from to
     (λ on_air. MayStay judged.programme on_air options from to)
 
 -- So they may by any options, within frames, and whether repeats may keep or not: by receivers that
@@ -322,7 +322,7 @@ TellsWhatMayStayBy judged options bytes =
     let file = piece_file_of (clock_of options) bytes in
     (from to : ℕ)
     → Contains (all_events_by judged options bytes) (Trusted from to)
-    → StaysAsRead (task_beside judged options file.unread) file.pieces from to
+    → StaysAsRead (criteria_of_judged judged options file.unread) file.pieces from to
     (λ on_air. MayStayBy judged.programme on_air options from to)
 
 -- At each of these frames it is known what is due; and within frames at each of so many before one
@@ -330,14 +330,14 @@ TellsWhatMayStayBy judged options bytes =
 abbrev pub TellsWhatIsKnown : JudgedValue → OptionsValue → List ℕ → Type 0
 TellsWhatIsKnown judged options bytes =
     let file = piece_file_of (clock_of options) bytes in
-    let read = rising_of (task_beside judged options file.unread) file.pieces in
+    let read = rising_of (criteria_of_judged judged options file.unread) file.pieces in
     (from to : ℕ)
     → Contains (all_events_by judged options bytes) (Trusted from to)
     → (frame : ℕ)
     → first_frame read ≤ frame
     → frame ≤ to
     → from ≤ frame + options.within
-    → IsFalse (is_undecided_beside judged frame)
+    → IsFalse (is_due_undecided judged frame)
 
 -- What is told of its first pieces, wherever the source failed, begins what is told of all. So what
 -- is promised of trusted frames holds of those that were told before.

@@ -27,5 +27,5 @@ pub use Rattle.sub_laws.specs.Laws
 pub use Rattle.sub_laws.specs.Planned
 pub use Rattle.sub_laws.specs.BrokenPlaces
 pub use Rattle.sub_laws.specs.UndueContent
-pub use Rattle.sub_checker.specs.Telling
+pub use Rattle.sub_checker.specs.ReadCounts
 pub use Rattle.sub_packets.specs.SentAgain

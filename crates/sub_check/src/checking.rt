@@ -2,7 +2,7 @@
 ghost use Rattle.std.specs.Prelude.{◌≡◌, ℕ, Err, IfErr, IfOk, IfSome, IsFalse, List, Option};
 ghost use Rattle.std.specs.Prelude.{false, is_none, length, take, true};
 ghost use Rattle.sub_io.specs.Device.{CanFail, CountsIf, failed};
-ghost use Rattle.sub_io.specs.Reading.{IfTold};
+ghost use Rattle.sub_io.specs.Reading.{IfKnown};
 ghost use Rattle.sub_io.specs.Telling.{TellsSome};
 ghost use Rattle.ttx_pes.specs.Reader.{FailsAtPacket};
 ghost use Rattle.stl_rows.specs.Judged.{known};
@@ -10,9 +10,9 @@ ghost use Rattle.stl_rows.specs.Programme.{IsProgramme, ProgrammeValue};
 ghost use Rattle.sub_plan.specs.FrameTime.{clock_of};
 ghost use Rattle.sub_plan.specs.Options.{IsOptions};
 ghost use Rattle.sub_rules.specs.Fault.{is_pes_read, is_pes_write, is_subtitle_fault};
-ghost use Rattle.sub_rules.specs.FrameRules.{Unread, task_of};
+ghost use Rattle.sub_rules.specs.FrameRules.{Unread, criteria_of};
 ghost use Rattle.sub_rules.specs.Pieces.{FailsAtPiece, Piece, ReadsPieces, frames_of};
-ghost use Rattle.sub_checker.specs.PieceTelling.{TellsPieces};
+ghost use Rattle.sub_checker.specs.PesFileEvents.{TellsPieces};
 ghost use Rattle.sub_check.specs.CheckedFiles.{BeginsWhatIsTold, IsChecked, IsCheckedBy};
 ghost use Rattle.sub_check.specs.CheckedFiles.{TellsEvents, TellsWhatIsKnown, TellsWhatMayStay};
 ghost use Rattle.sub_check.specs.CheckedFiles.{TellsWhatMayStayBy};
@@ -41,11 +41,11 @@ pub fn check_pieces<P: Pieces>(
     // Where the source tells its bytes, these decide the answer: they are accepted exactly where
     // they are a PES file that carries a good transmission of the programme, which is then robust.
     ensures checked { IsFalse options.now.keeps → options.now.within ≡ 0
-        → IfTold (P.remaining source.old) (λ bytes.
+        → IfKnown (P.remaining source.old) (λ bytes.
         IsChecked programme.now options.now bytes result) }
     // By whatever options, where these allow for frames that are late, and where repeats may keep
     // the page, they are accepted exactly where it is good by that.
-    ensures checked_by { IfTold (P.remaining source.old) (λ bytes.
+    ensures checked_by { IfKnown (P.remaining source.old) (λ bytes.
         IsCheckedBy programme.now options.now bytes result) }
     // That the source failed is told at the PES packet within which it failed: those before it were
     // taken.
@@ -78,9 +78,9 @@ fn tell_known<P: Pieces, A: LiveAudience<Event>>(
     requires goes_on { A.has_stopped audience.old ≡ false }
     requires still { A.is_waiting audience.old ≡ false }
     ensures exact { (pieces : List Piece) (unread : Option Unread)
-        → IfTold (P.remaining source.old) (λ bytes.
+        → IfKnown (P.remaining source.old) (λ bytes.
         ReadsPieces (clock_of options.now) 0 bytes pieces unread
-        → TellsPieces (task_of programme.now options.now unread) (clock_of options.now) bytes
+        → TellsPieces (criteria_of programme.now options.now unread) (clock_of options.now) bytes
         pieces A.is_told audience.old audience.new result) }
     ensures stopped { IfOk result (λ counts. A.has_stopped audience.new ≡ is_none counts) }
     ensures goes_on { IfErr result (λ _. A.has_stopped audience.new ≡ false) }
@@ -88,7 +88,7 @@ fn tell_known<P: Pieces, A: LiveAudience<Event>>(
         → FailsAtPiece pes (P.remaining source.old) (P.left source.new) }
     ensures sent { (pes : ℕ) (pieces : List Piece) (unread : Option Unread)
         → result ≡ Err (CheckFault.Pes pes PesFault.Read)
-        → IfTold (P.remaining source.old) (λ bytes.
+        → IfKnown (P.remaining source.old) (λ bytes.
         ReadsPieces (clock_of options.now) 0 bytes pieces unread
         → length (frames_of (take pes pieces)) ≡ pes
         → FailsAtPacket pes (P.remaining source.old) (P.left source.new)) }
@@ -117,7 +117,7 @@ pub fn check_all_pieces<P: Pieces, A: LiveAudience<Event>>(
     requires goes_on { A.has_stopped audience.old ≡ false }
     requires still { A.is_waiting audience.old ≡ false }
     // Where the source tells its bytes, these decide what the device is told.
-    ensures told { IfTold (P.remaining source.old) (λ bytes.
+    ensures told { IfKnown (P.remaining source.old) (λ bytes.
         TellsEvents judging.now options.now bytes A.is_told audience.old audience.new result) }
     // Where all was told, and nothing of the subtitle file is refused, `check` answers by the first
     // fault of it, or else with these counts.
@@ -125,29 +125,29 @@ pub fn check_all_pieces<P: Pieces, A: LiveAudience<Event>>(
         → judging.now ≡ known programme
         → IsFalse options.now.keeps
         → options.now.within ≡ 0
-        → IfTold (P.remaining source.old) (λ bytes.
+        → IfKnown (P.remaining source.old) (λ bytes.
         IfOk result (λ counts. IfSome counts (λ a. IsChecked programme options.now bytes
         (first_answer (all_events_of programme options.now bytes) a)))) }
     ensures first_by { (programme : ProgrammeValue)
         → judging.now ≡ known programme
-        → IfTold (P.remaining source.old) (λ bytes.
+        → IfKnown (P.remaining source.old) (λ bytes.
         IfOk result (λ counts. IfSome counts (λ a. IsCheckedBy programme options.now bytes
         (first_answer (all_events_of programme options.now bytes) a)))) }
     // The next four are laws of what it is told: they name neither the answer nor the device, and
     // stand here so that this call carries them.
     // What is told as trusted may stay on air as it is, whatever is on air elsewhere.
     ensures trusted { IsFalse options.now.keeps → options.now.within ≡ 0
-        → IfTold (P.remaining source.old) (λ bytes.
+        → IfKnown (P.remaining source.old) (λ bytes.
         TellsWhatMayStay judging.now options.now bytes) }
     // So it may by any options, with a delay within frames, and by receivers that may forget the
     // page where repeats may keep it.
-    ensures trusted_by { IfTold (P.remaining source.old) (λ bytes.
+    ensures trusted_by { IfKnown (P.remaining source.old) (λ bytes.
         TellsWhatMayStayBy judging.now options.now bytes) }
     // It is known there what is due.
-    ensures known { IfTold (P.remaining source.old) (λ bytes.
+    ensures known { IfKnown (P.remaining source.old) (λ bytes.
         TellsWhatIsKnown judging.now options.now bytes) }
     // What is told where the source failed begins what is told of all.
-    ensures begins { IfTold (P.remaining source.old) (λ bytes.
+    ensures begins { IfKnown (P.remaining source.old) (λ bytes.
         BeginsWhatIsTold judging.now options.now bytes) }
     // Nothing is counted exactly where the device said stop.
     ensures stopped { IfOk result (λ counts. A.has_stopped audience.new ≡ is_none counts) }

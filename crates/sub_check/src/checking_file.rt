@@ -1,18 +1,14 @@
 //! The exact checker: a PES file against a programme.
-ghost use Rattle.std.specs.Prelude.{◌≡◌, ℕ, Err, IfErr, IfOk, IfSome, IsFalse, List, Option};
-ghost use Rattle.std.specs.Prelude.{false, is_none, length, take, true};
+ghost use Rattle.std.specs.Prelude.{◌≡◌, ℕ, Err, IfErr, IfOk, IfSome, IsFalse, Option};
+ghost use Rattle.std.specs.Prelude.{false, is_none, true};
 ghost use Rattle.sub_io.specs.Device.{CanFail, CountsIf, failed};
-ghost use Rattle.sub_io.specs.Reading.{IfTold};
+ghost use Rattle.sub_io.specs.Reading.{IfKnown};
 ghost use Rattle.sub_io.specs.Telling.{TellsSome};
 ghost use Rattle.ttx_pes.specs.Reader.{FailsAtPacket};
 ghost use Rattle.stl_rows.specs.Judged.{known};
-ghost use Rattle.stl_rows.specs.Programme.{IsProgramme, ProgrammeValue};
-ghost use Rattle.sub_plan.specs.FrameTime.{clock_of};
-ghost use Rattle.sub_plan.specs.Options.{IsOptions};
+ghost use Rattle.stl_rows.specs.Programme.{ProgrammeValue};
 ghost use Rattle.sub_rules.specs.Fault.{is_pes_read, is_pes_write, is_subtitle_fault};
-ghost use Rattle.sub_rules.specs.FrameRules.{Unread, task_of};
-ghost use Rattle.sub_rules.specs.Pieces.{FailsAtPiece, Piece, ReadsPieces, frames_of};
-ghost use Rattle.sub_checker.specs.PieceTelling.{TellsPieces};
+ghost use Rattle.sub_rules.specs.Pieces.{FailsAtPiece};
 ghost use Rattle.sub_check.specs.CheckedFiles.{BeginsWhatIsTold, IsChecked, IsCheckedBy};
 ghost use Rattle.sub_check.specs.CheckedFiles.{TellsEvents, TellsWhatIsKnown, TellsWhatMayStay};
 ghost use Rattle.sub_check.specs.CheckedFiles.{TellsWhatMayStayBy};
@@ -58,11 +54,11 @@ pub fn check<S: Source>(
     // Where the source tells its bytes, these decide the answer: they are accepted exactly where
     // they are a PES file that carries a good transmission of the programme, which is then robust.
     ensures checked { IsFalse options.now.keeps → options.now.within ≡ 0
-        → IfTold (S.remaining source.old) (λ bytes.
+        → IfKnown (S.remaining source.old) (λ bytes.
         IsChecked programme.now options.now bytes result) }
     // By whatever options, where these allow for frames that are late, and where repeats may keep
     // the page, they are accepted exactly where it is good by that.
-    ensures checked_by { IfTold (S.remaining source.old) (λ bytes.
+    ensures checked_by { IfKnown (S.remaining source.old) (λ bytes.
         IsCheckedBy programme.now options.now bytes result) }
     // That the source failed is told at the PES packet within which it failed: those before it were
     // taken.
@@ -110,7 +106,7 @@ pub fn check_all<S: Source, A: LiveAudience<Event>>(
     requires goes_on { A.has_stopped audience.old ≡ false }
     requires still { A.is_waiting audience.old ≡ false }
     // Where the source tells its bytes, these decide what the device is told.
-    ensures told { IfTold (S.remaining source.old) (λ bytes.
+    ensures told { IfKnown (S.remaining source.old) (λ bytes.
         TellsEvents judging.now options.now bytes A.is_told audience.old audience.new result) }
     // Where all was told, and nothing of the subtitle file is refused, `check` answers by the first
     // fault of it, or else with these counts.
@@ -118,29 +114,29 @@ pub fn check_all<S: Source, A: LiveAudience<Event>>(
         → judging.now ≡ known programme
         → IsFalse options.now.keeps
         → options.now.within ≡ 0
-        → IfTold (S.remaining source.old) (λ bytes.
+        → IfKnown (S.remaining source.old) (λ bytes.
         IfOk result (λ counts. IfSome counts (λ a. IsChecked programme options.now bytes
         (first_answer (all_events_of programme options.now bytes) a)))) }
     ensures first_by { (programme : ProgrammeValue)
         → judging.now ≡ known programme
-        → IfTold (S.remaining source.old) (λ bytes.
+        → IfKnown (S.remaining source.old) (λ bytes.
         IfOk result (λ counts. IfSome counts (λ a. IsCheckedBy programme options.now bytes
         (first_answer (all_events_of programme options.now bytes) a)))) }
     // The next four are laws of what it is told: they name neither the answer nor the device, and
     // stand here so that this call carries them.
     // What is told as trusted may stay on air as it is, whatever is on air elsewhere.
     ensures trusted { IsFalse options.now.keeps → options.now.within ≡ 0
-        → IfTold (S.remaining source.old) (λ bytes.
+        → IfKnown (S.remaining source.old) (λ bytes.
         TellsWhatMayStay judging.now options.now bytes) }
     // So it may by any options, with a delay within frames, and by receivers that may forget the
     // page where repeats may keep it.
-    ensures trusted_by { IfTold (S.remaining source.old) (λ bytes.
+    ensures trusted_by { IfKnown (S.remaining source.old) (λ bytes.
         TellsWhatMayStayBy judging.now options.now bytes) }
     // It is known there what is due.
-    ensures known { IfTold (S.remaining source.old) (λ bytes.
+    ensures known { IfKnown (S.remaining source.old) (λ bytes.
         TellsWhatIsKnown judging.now options.now bytes) }
     // What is told where the source failed begins what is told of all.
-    ensures begins { IfTold (S.remaining source.old) (λ bytes.
+    ensures begins { IfKnown (S.remaining source.old) (λ bytes.
         BeginsWhatIsTold judging.now options.now bytes) }
     // Nothing is counted exactly where the device said stop.
     ensures stopped { IfOk result (λ counts. A.has_stopped audience.new ≡ is_none counts) }

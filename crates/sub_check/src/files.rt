@@ -1,7 +1,7 @@
 //! A pair of files: the subtitle file, and the PES file that carries it.
 ghost use Rattle.std.specs.Prelude.{◌≡◌, ℕ, ◌<◌, Err, IsFalse, false, true};
 ghost use Rattle.sub_io.specs.Device.{CanFail, CountsIf, failed};
-ghost use Rattle.sub_io.specs.Reading.{IfTold};
+ghost use Rattle.sub_io.specs.Reading.{IfKnown};
 ghost use Rattle.ttx_pes.specs.Reader.{FailsAtPacket};
 ghost use Rattle.stl_rows.specs.Layout.{drawing_within};
 ghost use Rattle.stl_rows.specs.Fault.{is_load_read};
@@ -43,17 +43,17 @@ pub fn check_files<S: Source, P: Source>(
     // exactly where they are a subtitle file and a PES file with a good transmission of its
     // subtitles, and what is accepted is robust.
     ensures accepted { IsFalse options.now.keeps → options.now.within ≡ 0
-        → IfTold (S.remaining stl.old) (λ file.
-        IfTold (P.remaining pes.old) (λ bytes.
+        → IfKnown (S.remaining stl.old) (λ file.
+        IfKnown (P.remaining pes.old) (λ bytes.
         AreAccepted (drawing_within national layout scope) options.now file bytes result)) }
     // By whatever options, where these allow for frames that are late, and where repeats may keep
     // the page, they are accepted exactly where that transmission is good by these, and what is
     // accepted is as robust as that is.
-    ensures accepted_by { IfTold (S.remaining stl.old) (λ file.
-        IfTold (P.remaining pes.old) (λ bytes.
+    ensures accepted_by { IfKnown (S.remaining stl.old) (λ file.
+        IfKnown (P.remaining pes.old) (λ bytes.
         AreAcceptedBy (drawing_within national layout scope) options.now file bytes result)) }
     // What is refused, and at which place.
-    ensures checked { IfTold (S.remaining stl.old) (λ file.
+    ensures checked { IfKnown (S.remaining stl.old) (λ file.
         AreChecked (drawing_within national layout scope) options.now file (P.remaining pes.old)
         result) }
     // A failed read of the subtitle file names the block of the byte that was asked for, and no

@@ -62,12 +62,13 @@ IsAtFrame-later p every s first latest last frame edge f small is low before =
 
 -- And what is judged. For `move_to`.
 pub IsJudged-later :
-    (j : JudgedValue) (p : ProgrammeValue) (beside : Bool) (first within frame : ℕ)
+    (j : JudgedValue) (p : ProgrammeValue) (any_refused : Bool) (first within frame : ℕ)
     (edge : Option ℕ) (known_from f : ℕ)
-    → IsJudged j p beside first within frame edge known_from
+    → IsJudged j p any_refused first within frame edge known_from
     → frame ≤ f
-    → IsJudged j p beside first within f edge known_from
-IsJudged-later j p beside first within frame edge known_from f is low = grind (arith, nat_tests)
+    → IsJudged j p any_refused first within f edge known_from
+IsJudged-later j p any_refused first within frame edge known_from f is low = grind
+    (arith, nat_tests)
 
 -- What is kept as due is due at this frame. For `move_to`.
 pub at_frame-stays :

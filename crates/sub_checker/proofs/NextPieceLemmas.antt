@@ -6,7 +6,7 @@ use Rattle.sub_plan.specs.FrameTime.{Clock}
 use Rattle.sub_rules.specs.PacketRules.{packets_of_units}
 use Rattle.sub_rules.specs.declared.piece.NextPiece.{NextPiece}
 use Rattle.sub_rules.specs.declared.piece.NextPiece.TheVariants as next
-use Rattle.sub_checker.specs.Lending.{ReadsNext}
+use Rattle.sub_checker.specs.AwaitedPiece.{ReadsNext}
 use Rattle.sub_checker.specs.NextPieces.{IsAgain, is_passed, last_with}
 
 -- Where it is those of the PES packet before again, they are those that were sent last.

@@ -13,18 +13,17 @@ use Rattle.sub_io.proofs.TellingLemmas.{TellsPrefix-whole}
 use Rattle.sub_plan.specs.FrameTime.{Clock, clock_of}
 use Rattle.sub_plan.specs.Options.{OptionsValue}
 use Rattle.sub_rules.specs.Events.{unread_fault}
-use Rattle.sub_rules.specs.FrameRules.{Task, Unread, task_beside}
+use Rattle.sub_rules.specs.FrameRules.{Criteria, Unread, criteria_of_judged}
 use Rattle.sub_rules.specs.PacketRules.{packets_of_units}
-use Rattle.sub_rules.specs.PieceEvents.{all_announced, all_of_pieces, events_of_pieces}
-use Rattle.sub_rules.specs.PieceEvents.{marks_of_each}
-use Rattle.sub_rules.specs.PieceEvents.{marks_of_sent, no_run}
-use Rattle.sub_rules.specs.PieceEvents.{sent_by_pieces, told_of_pieces}
+use Rattle.sub_rules.specs.PieceEvents.{all_announced, all_of_pieces, events_of_pieces, no_run}
+use Rattle.sub_rules.specs.PieceEvents.{sent_by_pieces, steps_of_each, steps_of_sent}
+use Rattle.sub_rules.specs.PieceEvents.{told_of_pieces}
 use Rattle.sub_rules.specs.Pieces.{Piece, PieceFileValue, ReadsPiece, ReadsPieces, frames_of}
 use Rattle.sub_rules.specs.Pieces.{TellsPiece, joined_after, piece_of, pieces_at, sent_after}
 use Rattle.sub_rules.specs.Pieces.Piece.{Passed, Sent}
 use Rattle.sub_rules.specs.Transmission.{SentFrame, Transmission}
-use Rattle.sub_rules.specs.Trusted.{Mark, told_after}
-use Rattle.sub_rules.specs.Trusted.Mark.{AtPes, Says}
+use Rattle.sub_rules.specs.Trusted.{CheckStep, told_after}
+use Rattle.sub_rules.specs.Trusted.CheckStep.{AtPes, Says}
 use Rattle.sub_rules.specs.declared.event.Event.{Event}
 use Rattle.sub_rules.specs.declared.event.Event.TheVariants.{Told}
 use Rattle.sub_rules.specs.declared.fault.CheckFault.{CheckFault}
@@ -32,20 +31,20 @@ use Rattle.sub_rules.specs.declared.piece.NextPiece.{NextPiece}
 use Rattle.sub_rules.specs.declared.piece.NextPiece.TheVariants as next
 use Rattle.sub_rules.specs.declared.sending.Sending.{Sending}
 use Rattle.sub_rules.proofs.JoinedLemmas.{frames_of-append, joined_after-push}
-use Rattle.sub_rules.proofs.JoinedLemmas.{marks_of_each-append}
+use Rattle.sub_rules.proofs.JoinedLemmas.{steps_of_each-append}
 use Rattle.sub_rules.proofs.PieceFileLemmas.{pieces_at-next, pieces_stop, reads_bad}
 use Rattle.sub_checker.specs.Checker.{CheckerValue}
-use Rattle.sub_checker.specs.Following.{Keeps, last_marks}
-use Rattle.sub_checker.specs.NextPieces.{frame_with, last_with, marks_of_read, sent_with}
+use Rattle.sub_checker.specs.CheckedFrames.{BetweenPieces, last_steps}
+use Rattle.sub_checker.specs.NextPieces.{frame_with, last_with, sent_with, steps_of_read}
 use Rattle.sub_checker.specs.Relay.{nothing_relayed, relayed, relay_after}
-use Rattle.sub_checker.specs.PieceTelling.{IsReadOn, TellsPieces, finished}
-use Rattle.sub_checker.specs.Steps.{FinishesTelling}
-use Rattle.sub_checker.specs.Telling.{AreTaken, AreWhole, CountsRead}
-use Rattle.sub_checker.specs.declared.relaying.Relay.{Relay}
-use Rattle.sub_checker.specs.declared.telling.Accepted.{Accepted}
+use Rattle.sub_checker.specs.PesFileEvents.{IsReadOn, TellsPieces, finished}
+use Rattle.sub_checker.specs.LastEvents.{FinishesTelling}
+use Rattle.sub_checker.specs.ReadCounts.{AreTaken, AreWhole, CountsRead}
+use Rattle.sub_checker.specs.declared.reporter.Relay.{Relay}
+use Rattle.sub_checker.specs.declared.accepted.Accepted.{Accepted}
 use Rattle.sub_checker.proofs.RelayLemmas.{after-append, after-none, passed-append}
 use Rattle.sub_checker.proofs.ReadsOnLemmas.{ReadsOn, reads_on_passed, reads_on_sent}
-use Rattle.sub_checker.proofs.TrustLemmas.{told_is}
+use Rattle.sub_checker.proofs.TrustTrackerLemmas.{told_is}
 use Rattle.ttx_pes.proofs.ReaderLemmas.{answers_say}
 use Rattle.ttx_pes.specs.Fault.{is_of_piece}
 use Rattle.ttx_pes.specs.PesPacket.{IsPesValue, PesValue}
@@ -55,129 +54,131 @@ use Rattle.ttx_pes.specs.Reading.{answer_at, most_packets}
 use Rattle.ttx_pes.specs.declared.fault.PesFault.{PesFault}
 
 -- What comes of the first pieces of a file, and the frames that they send.
-abbrev pub each_marks : Task → List Piece → List Mark
-each_marks g done = marks_of_each g [] 0 done
+abbrev pub each_steps : Criteria → List Piece → List CheckStep
+each_steps g done = steps_of_each g [] 0 done
 
-abbrev pub frames_sent : Task → List Piece → Transmission
+abbrev pub frames_sent : Criteria → List Piece → Transmission
 frames_sent g done = joined_after g.within [] (frames_of done)
 
 -- What is kept after the first pieces of a list, and of the last of them that is sent.
 pub record Tracks
-    (g : Task) (done : List Piece) (last : List (List ℕ)) (c : CheckerValue) (p : Relay) : Type 0
+    (g : Criteria) (done : List Piece) (last : List (List ℕ)) (c : CheckerValue) (p : Relay) : Type
+    0
   where
-    pub keeps : Keeps g (frames_sent g done) last c
-    pub relay_is : p ≡ relay_after nothing_relayed (each_marks g done)
+    pub keeps : BetweenPieces g (frames_sent g done) last c
+    pub relay_is : p ≡ relay_after nothing_relayed (each_steps g done)
 
 -- Before the first piece nothing is kept.
-pub tracks_none : (g : Task) (last : List (List ℕ)) (c : CheckerValue) (p : Relay)
-    → Keeps g [] last c
+pub tracks_none : (g : Criteria) (last : List (List ℕ)) (c : CheckerValue) (p : Relay)
+    → BetweenPieces g [] last c
     → p ≡ nothing_relayed
     → Tracks g [] last c p
-unfolding marks_of_each frames_of joined_after
+unfolding steps_of_each frames_of joined_after
 tracks_none g last c p keeps none = grind (arith, nat_tests, after-none)
 
--- What is told of some pieces is what is relayed of their marks.
-some_told : (g : Task) (done : List Piece)
-    → events_of_pieces g done ≡ relayed nothing_relayed (each_marks g done)
+-- What is told of some pieces is what is relayed of their steps.
+some_told : (g : Criteria) (done : List Piece)
+    → events_of_pieces g done ≡ relayed nothing_relayed (each_steps g done)
 unfolding events_of_pieces relayed
-some_told g done = ap (all_announced no_run) (told_is (each_marks g done))
+some_told g done = ap (all_announced no_run) (told_is (each_steps g done))
 
 -- ---- one piece more
 
 -- The frames that are sent then.
-sent_more : (g : Task) (done : List Piece) (s : SentFrame)
+sent_more : (g : Criteria) (done : List Piece) (s : SentFrame)
     → frames_sent g (done ++ Sent s ∷ []) ≡ sent_after g.within (frames_sent g done) s
 unfolding frames_of
 sent_more g done s =
     ap (joined_after g.within []) (frames_of-append done (Sent s ∷ []))
     ∙ joined_after-push g.within [] (frames_of done) s
 
-passed_more : (g : Task) (done : List Piece) (u : Unread)
+passed_more : (g : Criteria) (done : List Piece) (u : Unread)
     → frames_sent g (done ++ Passed u ∷ []) ≡ frames_sent g done
 unfolding frames_of
 passed_more g done u =
     ap (joined_after g.within []) (frames_of-append done (Passed u ∷ [])
     ∙ append-nil (frames_of done))
 
-module _ (g : Task) (done : List Piece) (pes : ℕ) (count : length done ≡ pes) where
+module _ (g : Criteria) (done : List Piece) (pes : ℕ) (count : length done ≡ pes) where
   -- What comes with a piece more.
-  abbrev marks_more : Piece → List Mark
-  marks_more p = marks_of_each g (frames_sent g done) pes (p ∷ [])
+  abbrev steps_more : Piece → List CheckStep
+  steps_more p = steps_of_each g (frames_sent g done) pes (p ∷ [])
 
-  more_marks : (p : Piece)
-      → each_marks g (done ++ p ∷ []) ≡ each_marks g done ++ marks_more p
-  more_marks p = marks_of_each-append g [] 0 pes done (p ∷ []) (omega (arith, count))
+  more_steps : (p : Piece)
+      → each_steps g (done ++ p ∷ []) ≡ each_steps g done ++ steps_more p
+  more_steps p = steps_of_each-append g [] 0 pes done (p ∷ []) (omega (arith, count))
 
   -- All that is told then, and what is kept.
   pub more_events : (p : Piece) (q : Relay)
-      → q ≡ relay_after nothing_relayed (each_marks g done)
+      → q ≡ relay_after nothing_relayed (each_steps g done)
       → events_of_pieces g (done ++ p ∷ [])
-      ≡ events_of_pieces g done ++ relayed q (marks_more p)
-  more_events p q is = grind (arith, nat_tests, some_told, more_marks, passed-append)
+      ≡ events_of_pieces g done ++ relayed q (steps_more p)
+  more_events p q is = grind (arith, nat_tests, some_told, more_steps, passed-append)
 
   pub more_relay : (p : Piece) (q new : Relay)
-      → q ≡ relay_after nothing_relayed (each_marks g done)
-      → new ≡ relay_after q (marks_more p)
-      → new ≡ relay_after nothing_relayed (each_marks g (done ++ p ∷ []))
-  more_relay p q new was is = grind (arith, nat_tests, after-append, more_marks)
+      → q ≡ relay_after nothing_relayed (each_steps g done)
+      → new ≡ relay_after q (steps_more p)
+      → new ≡ relay_after nothing_relayed (each_steps g (done ++ p ∷ []))
+  more_relay p q new was is = grind (arith, nat_tests, after-append, more_steps)
 
   -- What comes of one that is sent, and of one that is passed over.
-  pub sent_marks : (s : SentFrame)
-      → marks_more (Sent s) ≡ marks_of_sent g (frames_sent g done) pes s
-  unfolding marks_of_each
-  sent_marks s = append-nil _
+  pub sent_steps : (s : SentFrame)
+      → steps_more (Sent s) ≡ steps_of_sent g (frames_sent g done) pes s
+  unfolding steps_of_each
+  sent_steps s = append-nil _
 
-  pub passed_marks : (u : Unread)
-      → marks_more (Passed u) ≡ AtPes pes ∷ Says (Told (unread_fault pes (Some u))) ∷ []
-  unfolding marks_of_each
-  passed_marks u = refl
+  pub passed_steps : (u : Unread)
+      → steps_more (Passed u) ≡ AtPes pes ∷ Says (Told (unread_fault pes (Some u))) ∷ []
+  unfolding steps_of_each
+  passed_steps u = refl
 
   -- What is kept after one that is sent.
   tracks_sent : (s : SentFrame) (last : List (List ℕ)) (c : CheckerValue) (q new : Relay)
-      → q ≡ relay_after nothing_relayed (each_marks g done)
-      → Keeps g (sent_after g.within (frames_sent g done) s) last c
-      → new ≡ relay_after q (marks_of_sent g (frames_sent g done) pes s)
+      → q ≡ relay_after nothing_relayed (each_steps g done)
+      → BetweenPieces g (sent_after g.within (frames_sent g done) s) last c
+      → new ≡ relay_after q (steps_of_sent g (frames_sent g done) pes s)
       → Tracks g (done ++ Sent s ∷ []) last c new
   tracks_sent s last c q new was keeps is = record {
-    keeps = subst (λ (l : Transmission). Keeps g l last c) (sym (sent_more g done s)) keeps;
+    keeps = subst (λ (l : Transmission). BetweenPieces g l last c) (sym (sent_more g done s)) keeps;
     relay_is =
-        more_relay (Sent s) q new was (is ∙ ap (relay_after q) (sym (sent_marks s)));
+        more_relay (Sent s) q new was (is ∙ ap (relay_after q) (sym (sent_steps s)));
   }
 
   -- What is kept after one that is passed over.
   tracks_passed : (u : Unread) (last : List (List ℕ)) (c : CheckerValue) (q new : Relay)
-      → q ≡ relay_after nothing_relayed (each_marks g done)
-      → Keeps g (frames_sent g done) last c
+      → q ≡ relay_after nothing_relayed (each_steps g done)
+      → BetweenPieces g (frames_sent g done) last c
       → new ≡ relay_after q (AtPes pes ∷ Says (Told (unread_fault pes (Some u))) ∷ [])
       → Tracks g (done ++ Passed u ∷ []) last c new
   tracks_passed u last c q new was keeps is = record {
-    keeps = subst (λ (l : Transmission). Keeps g l last c) (sym (passed_more g done u)) keeps;
+    keeps = subst (λ (l : Transmission). BetweenPieces g l last c) (sym (passed_more g done u))
+        keeps;
     relay_is =
-        more_relay (Passed u) q new was (is ∙ ap (relay_after q) (sym (passed_marks u)));
+        more_relay (Passed u) q new was (is ∙ ap (relay_after q) (sym (passed_steps u)));
   }
 
 -- ---- what is told last
 
-module _ (g : Task) (all : List Piece) where
-  abbrev closing : List Mark
-  closing = last_marks g (frames_sent g all) (length all)
+module _ (g : Criteria) (all : List Piece) where
+  abbrev closing : List CheckStep
+  closing = last_steps g (frames_sent g all) (length all)
 
-  -- All that is told is what is relayed of all marks, and up to which piece a run goes.
-  all_told : all_of_pieces g all ≡ finished nothing_relayed (each_marks g all ++ closing)
+  -- All that is told is what is relayed of all steps, and up to which piece a run goes.
+  all_told : all_of_pieces g all ≡ finished nothing_relayed (each_steps g all ++ closing)
   unfolding all_of_pieces told_of_pieces relayed relay_after
   all_told = grind (arith, nat_tests, told_is, append_assoc)
 
   -- So it is what is told of the pieces, and what is told last.
   whole : all_of_pieces g all
       ≡ events_of_pieces g all
-      ++ finished (relay_after nothing_relayed (each_marks g all)) closing
+      ++ finished (relay_after nothing_relayed (each_steps g all)) closing
   whole = grind (arith, nat_tests, all_told, passed-append, after-append, append_assoc, some_told)
 
   -- A device that was told what follows the last piece was told the whole, and what was read is
   -- counted; or a part, where it said stop.
   told_end : {D : Type 0} {IsTold : D → Event → D → Type 0} (clock : Clock) (bytes : List ℕ)
       (a b c : D) (r : Option Accepted) (p : Relay)
-      → p ≡ relay_after nothing_relayed (each_marks g all)
+      → p ≡ relay_after nothing_relayed (each_steps g all)
       → Tells IsTold a b (events_of_pieces g all)
       → FinishesTelling IsTold b c (finished p closing) r
       → IfSome r (IsReadOn g clock bytes all)
@@ -191,20 +192,20 @@ module _ (g : Task) (all : List Piece) where
       (TellsPrefix-second a b c _ _ first (rw is at second))
 
 -- What is told of the first pieces comes first.
-pub front_of : (g : Task) (all done more : List Piece)
+pub front_of : (g : Criteria) (all done more : List Piece)
     → all ≡ done ++ more
     → (rest : List Event) × (all_of_pieces g all ≡ events_of_pieces g done ++ rest)
 front_of g all done more parts =
-    let each = each_marks g done in
-    let next = marks_of_each g (frames_sent g done) (length done) more in
-    let end = finished (relay_after nothing_relayed (each_marks g all)) (closing g all) in (
+    let each = each_steps g done in
+    let next = steps_of_each g (frames_sent g done) (length done) more in
+    let end = finished (relay_after nothing_relayed (each_steps g all)) (closing g all) in (
       relayed (relay_after nothing_relayed each) next ++ end,
       whole g all
           ∙ ap (λ (l : List Event). l ++ end)
           (some_told g all
           ∙ ap (relayed nothing_relayed)
-          (ap (each_marks g) parts
-          ∙ marks_of_each-append g [] 0 (length done) done more (omega arith))
+          (ap (each_steps g) parts
+          ∙ steps_of_each-append g [] 0 (length done) done more (omega arith))
           ∙ passed-append nothing_relayed each next
           ∙ ap (λ (l : List Event). l ++ relayed (relay_after nothing_relayed each) next)
           (sym (some_told g done)))
@@ -239,18 +240,18 @@ rest_none clock n rest few reads = by (answer_at n rest) refl
             let some = stop.1 in cc
 
 -- Nothing was told yet.
-pub none_of_pieces : (g : Task) → events_of_pieces g [] ≡ []
-unfolding events_of_pieces marks_of_each told_after all_announced
+pub none_of_pieces : (g : Criteria) → events_of_pieces g [] ≡ []
+unfolding events_of_pieces steps_of_each told_after all_announced
 none_of_pieces g = refl
 
 module _ (judging : JudgedValue) {options : OptionsValue} {bytes : List ℕ}
     {all : List Piece} {unread : Option Unread} {remaining : Option (List ℕ)} {pes : ℕ}
     {last : List (List ℕ)} {c : CheckerValue} {q : Relay} {done : List Piece}
     (at : ReadsOn options bytes all unread remaining pes done)
-    (tracks : Tracks (task_beside judging options unread) done last c q)
+    (tracks : Tracks (criteria_of_judged judging options unread) done last c q)
   where
-    abbrev g : Task
-    g = task_beside judging options unread
+    abbrev g : Criteria
+    g = criteria_of_judged judging options unread
 
     abbrev clock : Clock
     clock = clock_of options
@@ -273,9 +274,9 @@ module _ (judging : JudgedValue) {options : OptionsValue} {bytes : List ℕ}
 
     -- So was one that said stop at it.
     stop_at : {D : Type 0} {IsTold : D → Event → D → Type 0} (p : Piece)
-        (more : List Piece) (ms : List Mark) (a b d : D)
+        (more : List Piece) (ms : List CheckStep) (a b d : D)
         → at.ahead ≡ p ∷ more
-        → marks_of_each g (frames_sent g done) pes (p ∷ []) ≡ ms
+        → steps_of_each g (frames_sent g done) pes (p ∷ []) ≡ ms
         → Tells IsTold a b (events_of_pieces g done)
         → TellsPrefix IsTold b d (relayed q ms)
         → TellsPrefix IsTold a d (all_of_pieces g all)
@@ -287,7 +288,7 @@ module _ (judging : JudgedValue) {options : OptionsValue} {bytes : List ℕ}
         (sym (front.1 ∙ ap (λ (l : List Event). l ++ front.0)
         (more_events g done pes at.count p q tracks.relay_is)))
         (TellsPrefix-first a d _ _ (TellsPrefix-second a b d _ _ told
-        (subst (λ (l : List Mark). TellsPrefix IsTold b d (relayed q l)) (sym of) part)))
+        (subst (λ (l : List CheckStep). TellsPrefix IsTold b d (relayed q l)) (sym of) part)))
 
     -- By what was read of it. For `tell_pieces`.
     pub told_stop : {D : Type 0} {IsTold : D → Event → D → Type 0} (v : PesValue) (r : NextPiece)
@@ -295,16 +296,16 @@ module _ (judging : JudgedValue) {options : OptionsValue} {bytes : List ℕ}
         → TellsPiece clock pes at.rest at.ahead unread v (Ok (Some r))
         → Tells IsTold a b (events_of_pieces g done)
         → TellsPrefix IsTold b d
-        (relayed q (marks_of_read g (frames_sent g done) pes r (packets_of_units v.units)))
+        (relayed q (steps_of_read g (frames_sent g done) pes r (packets_of_units v.units)))
         → TellsPrefix IsTold a d (all_of_pieces g all)
     told_stop {D} {IsTold} v (next.Passed f) a b d is told part =
         stop_at (Passed is.0) is.2.more _ a b d is.2.first
-        (passed_marks g done pes at.count is.0
+        (passed_steps g done pes at.count is.0
         ∙ ap (λ (x : CheckFault). AtPes pes ∷ Says (Told x) ∷ []) (sym is.1))
         told part
     told_stop {D} {IsTold} v (next.Sent s) a b d is told part =
         stop_at (Sent (frame_with s (packets_of_units v.units))) is.0.more _ a b d is.0.first
-        (sent_marks g done pes at.count (frame_with s (packets_of_units v.units))) told part
+        (sent_steps g done pes at.count (frame_with s (packets_of_units v.units))) told part
 
     module _ (few : pes ≤ most_packets) (last_piece : at.ahead ≡ []) where
       is_all : done ≡ all
@@ -315,10 +316,10 @@ module _ (judging : JudgedValue) {options : OptionsValue} {bytes : List ℕ}
       long = ap length (sym is_all) ∙ at.count
 
       -- What comes last.
-      closing_is : last_marks g (frames_sent g done) pes ≡ closing g all
+      closing_is : last_steps g (frames_sent g done) pes ≡ closing g all
       closing_is =
-          ap (last_marks g (frames_sent g done)) (sym long)
-          ∙ ap (λ (l : List Piece). last_marks g (frames_sent g l) (length all)) is_all
+          ap (last_steps g (frames_sent g done)) (sym long)
+          ∙ ap (λ (l : List Piece). last_steps g (frames_sent g l) (length all)) is_all
 
       -- What was read and counted.
       read_is : (a : Accepted) → CountsRead options.page (frames_sent g done) a
@@ -349,15 +350,16 @@ module _ (judging : JudgedValue) {options : OptionsValue} {bytes : List ℕ}
       pub told_whole : {D : Type 0} {IsTold : D → Event → D → Type 0} (a b d : D)
           (r : Option Accepted)
           → Tells IsTold a b (events_of_pieces g done)
-          → FinishesTelling IsTold b d (finished q (last_marks g (frames_sent g done) pes)) r
+          → FinishesTelling IsTold b d (finished q (last_steps g (frames_sent g done) pes)) r
           → IfSome r (CountsRead options.page (frames_sent g done))
           → TellsPieces g clock bytes all IsTold a d (Ok r)
       told_whole {D} {IsTold} a b d r first second counts =
           told_end g all clock bytes a b d r q
           (tracks.relay_is
-          ∙ ap (λ (l : List Piece). relay_after nothing_relayed (each_marks g l)) is_all)
+          ∙ ap (λ (l : List Piece). relay_after nothing_relayed (each_steps g l)) is_all)
           (subst (λ (l : List Piece). Tells IsTold a b (events_of_pieces g l)) is_all first)
-          (subst (λ (l : List Mark). FinishesTelling IsTold b d (finished q l) r) closing_is second)
+          (subst (λ (l : List CheckStep). FinishesTelling IsTold b d (finished q l) r) closing_is
+          second)
           (read_some r counts)
 
     -- What is read and told with one piece more.
@@ -369,9 +371,9 @@ module _ (judging : JudgedValue) {options : OptionsValue} {bytes : List ℕ}
       pub kept : Tracks g (done ++ p ∷ []) heard d then
       pub told : Tells IsTold a b (events_of_pieces g (done ++ p ∷ []))
 
-    told_more : {D : Type 0} {IsTold : D → Event → D → Type 0} (p : Piece) (ms : List Mark)
+    told_more : {D : Type 0} {IsTold : D → Event → D → Type 0} (p : Piece) (ms : List CheckStep)
         (a b d : D)
-        → marks_of_each g (frames_sent g done) pes (p ∷ []) ≡ ms
+        → steps_of_each g (frames_sent g done) pes (p ∷ []) ≡ ms
         → Tells IsTold a b (events_of_pieces g done)
         → Tells IsTold b d (relayed q ms)
         → Tells IsTold a d (events_of_pieces g (done ++ p ∷ []))
@@ -379,7 +381,7 @@ module _ (judging : JudgedValue) {options : OptionsValue} {bytes : List ℕ}
         subst (Tells IsTold a d)
         (sym (more_events g done pes at.count p q tracks.relay_is))
         (Tells-trans a b d _ _ first
-        (subst (λ (l : List Mark). Tells IsTold b d (relayed q l)) (sym of) second))
+        (subst (λ (l : List CheckStep). Tells IsTold b d (relayed q l)) (sym of) second))
 
     -- One that is passed over.
     step_passed : {D : Type 0} (IsTold : D → Event → D → Type 0) (after : Option (List ℕ))
@@ -387,7 +389,7 @@ module _ (judging : JudgedValue) {options : OptionsValue} {bytes : List ℕ}
         → after ≡ Some (behind_piece at.rest)
         → ReadsPiece clock pes at.rest at.ahead unread (Passed u)
         → f ≡ unread_fault pes (Some u)
-        → Keeps g (frames_sent g done) last e
+        → BetweenPieces g (frames_sent g done) last e
         → then ≡ relay_after q (AtPes pes ∷ Says (Told f) ∷ [])
         → Tells IsTold a b (events_of_pieces g done)
         → Tells IsTold b d (relayed q (AtPes pes ∷ Says (Told f) ∷ []))
@@ -402,8 +404,8 @@ module _ (judging : JudgedValue) {options : OptionsValue} {bytes : List ℕ}
               tracks_passed g done pes at.count u last e q then tracks.relay_is keeps
               (kept ∙ ap (relay_after q) same);
           told =
-              told_more (Passed u) _ a b d (passed_marks g done pes at.count u) first
-              (subst (λ (l : List Mark). Tells IsTold b d (relayed q l)) same second);
+              told_more (Passed u) _ a b d (passed_steps g done pes at.count u) first
+              (subst (λ (l : List CheckStep). Tells IsTold b d (relayed q l)) same second);
         }
 
     -- One that is sent.
@@ -415,12 +417,12 @@ module _ (judging : JudgedValue) {options : OptionsValue} {bytes : List ℕ}
         → clock v.pts ≡ Some frame
         → TakesPesPacket remaining after v
         → IsPesValue v
-        → Keeps g (sent_after g.within (frames_sent g done)
+        → BetweenPieces g (sent_after g.within (frames_sent g done)
         (record { frame = frame; packets = packets_of_units v.units })) heard e
-        → then ≡ relay_after q (marks_of_sent g (frames_sent g done) pes
+        → then ≡ relay_after q (steps_of_sent g (frames_sent g done) pes
         (record { frame = frame; packets = packets_of_units v.units }))
         → Tells IsTold a b (events_of_pieces g done)
-        → Tells IsTold b d (relayed q (marks_of_sent g (frames_sent g done) pes
+        → Tells IsTold b d (relayed q (steps_of_sent g (frames_sent g done) pes
         (record { frame = frame; packets = packets_of_units v.units })))
         → Steps IsTold (Sent (record { frame = frame; packets = packets_of_units v.units })) after
         heard e then a d
@@ -431,7 +433,7 @@ module _ (judging : JudgedValue) {options : OptionsValue} {bytes : List ℕ}
           reads = reads_on_sent options bytes all unread remaining after pes done at left v frame
               next of takes value;
           kept = tracks_sent g done pes at.count s heard e q then tracks.relay_is keeps kept;
-          told = told_more (Sent s) _ a b d (sent_marks g done pes at.count s) first second;
+          told = told_more (Sent s) _ a b d (sent_steps g done pes at.count s) first second;
         }
 
     -- By what was read of it, a PES packet of this value where it is sent. For `tell_pieces`.
@@ -440,13 +442,13 @@ module _ (judging : JudgedValue) {options : OptionsValue} {bytes : List ℕ}
         → after ≡ Some (behind_piece at.rest)
         → TellsPiece clock pes at.rest at.ahead unread v (Ok (Some r))
         → ((s : Sending) → r ≡ next.Sent s → TakesPesPacket remaining after v × IsPesValue v)
-        → Keeps g (sent_with g (frames_sent g done) r (packets_of_units v.units))
+        → BetweenPieces g (sent_with g (frames_sent g done) r (packets_of_units v.units))
         (last_with last r (packets_of_units v.units)) e
         → then
-        ≡ relay_after q (marks_of_read g (frames_sent g done) pes r (packets_of_units v.units))
+        ≡ relay_after q (steps_of_read g (frames_sent g done) pes r (packets_of_units v.units))
         → Tells IsTold a b (events_of_pieces g done)
         → Tells IsTold b d
-        (relayed q (marks_of_read g (frames_sent g done) pes r (packets_of_units v.units)))
+        (relayed q (steps_of_read g (frames_sent g done) pes r (packets_of_units v.units)))
         → (p : Piece)
         × Steps IsTold p after (last_with last r (packets_of_units v.units)) e then a d
     step {D} IsTold after v (next.Passed f) e then a b d left is sent keeps kept first second = (

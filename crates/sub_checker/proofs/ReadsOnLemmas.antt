@@ -13,7 +13,7 @@ use Rattle.ttx_pes.specs.Pieces.{behind_piece}
 use Rattle.sub_rules.specs.Transmission.{SentFrame, Transmission}
 use Rattle.sub_rules.specs.declared.fault.CheckFault.{CheckFault}
 use Rattle.sub_rules.proofs.JoinedLemmas.{frames_of-append}
-use Rattle.sub_checker.specs.Telling.{AreTaken, AreWhole}
+use Rattle.sub_checker.specs.ReadCounts.{AreTaken, AreWhole}
 use Rattle.std.proofs.lemmas.List.Elements.{All-from_recursion}
 use Rattle.std.proofs.lemmas.Slice.Zip.{AllZip-long}
 use Rattle.std.specs.List.{AllByRecursion, AllZip}
@@ -25,7 +25,7 @@ use Rattle.ttx_pes.specs.Reader.{TakesPackets, TakesPesPacket}
 use Rattle.sub_rules.proofs.PacketLists.{Each-push}
 use Rattle.sub_rules.specs.PacketRules.{packets_of_units}
 use Rattle.sub_rules.specs.PesFrames.{IsReadAs}
-use Rattle.sub_checker.specs.declared.telling.Accepted.{Accepted}
+use Rattle.sub_checker.specs.declared.accepted.Accepted.{Accepted}
 use Rattle.ttx_pes.specs.DataUnit.{IsUnit, UnitValue}
 
 -- ---- frames and their packets

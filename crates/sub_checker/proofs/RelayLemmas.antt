@@ -1,4 +1,4 @@
--- What a device relays of what it is told: `relays_all`; of marks in parts: `relays-trans`.
+-- What a device relays of what it is told: `relays_all`; of steps in parts: `relays-trans`.
 use Rattle.std.proofs.lemmas.Bool.Decides.{nat_tests}
 use Rattle.std.proofs.Common.{arith}
 use Rattle.std.proofs.Common.{◌≡◌, List, [], ◌∷◌, ◌++◌, Bool, true, false, map}
@@ -8,40 +8,39 @@ use Rattle.std.proofs.lemmas.List.{append-nil}
 use Rattle.sub_io.specs.Telling.{Tells, TellsInTurn, first_alone}
 use Rattle.sub_io.proofs.TellingLemmas.{Tells-none, Tells-trans}
 use Rattle.sub_rules.specs.PieceEvents.{all_announced, announced, passed_after, passed_after_all}
-use Rattle.sub_rules.specs.Trusted.{Mark, at_pes}
-use Rattle.sub_rules.specs.Trusted.Mark.{Closes, Says}
+use Rattle.sub_rules.specs.Trusted.{CheckStep, at_pes}
+use Rattle.sub_rules.specs.Trusted.CheckStep.{Closes, Says}
 use Rattle.sub_rules.specs.declared.event.Event.{Event}
 use Rattle.sub_rules.specs.PieceEvents.{PassedRun}
-use Rattle.sub_checker.specs.declared.trust.Trust.{Trust}
+use Rattle.sub_checker.specs.declared.trust_tracker.TrustTracker.{TrustTracker}
 use Rattle.sub_rules.proofs.PieceEventLemmas.{all_announced-append, passed_after-append}
 use Rattle.sub_checker.specs.Latch.{IsLatched}
 use Rattle.sub_checker.specs.PassedPieces.{as_run, kept_run}
-use Rattle.sub_checker.specs.Relay.{IsRelayed, StageRelays, at_mark, relayed, relay_after}
+use Rattle.sub_checker.specs.Relay.{IsRelayed, ReporterRelays, at_step, relay_after, relayed}
 use Rattle.sub_checker.specs.declared.passed_run.PassedPieces.{PassedPieces}
-use Rattle.sub_checker.specs.declared.relaying.Relay.{Relay}
-use Rattle.sub_checker.specs.declared.relaying.Stage.{Stage}
-use Rattle.sub_checker.proofs.TrustLemmas.{told_by-append, trust_after-append}
-use Rattle.sub_checker.specs.Trust.{after_mark, doubted, late_since, told_by, told_with}
-use Rattle.sub_checker.specs.Trust.{trust_after}
-use Rattle.sub_checker.specs.Trust.{trusted_before}
+use Rattle.sub_checker.specs.declared.reporter.Relay.{Relay}
+use Rattle.sub_checker.specs.declared.reporter.Reporter.{Reporter}
+use Rattle.sub_checker.proofs.TrustTrackerLemmas.{told_by-append, tracker_after-append}
+use Rattle.sub_checker.specs.TrustTracker.{after_step, doubted, late_since, told_by, told_with}
+use Rattle.sub_checker.specs.TrustTracker.{tracker_after, trusted_before}
 
--- ---- marks, one list after another
+-- ---- steps, one list after another
 
-pub after-append : (p : Relay) (xs ys : List Mark)
+pub after-append : (p : Relay) (xs ys : List CheckStep)
     → relay_after p (xs ++ ys) ≡ relay_after (relay_after p xs) ys
 unfolding relay_after
 after-append p xs ys =
-    grind (arith, nat_tests, told_by-append, trust_after-append, passed_after-append)
+    grind (arith, nat_tests, told_by-append, tracker_after-append, passed_after-append)
 
-pub passed-append : (p : Relay) (xs ys : List Mark)
+pub passed-append : (p : Relay) (xs ys : List CheckStep)
     → relayed p (xs ++ ys) ≡ relayed p xs ++ relayed (relay_after p xs) ys
 unfolding relayed relay_after
 passed-append p xs ys =
-    ap (all_announced (as_run p.run)) (told_by-append p.trust xs ys)
-    ∙ all_announced-append (as_run p.run) (told_by p.trust xs) _
+    ap (all_announced (as_run p.run)) (told_by-append p.tracker xs ys)
+    ∙ all_announced-append (as_run p.run) (told_by p.tracker xs) _
 
 pub after-none : (p : Relay) → relay_after p [] ≡ p
-unfolding relay_after trust_after told_by passed_after_all
+unfolding relay_after tracker_after told_by passed_after_all
 after-none p = refl
 
 pub passed-none : (p : Relay) → relayed p [] ≡ []
@@ -52,7 +51,7 @@ passed-none p = refl
 
 module _ {D : Type 0} {g : _} (IsTold : D → Event → D → Type 0) where
   -- Nothing.
-  pub relays-none : (s : Stage D g) → StageRelays IsTold s [] s
+  pub relays-none : (s : Reporter D g) → ReporterRelays IsTold s [] s
   relays-none s = record {
     told =
         subst (Tells (IsLatched IsTold) s.latch s.latch) (sym (passed-none s.relay))
@@ -61,10 +60,10 @@ module _ {D : Type 0} {g : _} (IsTold : D → Event → D → Type 0) where
   }
 
   -- The one part, and then the other.
-  pub relays-trans : (a b c : Stage D g) (xs ys : List Mark)
-      → StageRelays IsTold a xs b
-      → StageRelays IsTold b ys c
-      → StageRelays IsTold a (xs ++ ys) c
+  pub relays-trans : (a b c : Reporter D g) (xs ys : List CheckStep)
+      → ReporterRelays IsTold a xs b
+      → ReporterRelays IsTold b ys c
+      → ReporterRelays IsTold a (xs ++ ys) c
   relays-trans a b c xs ys first second = record {
     told =
         subst (Tells (IsLatched IsTold) a.latch c.latch) (sym (passed-append a.relay xs ys))
@@ -77,30 +76,30 @@ module _ {D : Type 0} {g : _} (IsTold : D → Event → D → Type 0) where
         ∙ sym (after-append a.relay xs ys);
   }
 
--- ---- one mark
+-- ---- one step
 
-one_told : (p : Relay) (m : Mark)
-    → relayed p (m ∷ []) ≡ all_announced (as_run p.run) (told_with m p.trust)
+one_told : (p : Relay) (m : CheckStep)
+    → relayed p (m ∷ []) ≡ all_announced (as_run p.run) (told_with m p.tracker)
 unfolding relayed told_by
-one_told p m = ap (all_announced (as_run p.run)) (append-nil (told_with m p.trust))
+one_told p m = ap (all_announced (as_run p.run)) (append-nil (told_with m p.tracker))
 
-one_kept : (p : Relay) (m : Mark)
+one_kept : (p : Relay) (m : CheckStep)
     → relay_after p (m ∷ []) ≡ record {
-      trust = after_mark m p.trust;
-      run = kept_run (passed_after_all (as_run p.run) (told_with m p.trust));
+      tracker = after_step m p.tracker;
+      run = kept_run (passed_after_all (as_run p.run) (told_with m p.tracker));
     }
-unfolding relay_after told_by trust_after
+unfolding relay_after told_by tracker_after
 one_kept p m = grind (arith, nat_tests, append-nil)
 
 -- What is told with one, after a run of pieces that were passed over. For `close` and `relay`.
-pub relay_one : {D : Type 0} {g : _} (IsTold : D → Event → D → Type 0) (s t : Stage D g)
-    (m : Mark) (es : List Event)
-    → es ≡ told_with m s.relay.trust
-    → t.relay.trust ≡ after_mark m s.relay.trust
+pub relay_one : {D : Type 0} {g : _} (IsTold : D → Event → D → Type 0) (s t : Reporter D g)
+    (m : CheckStep) (es : List Event)
+    → es ≡ told_with m s.relay.tracker
+    → t.relay.tracker ≡ after_step m s.relay.tracker
     → Tells (IsLatched IsTold) s.latch t.latch (all_announced (as_run s.relay.run) es)
     → t.relay.run ≡ kept_run (passed_after_all (as_run s.relay.run) es)
-    → StageRelays IsTold s (m ∷ []) t
-relay_one IsTold s t m es is trust told run = grind (arith, nat_tests, one_told, one_kept)
+    → ReporterRelays IsTold s (m ∷ []) t
+relay_one IsTold s t m es is tracker told run = grind (arith, nat_tests, one_told, one_kept)
 
 -- One event after others. For `announce_both`.
 pub both_are : (run : PassedRun) (mid : PassedPieces) (xs : List Event) (e : Event)
@@ -118,19 +117,20 @@ both_kept run mid xs e is =
     ∙ sym (ap kept_run (passed_after-append run xs (e ∷ [])))
 
 -- What is told with an event. For `relay`.
-pub says_with : (t u : Trust) (e named : Event) (first : Option Event)
+pub says_with : (t u : TrustTracker) (e named : Event) (first : Option Event)
     → first_alone first ≡ trusted_before t.run t.whole t.back (doubted t.last (late_since t) e)
-    → u ≡ after_mark (Says e) t
+    → u ≡ after_step (Says e) t
     → named ≡ at_pes u.pes e
     → first_alone first ++ named ∷ [] ≡ told_with (Says e) t
-unfolding told_with after_mark
+unfolding told_with after_step
 says_with t u e named first before kept is = rw (before, is, kept) refl
 
--- With this mark nothing is told.
-pub silent : {D : Type 0} {g : _} (IsTold : D → Event → D → Type 0) (s t : Stage D g) (m : Mark)
-    → t ≡ at_mark m s
-    → told_with m s.relay.trust ≡ []
-    → StageRelays IsTold s (m ∷ []) t
+-- With this step nothing is told.
+pub silent : {D : Type 0} {g : _} (IsTold : D → Event → D → Type 0) (s t : Reporter D g)
+    (m : CheckStep)
+    → t ≡ at_step m s
+    → told_with m s.relay.tracker ≡ []
+    → ReporterRelays IsTold s (m ∷ []) t
 unfolding all_announced passed_after_all
 silent IsTold s t m is none =
     let no = Tells-none {IsTold = IsLatched IsTold} s.latch in
@@ -139,28 +139,29 @@ silent IsTold s t m is none =
 -- ---- what a device relays
 
 module _ {D : Type 0} {g : _} (IsTold : D → Event → D → Type 0) where
-  in_turn : (old new : Stage D g) (es : List Event)
+  in_turn : (old new : Reporter D g) (es : List Event)
       → TellsInTurn (IsRelayed IsTold) old new es
-      → StageRelays IsTold old (map Says es) new
+      → ReporterRelays IsTold old (map Says es) new
   in_turn old new [] same =
-      subst (λ (s : Stage D g). StageRelays IsTold old [] s) (sym same) (relays-none IsTold old)
+      subst (λ (s : Reporter D g). ReporterRelays IsTold old [] s) (sym same)
+      (relays-none IsTold old)
   in_turn old new (e ∷ es) (mid, first, rest) =
       relays-trans IsTold old mid new (Says e ∷ []) (map Says es) first (in_turn mid new es rest)
 
-  -- Events that a stage was told.
-  pub relays_all : (old new : Stage D g) (es : List Event)
+  -- Events that a reporter was told.
+  pub relays_all : (old new : Reporter D g) (es : List Event)
       → Tells (IsRelayed IsTold) old new es
-      → StageRelays IsTold old (map Says es) new
+      → ReporterRelays IsTold old (map Says es) new
   relays_all old new es told = in_turn old new es told.in_turn
 
--- ---- marks with which nothing is told
+-- ---- steps with which nothing is told
 
-abbrev pub may_tell : Mark → Bool
+abbrev pub may_tell : CheckStep → Bool
 may_tell (Says e) = true
 may_tell (Closes left more) = true
 may_tell m = false
 
-pub silent_with : (m : Mark) (t : Trust) → may_tell m ≡ false → told_with m t ≡ []
+pub silent_with : (m : CheckStep) (t : TrustTracker) → may_tell m ≡ false → told_with m t ≡ []
 unfolding told_with
 silent_with (Says e) t none = absurd (true≢false none)
 silent_with (Closes left more) t none = absurd (true≢false none)

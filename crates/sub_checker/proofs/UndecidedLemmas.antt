@@ -9,10 +9,10 @@ use Rattle.std.proofs.lemmas.Bool.{cases_lt}
 use Rattle.stl_file.specs.Subtitle.{SubtitleValue}
 use Rattle.stl_file.specs.TimeCode.{day}
 use Rattle.stl_rows.specs.DuePage.{IsEdge, TellsNextEdge}
-use Rattle.stl_rows.specs.Judged.{JudgedValue, is_beside, is_undecided_from, is_undecided_in}
+use Rattle.stl_rows.specs.Judged.{JudgedValue, has_refused, is_undecided_from, is_undecided_in}
 use Rattle.stl_rows.specs.Judged.{with_bits}
 use Rattle.sub_rules.specs.Events.{was_undecided}
-use Rattle.sub_rules.specs.FrameRules.{is_undecided_beside}
+use Rattle.sub_rules.specs.FrameRules.{is_due_undecided}
 use Rattle.sub_checker.specs.Checker.{IsKnownFrom, is_before}
 
 -- ---- between two edges
@@ -125,22 +125,22 @@ none_below f = grind (arith, nat_tests)
 module _ (j : JudgedValue) (first within frame : ℕ) (edge : Option ℕ)
     (tells : TellsNextEdge j.programme.records frame edge) where
   -- Nothing is refused. For `known_from`.
-  pub known_none : is_beside j ≡ false
-      → IsKnownFrom (is_undecided_beside j) first within frame edge 0
+  pub known_none : has_refused j ≡ false
+      → IsKnownFrom (is_due_undecided j) first within frame edge 0
   known_none h1 = grind (arith, nat_tests, none_below, was-none)
 
-  module _ (is : is_beside j ≡ true) where
-    beside_is : (e : ℕ) → is_undecided_beside j e ≡ is_undecided_in j e
-    beside_is e = ap (λ b. b && is_undecided_in j e) is
+  module _ (is : has_refused j ≡ true) where
+    any_refused_is : (e : ℕ) → is_due_undecided j e ≡ is_undecided_in j e
+    any_refused_is e = ap (λ b. b && is_undecided_in j e) is
 
     -- It is not known here.
     pub known_not : (k : ℕ)
         → day ≤ k
         → is_undecided_in j frame ≡ true
-        → IsKnownFrom (is_undecided_beside j) first within frame edge k
+        → IsKnownFrom (is_due_undecided j) first within frame edge k
     known_not k high here f low small before =
-        let there = was-some (is_undecided_beside j) first f within f (inr refl) (omega arith)
-        (omega arith) (beside_is f ∙ until_edge j frame f edge tells low before ∙ here) in
+        let there = was-some (is_due_undecided j) first f within f (inr refl) (omega arith)
+        (omega arith) (any_refused_is f ∙ until_edge j frame f edge tells low before ∙ here) in
         rw there (grind (arith, nat_tests))
 
     -- It was not known last at this frame.
@@ -149,11 +149,11 @@ module _ (j : JudgedValue) (first within frame : ℕ) (edge : Option ℕ)
         → last < frame
         → is_undecided_in j last ≡ true
         → ((f : ℕ) → last < f → f ≤ frame → is_undecided_in j f ≡ false)
-        → IsKnownFrom (is_undecided_beside j) first within frame edge (last + within + 1)
+        → IsKnownFrom (is_due_undecided j) first within frame edge (last + within + 1)
     known_last last some less here none f low small before = by (cases_lt (last + within) f)
       where
-        since : (e : ℕ) → last < e → e ≤ f → is_undecided_beside j e ≡ false
-        since e after until = beside_is e ∙ go (cases_lt e frame)
+        since : (e : ℕ) → last < e → e ≤ f → is_due_undecided j e ≡ false
+        since e after until = any_refused_is e ∙ go (cases_lt e frame)
           where
             go : (e < frame) ⊎ (frame ≤ e) → is_undecided_in j e ≡ false
             go (inl l) = none e after (omega arith)
@@ -166,15 +166,15 @@ module _ (j : JudgedValue) (first within frame : ℕ) (edge : Option ℕ)
                 earlier (Some next) b = grind (arith, nat_tests)
 
         by : (last + within < f) ⊎ (f ≤ last + within)
-            → nat_lt f (last + within + 1) ≡ was_undecided (is_undecided_beside j) first f within
+            → nat_lt f (last + within + 1) ≡ was_undecided (is_due_undecided j) first f within
         by (inl l) =
-            rw (was-none (is_undecided_beside j) first f within
+            rw (was-none (is_due_undecided j) first f within
             (since f (omega arith) (omega arith))
             (λ e m reach until. since e (omega (arith, l, reach)) until))
             (grind (arith, nat_tests))
         by (inr l) =
-            rw (was-some (is_undecided_beside j) first f within last (inl some) l (omega arith)
-            (beside_is last ∙ here))
+            rw (was-some (is_due_undecided j) first f within last (inl some) l (omega arith)
+            (any_refused_is last ∙ here))
             (grind (arith, nat_tests))
 
     -- It was known at each of them.
@@ -182,22 +182,22 @@ module _ (j : JudgedValue) (first within frame : ℕ) (edge : Option ℕ)
         → ((f : ℕ) → first ≤ f → frame ≤ f + within → least ≤ f)
         → is_undecided_in j frame ≡ false
         → ((f : ℕ) → least ≤ f → f ≤ frame → is_undecided_in j f ≡ false)
-        → IsKnownFrom (is_undecided_beside j) first within frame edge 0
+        → IsKnownFrom (is_due_undecided j) first within frame edge 0
     known_never least counts here none f low small before =
         none_below f
-        ∙ sym (was-none (is_undecided_beside j) first f within (at f low (omega arith)) each)
+        ∙ sym (was-none (is_due_undecided j) first f within (at f low (omega arith)) each)
       where
-        at : (e : ℕ) → frame ≤ e → e ≤ f → is_undecided_beside j e ≡ false
+        at : (e : ℕ) → frame ≤ e → e ≤ f → is_due_undecided j e ≡ false
         at e l until =
-            beside_is e ∙ until_edge j frame e edge tells l (earlier edge before) ∙ here
+            any_refused_is e ∙ until_edge j frame e edge tells l (earlier edge before) ∙ here
           where
             earlier : (o : Option ℕ) → is_before f o ≡ true → is_before e o ≡ true
             earlier None b = refl
             earlier (Some next) b = grind (arith, nat_tests)
 
-        each : (e : ℕ) → first ≤ e → f ≤ e + within → e ≤ f → is_undecided_beside j e ≡ false
+        each : (e : ℕ) → first ≤ e → f ≤ e + within → e ≤ f → is_due_undecided j e ≡ false
         each e m reach until = go (cases_lt e frame)
           where
-            go : (e < frame) ⊎ (frame ≤ e) → is_undecided_beside j e ≡ false
-            go (inl l) = beside_is e ∙ none e (counts e m (omega arith)) (omega arith)
+            go : (e < frame) ⊎ (frame ≤ e) → is_due_undecided j e ≡ false
+            go (inl l) = any_refused_is e ∙ none e (counts e m (omega arith)) (omega arith)
             go (inr l) = at e l until

@@ -11,12 +11,12 @@ use Rattle.ttx_pes.specs.DataUnit.{UnitValue}
 use Rattle.sub_rules.specs.Events.{end_events, is_missed, undue_after, unfinished_from, silent_for}
 use Rattle.sub_rules.specs.Events.{was_undecided, wrong_after}
 use Rattle.stl_rows.specs.DuePage.{TellsNextEdge, tci_of_ending}
-use Rattle.stl_rows.specs.Judged.{JudgedValue, is_beside}
-use Rattle.sub_rules.specs.FrameRules.{is_undecided_beside}
+use Rattle.stl_rows.specs.Judged.{JudgedValue, has_refused}
+use Rattle.sub_rules.specs.FrameRules.{is_due_undecided}
 use Rattle.sub_rules.specs.PacketRules.{header_count, packets_of_units}
 use Rattle.sub_rules.specs.Transmission.{SentFrame}
-use Rattle.sub_rules.specs.Trusted.{Mark}
-use Rattle.sub_rules.specs.Trusted.Mark.{AtEnd, GoesBack, Says}
+use Rattle.sub_rules.specs.Trusted.{CheckStep}
+use Rattle.sub_rules.specs.Trusted.CheckStep.{AtEnd, GoesBack, Says}
 use Rattle.sub_rules.specs.declared.sending.Sending.{Sending}
 use Rattle.sub_rules.specs.declared.standing.Standing.{Standing}
 use Rattle.sub_packets.specs.Listener.{KnowsLast, begins_frame}
@@ -61,7 +61,7 @@ sent_as sending units = record { frame = sending.frame; packets = packets_of_uni
 pub record CheckerValue : Type 0 where
   pub programme : ProgrammeValue
   pub judging : JudgedValue
-  pub beside : Bool
+  pub any_refused : Bool
   pub every : ℕ
   pub within : ℕ
   pub pace : Option ℕ
@@ -132,7 +132,7 @@ is_overdue_at programme within first (Some since) f =
 
 -- At this frame it is not known what is due.
 abbrev pub is_undecided_by : CheckerValue → ℕ → Bool
-is_undecided_by c frame = is_undecided_beside c.judging frame
+is_undecided_by c frame = is_due_undecided c.judging frame
 
 -- The first cell that is not right, where it is known what is due.
 abbrev pub differs_now : List (List ℕ) → CheckerValue → Option (ℕ × ℕ)
@@ -186,16 +186,16 @@ stands heard c = record {
 -- Beside what is refused, and within frames, it is told before a frame since which one the page is
 -- not whole.
 abbrev pub goes_back_now : CheckerValue → Bool
-goes_back_now c = c.beside && not (c.within == 0)
+goes_back_now c = c.any_refused && not (c.within == 0)
 
--- The mark of that.
-abbrev pub back_marks : CheckerValue → List Mark
-back_marks c = if goes_back_now c then GoesBack c.since ∷ [] else []
+-- The step of that.
+abbrev pub back_steps : CheckerValue → List CheckStep
+back_steps c = if goes_back_now c then GoesBack c.since ∷ [] else []
 
 -- What comes there.
-abbrev pub end_marks : List (List ℕ) → CheckerValue → List Mark
-end_marks heard c =
-    back_marks c
+abbrev pub end_steps : List (List ℕ) → CheckerValue → List CheckStep
+end_steps heard c =
+    back_steps c
     ++ (if c.within == 0 then [] else AtEnd c.frame (since_now heard c) (late_now heard c) ∷ [])
     ++ map Says
     (end_events c.standing c.last (stands heard c) c.frame)
@@ -236,12 +236,12 @@ IsKnownFrom undecided first within frame edge known_from =
 
 -- What is judged is what is kept of it, up to the next edge.
 pub record IsJudged
-    (judging : JudgedValue) (programme : ProgrammeValue) (beside : Bool)
+    (judging : JudgedValue) (programme : ProgrammeValue) (any_refused : Bool)
     (first within frame : ℕ) (edge : Option ℕ) (known_from : ℕ)
     : Type 0 where
   pub programme_is : programme ≡ judging.programme
-  pub beside_is : beside ≡ is_beside judging
-  pub known_is : IsKnownFrom (is_undecided_beside judging) first within frame edge known_from
+  pub any_refused_is : any_refused ≡ has_refused judging
+  pub known_is : IsKnownFrom (is_due_undecided judging) first within frame edge known_from
 
 -- The page that is kept as due and the next edge are those of the frame, and the numbers are such
 -- that none is too large.

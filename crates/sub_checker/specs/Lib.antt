@@ -1,11 +1,11 @@
+pub mod AwaitedPiece
+pub mod CheckedFrames
 pub mod Checker
-pub mod Following
+pub mod LastEvents
 pub mod Latch
-pub mod Lending
 pub mod NextPieces
 pub mod PassedPieces
-pub mod PieceTelling
+pub mod PesFileEvents
+pub mod ReadCounts
 pub mod Relay
-pub mod Steps
-pub mod Telling
-pub mod Trust
+pub mod TrustTracker

@@ -1,11 +1,11 @@
 -- What comes of a piece that was read, and what is kept then. Private functions alone cite this.
 use Rattle.std.specs.Prelude.{◌≡◌, ℕ, Bool, true, false, List, [], ◌∷◌}
-use Rattle.sub_rules.specs.FrameRules.{Task}
-use Rattle.sub_rules.specs.PieceEvents.{marks_of_sent}
+use Rattle.sub_rules.specs.FrameRules.{Criteria}
+use Rattle.sub_rules.specs.PieceEvents.{steps_of_sent}
 use Rattle.sub_rules.specs.Pieces.{sent_after}
 use Rattle.sub_rules.specs.Transmission.{SentFrame, Transmission}
-use Rattle.sub_rules.specs.Trusted.{Mark}
-use Rattle.sub_rules.specs.Trusted.Mark.{AtPes, Says}
+use Rattle.sub_rules.specs.Trusted.{CheckStep}
+use Rattle.sub_rules.specs.Trusted.CheckStep.{AtPes, Says}
 use Rattle.sub_rules.specs.declared.event.Event.TheVariants.{Told}
 use Rattle.sub_rules.specs.declared.piece.NextPiece.{NextPiece}
 use Rattle.sub_rules.specs.declared.piece.NextPiece.TheVariants as next
@@ -26,12 +26,12 @@ abbrev pub frame_with : Sending → List (List ℕ) → SentFrame
 frame_with s packets = record { frame = s.frame; packets = packets }
 
 -- What comes of it, PES packet `pes`, where these frames were sent before it.
-abbrev pub marks_of_read : Task → Transmission → ℕ → NextPiece → List (List ℕ) → List Mark
-marks_of_read g sent pes (next.Passed f) packets = AtPes pes ∷ Says (Told f) ∷ []
-marks_of_read g sent pes (next.Sent s) packets = marks_of_sent g sent pes (frame_with s packets)
+abbrev pub steps_of_read : Criteria → Transmission → ℕ → NextPiece → List (List ℕ) → List CheckStep
+steps_of_read g sent pes (next.Passed f) packets = AtPes pes ∷ Says (Told f) ∷ []
+steps_of_read g sent pes (next.Sent s) packets = steps_of_sent g sent pes (frame_with s packets)
 
 -- The frames that are sent then.
-abbrev pub sent_with : Task → Transmission → NextPiece → List (List ℕ) → Transmission
+abbrev pub sent_with : Criteria → Transmission → NextPiece → List (List ℕ) → Transmission
 sent_with g sent (next.Passed f) packets = sent
 sent_with g sent (next.Sent s) packets = sent_after g.within sent (frame_with s packets)
 

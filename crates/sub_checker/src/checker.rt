@@ -2,13 +2,13 @@
 ghost use Rattle.std.specs.Prelude.{◌≡◌, ℕ, ◌+◌, ◌<◌, ◌≤◌, List, [], Option, max};
 ghost use Rattle.stl_file.specs.TimeCode.{day};
 ghost use Rattle.sub_checker.specs.Checker.{is_before};
-ghost use Rattle.sub_rules.specs.FrameRules.{Unread, task_beside};
+ghost use Rattle.sub_rules.specs.FrameRules.{Unread, criteria_of_judged};
 ghost use Rattle.stl_rows.specs.Programme.{IsProgramme};
 ghost use Rattle.sub_plan.specs.Options.{IsOptions};
 
+use crate::accepted::Accepted;
 use crate::counts::Counts;
-use crate::relaying::Stage;
-use crate::telling::Accepted;
+use crate::reporter::Reporter;
 use crate::undecided::known_from;
 use std::marker::Model;
 use stl_rows::{Judging, Programme};
@@ -23,7 +23,7 @@ pub(crate) struct Checker<'a> {
     pub judging: &'a Judging<'a>,
     pub programme: &'a Programme,
     // Subtitles of the file are refused.
-    pub is_beside: bool,
+    pub has_refused: bool,
     // The repeat bound.
     pub every: u32,
     // Within how many frames the page has to be whole.
@@ -65,7 +65,7 @@ impl<'a> Model for Checker<'a> {
     ghost view = { λ c. record {
       programme = c.programme.now;
       judging = c.judging.now;
-      beside = c.is_beside;
+      any_refused = c.has_refused;
       every = c.every;
       within = c.within;
       pace = c.pace;
@@ -81,28 +81,29 @@ impl<'a> Model for Checker<'a> {
     } };
 
     ghost invariant = { λ c. IsAtFrame c.programme.now c.every c.listener c.first c.latest c.last
-        c.frame c.edge × IsJudged c.judging.now c.programme.now c.is_beside c.first c.within c.frame
+        c.frame c.edge × IsJudged c.judging.now c.programme.now c.has_refused c.first c.within
+        c.frame
         c.edge c.known_from };
 }
 
 impl<'a> Checker<'a> {
     ghost use Rattle.sub_checker.specs.Checker.{AreFew, at_first, at_frame, at_next, after_headers};
-    ghost use Rattle.sub_checker.specs.Following.{Keeps, back_stage};
-    ghost use Rattle.sub_checker.specs.Relay.{at_mark};
-    ghost use Rattle.sub_rules.specs.Trusted.Mark.{Begins};
-    ghost use Rattle.sub_checker.specs.Steps.{AreCounted};
+    ghost use Rattle.sub_checker.specs.CheckedFrames.{BetweenPieces, back_reporter};
+    ghost use Rattle.sub_checker.specs.Relay.{at_step};
+    ghost use Rattle.sub_rules.specs.Trusted.CheckStep.{Begins};
+    ghost use Rattle.sub_checker.specs.LastEvents.{AreCounted};
 
     /// Before the first PES packet: nothing was heard.
     pub fn new(judging: &'a Judging<'a>, options: &Options) -> Self
         ensures none { AreFew 0 result.counts }
         ensures keeps { (last : List (List ℕ)) (unread : Option Unread)
-            → Keeps (task_beside judging.now options.now unread) [] last result }
+            → BetweenPieces (criteria_of_judged judging.now options.now unread) [] last result }
         ensures options { IsOptions options.now }
         ensures programme { IsProgramme judging.now.programme.drawing
             judging.now.programme.records }
     {
         let programme = judging.programme();
-        let is_beside = judging.is_beside();
+        let has_refused = judging.has_refused();
         let within = options.within() as u32;
         let watched = Watched {
             page: options.page(),
@@ -113,7 +114,7 @@ impl<'a> Checker<'a> {
         Checker {
             judging,
             programme,
-            is_beside,
+            has_refused,
             every: options.every() as u32,
             within,
             pace: options.pace().map(|frames| frames as u32),
@@ -123,7 +124,7 @@ impl<'a> Checker<'a> {
             frame: 0,
             edge: programme.next_edge(0),
             near: 0,
-            known_from: known_from(judging, is_beside, 0, 0, within),
+            known_from: known_from(judging, has_refused, 0, 0, within),
             last: 0,
             standing: Standing::none(),
             since: None,
@@ -156,7 +157,7 @@ impl<'a> Checker<'a> {
         let (edge, near) = self.listener.draw_due(programme, f, self.near);
         self.edge = edge;
         self.near = near;
-        self.known_from = known_from(self.judging, self.is_beside, self.first, f, self.within);
+        self.known_from = known_from(self.judging, self.has_refused, self.first, f, self.within);
         self.frame = f;
     }
 
@@ -169,7 +170,7 @@ impl<'a> Checker<'a> {
         self.first = frame;
         self.latest = frame;
         self.late_at = frame + self.every;
-        self.known_from = known_from(self.judging, self.is_beside, frame, frame, self.within);
+        self.known_from = known_from(self.judging, self.has_refused, frame, frame, self.within);
     }
 
     /// Goes to the frame of another PES packet.
@@ -183,23 +184,23 @@ impl<'a> Checker<'a> {
 
     /// The packets of the frame that was reached follow.
     #[inline(always)]
-    pub fn begin_frame<A: Audience<Event>>(&self, stage: &mut Stage<'_, A>)
-        ensures begun { stage.new
-            ≡ back_stage self.now (at_mark (Begins self.now.frame) stage.old) }
+    pub fn begin_frame<A: Audience<Event>>(&self, reporter: &mut Reporter<'_, A>)
+        ensures begun { reporter.new
+            ≡ back_reporter self.now (at_step (Begins self.now.frame) reporter.old) }
     {
-        stage.begin_frame(self.frame);
-        self.go_back(stage);
+        reporter.begin_frame(self.frame);
+        self.go_back(reporter);
     }
 
     /// What follows is told of the frame that was reached or at its end: beside what is refused,
     /// and within frames, since which one the page is not whole up to the one before.
     #[inline(always)]
-    #[tactic(auto, unfolding(crate::specs::Following::back_stage))]
-    pub fn go_back<A: Audience<Event>>(&self, stage: &mut Stage<'_, A>)
-        ensures back { stage.new ≡ back_stage self.now stage.old }
+    #[tactic(auto, unfolding(crate::specs::CheckedFrames::back_reporter))]
+    pub fn go_back<A: Audience<Event>>(&self, reporter: &mut Reporter<'_, A>)
+        ensures back { reporter.new ≡ back_reporter self.now reporter.old }
     {
-        if self.is_beside && self.within > 0 {
-            stage.go_back(self.since);
+        if self.has_refused && self.within > 0 {
+            reporter.go_back(self.since);
         }
     }
 

@@ -10,24 +10,24 @@
 //! ```
 #![tactic(auto)]
 
-mod arriving;
+mod accepted;
+mod awaited_piece;
 mod checker;
-mod closing;
-mod closing_pieces;
 mod counts;
-mod ending;
+mod file_end;
+mod frame_end;
+mod frame_gap;
+mod last_events;
 mod latch;
-mod latching;
+mod latch_taker;
 mod late_end;
-mod lending;
 mod passed_run;
-mod relaying;
-mod standing;
-mod taking;
-mod telling;
-mod telling_pieces;
-mod trust;
+mod pes_file;
+mod pes_packet;
+mod reporter;
+mod rule_changes;
+mod trust_tracker;
 mod undecided;
 
-pub use telling::Accepted;
-pub use telling_pieces::tell_pieces;
+pub use accepted::Accepted;
+pub use pes_file::tell_pieces;

@@ -2,8 +2,8 @@
 ghost use Rattle.std.specs.Prelude.{◌≡◌, ℕ, ◌+◌, ◌<◌, ◌≤◌, MatchOption, Option};
 ghost use Rattle.std.specs.Prelude.{false, true};
 ghost use Rattle.stl_rows.specs.DuePage.{TellsNextEdge};
-ghost use Rattle.stl_rows.specs.Judged.{is_beside, is_undecided_in};
-ghost use Rattle.sub_rules.specs.FrameRules.{is_undecided_beside};
+ghost use Rattle.stl_rows.specs.Judged.{has_refused, is_undecided_in};
+ghost use Rattle.sub_rules.specs.FrameRules.{is_due_undecided};
 ghost use Rattle.sub_checker.specs.Checker.{IsKnownFrom};
 
 use stl_rows::Judging;
@@ -13,16 +13,16 @@ use stl_rows::Judging;
 /// frames where that is not known at this one, and 0 where it was known all the time.
 pub(crate) fn known_from(
     judging: &Judging<'_>,
-    beside: bool,
+    any_refused: bool,
     first: u32,
     frame: u32,
     within: u32,
 ) -> u64
-    requires { beside ≡ is_beside judging.now }
+    requires { any_refused ≡ has_refused judging.now }
     ensures { (edge : Option ℕ) → TellsNextEdge judging.now.programme.records frame edge
-        → IsKnownFrom (is_undecided_beside judging.now) first within frame edge result }
+        → IsKnownFrom (is_due_undecided judging.now) first within frame edge result }
 {
-    if !beside {
+    if !any_refused {
         return 0;
     }
     if judging.is_undecided(frame) {

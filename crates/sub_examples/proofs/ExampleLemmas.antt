@@ -8,7 +8,7 @@ use Rattle.std.proofs.lemmas.List.{get_or_past}
 use Rattle.stl_rows.specs.Programme.{ProgrammeValue}
 use Rattle.sub_plan.specs.Options.{OptionsValue}
 use Rattle.ttx_packet.specs.PacketAddress.{IsPacket}
-use Rattle.sub_rules.specs.FrameRules.{task_of}
+use Rattle.sub_rules.specs.FrameRules.{criteria_of}
 use Rattle.sub_rules.specs.Good.{Good}
 use Rattle.sub_rules.specs.Transmission.{Transmission}
 use Rattle.sub_rules.proofs.TestLemmas.{all_below, below, each_packet, packets_decided}
@@ -46,7 +46,7 @@ pub good_by_events :
     → o.within ≡ 0
     → 0 < o.every
     → are_packets frames ≡ true
-    → events (task_of programme o None) frames ≡ []
+    → events (criteria_of programme o None) frames ≡ []
     → Good programme frames o
 good_by_events programme frames o none at_once some whole quiet =
     let packets = (packets_decided is_packet IsPacket packet_decided frames).0 whole in

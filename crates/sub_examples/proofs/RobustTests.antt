@@ -19,7 +19,8 @@ use Rattle.stl_rows.specs.Programme.{ProgrammeValue}
 use Rattle.sub_plan.specs.Options.{OptionsValue}
 use Rattle.sub_plan.specs.Schedule.{due_in}
 use Rattle.sub_rules.specs.Events.{standing_at}
-use Rattle.sub_rules.specs.FrameRules.{Task, frame_at, packets_before, packets_of_frame, task_of}
+use Rattle.sub_rules.specs.FrameRules.{Criteria, criteria_of, frame_at, packets_before}
+use Rattle.sub_rules.specs.FrameRules.{packets_of_frame}
 use Rattle.sub_rules.specs.PacketTests.{breaks, is_same_bit, packet_rules}
 use Rattle.sub_rules.specs.Transmission.{IsRising, SentFrame, Transmission, first_frame}
 use Rattle.sub_rules.specs.Transmission.{last_frame, on_air, packets_of}
@@ -178,11 +179,11 @@ at_ends test frames a b e (suc m) f end low high =
         (implied _ _ (in_stretch_decided a b f) (holds (test (suc m) f))).0 passes (low, high)
 
 -- No packet at a frame of the stretch breaks the rule.
-abbrev unbroken : PacketRule → Task → Transmission → ℕ → ℕ → Bool
+abbrev unbroken : PacketRule → Criteria → Transmission → ℕ → ℕ → Bool
 unbroken r g frames a b = packets_pass (λ before p. not (breaks r g.watched before p)) frames a b
 
 none_breaks :
-    (r : PacketRule) (g : Task) (frames : Transmission) (a b : ℕ)
+    (r : PacketRule) (g : Criteria) (frames : Transmission) (a b : ℕ)
     → unbroken r g frames a b ≡ true
     → AtPackets (λ before p. IsFalse (breaks r g.watched before p)) frames a b
 none_breaks r g frames a b e i k l m low high =
@@ -210,7 +211,7 @@ rising_decided (s ∷ frames) =
     (λ t. Decides-ltb s.frame t.frame) frames) (rising_decided frames))
 
 -- Nothing is told of a stretch that a receiver depends on but this number.
-abbrev told_alone : ℕ → Task → Transmission → ℕ → ℕ → Bool
+abbrev told_alone : ℕ → Criteria → Transmission → ℕ → ℕ → Bool
 told_alone number g frames a b =
     (number == 62 || rises frames)
     && (list_all
@@ -232,7 +233,7 @@ none_by_test : {A : Type 0} (o : Option A) → is_none o ≡ true → o ≡ None
 none_by_test o e = grind arith
 
 untold_but :
-    (number : ℕ) (g : Task) (frames : Transmission) (a b : ℕ)
+    (number : ℕ) (g : Criteria) (frames : Transmission) (a b : ℕ)
     → told_alone number g frames a b ≡ true
     → IsUntoldBut number g frames a b
 untold_but number g frames a b e =
@@ -268,18 +269,18 @@ untold_but number g frames a b e =
 -- Nothing else is told of the transmission, and it is refuted. So the number is needed.
 pub needed :
     (number : ℕ) (frames : Transmission) (every g j f : ℕ) (got : List (List ℕ))
-    → told_alone number (task_of no_subtitles (each every) None) frames (first_frame frames)
+    → told_alone number (criteria_of no_subtitles (each every) None) frames (first_frame frames)
     (last_frame frames)
     && is_refuted no_subtitles frames (each every) g j f got
     ≡ true
     → IsNeeded number frames every
 needed number frames every g j f got e =
-    let task : Task = task_of no_subtitles (each every) None in
+    let criteria : Criteria = criteria_of no_subtitles (each every) None in
     let tests =
-    and_parts (told_alone number task frames (first_frame frames) (last_frame frames)) _ e in
+    and_parts (told_alone number criteria frames (first_frame frames) (last_frame frames)) _ e in
     let not_robust = refuted no_subtitles frames (each every) g j f got tests.1 in
     record {
-      others = untold_but number task frames (first_frame frames) (last_frame frames) tests.0;
+      others = untold_but number criteria frames (first_frame frames) (last_frame frames) tests.0;
       not_robust = not_robust;
       not_trusted = λ trusted.
           not_robust (robust_of_recovers no_subtitles frames (each every) trusted);
@@ -288,14 +289,14 @@ needed number frames every g j f got e =
 -- ---- a clean stretch
 
 -- Where it is known at each frame what is due nothing of that stands at an end.
-none_undecided : (g : Task) (frames : Transmission) → ((f : ℕ) → g.undecided f ≡ false)
+none_undecided : (g : Criteria) (frames : Transmission) → ((f : ℕ) → g.undecided f ≡ false)
     → (n f : ℕ) → IsFalse (standing_at g frames n f).undecided
 unfolding standing_at
 none_undecided g frames known n f = all_known g.undecided known (frame_at frames 0) f g.within
 
 -- Nothing at all is told of it, and the frames are some of the transmission.
 pub untold_by_test :
-    (g : Task) (frames : Transmission) (a b : ℕ)
+    (g : Criteria) (frames : Transmission) (a b : ℕ)
     → ((f : ℕ) → g.undecided f ≡ false)
     → told_alone 0 g frames a b
     && (nat_lt 0 (length frames)

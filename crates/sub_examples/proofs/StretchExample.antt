@@ -27,7 +27,7 @@ use Rattle.stl_rows.specs.TextCode.{cell_of, cell_of_pair, is_common}
 use Rattle.sub_laws.specs.CleanStretch.{IsUntold}
 use Rattle.sub_examples.specs.Examples.{ExampleOfCleanStretch, closing, damaged_first, each}
 use Rattle.sub_examples.specs.Examples.{english_header, later_subtitle, row_22}
-use Rattle.sub_rules.specs.FrameRules.{task_of}
+use Rattle.sub_rules.specs.FrameRules.{criteria_of}
 use Rattle.sub_rules.specs.Good.{Good}
 use Rattle.sub_rules.specs.Transmission.{SentFrame}
 use Rattle.sub_laws.proofs.NoneKeepsLemmas.{law_of_untold_stretch}
@@ -42,7 +42,7 @@ refused good =
     let control = good.rules.control 0 none (omega arith) 0 [] (omega arith) in
     grind (arith, nat_tests, control _ refl)
 
-clean : IsUntold (task_of later_subtitle (each 1) None) damaged_first 900001 900002
+clean : IsUntold (criteria_of later_subtitle (each 1) None) damaged_first 900001 900002
 unfolding are_code_words is_word_below first_even_byte breaks columns_differing is_gap
     packet_rules standing_at is_late wrong_after first_cell is_incomplete
     kind address header coded_header decoded is_near is_odd count_ones ones_in due blank

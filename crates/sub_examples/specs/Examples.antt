@@ -15,7 +15,7 @@ use Rattle.sub_plan.specs.Options.{OptionsValue}
 use Rattle.sub_rules.specs.Transmission.{IsRising, Transmission, first_frame, last_frame}
 use Rattle.sub_rules.specs.Events.{packet_fault, standing_at}
 use Rattle.sub_rules.specs.Fault.{check_code}
-use Rattle.sub_rules.specs.FrameRules.{Task, task_of}
+use Rattle.sub_rules.specs.FrameRules.{Criteria, criteria_of}
 use Rattle.sub_rules.specs.Good.{Good}
 use Rattle.sub_rules.specs.PacketTests.{breaks}
 use Rattle.sub_rules.specs.declared.packet_rule.PacketRule.{PacketRule}
@@ -135,7 +135,7 @@ number_of r = (check_code (packet_fault r 0 0)).number
 
 -- Of the frames from a to b nothing is told that a receiver depends on, as in `IsUntold`, but this
 -- number perhaps.
-pub record IsUntoldBut (number : ℕ) (g : Task) (frames : Transmission) (a b : ℕ) : Type 0 where
+pub record IsUntoldBut (number : ℕ) (g : Criteria) (frames : Transmission) (a b : ℕ) : Type 0 where
   pub rising : number ≢ 62 → IsRising frames
   pub packets :
       (r : PacketRule)
@@ -150,7 +150,7 @@ pub record IsUntoldBut (number : ℕ) (g : Task) (frames : Transmission) (a b : 
 -- not robust. So neither may its frames be trusted.
 pub record IsNeeded (number : ℕ) (transmission : Transmission) (every : ℕ) : Type 0 where
   pub others :
-      IsUntoldBut number (task_of no_subtitles (each every) None) transmission
+      IsUntoldBut number (criteria_of no_subtitles (each every) None) transmission
       (first_frame transmission) (last_frame transmission)
   pub not_robust : Robust no_subtitles transmission (each every) → ⊥
   pub not_trusted :
@@ -222,7 +222,7 @@ damaged_first =
 -- space.
 pub record ExampleOfCleanStretch : Type 0 where
   pub refused : Good later_subtitle damaged_first (each 1) → ⊥
-  pub clean : IsUntold (task_of later_subtitle (each 1) None) damaged_first 900001 900002
+  pub clean : IsUntold (criteria_of later_subtitle (each 1) None) damaged_first 900001 900002
   pub held :
       (got : List (List ℕ)) (old new : State)
       → AllZip AreNear (english_header ∷ row_22 ∷ closing ∷ []) got

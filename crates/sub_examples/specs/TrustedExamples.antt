@@ -2,23 +2,23 @@
 -- are those of two PES packets, or of four.
 use Rattle.std.specs.Prelude.{◌≡◌, ℕ, ◌++◌, true, false, List, [], ◌∷◌, Some, None}
 use Rattle.ttx_pes.specs.declared.fault.PesFault.TheVariants.{DataId, Truncated}
-use Rattle.sub_rules.specs.Trusted.{Mark, told_after}
-use Rattle.sub_rules.specs.Trusted.Mark.{AtEnd, AtPes, Begins, Closes, Ends, Says}
+use Rattle.sub_rules.specs.Trusted.{CheckStep, told_after}
+use Rattle.sub_rules.specs.Trusted.CheckStep.{AtEnd, AtPes, Begins, Closes, Ends, Says}
 use Rattle.sub_rules.specs.declared.end_rule.EndRule.TheVariants as end
 use Rattle.sub_rules.specs.declared.event.Event.{Event}
 use Rattle.sub_rules.specs.declared.event.Event.TheVariants.{Ended, Told, Trusted}
 use Rattle.sub_rules.specs.declared.fault.CheckFault.TheVariants as fault
 
 -- This is told of a file of which this comes.
-abbrev pub IsToldOf : List Event → List Mark → Type 0
-IsToldOf events marks = told_after [] marks ≡ events
+abbrev pub IsToldOf : List Event → List CheckStep → Type 0
+IsToldOf events steps = told_after [] steps ≡ events
 
 -- A PES packet of a frame with a header of the page, and nothing is told of it.
-abbrev pub well : ℕ → ℕ → List Mark
+abbrev pub well : ℕ → ℕ → List CheckStep
 well pes f = AtPes pes ∷ Begins f ∷ Ends f true true ∷ []
 
 -- The file ends, and no bytes are left.
-abbrev pub over : ℕ → List Mark
+abbrev pub over : ℕ → List CheckStep
 over pes = AtPes pes ∷ Closes false false ∷ []
 
 -- For each thing that may come of a file one example: what comes, and what is told of it, with the

@@ -32,12 +32,13 @@ use Rattle.sub_check.specs.CheckedFiles.{IsAccepted, IsAcceptedBy}
 use Rattle.sub_listing.specs.Listing.{exit_code}
 use Rattle.sub_listing.specs.declared.status.Status.{Status}
 use Rattle.sub_listing.specs.declared.status.Status.TheVariants.{Done}
-use Rattle.sub_answer.specs.FilesInMemory.{TellsAccepted, told_of_memory}
+use Rattle.sub_answer.specs.FilesInMemory.{TellsAccepted, known_of_memory}
 use Rattle.sub_answer.specs.Part.{through_range, through_stream}
+use Rattle.sub_answer.specs.Ending.{BufferHoldsLineAlone}
 use Rattle.sub_answer.proofs.MemoryLemmas.{law_of_files_in_memory}
 use Rattle.sub_plan.specs.Examples.{page_888}
 use Rattle.sub_headline.specs.Acceptance.{default_drawing}
-use Rattle.sub_headline.specs.Headline.{LawOfHeadline}
+use Rattle.sub_headline.specs.Headline.{LawOfHeadline, TellsHeadline}
 use Rattle.sub_headline.specs.PlainHeadline.{Headline}
 use Rattle.sub_headline.specs.PlainWords.{IsName, default_options, whole_pes_file}
 use Rattle.sub_headline.specs.Run.{RunsProgram}
@@ -47,6 +48,7 @@ use Rattle.sub_headline.proofs.EnglishAcceptanceLemmas.{law_of_english_acceptanc
 use Rattle.sub_headline.proofs.EnglishLemmas.{due_is}
 use Rattle.sub_headline.proofs.PlainWordLemmas.{law_of_plain_words}
 use Rattle.sub_headline.proofs.RunLemmas.{HasAnswered, answered, done_by_code, no_fault}
+use Rattle.sub_headline.proofs.ScreenLemmas.{screens_of}
 
 -- What is asked of two files by the default options.
 abbrev plain_check : (stl pes : Text) → Asked
@@ -160,18 +162,19 @@ plain_headline stl pes is =
           };
     }
 
-module _ {K : Type 0} (contents : K → Option (List ℕ)) (failure_count : K → ℕ) (output left : K)
+module _ {K : Type 0} (contents : K → Option (List ℕ)) (failure_count : K → ℕ)
+    (IsPush : K → List ℕ → Option ℕ → K → Type 0) (output left : K)
     (before after : MemFilesValue) (given : Result (List Text) UsageFault) (code : ℕ)
-    (runs : RunsProgram (CallsInTurn IsMemoryCall before after) told_of_memory (λ was is. is ≡ was)
-    given contents failure_count output left code)
+    (runs : RunsProgram (CallsInTurn IsMemoryCall before after) known_of_memory (λ was is. is ≡ was)
+    given contents failure_count IsPush output left code)
     (program stl pes : Text) (file bytes : List ℕ)
     (is_stl : IsName stl) (is_pes : IsName pes)
     (given_is : given ≡ Ok (program ∷ codes "check" ∷ stl ∷ pes ∷ []))
     (stl_is : bytes_at stl before ≡ Some file) (pes_is : bytes_at pes before ≡ Some bytes)
     (not_two : code ≢ 2) where
-  ran : HasAnswered (CallsInTurn IsMemoryCall before after) told_of_memory (λ was is. is ≡ was)
-      given code
-  ran = answered _ _ _ _ contents failure_count output left code runs not_two
+  ran : HasAnswered (CallsInTurn IsMemoryCall before after) known_of_memory (λ was is. is ≡ was)
+      given (BufferHoldsLineAlone contents failure_count IsPush) code
+  ran = answered _ _ _ _ contents failure_count IsPush output left code runs not_two
 
   status_tells : (ran.status ≡ Done) ↔ IsAccepted default_drawing default_options file bytes
   status_tells =
@@ -181,7 +184,7 @@ module _ {K : Type 0} (contents : K → Option (List ℕ)) (failure_count : K �
       (subst (λ words. AsksFor words of.request) (given_words given _ _ of.are_given given_is)
       of.asked) in
       let told =
-      law_of_files_in_memory of.request before after ran.old ran.new ran.status of.ends
+      law_of_files_in_memory _ of.request before after ran.old ran.new ran.status of.ends
       (no_fault ran.status (λ e. not_two (ran.code_is ∙ e))) in
       let by = tells of.request stl pes file bytes before ran.status asked stl_is pes_is told in
       let same = law_of_plain_acceptance default_drawing default_options file bytes refl refl in
@@ -194,18 +197,24 @@ module _ {K : Type 0} (contents : K → Option (List ℕ)) (failure_count : K �
   )
 
 pub law_of_headline : {K : Type 0} (contents : K → Option (List ℕ)) (failure_count : K → ℕ)
-    → LawOfHeadline contents failure_count
-law_of_headline contents failure_count given before after output left code runs = (
-  λ program stl pes file bytes is_stl is_pes given_is stl_is pes_is none.
-      plain_headline file bytes
-      ((code_tells contents failure_count output left before after given code runs program stl pes
-      file bytes is_stl is_pes given_is stl_is pes_is
-      (λ two. absurd (omega (arith, none, two)))).0
-      none),
-  λ program stl pes file bytes is_stl is_pes given_is stl_is pes_is not_two.
-      let by =
-      code_tells contents failure_count output left before after given code runs program stl pes
-      file bytes is_stl is_pes given_is stl_is pes_is not_two in
-      let same = law_of_english_acceptance file bytes in
-      (λ none. same.0 (by.0 none), λ is. by.1 (same.1 is)),
-)
+    (IsPush : K → List ℕ → Option ℕ → K → Type 0)
+    → LawOfHeadline contents failure_count IsPush
+law_of_headline contents failure_count IsPush given before after output left code runs =
+    let tells : TellsHeadline given before code =
+    λ program stl pes file bytes is_stl is_pes given_is stl_is pes_is none.
+    plain_headline file bytes
+    ((code_tells contents failure_count IsPush output left before after given code runs program
+    stl pes file bytes is_stl is_pes given_is stl_is pes_is
+    (λ two. absurd (omega (arith, none, two)))).0
+    none) in (
+      tells,
+      λ program stl pes file bytes is_stl is_pes given_is stl_is pes_is none.
+          screens_of file bytes
+          (tells program stl pes file bytes is_stl is_pes given_is stl_is pes_is none),
+      λ program stl pes file bytes is_stl is_pes given_is stl_is pes_is not_two.
+          let by =
+          code_tells contents failure_count IsPush output left before after given code runs program
+          stl pes file bytes is_stl is_pes given_is stl_is pes_is not_two in
+          let same = law_of_english_acceptance file bytes in
+          (λ none. same.0 (by.0 none), λ is. by.1 (same.1 is)),
+    )

@@ -3,4 +3,5 @@ pub mod EnglishLemmas
 pub mod EnglishAcceptanceLemmas
 pub mod PlainWordLemmas
 pub mod RunLemmas
+pub mod ScreenLemmas
 pub mod HeadlineLemmas

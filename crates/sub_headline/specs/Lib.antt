@@ -1,5 +1,6 @@
 pub mod Acceptance
 pub mod EnglishPage
+pub mod EnglishScreen
 pub mod Headline
 pub mod PlainAcceptance
 pub mod PlainHeadline

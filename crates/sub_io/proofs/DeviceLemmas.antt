@@ -12,7 +12,7 @@ use Rattle.std.proofs.Math.Seq.{take-append-add, take-length}
 use Rattle.std.proofs.lemmas.Option.{same_Some}
 use lib.Seq.{take-add, take-append-le, take-append_seam}
 use Rattle.sub_io.specs.Device.{AppendsPrefix, Fills, PassesOver, Told, Writes}
-use Rattle.sub_io.specs.Reading.{AreNext, IfTold}
+use Rattle.sub_io.specs.Reading.{AreNext, IfKnown}
 use Rattle.sub_io.specs.declared.source.Failed.{Failed}
 
 -- The first bytes of a slice whose part from a on was written.
@@ -71,7 +71,7 @@ Appends-more x y z a m n xs e p q =
 -- What a filled buffer says of a source that tells its bytes.
 pub Told-from_fills : (old new : Option (List ℕ)) (n : ℕ) (buffer : List ℕ)
     → Fills old n new buffer
-    → IfTold old (λ bytes. Told bytes n new buffer)
+    → IfKnown old (λ bytes. Told bytes n new buffer)
 Told-from_fills None new n buffer f bytes e = absurd cc
 Told-from_fills (Some xs) None n buffer f bytes e = absurd f.bytes
 Told-from_fills (Some xs) (Some ys) n buffer f bytes e =
@@ -85,7 +85,7 @@ Told-from_fills (Some xs) (Some ys) n buffer f bytes e =
 -- What a result tells of the bytes: the clause `told` of `fill`.
 pub Told-from_result : (old new : Option (List ℕ)) (buffer : List ℕ) (r : Result ℕ Failed)
     → IfOk r (λ n. Fills old n new buffer)
-    → IfTold old (λ bytes. IfOk r (λ n. Told bytes n new buffer))
+    → IfKnown old (λ bytes. IfOk r (λ n. Told bytes n new buffer))
 Told-from_result old new buffer (Ok n) f = Told-from_fills old new n buffer f
 Told-from_result old new buffer (Err e) f = λ bytes is. tt
 

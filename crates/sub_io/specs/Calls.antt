@@ -4,7 +4,7 @@ use Rattle.std.specs.Prelude.{◌≡◌, ◌≢◌, ℕ, ◌-◌, ◌<◌, ◌�
 use Rattle.std.specs.Prelude.{List, [], ◌∷◌, length, drop, Option, Some, None, option_map}
 use Rattle.std.specs.Prelude.{Result, Ok, Err}
 use Rattle.sub_io.specs.Buffered.{HeldBack, ReadAhead}
-use Rattle.sub_io.specs.Countdown.{CountingDown, fails_next, left_after}
+use Rattle.sub_io.specs.Countdown.{CountingDown, fails_next, countdown_after}
 
 -- How many bytes a call gave or took; none where it failed.
 abbrev pub answered : {E : Type 0} → Result ℕ E → Option ℕ
@@ -80,7 +80,7 @@ pub record PassesOn
     : Type 0 where
   pub fails : fails_next old.left ≡ true → (answer ≡ None) × (new.device ≡ old.device)
   pub passed : fails_next old.left ≡ false → IsCall old.device lent answer new.device
-  pub left : new.left ≡ left_after old.left
+  pub left : new.left ≡ countdown_after old.left
 
 -- A source that reads ahead, lent so many bytes.
 pub record ReadsAhead

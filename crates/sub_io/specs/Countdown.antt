@@ -14,10 +14,10 @@ fails_next (Some zero) = true
 fails_next (Some (suc k)) = false
 
 -- The countdown after a call.
-abbrev pub left_after : Option ℕ → Option ℕ
-left_after None = None
-left_after (Some zero) = None
-left_after (Some (suc k)) = Some k
+abbrev pub countdown_after : Option ℕ → Option ℕ
+countdown_after None = None
+countdown_after (Some zero) = None
+countdown_after (Some (suc k)) = Some k
 
 -- The failures of the device inside, and after the call that failed one more, as far as 64 bits
 -- count.

@@ -7,6 +7,6 @@ pub record Counted (D : Type 0) : Type 0 where
   pub failure_count : ℕ
 
 -- What a device tells of its bytes, and nothing once it is closed.
-abbrev pub told_while_open : {D : Type 0} → (D → Option (List ℕ)) → Option D → Option (List ℕ)
-told_while_open told None = None
-told_while_open told (Some device) = told device
+abbrev pub known_while_open : {D : Type 0} → (D → Option (List ℕ)) → Option D → Option (List ℕ)
+known_while_open known None = None
+known_while_open known (Some device) = known device

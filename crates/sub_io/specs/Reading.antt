@@ -9,8 +9,8 @@ abbrev pub ◌>>=◌ : {A B E : Type 0} → Result A E → (A → Result B E) �
 (Err e) >>= f = Err e
 
 -- What holds of a device's bytes where it tells them.
-abbrev pub IfTold : Option (List ℕ) → (List ℕ → Type 0) → Type 0
-IfTold told P = (bytes : List ℕ) → told ≡ Some bytes → P bytes
+abbrev pub IfKnown : Option (List ℕ) → (List ℕ → Type 0) → Type 0
+IfKnown known P = (bytes : List ℕ) → known ≡ Some bytes → P bytes
 
 -- Each number of the list is a byte's.
 abbrev pub AreBytes : List ℕ → Type 0
@@ -18,4 +18,4 @@ AreBytes bytes = (i : ℕ) → slice_index bytes i < 256
 
 -- These are the bytes that a device gives next, where it tells them.
 abbrev pub AreNext : List ℕ → Option (List ℕ) → Type 0
-AreNext next told = IfTold told (λ bytes. take (length next) bytes ≡ next)
+AreNext next told = IfKnown told (λ bytes. take (length next) bytes ≡ next)

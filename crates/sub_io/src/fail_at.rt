@@ -1,11 +1,11 @@
 //! A device of which one call fails, for tests of what its users do then.
 
-ghost use Rattle.std.specs.Prelude.{◌≡◌, ◌+◌, ◌<◌, ◌≤◌, length, Some, IfOk, IsErr, OnOk};
+ghost use Rattle.std.specs.Prelude.{◌≡◌, ◌<◌, ◌≤◌, length, Some, IfOk, IsErr, OnOk};
 ghost use Rattle.std.specs.Prelude.{false, true};
 ghost use Rattle.std.specs.Io.{ReadsAtMost};
 ghost use Rattle.std.specs.Io.KnownBytes.{Keeps};
 ghost use Rattle.sub_io.specs.Calls.{PassesOn, answered};
-ghost use Rattle.sub_io.specs.Countdown.{CountingDown, failures_with, fails_next, left_after};
+ghost use Rattle.sub_io.specs.Countdown.{CountingDown, failures_with, fails_next, countdown_after};
 ghost use Rattle.sub_io.specs.Device.{CanFail, CountsFailure, Pulls, Pushes};
 
 use crate::{Failed, Flush, Sink, Source};
@@ -43,7 +43,7 @@ impl<D> FailAt<D> {
     fn trips(&mut self) -> bool
         ensures device { self.new.device ≡ self.old.device }
         ensures trips { result ≡ fails_next self.old.left }
-        ensures left { self.new.left ≡ left_after self.old.left }
+        ensures left { self.new.left ≡ countdown_after self.old.left }
     {
         match self.left {
             None => false,
@@ -90,7 +90,7 @@ impl<S: Source> Source for FailAt<S> {
             IsErr result × (self.new.device ≡ self.old.device) × (to.new ≡ to.old) }
         ensures passed { fails_next self.old.left ≡ false → CountsFailure
             (S.failure_count self.old.device) result (S.failure_count self.new.device) }
-        ensures left { self.new.left ≡ left_after self.old.left }
+        ensures left { self.new.left ≡ countdown_after self.old.left }
 
         ensures call { PassesOn S.is_pull self.old (length to.old) (answered result) self.new }
         ensures bound { ReadsAtMost result to.new }
@@ -139,7 +139,7 @@ impl<K: Sink> Sink for FailAt<K> {
             IsErr result × (self.new.device ≡ self.old.device) }
         ensures passed { fails_next self.old.left ≡ false → CountsFailure
             (K.failure_count self.old.device) result (K.failure_count self.new.device) }
-        ensures left { self.new.left ≡ left_after self.old.left }
+        ensures left { self.new.left ≡ countdown_after self.old.left }
 
         ensures call { PassesOn K.is_push self.old from.now (answered result) self.new }
         ensures some { IfOk result (λ n. 0 < n) }
@@ -179,7 +179,7 @@ impl<K: Flush> Flush for FailAt<K> {
             IsErr result × (self.new.device ≡ self.old.device) }
         ensures passed { fails_next self.old.left ≡ false → CountsFailure
             (K.failure_count self.old.device) result (K.failure_count self.new.device) }
-        ensures left { self.new.left ≡ left_after self.old.left }
+        ensures left { self.new.left ≡ countdown_after self.old.left }
 
         ensures bytes { Keeps (K.contents self.old.device) (K.contents self.new.device) }
         ensures held { OnOk result (K.held self.new.device ≡ 0) }

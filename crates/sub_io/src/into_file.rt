@@ -3,7 +3,7 @@
 ghost use Rattle.std.specs.Prelude.{◌≡◌, ◌+◌, ◌<◌, ◌≤◌, IfOk, IsErr, None, Option, Some, length};
 ghost use Rattle.std.specs.Prelude.{is_none};
 ghost use Rattle.sub_io.specs.Closing.{LetsGo};
-ghost use Rattle.sub_io.specs.Counted.{Counted, told_while_open};
+ghost use Rattle.sub_io.specs.Counted.{Counted, known_while_open};
 ghost use Rattle.sub_io.specs.Device.{CanFail, CountsFailure, Pushes};
 
 use crate::{Close, Failed, LetGo, Sink};
@@ -41,7 +41,7 @@ impl<W: Write> IntoFile<W> {
 }
 
 impl<W: Write> Sink for IntoFile<W> {
-    ghost contents = { λ s. told_while_open W.contents s.device };
+    ghost contents = { λ s. known_while_open W.contents s.device };
 
     ghost failure_count = { λ s. s.failure_count };
 
@@ -56,8 +56,8 @@ impl<W: Write> Sink for IntoFile<W> {
         ensures closed { self.old.device ≡ None → IsErr result × (self.new.device ≡ None) }
         ensures some { IfOk result (λ n. 0 < n) }
         ensures bound { IfOk result (λ n. n ≤ length from.now) }
-        ensures bytes { Pushes (told_while_open W.contents self.old.device)
-            (told_while_open W.contents self.new.device) from.now result }
+        ensures bytes { Pushes (known_while_open W.contents self.old.device)
+            (known_while_open W.contents self.new.device) from.now result }
         ensures count { CountsFailure self.old.failure_count result self.new.failure_count }
     {
         let Some(writer) = &mut self.inner else {

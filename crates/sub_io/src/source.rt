@@ -7,7 +7,7 @@ ghost use Rattle.std.specs.Io.KnownBytes.{Consumes, IsAtEnd, Keeps};
 ghost use Rattle.sub_io.specs.Calls.{FillsByPulls, answered, any_call};
 ghost use Rattle.sub_io.specs.Device.{CanFail, CountsFailure, Fills, PassesOver, Pulls, Told};
 ghost use Rattle.sub_io.specs.Lent.{BeginLent, GivesLent, lends_nothing};
-ghost use Rattle.sub_io.specs.Reading.{AreBytes, AreNext, IfTold};
+ghost use Rattle.sub_io.specs.Reading.{AreBytes, AreNext, IfKnown};
 
 /// A device's call failed: it gave or took nothing.
 #[derive(Clone, Copy, Debug, PartialEq, Eq)]
@@ -101,7 +101,7 @@ pub fn fill<S: Source>(source: &mut S, to: &mut [u8]) -> Result<usize, Failed>
     // These three facts as one, and what they say where the source tells its bytes.
     ensures fills { IfOk result (λ n.
         Fills (S.remaining source.old) n (S.remaining source.new) to.new) }
-    ensures told { IfTold (S.remaining source.old) (λ bytes.
+    ensures told { IfKnown (S.remaining source.old) (λ bytes.
         IfOk result (λ n. Told bytes n (S.remaining source.new) to.new)) }
     ensures fit { AreBytes to.new }
     ensures calls { FillsByPulls S.is_pull source.old (length to.old) (is_ok result) source.new }

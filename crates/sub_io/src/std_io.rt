@@ -1,6 +1,6 @@
 //! Devices over std's readers and writers: files, standard input and output.
 
-ghost use Rattle.std.specs.Prelude.{◌≡◌, ℕ, ◌+◌};
+ghost use Rattle.std.specs.Prelude.{◌≡◌, ◌+◌};
 ghost use Rattle.sub_io.specs.Counted.{Counted};
 ghost use Rattle.sub_io.specs.Device.{holds_nothing};
 

@@ -11,7 +11,7 @@ use Rattle.sub_plan.specs.Schedule.{due_in}
 use Rattle.ttx_page.specs.Page.{IsCell}
 use Rattle.ttx_page.specs.Shown.{shown}
 use Rattle.sub_rules.specs.Events.{broken_cell, is_incomplete, is_late, is_pending}
-use Rattle.sub_rules.specs.FrameRules.{IsEnded, Task, Unread, packets_before, task_of}
+use Rattle.sub_rules.specs.FrameRules.{Criteria, IsEnded, Unread, criteria_of, packets_before}
 use Rattle.sub_rules.specs.Good.{Good}
 use Rattle.sub_rules.specs.Kept.{IsRight}
 use Rattle.sub_rules.specs.Repeats.{KeepsRulesBy}
@@ -34,10 +34,10 @@ use Rattle.sub_laws.proofs.StandingLemmas.{incomplete_decided, no_wrong}
 
 module _ (programme : ProgrammeValue) (options : OptionsValue) (unread : Option Unread)
     (t : Transmission) (some_frames : 0 < options.every)
-    (h : AllOk (task_of programme options unread) t) (at_once : options.within ≡ 0) where
+    (h : AllOk (criteria_of programme options unread) t) (at_once : options.within ≡ 0) where
   -- At each end all rules are kept.
   kept_at : (n f : ℕ) → IsEnd t n f → (rule : EndRule)
-      → IsKept rule (task_of programme options unread) t n f
+      → IsKept rule (criteria_of programme options unread) t n f
   kept_at n f h1 rule = grind (arith, nat_tests, all_kept, quiet_at)
 
   -- Each cell is right.
@@ -74,15 +74,16 @@ module _ (programme : ProgrammeValue) (options : OptionsValue) (unread : Option 
 -- ---- the other way
 
 -- Within 0 frames no end is waited for.
-pub none_pending : (g : Task) (frames : Transmission) → g.within ≡ 0 → is_pending g frames ≡ false
+pub none_pending : (g : Criteria) (frames : Transmission) → g.within ≡ 0 → is_pending g frames
+    ≡ false
 unfolding is_pending
 none_pending g frames at_once = grind (arith, nat_tests, always_late)
 
 module _ (programme : ProgrammeValue) (options : OptionsValue) (t : Transmission)
     (at_once : options.within ≡ 0) (none : options.keeps ≡ false) (good : Good programme t options)
     (complete : IsTrue options.asks_complete → Complete t options) where
-  abbrev g : Task
-  g = task_of programme options None
+  abbrev g : Criteria
+  g = criteria_of programme options None
 
   in_order : RiseTo t (length t)
   in_order = rises_each t good.rules.rising

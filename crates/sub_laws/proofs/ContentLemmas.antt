@@ -23,8 +23,8 @@ use Rattle.stl_rows.specs.Programme.{ProgrammeValue}
 use Rattle.sub_plan.specs.Options.{OptionsValue}
 use Rattle.sub_plan.specs.Schedule.{due_in}
 use Rattle.sub_rules.specs.Events.{broken_cell, is_late, undecided_within}
-use Rattle.sub_rules.specs.FrameRules.{ShowsDue, Task, Unread, frame_at, packets_before}
-use Rattle.sub_rules.specs.FrameRules.{packets_of_frame, task_of}
+use Rattle.sub_rules.specs.FrameRules.{Criteria, ShowsDue, Unread, criteria_of, frame_at}
+use Rattle.sub_rules.specs.FrameRules.{packets_before, packets_of_frame}
 use Rattle.sub_rules.specs.Kept.{IsRight}
 use Rattle.sub_rules.specs.PacketRules.{KeepsAllRules}
 use Rattle.sub_rules.specs.Repeats.{IsDueWithin}
@@ -110,8 +110,8 @@ module _ (frames : Transmission) (n f : ℕ) (some : 0 < n) (fits : n ≤ length
 module _ (programme : ProgrammeValue) (options : OptionsValue) (unread : Option Unread)
     (frames : Transmission) where
   -- What the transmission is checked against.
-  abbrev g : Task
-  g = task_of programme options unread
+  abbrev g : Criteria
+  g = criteria_of programme options unread
 
   -- What is kept in cell x after the first n frames.
   abbrev code_at : ℕ → ℕ × ℕ → ℕ
@@ -180,11 +180,11 @@ module _ (programme : ProgrammeValue) (options : OptionsValue) (unread : Option 
         cell_is.is_cell
 
     -- Whether the end is late goes by these frames.
-    late_same : is_late (task_of programme options None) read (length read) f
+    late_same : is_late (criteria_of programme options None) read (length read) f
         ≡ is_late g frames n f
     late_same =
         let size : length read ≡ n = length-take-le n frames r.fits in
-        ap (λ (k : ℕ). is_late (task_of programme options None) read k f) size
+        ap (λ (k : ℕ). is_late (criteria_of programme options None) read k f) size
         ∙ sym
         (is_late-prefix g None read (drop n frames) n f (omega (arith, size, r.some))
         (omega (arith, size)))

@@ -18,8 +18,8 @@ use Rattle.sub_rules.specs.Events.{is_short, late_events, latest, nothing_stands
 use Rattle.sub_rules.specs.Events.{packet_events, packet_fault, packets_told, rest_events}
 use Rattle.sub_rules.specs.Events.{rule_events, rules_told, standing_at, standing_before}
 use Rattle.sub_rules.specs.Events.{unread_fault}
-use Rattle.sub_rules.specs.FrameRules.{HasHeader, Task, Unread, end_frame, frame_at, packets_before}
-use Rattle.sub_rules.specs.FrameRules.{packets_of_frame}
+use Rattle.sub_rules.specs.FrameRules.{Criteria, HasHeader, Unread, end_frame, frame_at}
+use Rattle.sub_rules.specs.FrameRules.{packets_before, packets_of_frame}
 use Rattle.sub_rules.specs.PacketRules.{AreClean, KeepsAllRules}
 use Rattle.sub_rules.specs.Transmission.{EachPacket, Transmission}
 use Rattle.sub_rules.specs.declared.end_rule.EndRule.{EndRule}
@@ -94,7 +94,7 @@ is_plain f = true
 
 -- How each refusal is named: a plain one; that of what is unread; and that of a wrong cell, where
 -- the frames are read up to there.
-module _ (g : Task) (frames : Transmission) (Named : CheckFault → Type 0)
+module _ (g : Criteria) (frames : Transmission) (Named : CheckFault → Type 0)
     (plain : (f : CheckFault) → is_plain f ≡ true → Named f)
     (unread : (u : Unread) → g.unread ≡ Some u → Named (unread_fault (length frames) (Some u)))
     (wrong : (n f : ℕ) (x : ℕ × ℕ) → IsReadTo g frames n f → broken_cell g frames n f ≡ Some x

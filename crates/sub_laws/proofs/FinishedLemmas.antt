@@ -15,11 +15,11 @@ use Rattle.sub_plan.specs.Schedule.{due_in}
 use Rattle.sub_rules.specs.Events.{is_incomplete, is_late, is_overdue}
 use Rattle.sub_rules.specs.Events.{is_unfinished, unfinished_since}
 use Rattle.sub_rules.specs.Events.{wrong_cell}
-use Rattle.sub_rules.specs.FrameRules.{Task, Unread, end_frame, frame_at}
+use Rattle.sub_rules.specs.FrameRules.{Criteria, Unread, end_frame, frame_at}
 use Rattle.sub_rules.specs.Kept.{IsRight}
 use Rattle.sub_rules.specs.Repeats.{IsFinishedBy}
 use Rattle.sub_rules.specs.Transmission.{Transmission}
-use Rattle.sub_laws.specs.CleanStretch.{IsEnd, task_unsure}
+use Rattle.sub_laws.specs.CleanStretch.{IsEnd, criteria_unsure}
 use Rattle.sub_laws.proofs.PlaceLemmas.{not_not}
 use Rattle.sub_laws.proofs.PrefixLemmas.{RiseTo, end_at, end_high, end_is_on_air}
 use Rattle.sub_laws.proofs.StandingLemmas.{incomplete_decided, no_wrong, none_wrong}
@@ -35,10 +35,10 @@ none_is o e = grind (arith, nat_tests)
 -- ---- the end of a frame
 
 module _ (programme : ProgrammeValue) (options : OptionsValue) (unread : Option Unread)
-    (beside : Bool) (undecided : ℕ → Bool) (t : Transmission)
+    (any_refused : Bool) (undecided : ℕ → Bool) (t : Transmission)
     (rises : RiseTo t (length t)) where
-  abbrev g : Task
-  g = task_unsure programme options unread beside undecided
+  abbrev g : Criteria
+  g = criteria_unsure programme options unread any_refused undecided
 
   -- The first frame.
   abbrev first : ℕ

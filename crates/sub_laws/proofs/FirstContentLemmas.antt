@@ -7,23 +7,23 @@ use Rattle.std.proofs.Common.{None, refl, sym, ap, ◌∙◌, arith, append_asso
 use Rattle.std.proofs.lemmas.Option.{same_Some}
 use Rattle.sub_rules.specs.Events.{first_told}
 use Rattle.sub_rules.specs.Fault.{fault_at_pes}
-use Rattle.sub_rules.specs.FrameRules.{Task, Unread}
+use Rattle.sub_rules.specs.FrameRules.{Criteria, Unread}
 use Rattle.sub_rules.specs.FrameRules.Unread.{BadPacket, NoFrame}
-use Rattle.sub_rules.specs.PieceEvents.{all_of_pieces, marks_of_closing, marks_of_each}
-use Rattle.sub_rules.specs.PieceEvents.{marks_of_pieces, marks_of_sent, marks_of_waiting}
-use Rattle.sub_rules.specs.PieceEvents.{sent_by_pieces, told_of_pieces}
+use Rattle.sub_rules.specs.PieceEvents.{all_of_pieces, sent_by_pieces, steps_of_closing}
+use Rattle.sub_rules.specs.PieceEvents.{steps_of_each, steps_of_pieces, steps_of_sent}
+use Rattle.sub_rules.specs.PieceEvents.{steps_of_waiting, told_of_pieces}
 use Rattle.sub_rules.specs.Pieces.{Piece, frames_of, joined, read_until_passed, sent_after}
 use Rattle.sub_rules.specs.Pieces.Piece.{Passed, Sent}
 use Rattle.sub_rules.specs.Transmission.{SentFrame, Transmission}
-use Rattle.sub_rules.specs.Trusted.Mark.{AtPes, Says}
+use Rattle.sub_rules.specs.Trusted.CheckStep.{AtPes, Says}
 use Rattle.sub_rules.specs.declared.event.Event.{Event}
 use Rattle.sub_rules.specs.declared.event.Event.TheVariants.{Told}
 use Rattle.sub_rules.specs.declared.fault.CheckFault.{CheckFault}
 use Rattle.sub_rules.specs.declared.fault.CheckFault.TheVariants as fault
-use Rattle.sub_rules.proofs.MarkEventLemmas.{first_of_two, marks_first, said_by}
+use Rattle.sub_rules.proofs.StepEventLemmas.{first_of_two, said_by, steps_first}
 use Rattle.sub_rules.proofs.PieceEventLemmas.{all_first}
 use Rattle.sub_laws.proofs.SaidLemmas.{pieces_said, said, said-append}
-use Rattle.sub_rules.specs.Trusted.{Mark, at_pes, pes_told}
+use Rattle.sub_rules.specs.Trusted.{CheckStep, at_pes, pes_told}
 use Rattle.sub_rules.proofs.FrameEvents.{events}
 
 -- ---- pieces
@@ -68,7 +68,7 @@ module _ (frame row column : ℕ) where
   rest_first : (xs ys : List Event) → first_told xs ≡ None → IsFirst ys → IsFirst (xs ++ ys)
   rest_first xs ys none e = first_of_two xs ys ∙ rw (none, e) refl
 
-  -- ---- marks
+  -- ---- steps
 
   -- What is told of PES packet `pes` is a wrong cell exactly where what is said is.
   cell_told : (pes : ℕ) (f : CheckFault)
@@ -77,7 +77,7 @@ module _ (frame row column : ℕ) where
   cell_told pes f e = grind (arith, nat_tests)
 
   -- So it is said first of no PES packet.
-  said_first : (pes : ℕ) (ms : List Mark) → IsFirst (said_by pes ms) → IsFirst (said ms)
+  said_first : (pes : ℕ) (ms : List CheckStep) → IsFirst (said_by pes ms) → IsFirst (said ms)
   unfolding at_pes
   said_first pes [] e = e
   said_first pes (Says (Told f) ∷ ms) e =
@@ -88,7 +88,7 @@ module _ (frame row column : ℕ) where
 
   -- ---- all pieces
 
-  module _ (g : Task) where
+  module _ (g : Criteria) where
     -- One that is sent: it is told of it, or later.
     module _ (sent : Transmission) (pes : ℕ) (s : SentFrame) (pieces : List Piece)
         (rest : List Event) where
@@ -96,13 +96,13 @@ module _ (frame row column : ℕ) where
       next = sent_after g.within sent s
 
       abbrev own : List Event
-      own = said (marks_of_sent g sent pes s)
+      own = said (steps_of_sent g sent pes s)
 
-      abbrev later : List Mark
-      later = marks_of_each g next (suc pes) pieces
+      abbrev later : List CheckStep
+      later = steps_of_each g next (suc pes) pieces
 
-      abbrev fewer : List Mark
-      fewer = marks_of_each g next (suc pes) (front pieces)
+      abbrev fewer : List CheckStep
+      fewer = steps_of_each g next (suc pes) (front pieces)
 
       abbrev IsLater : Type 0
       IsLater = (front pieces ≡ pieces) ⊎ IsFirst (said fewer)
@@ -110,13 +110,13 @@ module _ (frame row column : ℕ) where
       abbrev IsTold : Type 0
       IsTold =
           (Sent s ∷ front pieces ≡ Sent s ∷ pieces)
-          ⊎ IsFirst (said (marks_of_sent g sent pes s ++ fewer))
+          ⊎ IsFirst (said (steps_of_sent g sent pes s ++ fewer))
 
       by_later : first_told own ≡ None → IsLater → IsTold
       by_later none (inl same) = inl (ap (λ (ps : List Piece). Sent s ∷ ps) same)
       by_later none (inr first) =
           inr
-          (ap first_told (said-append (marks_of_sent g sent pes s) fewer)
+          (ap first_told (said-append (steps_of_sent g sent pes s) fewer)
           ∙ rest_first own (said fewer) none first)
 
       by_parts : (IsFirst (said later ++ rest) → IsLater)
@@ -124,27 +124,27 @@ module _ (frame row column : ℕ) where
           → IsTold
       by_parts ih (inl first) =
           inr
-          (ap first_told (said-append (marks_of_sent g sent pes s) fewer)
+          (ap first_told (said-append (steps_of_sent g sent pes s) fewer)
           ∙ front_first own (said fewer) first)
       by_parts ih (inr (none, first)) = by_later none (ih first)
 
       one_more : (IsFirst (said later ++ rest) → IsLater)
-          → IsFirst (said (marks_of_sent g sent pes s ++ later) ++ rest)
+          → IsFirst (said (steps_of_sent g sent pes s ++ later) ++ rest)
           → IsTold
       one_more ih e =
           by_parts ih
           (parts_first own (said later ++ rest)
           (ap first_told
           (sym
-          (ap (λ (es : List Event). es ++ rest) (said-append (marks_of_sent g sent pes s) later)
+          (ap (λ (es : List Event). es ++ rest) (said-append (steps_of_sent g sent pes s) later)
           ∙ append_assoc own (said later) rest))
           ∙ e))
 
     -- A piece that is passed over tells no wrong cell: all are sent, or it is told before.
     front_told : (sent : Transmission) (pes : ℕ) (pieces : List Piece) (rest : List Event)
-        → IsFirst (said (marks_of_each g sent pes pieces) ++ rest)
-        → (front pieces ≡ pieces) ⊎ IsFirst (said (marks_of_each g sent pes (front pieces)))
-    unfolding front marks_of_each
+        → IsFirst (said (steps_of_each g sent pes pieces) ++ rest)
+        → (front pieces ≡ pieces) ⊎ IsFirst (said (steps_of_each g sent pes (front pieces)))
+    unfolding front steps_of_each
     front_told sent pes [] rest e = inl refl
     front_told sent pes (Passed (BadPacket f) ∷ pieces) rest e = cc
     front_told sent pes (Passed NoFrame ∷ pieces) rest e = cc
@@ -156,12 +156,12 @@ module _ (frame row column : ℕ) where
     abbrev after_each : List Piece → List Event
     after_each pieces =
         let frames = sent_by_pieces g pieces in
-        said (marks_of_waiting g frames)
-        ++ said (marks_of_closing g frames (length pieces) (length frames))
+        said (steps_of_waiting g frames)
+        ++ said (steps_of_closing g frames (length pieces) (length frames))
 
     said_all : (pieces : List Piece)
-        → said (marks_of_pieces g pieces)
-        ≡ said (marks_of_each g [] 0 pieces) ++ after_each pieces
+        → said (steps_of_pieces g pieces)
+        ≡ said (steps_of_each g [] 0 pieces) ++ after_each pieces
     said_all pieces = grind (arith, nat_tests, said-append, said, append_assoc)
 
     -- Where a wrong cell is told first, it is of the frames that are read up to the first piece
@@ -177,17 +177,17 @@ module _ (frame row column : ℕ) where
         ∙ of_front
         (front_told [] 0 pieces (after_each pieces) (ap first_told (sym (said_all pieces)) ∙ told))
       where
-        told : IsFirst (said (marks_of_pieces g pieces))
+        told : IsFirst (said (steps_of_pieces g pieces))
         told =
-            let marks = marks_of_pieces g pieces in
-            said_first 0 marks
-            (sym (all_first (told_of_pieces g pieces) ∙ marks_first [] marks) ∙ e)
+            let steps = steps_of_pieces g pieces in
+            said_first 0 steps
+            (sym (all_first (told_of_pieces g pieces) ∙ steps_first [] steps) ∙ e)
 
-        of_front : (front pieces ≡ pieces) ⊎ IsFirst (said (marks_of_each g [] 0 (front pieces)))
-            → IsFirst (said (marks_of_pieces g (front pieces)))
+        of_front : (front pieces ≡ pieces) ⊎ IsFirst (said (steps_of_each g [] 0 (front pieces)))
+            → IsFirst (said (steps_of_pieces g (front pieces)))
         of_front (inl same) =
-            ap (λ (ps : List Piece). first_told (said (marks_of_pieces g ps))) same ∙ told
+            ap (λ (ps : List Piece). first_told (said (steps_of_pieces g ps))) same ∙ told
         of_front (inr first) =
             ap first_told (said_all (front pieces))
-            ∙ front_first (said (marks_of_each g [] 0 (front pieces))) (after_each (front pieces))
+            ∙ front_first (said (steps_of_each g [] 0 (front pieces))) (after_each (front pieces))
             first

@@ -2,28 +2,28 @@
 -- What is asked of a transmission, frame by frame of the list.
 use Rattle.std.proofs.Common.{◌≡◌, ℕ, ◌+◌, ◌-◌, ◌<◌, ◌≤◌, ◌⊎◌, length, Some, None, IsFalse}
 use Rattle.sub_rules.specs.Events.{is_pending, nothing_stands, standing_at}
-use Rattle.sub_rules.specs.FrameRules.{HasHeader, Task, end_frame, frame_at, packets_of_frame}
+use Rattle.sub_rules.specs.FrameRules.{Criteria, HasHeader, end_frame, frame_at, packets_of_frame}
 use Rattle.sub_rules.specs.PacketRules.{KeepsAllRules}
 use Rattle.sub_rules.specs.Transmission.{Transmission}
 use Rattle.sub_laws.proofs.PrefixLemmas.{IsInGap, before, packet_at}
 
 -- Nothing stands broken after n frames of the list, at the end of frame f.
-abbrev pub IsQuiet : Task → Transmission → ℕ → ℕ → Type 0
+abbrev pub IsQuiet : Criteria → Transmission → ℕ → ℕ → Type 0
 IsQuiet g frames n f = standing_at g frames n f ≡ nothing_stands
 
 -- The number of frame i of the list is as asked.
-pub record OrderOk (g : Task) (frames : Transmission) (i : ℕ) : Type 0 where
+pub record OrderOk (g : Criteria) (frames : Transmission) (i : ℕ) : Type 0 where
   pub start : i ≡ 0 → (first : ℕ) → g.first_in ≡ Some first → frame_at frames 0 ≤ first
   pub rises : 0 < i → frame_at frames (i - 1) < frame_at frames i
 
 -- The first k packets of frame i of the list keep all rules.
-abbrev pub PacketsOk : Task → Transmission → ℕ → ℕ → Type 0
+abbrev pub PacketsOk : Criteria → Transmission → ℕ → ℕ → Type 0
 PacketsOk g frames i k =
     (j : ℕ) → j < k → KeepsAllRules g.watched (before frames i j) (packet_at frames i j)
 
 -- All that is asked of frame i of the list: of its number, of the frames of the day before it, of
 -- its packets, of its header, and at its end.
-pub record FrameOk (g : Task) (frames : Transmission) (i : ℕ) : Type 0 where
+pub record FrameOk (g : Criteria) (frames : Transmission) (i : ℕ) : Type 0 where
   pub order : OrderOk g frames i
   pub gap : (f : ℕ) → IsInGap frames i f → IsQuiet g frames i f
   pub packets : PacketsOk g frames i (length (packets_of_frame frames i))
@@ -31,11 +31,11 @@ pub record FrameOk (g : Task) (frames : Transmission) (i : ℕ) : Type 0 where
   pub end : IsQuiet g frames (i + 1) (frame_at frames i)
 
 -- All that is asked of the first n frames of the list holds.
-abbrev pub AreOk : Task → Transmission → ℕ → Type 0
+abbrev pub AreOk : Criteria → Transmission → ℕ → Type 0
 AreOk g frames n = (j : ℕ) → j < n → FrameOk g frames j
 
 -- All that is asked holds.
-pub record AllOk (g : Task) (frames : Transmission) : Type 0 where
+pub record AllOk (g : Criteria) (frames : Transmission) : Type 0 where
   pub each : AreOk g frames (length frames)
   pub unread : g.unread ≡ None
   pub some : 0 < length frames
@@ -44,7 +44,7 @@ pub record AllOk (g : Task) (frames : Transmission) : Type 0 where
 
 -- The first n frames are read up to the end of frame f of the day: they rise up to it, their
 -- packets keep all rules, and the first has a header of the page.
-pub record IsReadTo (g : Task) (frames : Transmission) (n f : ℕ) : Type 0 where
+pub record IsReadTo (g : Criteria) (frames : Transmission) (n f : ℕ) : Type 0 where
   pub some : 0 < n
   pub fits : n ≤ length frames
   pub rises : (i : ℕ) → 0 < i → i < n → frame_at frames (i - 1) < frame_at frames i

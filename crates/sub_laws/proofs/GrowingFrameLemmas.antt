@@ -6,17 +6,18 @@ use Rattle.std.proofs.Common.{◌≡◌, ℕ, suc, ◌+◌, ◌<◌, true, false
 use Rattle.std.proofs.Common.{length, refl, sym, ap, ◌∙◌, arith, append_assoc, append-nil}
 use Rattle.std.proofs.Common.{length-append, le_refl, ◌==◌, ◌≤◌}
 use Rattle.std.proofs.lemmas.Bool.Decides.{nat_tests}
-use Rattle.sub_rules.specs.FrameRules.{Task, end_frame, frame_at, packets_before, packets_of_frame}
-use Rattle.sub_rules.specs.PieceEvents.{marks_of_arrival, marks_of_ending}
+use Rattle.sub_rules.specs.FrameRules.{Criteria, end_frame, frame_at, packets_before}
+use Rattle.sub_rules.specs.FrameRules.{packets_of_frame}
+use Rattle.sub_rules.specs.PieceEvents.{steps_of_arrival, steps_of_ending}
 use Rattle.sub_rules.specs.Pieces.{goes_on_with, joined_after, sent_after, with_packets}
 use Rattle.sub_rules.specs.Transmission.{SentFrame, Transmission}
-use Rattle.sub_rules.proofs.FirstFrameLemmas.{marks_of_arrival-same}
+use Rattle.sub_rules.proofs.FirstFrameLemmas.{steps_of_arrival-same}
 use Rattle.sub_rules.proofs.FrameLists.{joined_more}
 use Rattle.sub_rules.proofs.JoinedLemmas.{joined_after-none, with_more, with_packets-before}
 use Rattle.sub_rules.proofs.JoinedLemmas.{with_packets-frame_at, with_packets-frames}
 use Rattle.sub_rules.proofs.JoinedLemmas.{with_packets-length, with_packets-push, with_packets-take}
-use Rattle.sub_rules.proofs.PrefixEventLemmas.{frame_at-prefix, marks_of_arrival-prefix}
-use Rattle.sub_rules.proofs.PrefixEventLemmas.{marks_of_ending-prefix, packets_before-prefix}
+use Rattle.sub_rules.proofs.PrefixEventLemmas.{frame_at-prefix, steps_of_arrival-prefix}
+use Rattle.sub_rules.proofs.PrefixEventLemmas.{steps_of_ending-prefix, packets_before-prefix}
 use Rattle.sub_rules.proofs.PrefixEventLemmas.{packets_of_frame-prefix}
 
 -- ---- more packets of the last frame
@@ -109,7 +110,7 @@ so_many sent frames is = grind (arith, nat_tests, length-append, with_packets-le
 
 -- ---- what comes of them
 
-module _ (g : Task) (sent frames : Transmission) (is : Grows sent frames) (n : ℕ)
+module _ (g : Criteria) (sent frames : Transmission) (is : Grows sent frames) (n : ℕ)
     (size : length sent ≡ suc n)
   where
     abbrev all : Transmission
@@ -137,21 +138,21 @@ module _ (g : Task) (sent frames : Transmission) (is : Grows sent frames) (n : �
     pub end_is : end_frame sent ≡ frame_at frames n
     end_is = grind (arith, nat_tests, frame_is)
 
-    pub arrival_is : marks_of_arrival g sent n ≡ marks_of_arrival g frames n
+    pub arrival_is : steps_of_arrival g sent n ≡ steps_of_arrival g frames n
     arrival_is =
-        marks_of_arrival-same g sent all n (sym (with_packets-frames is.rest sent))
+        steps_of_arrival-same g sent all n (sym (with_packets-frames is.rest sent))
         (sym (with_packets-take is.rest sent n (omega (arith, size)))) n (le_refl n)
-        ∙ sym (marks_of_arrival-prefix g g.unread all is.more n (omega (arith, all_long)))
-        ∙ ap (λ (fs : Transmission). marks_of_arrival g fs n) (sym is.whole)
+        ∙ sym (steps_of_arrival-prefix g g.unread all is.more n (omega (arith, all_long)))
+        ∙ ap (λ (fs : Transmission). steps_of_arrival g fs n) (sym is.whole)
 
 -- A frame before others, as it is.
-module _ (g : Task) (sent more frames : Transmission) (whole : frames ≡ sent ++ more) (n : ℕ)
+module _ (g : Criteria) (sent more frames : Transmission) (whole : frames ≡ sent ++ more) (n : ℕ)
     (there : n < length sent)
   where
-    pub ending_is : marks_of_ending g sent n ≡ marks_of_ending g frames n
+    pub ending_is : steps_of_ending g sent n ≡ steps_of_ending g frames n
     ending_is =
-        sym (marks_of_ending-prefix g g.unread sent more n there)
-        ∙ ap (λ (fs : Transmission). marks_of_ending g fs n) (sym whole)
+        sym (steps_of_ending-prefix g g.unread sent more n there)
+        ∙ ap (λ (fs : Transmission). steps_of_ending g fs n) (sym whole)
 
     pub packets_are : packets_of_frame sent n ≡ packets_of_frame frames n
     packets_are = grind (arith, nat_tests, packets_of_frame-prefix)

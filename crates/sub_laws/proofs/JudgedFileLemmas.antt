@@ -11,13 +11,13 @@ use Rattle.stl_file.specs.TakenOut.{LawOfScope, all_day, is_read_whole, taken_ou
 use Rattle.stl_file.specs.TakenOut.{unnumbered}
 use Rattle.stl_rows.specs.declared.layout.Drawing.{Drawing}
 use Rattle.stl_rows.specs.DrawnPage.{drawn}
-use Rattle.stl_rows.specs.Judged.{AllJudged, are_in_order, are_some, is_beside}
+use Rattle.stl_rows.specs.Judged.{AllJudged, are_in_order, are_some, has_refused}
 use Rattle.stl_rows.specs.Judged.{is_followed_in_order, judged_behind, judged_of}
 use Rattle.stl_rows.specs.Loading.{of_day}
 use Rattle.stl_rows.specs.Programme.{ProgrammeValue, times_of}
-use Rattle.sub_rules.specs.FrameRules.{is_undecided_beside}
+use Rattle.sub_rules.specs.FrameRules.{is_due_undecided}
 use Rattle.sub_rules.specs.PieceEvents.{all_of_pieces}
-use Rattle.sub_laws.specs.CleanStretch.{task_unsure}
+use Rattle.sub_laws.specs.CleanStretch.{criteria_unsure}
 use Rattle.sub_laws.specs.JudgedFiles.{LawOfJudgedAlike, LawOfJudgedParts}
 
 -- ---- a part of a file
@@ -118,18 +118,19 @@ judged_parts law drawing gsi blocks size each read =
 
 -- ---- two files
 
--- The tasks are one, since equal functions are.
+-- The criteria are the same, since equal functions are.
 pub law_of_judged_alike : LawOfJudgedAlike
-law_of_judged_alike one other options unread pieces programme beside undecided =
+law_of_judged_alike one other options unread pieces programme any_refused undecided =
     ap
     (λ (p : ProgrammeValue).
-    all_of_pieces (task_unsure p options unread (is_beside one) (is_undecided_beside one)) pieces)
+    all_of_pieces (criteria_unsure p options unread (has_refused one) (is_due_undecided one))
+    pieces)
     programme
     ∙ ap
     (λ (b : Bool).
-    all_of_pieces (task_unsure other.programme options unread b (is_undecided_beside one)) pieces)
-    beside
+    all_of_pieces (criteria_unsure other.programme options unread b (is_due_undecided one)) pieces)
+    any_refused
     ∙ ap
     (λ (u : ℕ → Bool).
-    all_of_pieces (task_unsure other.programme options unread (is_beside other) u) pieces)
+    all_of_pieces (criteria_unsure other.programme options unread (has_refused other) u) pieces)
     (fun_ext undecided)

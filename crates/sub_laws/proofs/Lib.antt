@@ -16,7 +16,6 @@ pub mod GoodLemmas
 pub mod GrowingFrameLemmas
 pub mod JoinedRisingLemmas
 pub mod JudgedFileLemmas
-pub mod MarkTestLemmas
 pub mod NoneKeepsLemmas
 pub mod NothingToldLemmas
 pub mod OldTextLemmas
@@ -33,6 +32,7 @@ pub mod SaidLemmas
 pub mod SoundStretchLemmas
 pub mod SoundUntoldLemmas
 pub mod StandingLemmas
+pub mod StepTestLemmas
 pub mod StretchLemmas
 pub mod SufficientDelayLemmas
 pub mod ToldLemmas

@@ -10,7 +10,7 @@ use Rattle.sub_plan.specs.Schedule.{due_in}
 use Rattle.sub_rules.specs.FrameRules.{Unread}
 use Rattle.sub_rules.specs.Transmission.{Transmission, on_air_until}
 use Rattle.sub_rules.specs.declared.end_rule.EndRule.TheVariants.{Incomplete}
-use Rattle.sub_laws.specs.CleanStretch.{IsUntold, LawOfUntoldStretch, NoneOpen, task_unsure}
+use Rattle.sub_laws.specs.CleanStretch.{IsUntold, LawOfUntoldStretch, NoneOpen, criteria_unsure}
 use Rattle.sub_laws.specs.OnScreen.{CompleteWithin}
 use Rattle.sub_laws.specs.Sufficient.{IsSufficient}
 use Rattle.sub_laws.specs.ToldRepeats.{IsSufficientRepeats}
@@ -40,17 +40,17 @@ sufficient_of programme transmission options a b none at_once enough =
 -- Where the page is open at no end of a stretch of which nothing is told, pages are complete in it.
 pub complete_untold :
     (programme : ProgrammeValue) (transmission : Transmission) (options : OptionsValue)
-    → (unread : Option Unread) (beside : Bool) (undecided : ℕ → Bool) (a b : ℕ)
+    → (unread : Option Unread) (any_refused : Bool) (undecided : ℕ → Bool) (a b : ℕ)
     → options.within ≡ 0
-    → IsUntold (task_unsure programme options unread beside undecided) transmission a b
+    → IsUntold (criteria_unsure programme options unread any_refused undecided) transmission a b
     → IsTrue options.asks_complete
-    → NoneOpen (task_unsure programme options unread beside undecided) transmission a b
+    → NoneOpen (criteria_unsure programme options unread any_refused undecided) transmission a b
     → CompleteWithin transmission options a b
-complete_untold programme transmission options unread beside undecided a b at_once untold asks
+complete_untold programme transmission options unread any_refused undecided a b at_once untold asks
     closed f low high holds =
-    let g = task_unsure programme options unread beside undecided in
+    let g = criteria_unsure programme options unread any_refused undecided in
     let end =
-    end_of programme transmission options unread beside undecided a b untold f low high in
+    end_of programme transmission options unread any_refused undecided a b untold f low high in
     let shut =
     ((stands_broken g transmission end.0 f at_once end.1.1).rules Incomplete).0
     (rw (closed end.0 f end.1 low high) refl)
@@ -59,9 +59,11 @@ complete_untold programme transmission options unread beside undecided a b at_on
 
 -- So it has what suffices, within no frame.
 pub law_of_untold_stretch : LawOfUntoldStretch
-law_of_untold_stretch programme transmission options unread beside undecided a b none at_once untold
+law_of_untold_stretch programme transmission options unread any_refused undecided a b none at_once
+    untold
     = (
       sufficient_of programme transmission options a b none at_once
-          (enough_repeats programme options unread beside undecided transmission a b untold),
-      complete_untold programme transmission options unread beside undecided a b at_once untold,
+          (enough_repeats programme options unread any_refused undecided transmission a b untold),
+      complete_untold programme transmission options unread any_refused undecided a b at_once
+          untold,
     )

@@ -2,7 +2,7 @@
 -- What is told of pieces goes by what is told of the frames that they send: the laws.
 use Rattle.std.proofs.Common.{◌≡◌, List, [], ◌∷◌, map, refl, sym, ap, ◌∙◌, subst}
 use Rattle.ttx_packet.specs.PacketAddress.{IsPacket}
-use Rattle.sub_rules.specs.FrameRules.{Task, task_of}
+use Rattle.sub_rules.specs.FrameRules.{Criteria, criteria_of}
 use Rattle.sub_rules.specs.PieceEvents.{sent_by_pieces}
 use Rattle.sub_rules.specs.Pieces.{Piece, frames_of}
 use Rattle.sub_rules.specs.Pieces.Piece.{Sent}
@@ -36,7 +36,7 @@ law_of_broken_places g frames at_once =
 
 pub law_of_nothing_told : LawOfNothingTold
 law_of_nothing_told programme options unread pieces erasing at_once some whole =
-    let g : Task = task_of programme options unread in
+    let g : Criteria = criteria_of programme options unread in
     let told = pieces_untold g pieces refl in
     let same : sent_by_pieces g pieces ≡ frames_of pieces =
     joined-within g.within (frames_of pieces) at_once in
@@ -56,7 +56,7 @@ law_of_nothing_told programme options unread pieces erasing at_once some whole =
 
 pub law_of_nothing_told_repeats : LawOfNothingToldRepeats
 law_of_nothing_told_repeats programme options unread pieces is every whole =
-    let g : Task = task_of programme options unread in
+    let g : Criteria = criteria_of programme options unread in
     let told = pieces_untold g pieces refl in
     let sent = sent_by_pieces g pieces in
     let law = none_told_repeats programme options unread sent is every whole in (

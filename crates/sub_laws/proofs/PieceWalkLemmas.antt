@@ -1,5 +1,5 @@
 -- For what is told and what may stay.
--- What comes of pieces, followed mark after mark: with the frames that they send, each of which
+-- What comes of pieces, followed step after step: with the frames that they send, each of which
 -- ends, and with those that are passed over. What is kept meanwhile is any value, X, and what it is
 -- once what follows is told of another PES packet, `told_of`. Main lemmas: `each_piece`;
 -- `waits`. The last frame waits.
@@ -10,16 +10,16 @@ use Rattle.std.proofs.Common.{arith, append-nil, cond, length-append, if◌then�
 use Rattle.std.proofs.lemmas.Bool.{true≢false}
 use Rattle.std.specs.Prelude.{⊤}
 use Rattle.sub_rules.specs.Events.{packets_told, unread_fault}
-use Rattle.sub_rules.specs.FrameRules.{Task, Unread, end_frame, frame_at, packets_before}
+use Rattle.sub_rules.specs.FrameRules.{Criteria, Unread, end_frame, frame_at, packets_before}
 use Rattle.sub_rules.specs.FrameRules.{packets_of_frame}
-use Rattle.sub_rules.specs.PieceEvents.{marks_of_arrival, marks_of_each, marks_of_ending}
-use Rattle.sub_rules.specs.PieceEvents.{marks_of_more, marks_of_next, marks_of_sent}
-use Rattle.sub_rules.specs.PieceEvents.{marks_of_waiting}
+use Rattle.sub_rules.specs.PieceEvents.{steps_of_arrival, steps_of_each, steps_of_ending}
+use Rattle.sub_rules.specs.PieceEvents.{steps_of_more, steps_of_next, steps_of_sent}
+use Rattle.sub_rules.specs.PieceEvents.{steps_of_waiting}
 use Rattle.sub_rules.specs.Pieces.{Piece, frames_of, goes_on_with, joined_after, sent_after}
 use Rattle.sub_rules.specs.Pieces.{with_packets}
 use Rattle.sub_rules.specs.Pieces.Piece.{Passed, Sent}
 use Rattle.sub_rules.specs.Transmission.{SentFrame, Transmission}
-use Rattle.sub_rules.specs.Trusted.Mark.{AtPes, Says}
+use Rattle.sub_rules.specs.Trusted.CheckStep.{AtPes, Says}
 use Rattle.sub_rules.specs.declared.event.Event.{Event}
 use Rattle.sub_rules.specs.declared.event.Event.TheVariants.{Told}
 use Rattle.sub_rules.proofs.JoinedLemmas.{with_packets-last, with_packets-length}
@@ -27,10 +27,10 @@ use Rattle.sub_rules.proofs.PrefixEventLemmas.{packets_of_frame-prefix}
 use Rattle.sub_laws.proofs.GrowingFrameLemmas.{Grows, arrival_is, before_is, end_is, ending_is}
 use Rattle.sub_laws.proofs.GrowingFrameLemmas.{frame_is, goes_on_some, grown, grows, grows_before}
 use Rattle.sub_laws.proofs.GrowingFrameLemmas.{long, packets_are, so_far, whole_at_once}
-use Rattle.sub_rules.specs.Trusted.{Mark}
+use Rattle.sub_rules.specs.Trusted.{CheckStep}
 
 -- So many packets of the last frame are there in the end, and more.
-packets_grow : (g : Task) (sent frames : Transmission) (is : Grows sent frames) (n : ℕ)
+packets_grow : (g : Criteria) (sent frames : Transmission) (is : Grows sent frames) (n : ℕ)
     → length sent ≡ suc n
     → packets_of_frame frames n ≡ packets_of_frame sent n ++ is.rest
 packets_grow g sent frames is n size =
@@ -43,15 +43,15 @@ EachPassed within Q sent [] = ⊤
 EachPassed within Q sent (Sent s ∷ ahead) = EachPassed within Q (sent_after within sent s) ahead
 EachPassed within Q sent (Passed u ∷ ahead) = Q sent × EachPassed within Q sent ahead
 
-module _ (X : Type 0) (told_of : ℕ → X → X) (g : Task) (frames : Transmission)
-    (T : (X → Type 0) → X → List Mark → Type 0)
+module _ (X : Type 0) (told_of : ℕ → X → X) (g : Criteria) (frames : Transmission)
+    (T : (X → Type 0) → X → List CheckStep → Type 0)
     (C : ℕ → X → Type 0)
     (O : ℕ → List (List ℕ) → X → Type 0)
     (Q : Transmission → Type 0)
   where
     -- What is told of a piece that is passed over.
-    abbrev pub passed_marks : ℕ → Unread → List Mark
-    passed_marks pes u = map Says (Told (unread_fault pes (Some u)) ∷ [])
+    abbrev pub passed_steps : ℕ → Unread → List CheckStep
+    passed_steps pes u = map Says (Told (unread_fault pes (Some u)) ∷ [])
 
     -- It goes on, T, with what comes of a frame: from where so many frames have ended, C, over
     -- where the next one is sent, O, and these packets in it, to its end; and with a piece that is
@@ -66,7 +66,7 @@ module _ (X : Type 0) (told_of : ℕ → X → X) (g : Task) (frames : Transmiss
           (n : ℕ) (t : X)
           → n < length frames
           → C n t
-          → T (O n []) t (marks_of_arrival g frames n)
+          → T (O n []) t (steps_of_arrival g frames n)
       pub more :
           (n : ℕ) (packets more rest : List (List ℕ)) (t : X)
           → n < length frames
@@ -80,20 +80,20 @@ module _ (X : Type 0) (told_of : ℕ → X → X) (g : Task) (frames : Transmiss
           (n : ℕ) (t : X)
           → n < length frames
           → O n (packets_of_frame frames n) t
-          → T (C (suc n)) t (marks_of_ending g frames n)
+          → T (C (suc n)) t (steps_of_ending g frames n)
       pub passed_ended :
           (sent : Transmission) (pes : ℕ) (u : Unread) (t : X)
           → Grows sent frames
           → Q sent
           → C (length sent) t
-          → T (C (length sent)) t (passed_marks pes u)
+          → T (C (length sent)) t (passed_steps pes u)
       pub passed_open :
           (sent : Transmission) (n pes : ℕ) (u : Unread) (t : X)
           → Grows sent frames
           → length sent ≡ suc n
           → Q sent
           → O n (packets_of_frame sent n) t
-          → T (O n (packets_of_frame sent n)) t (passed_marks pes u)
+          → T (O n (packets_of_frame sent n)) t (passed_steps pes u)
 
     -- What is kept while these frames are sent so far: all have ended, as each does at once, or
     -- none was sent; or the last one may go on.
@@ -106,16 +106,16 @@ module _ (X : Type 0) (told_of : ℕ → X → X) (g : Task) (frames : Transmiss
         × O n (packets_of_frame sent n) t)
 
     module _ (nil : (S : X → Type 0) (t : X) → S t → T S t [])
-        (at_pes : (S : X → Type 0) (t : X) (pes : ℕ) (ms : List Mark)
+        (at_pes : (S : X → Type 0) (t : X) (pes : ℕ) (ms : List CheckStep)
         → T S (told_of pes t) ms
         → T S t (AtPes pes ∷ ms))
-        (append : (S U : X → Type 0) (t : X) (xs ys : List Mark)
+        (append : (S U : X → Type 0) (t : X) (xs ys : List CheckStep)
         → T S t xs
         → ((u : X) → S u → T U u ys)
         → T U t (xs ++ ys))
         (steps : Steps)
       where
-        and_so : (S U : X → Type 0) (t : X) (ms : List Mark) → T S t ms
+        and_so : (S U : X → Type 0) (t : X) (ms : List CheckStep) → T S t ms
             → ((u : X) → S u → U u)
             → T U t ms
         and_so S U t ms is so =
@@ -129,7 +129,7 @@ module _ (X : Type 0) (told_of : ℕ → X → X) (g : Task) (frames : Transmiss
             → Grows (with_packets s.packets sent) frames
             → O n (packets_of_frame sent n) t
             → T (O n (packets_of_frame (with_packets s.packets sent) n)) t
-            (marks_of_more g sent s.packets)
+            (steps_of_more g sent s.packets)
         on_more sent s t n size is after open_here =
             let packets : List (List ℕ) = packets_of_frame sent n in
             let all : Transmission = with_packets s.packets sent in
@@ -149,7 +149,7 @@ module _ (X : Type 0) (told_of : ℕ → X → X) (g : Task) (frames : Transmiss
             let whole : packets_of_frame frames n ≡ packets ++ s.packets ++ after.rest =
             packets_grow g all frames after n (with_packets-length s.packets sent ∙ size)
             ∙ ap (λ (ps : List (List ℕ)). ps ++ after.rest) now in
-            subst (λ (ps : List (List ℕ)). T (O n ps) t (marks_of_more g sent s.packets)) (sym now)
+            subst (λ (ps : List (List ℕ)). T (O n ps) t (steps_of_more g sent s.packets)) (sym now)
             (subst (λ (es : List Event). T (O n (packets ++ s.packets)) t (map Says es)) told
             (steps.more n packets s.packets after.rest t (long g sent frames is n size) whole
             open_here))
@@ -158,12 +158,12 @@ module _ (X : Type 0) (told_of : ℕ → X → X) (g : Task) (frames : Transmiss
         ends : (sent more : Transmission) (t : X) → frames ≡ sent ++ more
             → (n : ℕ) → length sent ≡ suc n
             → O n (packets_of_frame sent n) t
-            → T (C (length sent)) t (marks_of_ending g sent n)
+            → T (C (length sent)) t (steps_of_ending g sent n)
         ends sent more t whole n long_is open_here =
             let there : n < length frames =
             let size = ap (λ (l : Transmission). length l) whole in
             omega (arith, size, length-append sent more) in
-            subst (λ (k : ℕ). T (C k) t (marks_of_ending g sent n)) (sym long_is)
+            subst (λ (k : ℕ). T (C k) t (steps_of_ending g sent n)) (sym long_is)
             (subst (T (C (suc n)) t) (sym (ending_is g sent more frames whole n (omega arith)))
             (steps.ending n t there
             (subst (λ (ps : List (List ℕ)). O n ps t)
@@ -171,22 +171,22 @@ module _ (X : Type 0) (told_of : ℕ → X → X) (g : Task) (frames : Transmiss
 
         -- Within some frames it does where another one comes, or none.
         pub waits : (sent more : Transmission) (t : X) → frames ≡ sent ++ more → Sends sent t
-            → T (C (length sent)) t (marks_of_waiting g sent)
-        unfolding marks_of_waiting
+            → T (C (length sent)) t (steps_of_waiting g sent)
+        unfolding steps_of_waiting
         waits [] more t whole (inl (ended, closed)) = nil (C 0) t closed
         waits [] more t whole (inr (later, n, size, open_here)) = absurd (omega arith)
         waits (s ∷ sent) more t whole (inl (inl at_once, closed)) =
             subst
             (λ (c : Bool). T (C (suc (length sent))) t
-            (if c then [] else marks_of_ending g (s ∷ sent) (length sent))) (sym at_once)
+            (if c then [] else steps_of_ending g (s ∷ sent) (length sent))) (sym at_once)
             (nil (C (suc (length sent))) t closed)
         waits (s ∷ sent) more t whole (inl (inr none, closed)) = absurd (omega arith)
         waits (s ∷ sent) more t whole (inr (later, n, size, open_here)) =
             let last : n ≡ length sent = omega arith in
             subst
             (λ (c : Bool). T (C (suc (length sent))) t
-            (if c then [] else marks_of_ending g (s ∷ sent) (length sent))) (sym later)
-            (subst (λ (k : ℕ). T (C (suc (length sent))) t (marks_of_ending g (s ∷ sent) k)) last
+            (if c then [] else steps_of_ending g (s ∷ sent) (length sent))) (sym later)
+            (subst (λ (k : ℕ). T (C (suc (length sent))) t (steps_of_ending g (s ∷ sent) k)) last
             (ends (s ∷ sent) more t whole n size open_here))
 
         -- Another frame comes.
@@ -194,7 +194,7 @@ module _ (X : Type 0) (told_of : ℕ → X → X) (g : Task) (frames : Transmiss
             → Grows (sent ++ s ∷ []) frames
             → ((g.within == 0) ≡ true → frames ≡ (sent ++ s ∷ []) ++ more)
             → C (length sent) t
-            → T (Sends (sent ++ s ∷ [])) t (marks_of_next g sent s)
+            → T (Sends (sent ++ s ∷ [])) t (steps_of_next g sent s)
         on_next sent more s t is whole closed =
             let n : ℕ = length sent in
             let all : Transmission = sent ++ s ∷ [] in
@@ -213,12 +213,12 @@ module _ (X : Type 0) (told_of : ℕ → X → X) (g : Task) (frames : Transmiss
               frame_is g all frames is n size n (omega arith),
               before_is g all frames is n size,
             ) refl in
-            let first : T (O n []) t (marks_of_arrival g all n) =
+            let first : T (O n []) t (steps_of_arrival g all n) =
             subst (T (O n []) t) (sym (arrival_is g all frames is n size))
             (steps.arrival n t there closed) in
-            append (O n packets) (Sends all) t (marks_of_arrival g all n ++ map Says es)
-            (if g.within == 0 then marks_of_ending g all n else [])
-            (append (O n []) (O n packets) t (marks_of_arrival g all n) (map Says es) first
+            append (O n packets) (Sends all) t (steps_of_arrival g all n ++ map Says es)
+            (if g.within == 0 then steps_of_ending g all n else [])
+            (append (O n []) (O n packets) t (steps_of_arrival g all n) (map Says es) first
             (λ u so.
             subst (λ (l : List Event). T (O n packets) u (map Says l)) told
             (steps.more n [] packets is.rest u there (packets_grow g all frames is n size) so)))
@@ -228,10 +228,10 @@ module _ (X : Type 0) (told_of : ℕ → X → X) (g : Task) (frames : Transmiss
                 → length (sent ++ s ∷ []) ≡ suc (length sent)
                 → O (length sent) (packets_of_frame (sent ++ s ∷ []) (length sent)) u
                 → T (Sends (sent ++ s ∷ [])) u
-                (if at_once then marks_of_ending g (sent ++ s ∷ []) (length sent) else [])
+                (if at_once then steps_of_ending g (sent ++ s ∷ []) (length sent) else [])
             go true at_once u size so =
                 and_so (C (length (sent ++ s ∷ []))) (Sends (sent ++ s ∷ [])) u
-                (marks_of_ending g (sent ++ s ∷ []) (length sent))
+                (steps_of_ending g (sent ++ s ∷ []) (length sent))
                 (ends (sent ++ s ∷ []) more u (whole at_once) (length sent) size so)
                 (λ v closed. inl (inl at_once, closed))
             go false later u size so =
@@ -240,8 +240,8 @@ module _ (X : Type 0) (told_of : ℕ → X → X) (g : Task) (frames : Transmiss
         sent_step : (sent more : Transmission) (pes : ℕ) (s : SentFrame) (t : X)
             → joined_after g.within (sent_after g.within sent s) more ≡ frames
             → Sends sent t
-            → T (Sends (sent_after g.within sent s)) t (marks_of_sent g sent pes s)
-        unfolding marks_of_sent
+            → T (Sends (sent_after g.within sent s)) t (steps_of_sent g sent pes s)
+        unfolding steps_of_sent
         sent_step sent more pes s t all sends =
             go (goes_on_with g.within sent s) refl
             (subst (Grows (sent_after g.within sent s)) all
@@ -256,8 +256,8 @@ module _ (X : Type 0) (told_of : ℕ → X → X) (g : Task) (frames : Transmiss
                 → frames ≡ (cond same (with_packets s.packets sent) (sent ++ s ∷ [])) ++ more)
                 → Sends sent t
                 → T (Sends (cond same (with_packets s.packets sent) (sent ++ s ∷ []))) t
-                (cond same (AtPes pes ∷ marks_of_more g sent s.packets)
-                (marks_of_waiting g sent ++ AtPes pes ∷ marks_of_next g sent s))
+                (cond same (AtPes pes ∷ steps_of_more g sent s.packets)
+                (steps_of_waiting g sent ++ AtPes pes ∷ steps_of_next g sent s))
             go true e is whole (inl (inl at_once, closed)) =
                 let later = (goes_on_some g.within sent s e).0 in
                 absurd (true≢false (sym at_once ∙ later))
@@ -270,18 +270,18 @@ module _ (X : Type 0) (told_of : ℕ → X → X) (g : Task) (frames : Transmiss
                 (λ (b : Bool). Grows (cond b (with_packets s.packets sent) (sent ++ s ∷ [])) frames)
                 (sym e) is) in
                 let all : Transmission = with_packets s.packets sent in
-                at_pes (Sends all) t pes (marks_of_more g sent s.packets)
+                at_pes (Sends all) t pes (steps_of_more g sent s.packets)
                 (and_so (O n (packets_of_frame all n)) (Sends all) (told_of pes t)
-                (marks_of_more g sent s.packets)
+                (steps_of_more g sent s.packets)
                 (on_more sent s (told_of pes t) n size before is
                 (steps.at_open n pes (packets_of_frame sent n) t open_here))
                 (λ u so. inr (later, n, with_packets-length s.packets sent ∙ size, so)))
             go false e is whole sends =
                 let all = grown sent s frames is in
-                append (C (length sent)) (Sends (sent ++ s ∷ [])) t (marks_of_waiting g sent)
-                (AtPes pes ∷ marks_of_next g sent s) (waits sent all.0 t all.1 sends)
+                append (C (length sent)) (Sends (sent ++ s ∷ [])) t (steps_of_waiting g sent)
+                (AtPes pes ∷ steps_of_next g sent s) (waits sent all.0 t all.1 sends)
                 (λ u closed.
-                at_pes (Sends (sent ++ s ∷ [])) u pes (marks_of_next g sent s)
+                at_pes (Sends (sent ++ s ∷ [])) u pes (steps_of_next g sent s)
                 (on_next sent more s (told_of pes u) is whole
                 (steps.at_ended (length sent) pes u closed)))
 
@@ -290,17 +290,17 @@ module _ (X : Type 0) (told_of : ℕ → X → X) (g : Task) (frames : Transmiss
         passed_step : (sent : Transmission) (pes : ℕ) (u : Unread) (t : X) → Grows sent frames
             → Q sent
             → Sends sent t
-            → T (Sends sent) t (AtPes pes ∷ passed_marks pes u)
+            → T (Sends sent) t (AtPes pes ∷ passed_steps pes u)
         passed_step sent pes u t is asked (inl (ended, closed)) =
-            at_pes (Sends sent) t pes (passed_marks pes u)
-            (and_so (C (length sent)) (Sends sent) (told_of pes t) (passed_marks pes u)
+            at_pes (Sends sent) t pes (passed_steps pes u)
+            (and_so (C (length sent)) (Sends sent) (told_of pes t) (passed_steps pes u)
             (steps.passed_ended sent pes u (told_of pes t) is asked
             (steps.at_ended (length sent) pes t closed))
             (λ v so. inl (ended, so)))
         passed_step sent pes u t is asked (inr (later, n, size, open_here)) =
-            at_pes (Sends sent) t pes (passed_marks pes u)
+            at_pes (Sends sent) t pes (passed_steps pes u)
             (and_so (O n (packets_of_frame sent n)) (Sends sent) (told_of pes t)
-            (passed_marks pes u)
+            (passed_steps pes u)
             (steps.passed_open sent n pes u (told_of pes t) is size asked
             (steps.at_open n pes (packets_of_frame sent n) t open_here))
             (λ v so. inr (later, n, size, so)))
@@ -311,19 +311,19 @@ module _ (X : Type 0) (told_of : ℕ → X → X) (g : Task) (frames : Transmiss
             → joined_after g.within sent (frames_of pieces) ≡ frames
             → EachPassed g.within Q sent pieces
             → Sends sent t
-            → T (Sends frames) t (marks_of_each g sent pes pieces)
-        unfolding marks_of_each frames_of joined_after
+            → T (Sends frames) t (steps_of_each g sent pes pieces)
+        unfolding steps_of_each frames_of joined_after
         each_piece sent pes t [] all asked sends =
             nil (Sends frames) t (subst (λ (fs : Transmission). Sends fs t) all sends)
         each_piece sent pes t (Sent s ∷ pieces) all asked sends =
             let next : Transmission = sent_after g.within sent s in
-            append (Sends next) (Sends frames) t (marks_of_sent g sent pes s)
-            (marks_of_each g next (suc pes) pieces)
+            append (Sends next) (Sends frames) t (steps_of_sent g sent pes s)
+            (steps_of_each g next (suc pes) pieces)
             (sent_step sent (frames_of pieces) pes s t all sends)
             (λ u so. each_piece next (suc pes) u pieces all asked so)
         each_piece sent pes t (Passed u ∷ pieces) all asked sends =
             let is : Grows sent frames =
             subst (Grows sent) all (grows g.within sent (frames_of pieces)) in
-            append (Sends sent) (Sends frames) t (AtPes pes ∷ passed_marks pes u)
-            (marks_of_each g sent (suc pes) pieces) (passed_step sent pes u t is asked.0 sends)
+            append (Sends sent) (Sends frames) t (AtPes pes ∷ passed_steps pes u)
+            (steps_of_each g sent (suc pes) pieces) (passed_step sent pes u t is asked.0 sends)
             (λ v so. each_piece sent (suc pes) v pieces all asked.1 so)

@@ -32,8 +32,8 @@ use Rattle.sub_rules.specs.Good.{HoldsHeader, IsCleanSpan, IsEnhancement, IsInOn
 use Rattle.sub_rules.specs.Good.{KeepsPace, Repeats}
 use Rattle.sub_rules.specs.Kept.{ErasesOrRepeats, IsOfSubtitle}
 use Rattle.sub_rules.specs.Repeats.{KeepsRulesBy}
-use Rattle.sub_rules.specs.FrameRules.{HasHeader, IsCovered, Unread, end_frame}
-use Rattle.sub_rules.specs.FrameRules.{frame_at, packets_before, packets_of_frame, task_of, IsPaced}
+use Rattle.sub_rules.specs.FrameRules.{HasHeader, IsCovered, IsPaced, Unread, criteria_of}
+use Rattle.sub_rules.specs.FrameRules.{end_frame, frame_at, packets_before, packets_of_frame}
 use Rattle.sub_rules.specs.FrameRules.{watched_of}
 use Rattle.sub_laws.specs.CleanStretch.{IsEnd}
 use Rattle.sub_laws.proofs.FrameByFrame.{AllOk, FrameOk, IsQuiet}
@@ -128,7 +128,7 @@ first_pick P (x ∷ xs) f e h = go (header x) refl e (λ d. first_pick P xs f d 
 
 module _ (programme : ProgrammeValue) (options : OptionsValue) (unread : Option Unread)
     (t : Transmission) (some_frames : 0 < options.every)
-    (h : AllOk (task_of programme options unread) t) where
+    (h : AllOk (criteria_of programme options unread) t) where
   -- There is a frame.
   some : 0 < length t
   some = h.some
@@ -169,23 +169,23 @@ module _ (programme : ProgrammeValue) (options : OptionsValue) (unread : Option 
           (λ i k l h. clean_at i k (omega arith) h))
 
   -- At no end anything stands broken.
-  pub quiet_at : (n f : ℕ) → IsEnd t n f → IsQuiet (task_of programme options unread) t n f
+  pub quiet_at : (n f : ℕ) → IsEnd t n f → IsQuiet (criteria_of programme options unread) t n f
   quiet_at n f h1 = grind (arith, nat_tests)
 
   -- A header of the page is not too long ago.
-  covered_of : (n f : ℕ) → IsEnd t n f → IsCovered (task_of programme options unread) t n f
+  covered_of : (n f : ℕ) → IsEnd t n f → IsCovered (criteria_of programme options unread) t n f
   covered_of n f end =
-      let parts = (quiet_parts (task_of programme options unread) t n f).0 (quiet_at n f end) in
-      (gap_decided (task_of programme options unread) t n f end.1).0 (ap not parts.1)
+      let parts = (quiet_parts (criteria_of programme options unread) t n f).0 (quiet_at n f end) in
+      (gap_decided (criteria_of programme options unread) t n f end.1).0 (ap not parts.1)
 
   -- Nor is a PES packet.
   paced : KeepsPace options.pace t
   paced frames f asks low high =
       let (n, end, on, from) =
       end_at t rising f some (omega (arith, first-same t)) (omega (arith, last-same t)) in
-      let parts = (quiet_parts (task_of programme options unread) t n f).0 (quiet_at n f end) in
+      let parts = (quiet_parts (criteria_of programme options unread) t n f).0 (quiet_at n f end) in
       let (j, below, near) =
-      (silent_decided (task_of programme options unread) t n f).0 (ap not parts.3) frames
+      (silent_decided (criteria_of programme options unread) t n f).0 (ap not parts.3) frames
       asks in
       let before = rises_to t (length t) rising j (n - 1) (omega (arith, end.0))
       (omega (arith, end.0, end.1)) in
@@ -357,7 +357,7 @@ module _ (programme : ProgrammeValue) (options : OptionsValue) (t : Transmission
       (may_follow i k l m (ap is_this_page e) (ap ends_page e) opened).plain is
 
   -- The first frame of the list has a header of the page.
-  starts : HasHeader (task_of programme options None) t 0
+  starts : HasHeader (criteria_of programme options None) t 0
   starts =
       let r = sent_any (watched_of programme options) t (first_frame t) rules.opens in
       grind (arith, nat_tests, first-same t, cases_eq r.0 0, rises_strictly t rises 0 r.0)
@@ -365,7 +365,7 @@ module _ (programme : ProgrammeValue) (options : OptionsValue) (t : Transmission
   -- A header is not too long ago.
   covered_at : (n f : ℕ) → f ≤ end_frame t
       → ((j : ℕ) → n ≤ j → j < length t → f < frame_at t j)
-      → IsCovered (task_of programme options None) t n f
+      → IsCovered (criteria_of programme options None) t n f
   covered_at n f high later = elim (cases_lt (f + 1) (frame_at t 0 + options.every)) [
     | inl early ↦ inl early
     | inr late ↦
@@ -378,7 +378,7 @@ module _ (programme : ProgrammeValue) (options : OptionsValue) (t : Transmission
   -- Nor is a PES packet too long ago.
   paced_at : (n f : ℕ) → first_frame t ≤ f → f ≤ end_frame t
       → ((j : ℕ) → n ≤ j → j < length t → f < frame_at t j)
-      → IsPaced (task_of programme options None) t n f
+      → IsPaced (criteria_of programme options None) t n f
   paced_at n f low high later frames asks =
       let (j, there, from, near) =
       rules.paced frames f asks low (omega (arith, last-same t)) in
@@ -390,21 +390,21 @@ module _ (programme : ProgrammeValue) (options : OptionsValue) (t : Transmission
   -- ---- all that is asked
 
   module _ (still : (n f : ℕ) → IsEnd t n f
-      → (broken_cell (task_of programme options None) t n f ≡ None)
-      × IsFalse (is_late (task_of programme options None) t n f
-      && is_incomplete (task_of programme options None) t n))
-      (over : IsFalse (is_pending (task_of programme options None) t)) where
+      → (broken_cell (criteria_of programme options None) t n f ≡ None)
+      × IsFalse (is_late (criteria_of programme options None) t n f
+      && is_incomplete (criteria_of programme options None) t n))
+      (over : IsFalse (is_pending (criteria_of programme options None) t)) where
     -- What is asked at an end.
-    quiet_of : (n f : ℕ) → IsEnd t n f → IsQuiet (task_of programme options None) t n f
+    quiet_of : (n f : ℕ) → IsEnd t n f → IsQuiet (criteria_of programme options None) t n f
     quiet_of n f end =
         let covered =
-        (gap_decided (task_of programme options None) t n f end.1).1
+        (gap_decided (criteria_of programme options None) t n f end.1).1
         (covered_at n f (end_low t rises n f end) (end_before_rest t rises n f end)) in
         let paced =
-        (silent_decided (task_of programme options None) t n f).1
+        (silent_decided (criteria_of programme options None) t n f).1
         (paced_at n f (omega (arith, first-same t, end_high t rises n f end))
         (end_low t rises n f end) (end_before_rest t rises n f end)) in
-        (quiet_parts (task_of programme options None) t n f).1 (
+        (quiet_parts (criteria_of programme options None) t n f).1 (
           (still n f end).0,
           not_not _ covered,
           (still n f end).1,
@@ -413,7 +413,7 @@ module _ (programme : ProgrammeValue) (options : OptionsValue) (t : Transmission
         )
 
     -- All that is asked of each frame holds.
-    frame_of : (i : ℕ) → i < length t → FrameOk (task_of programme options None) t i
+    frame_of : (i : ℕ) → i < length t → FrameOk (criteria_of programme options None) t i
     frame_of i l = record {
       order = record {
         start = let starts = rules.starts in grind (arith, first-same t);
@@ -440,7 +440,7 @@ module _ (programme : ProgrammeValue) (options : OptionsValue) (t : Transmission
           ),
         )
 
-    pub holds-from_rules : AllOk (task_of programme options None) t
+    pub holds-from_rules : AllOk (criteria_of programme options None) t
     holds-from_rules = record {
       each = frame_of;
       unread = refl;

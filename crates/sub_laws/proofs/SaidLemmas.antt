@@ -1,5 +1,5 @@
 -- For `law_of_nothing_told`.
--- What is said by the marks of pieces: where each is sent it is what is told of the frames that
+-- What is said by the steps of pieces: where each is sent it is what is told of the frames that
 -- they send. Main lemma: `pieces_said`.
 use Rattle.std.proofs.lemmas.Bool.Decides.{nat_tests}
 use Rattle.std.proofs.Common.{◌≡◌, ℕ, zero, suc, ◌+◌, ◌<◌, ◌≤◌, List}
@@ -9,32 +9,30 @@ use Rattle.std.proofs.lemmas.List.{append-nil}
 use Rattle.sub_rules.specs.Events.{closing_events, events_at_end}
 use Rattle.sub_rules.specs.Events.{first_header_events, gap_length}
 use Rattle.sub_rules.specs.Events.{latest, order_events, packet_events, packets_told}
-use Rattle.sub_rules.specs.FrameRules.{Task, frame_at, packets_before}
-use Rattle.sub_rules.specs.PieceEvents.{closing_of_pieces, marks_at_end}
-use Rattle.sub_rules.specs.PieceEvents.{marks_of_arrival}
-use Rattle.sub_rules.specs.PieceEvents.{marks_of_each, marks_of_ending}
-use Rattle.sub_rules.specs.PieceEvents.{marks_of_gap, marks_of_pieces, marks_of_waiting}
-use Rattle.sub_rules.specs.PieceEvents.{sent_by_pieces}
+use Rattle.sub_rules.specs.FrameRules.{Criteria, frame_at, packets_before}
+use Rattle.sub_rules.specs.PieceEvents.{closing_of_pieces, sent_by_pieces, steps_at_end}
+use Rattle.sub_rules.specs.PieceEvents.{steps_of_arrival, steps_of_each, steps_of_ending}
+use Rattle.sub_rules.specs.PieceEvents.{steps_of_gap, steps_of_pieces, steps_of_waiting}
 use Rattle.sub_rules.specs.Pieces.{Piece, frames_of, joined_after, sent_after}
 use Rattle.sub_rules.specs.Pieces.Piece.{Passed, Sent}
 use Rattle.sub_rules.specs.Transmission.{SentFrame, Transmission}
-use Rattle.sub_rules.specs.Trusted.Mark.{Says}
+use Rattle.sub_rules.specs.Trusted.CheckStep.{Says}
 use Rattle.sub_rules.specs.declared.event.Event.{Event}
 use Rattle.sub_rules.proofs.JoinedLemmas.{packets_told-append, with_packets-length}
 use Rattle.sub_laws.proofs.GrowingFrameLemmas.{goes_on_some}
 use Rattle.sub_laws.proofs.PieceWalkLemmas.{EachPassed, Sends, Steps, each_piece, waits}
-use Rattle.sub_rules.specs.Trusted.{Mark}
+use Rattle.sub_rules.specs.Trusted.{CheckStep}
 use Rattle.sub_rules.proofs.FrameEvents.{events, events_of_first, frame_events, gap_events}
 
--- ---- what marks say
+-- ---- what steps say
 
 -- The events among them.
-abbrev pub said : List Mark → List Event
+abbrev pub said : List CheckStep → List Event
 said [] = []
 said (Says e ∷ ms) = e ∷ said ms
 said (m ∷ ms) = said ms
 
-pub said-append : (xs ys : List Mark) → said (xs ++ ys) ≡ said xs ++ said ys
+pub said-append : (xs ys : List CheckStep) → said (xs ++ ys) ≡ said xs ++ said ys
 said-append [] ys = refl
 said-append (Says e ∷ xs) ys = ap (λ (es : List Event). e ∷ es) (said-append xs ys)
 said-append (m ∷ xs) ys = said-append xs ys
@@ -43,23 +41,23 @@ pub said-says : (es : List Event) → said (map Says es) ≡ es
 said-says [] = refl
 said-says (e ∷ es) = ap (λ (xs : List Event). e ∷ xs) (said-says es)
 
-module _ (g : Task) where
+module _ (g : Criteria) where
   -- ---- one frame
 
   said_end : (frames : Transmission) (i n f : ℕ)
-      → said (marks_at_end g frames i n f) ≡ events_at_end g frames i n f
+      → said (steps_at_end g frames i n f) ≡ events_at_end g frames i n f
   said_end frames i n f = grind (arith, nat_tests, said-says)
 
   said_gap : (frames : Transmission) (i n : ℕ)
-      → said (marks_of_gap g frames i n) ≡ gap_events g frames i n
-  unfolding marks_of_gap gap_events
+      → said (steps_of_gap g frames i n) ≡ gap_events g frames i n
+  unfolding steps_of_gap gap_events
   said_gap frames i zero = refl
   said_gap frames i (suc n) =
-      said-append (marks_of_gap g frames i n) _
+      said-append (steps_of_gap g frames i n) _
       ∙ rw (said_gap frames i n, said_end frames i i (latest frames i + suc n)) refl
 
   said_arrival : (frames : Transmission) (i : ℕ)
-      → said (marks_of_arrival g frames i)
+      → said (steps_of_arrival g frames i)
       ≡ order_events g frames i ++ gap_events g frames i (gap_length frames i)
   said_arrival frames i = grind (arith, nat_tests, said-append, append-nil, said-says, said_gap)
 
@@ -69,7 +67,7 @@ module _ (g : Task) where
       first_header_events g frames i ++ events_at_end g frames i (suc i) (frame_at frames i)
 
   said_ending : (frames : Transmission) (i : ℕ)
-      → said (marks_of_ending g frames i) ≡ ending frames i
+      → said (steps_of_ending g frames i) ≡ ending frames i
   said_ending frames i = grind (arith, nat_tests, said-append, append-nil, said-says, said_end)
 
   -- ---- how many are sent
@@ -102,7 +100,7 @@ module _ (g : Task) where
 
 -- ---- so far
 
-module _ (g : Task) (frames : Transmission) where
+module _ (g : Criteria) (frames : Transmission) where
   -- What is told of the first n frames and before the packets of the next one.
   abbrev arrived : ℕ → List Event
   arrived n =
@@ -123,8 +121,8 @@ module _ (g : Task) (frames : Transmission) where
   abbrev Begun : ℕ → List (List ℕ) → List Event → Type 0
   Begun n packets so_far = so_far ≡ begun n packets
 
-  -- What is so of what was said so far is so with what marks say.
-  abbrev SaysOn : (List Event → Type 0) → List Event → List Mark → Type 0
+  -- What is so of what was said so far is so with what steps say.
+  abbrev SaysOn : (List Event → Type 0) → List Event → List CheckStep → Type 0
   SaysOn S so_far ms = S (so_far ++ said ms)
 
   abbrev same : ℕ → List Event → List Event
@@ -137,7 +135,7 @@ module _ (g : Task) (frames : Transmission) where
   says-nil : (S : List Event → Type 0) (so_far : List Event) → S so_far → SaysOn S so_far []
   says-nil S so_far so = subst S (sym (append-nil so_far)) so
 
-  says-append : (S U : List Event → Type 0) (so_far : List Event) (xs ys : List Mark)
+  says-append : (S U : List Event → Type 0) (so_far : List Event) (xs ys : List CheckStep)
       → SaysOn S so_far xs
       → ((es : List Event) → S es → SaysOn U es ys)
       → SaysOn U so_far (xs ++ ys)
@@ -179,12 +177,12 @@ module _ (g : Task) (frames : Transmission) where
   -- What is said before the file ends.
   before_said : (pieces : List Piece) → length (frames_of pieces) ≡ length pieces
       → sent_by_pieces g pieces ≡ frames
-      → said (marks_of_each g [] 0 pieces ++ marks_of_waiting g frames)
+      → said (steps_of_each g [] 0 pieces ++ steps_of_waiting g frames)
       ≡ events_of_first g frames (length frames)
   unfolding events_of_first
   before_said pieces all is =
       says-append (Sends (List Event) same g frames SaysOn Ended Begun NonePassed frames)
-      (Ended (length frames)) [] (marks_of_each g [] 0 pieces) (marks_of_waiting g frames)
+      (Ended (length frames)) [] (steps_of_each g [] 0 pieces) (steps_of_waiting g frames)
       (each_piece (List Event) same g frames SaysOn Ended Begun NonePassed says-nil
       (λ S so_far pes ms so. so) says-append steps [] 0 [] pieces is (none_passed [] pieces all)
       (inl (inr refl, refl)))
@@ -194,10 +192,10 @@ module _ (g : Task) (frames : Transmission) where
 
 -- ---- pieces
 
-module _ (g : Task) where
-  -- Where each piece is sent the marks say what is told of the frames that they send.
+module _ (g : Criteria) where
+  -- Where each piece is sent the steps say what is told of the frames that they send.
   pub pieces_said : (pieces : List Piece) → length (frames_of pieces) ≡ length pieces
-      → said (marks_of_pieces g pieces) ≡ events g (sent_by_pieces g pieces)
+      → said (steps_of_pieces g pieces) ≡ events g (sent_by_pieces g pieces)
   unfolding events
   pieces_said pieces all =
       grind (arith, nat_tests, said-append, before_said, said-says, closing_all)

@@ -13,7 +13,7 @@ use Rattle.ttx_page.specs.Repeats.{MayFollow}
 use Rattle.stl_rows.specs.Programme.{ProgrammeValue}
 use Rattle.sub_plan.specs.Options.{OptionsValue}
 use Rattle.sub_rules.specs.Events.{is_gap, standing_at}
-use Rattle.sub_rules.specs.FrameRules.{HasHeader, Task, Unread, frame_at, packets_before}
+use Rattle.sub_rules.specs.FrameRules.{Criteria, HasHeader, Unread, frame_at, packets_before}
 use Rattle.sub_rules.specs.FrameRules.{packets_of_frame, watched_of}
 use Rattle.sub_rules.specs.Good.{HoldsHeader}
 use Rattle.sub_rules.specs.PacketRules.{KeepsRule, codes_of}
@@ -21,7 +21,7 @@ use Rattle.sub_rules.specs.PacketTests.{breaks}
 use Rattle.sub_rules.specs.Transmission.{Transmission, first_frame, on_air_until}
 use Rattle.sub_rules.specs.declared.packet_rule.PacketRule.{PacketRule}
 use Rattle.sub_rules.specs.declared.packet_rule.PacketRule.TheVariants as rule
-use Rattle.sub_laws.specs.CleanStretch.{AtPackets, IsEnd, IsUntold, is_needed, task_unsure}
+use Rattle.sub_laws.specs.CleanStretch.{AtPackets, IsEnd, IsUntold, criteria_unsure, is_needed}
 use Rattle.sub_laws.specs.Repeats.{IsRepeatedStretch}
 use Rattle.sub_rules.proofs.CodesLemmas.{code_of_column}
 use Rattle.ttx_page.proofs.DifferingLemmas.{columns_zero}
@@ -40,11 +40,12 @@ not_false b h1 = grind (arith, nat_tests)
 -- ---- a clean stretch
 
 module _ (programme : ProgrammeValue) (transmission : Transmission) (options : OptionsValue)
-    (unread : Option Unread) (beside : Bool) (undecided : ℕ → Bool) (a b : ℕ) (untold :
-    IsUntold (task_unsure programme options unread beside undecided) transmission a b) where
+    (unread : Option Unread) (any_refused : Bool) (undecided : ℕ → Bool) (a b : ℕ) (untold :
+    IsUntold (criteria_unsure programme options unread any_refused undecided) transmission a
+    b) where
   -- What it is checked against.
-  abbrev g : Task
-  g = task_unsure programme options unread beside undecided
+  abbrev g : Criteria
+  g = criteria_unsure programme options unread any_refused undecided
 
   -- Its packets keep the rules of which nothing is told.
   kept : (r : PacketRule) → IsTrue (is_needed r) → (r ≡ rule.RowChanged → ⊥)

@@ -25,8 +25,8 @@ use Rattle.sub_rules.specs.Events.{is_incomplete, is_late, is_right, standing_at
 use Rattle.sub_rules.specs.Events.{wrong_cell}
 use Rattle.sub_rules.specs.Events.{silent_for, latest, undecided_within, undue_after, undue_cell}
 use Rattle.sub_rules.specs.Events.{was_undecided}
-use Rattle.sub_rules.specs.FrameRules.{HasHeader, IsCovered, IsEnded, ShowsDue, Task, frame_at}
-use Rattle.sub_rules.specs.FrameRules.{packets_before, IsPaced}
+use Rattle.sub_rules.specs.FrameRules.{Criteria, HasHeader, IsCovered, IsEnded, IsPaced, ShowsDue}
+use Rattle.sub_rules.specs.FrameRules.{frame_at, packets_before}
 use Rattle.sub_rules.specs.Transmission.{SentFrame, Transmission}
 use Rattle.sub_rules.proofs.TestLemmas.{below_before, below_none, holds}
 use Rattle.sub_rules.specs.declared.end_rule.EndRule.{EndRule}
@@ -153,7 +153,7 @@ right_test : (kept due blank : ℕ) (again : Bool)
     ((kept ≡ due) × (due ≢ blank → again ≡ true))
 right_test kept due blank again = grind (arith, nat_tests)
 
-module _ (g : Task) (frames : Transmission) (n f : ℕ) where
+module _ (g : Criteria) (frames : Transmission) (n f : ℕ) where
   -- A cell is not right.
   abbrev is_wrong : ℕ → ℕ → Bool
   is_wrong row column =

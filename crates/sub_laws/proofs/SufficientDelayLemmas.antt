@@ -17,12 +17,12 @@ use Rattle.sub_plan.specs.Schedule.{due_in}
 use Rattle.sub_rules.specs.Events.{broken_cell, is_incomplete, is_late, is_missed, is_overdue}
 use Rattle.sub_rules.specs.Events.{is_unfinished, standing_at, unfinished_since}
 use Rattle.sub_rules.specs.Events.{undecided_within}
-use Rattle.sub_rules.specs.FrameRules.{Task, Unread, end_frame, frame_at, packets_before}
+use Rattle.sub_rules.specs.FrameRules.{Criteria, Unread, end_frame, frame_at, packets_before}
 use Rattle.sub_rules.specs.Kept.{IsRight}
 use Rattle.sub_rules.specs.Repeats.{FinishesAgainBy, IsDueWithin, IsFinishedBy, IsWholePage}
 use Rattle.sub_rules.specs.Repeats.{KeepsDueCodes, SomeFinishedBy}
 use Rattle.sub_rules.specs.Transmission.{Transmission, on_air_until}
-use Rattle.sub_laws.specs.CleanStretch.{IsEnd, IsUntold, NoneOpen, task_unsure}
+use Rattle.sub_laws.specs.CleanStretch.{IsEnd, IsUntold, NoneOpen, criteria_unsure}
 use Rattle.sub_laws.specs.Repeats.{FinishesInTimeBy}
 use Rattle.sub_laws.specs.ToldRepeats.{IsSufficientRepeats, LawOfUntoldRepeats}
 use Rattle.sub_laws.proofs.DueCodeLemmas.{ending_is, undue_none}
@@ -35,7 +35,7 @@ use Rattle.sub_laws.proofs.UnfinishedLemmas.{finished_from, since_some, unfinish
 
 -- In a transmission in which frames rise what is asked of content holds at each end of a frame from
 -- one to another, and it is known there what was due.
-pub record IsStill (g : Task) (t : Transmission) (a b : ℕ) : Type 0 where
+pub record IsStill (g : Criteria) (t : Transmission) (a b : ℕ) : Type 0 where
   pub up : RiseTo t (length t)
   pub some : 0 < length t
   pub from : frame_at t 0 ≤ a
@@ -48,7 +48,7 @@ pub record IsStill (g : Task) (t : Transmission) (a b : ℕ) : Type 0 where
       → (broken_cell g t n f ≡ None) × (undecided_within g t f ≡ false)
 
 -- And so does what is asked of the page's end.
-pub record HoldsAtEnds (g : Task) (t : Transmission) (a b : ℕ) : Type 0 where
+pub record HoldsAtEnds (g : Criteria) (t : Transmission) (a b : ℕ) : Type 0 where
   pub still : IsStill g t a b
   pub shut :
       (n f : ℕ)
@@ -60,11 +60,11 @@ pub record HoldsAtEnds (g : Task) (t : Transmission) (a b : ℕ) : Type 0 where
 -- ---- what is kept
 
 module _ (programme : ProgrammeValue) (options : OptionsValue) (unread : Option Unread)
-    (beside : Bool) (undecided : ℕ → Bool) (t : Transmission) (a b : ℕ)
-    (still : IsStill (task_unsure programme options unread beside undecided) t a b)
+    (any_refused : Bool) (undecided : ℕ → Bool) (t : Transmission) (a b : ℕ)
+    (still : IsStill (criteria_unsure programme options unread any_refused undecided) t a b)
   where
-    abbrev asked : Task
-    asked = task_unsure programme options unread beside undecided
+    abbrev asked : Criteria
+    asked = criteria_unsure programme options unread any_refused undecided
 
     -- It is known what is due.
     pub known : (n f : ℕ) → IsEnd t n f → a ≤ f → f ≤ b → undecided f ≡ false
@@ -77,7 +77,8 @@ module _ (programme : ProgrammeValue) (options : OptionsValue) (unread : Option 
         let first = still.from in
         let last = still.to in
         let (n, end) =
-        frame_end programme options unread beside undecided t still.up f still.some (omega arith)
+        frame_end programme options unread any_refused undecided t still.up f still.some
+        (omega arith)
         (omega arith) in
         (n, end, end_is_on_air t still.up n f end)
 
@@ -133,11 +134,11 @@ module _ (programme : ProgrammeValue) (options : OptionsValue) (unread : Option 
 -- ---- frames that are finished in time
 
 module _ (programme : ProgrammeValue) (options : OptionsValue) (unread : Option Unread)
-    (beside : Bool) (undecided : ℕ → Bool) (t : Transmission) (a b : ℕ)
-    (holds : HoldsAtEnds (task_unsure programme options unread beside undecided) t a b)
+    (any_refused : Bool) (undecided : ℕ → Bool) (t : Transmission) (a b : ℕ)
+    (holds : HoldsAtEnds (criteria_unsure programme options unread any_refused undecided) t a b)
   where
-    abbrev task : Task
-    task = task_unsure programme options unread beside undecided
+    abbrev criteria : Criteria
+    criteria = criteria_unsure programme options unread any_refused undecided
 
     abbrev start : ℕ
     start = frame_at t 0
@@ -146,26 +147,26 @@ module _ (programme : ProgrammeValue) (options : OptionsValue) (unread : Option 
     up = holds.still.up
 
     known_end : (n f : ℕ) → IsEnd t n f → a ≤ f → f ≤ b → undecided f ≡ false
-    known_end = known programme options unread beside undecided t a b holds.still
+    known_end = known programme options unread any_refused undecided t a b holds.still
 
     -- A late end is finished.
-    pub calm : (n f : ℕ) → IsEnd t n f → a ≤ f → f ≤ b → is_late task t n f ≡ true
-        → is_unfinished task t n f ≡ false
+    pub calm : (n f : ℕ) → IsEnd t n f → a ≤ f → f ≤ b → is_late criteria t n f ≡ true
+        → is_unfinished criteria t n f ≡ false
     calm n f end low high late = grind (arith, nat_tests)
 
     -- So none is overdue.
     not_overdue : (n f : ℕ) → IsEnd t n f → a ≤ f → f ≤ b
-        → is_overdue task start (unfinished_since task t n f) f ≡ false
+        → is_overdue criteria start (unfinished_since criteria t n f) f ≡ false
     unfolding is_late
     not_overdue n f end low high = grind (arith, nat_tests, no_since, calm)
 
     -- Since a frame the ends up to this one are unfinished: not too long, and no subtitle is
     -- missed.
-    early : (n f r : ℕ) → IsEnd t n f → a ≤ f → f ≤ b → unfinished_since task t n f ≡ Some r
-        → (f < r + options.within) × (is_missed (task.ending (f + 1)) start r ≡ false)
+    early : (n f r : ℕ) → IsEnd t n f → a ≤ f → f ≤ b → unfinished_since criteria t n f ≡ Some r
+        → (f < r + options.within) × (is_missed (criteria.ending (f + 1)) start r ≡ false)
     early n f r end low high e =
         let both =
-        or_parts (nat_le (r + options.within) f) (is_missed (task.ending (f + 1)) start r)
+        or_parts (nat_le (r + options.within) f) (is_missed (criteria.ending (f + 1)) start r)
         (rw e at (not_overdue n f end low high)) in
         (before both.0, both.1)
       where
@@ -173,15 +174,17 @@ module _ (programme : ProgrammeValue) (options : OptionsValue) (unread : Option 
         before e = grind (arith, nat_tests)
 
     -- A frame is finished whose end is.
-    ended : (e : ℕ) → a ≤ e → e ≤ b → unfinished_at task t up e ≡ false
+    ended : (e : ℕ) → a ≤ e → e ≤ b → unfinished_at criteria t up e ≡ false
         → IsFinishedBy options.keeps programme t options e
     ended e low high finished =
         let first = holds.still.from in
         let last = holds.still.to in
         let (n, end) =
-        frame_end programme options unread beside undecided t up e holds.still.some (omega arith)
+        frame_end programme options unread any_refused undecided t up e holds.still.some
+        (omega arith)
         (omega arith) in
-        finished_at programme options unread beside undecided t up e holds.still.some (omega arith)
+        finished_at programme options unread any_refused undecided t up e holds.still.some
+        (omega arith)
         (omega arith) (known_end n e end low high) finished
 
     -- One of the frames from one to f is finished, where the ends up to f are not unfinished since
@@ -189,7 +192,7 @@ module _ (programme : ProgrammeValue) (options : OptionsValue) (unread : Option 
     some_finished : (from f : ℕ) → a ≤ from → from ≤ f → f ≤ b
         → ((n r : ℕ)
         → IsEnd t n f
-        → unfinished_since task t n f ≡ Some r
+        → unfinished_since criteria t n f ≡ Some r
         → start ≤ r
         → r ≤ from
         → ⊥)
@@ -198,15 +201,17 @@ module _ (programme : ProgrammeValue) (options : OptionsValue) (unread : Option 
         let first = holds.still.from in
         let last = holds.still.to in
         let (n, end) =
-        frame_end programme options unread beside undecided t up f holds.still.some (omega arith)
+        frame_end programme options unread any_refused undecided t up f holds.still.some
+        (omega arith)
         (omega arith) in
         let k : ℕ = f - start in
         let at : start + k ≡ f = omega arith in
-        let since = since_is programme options unread beside undecided t up n f end in
+        let since = since_is programme options unread any_refused undecided t up n f end in
         let (e, after, before, finished) =
-        finished_from (unfinished_at task t up) start from k (omega arith) (omega arith)
+        finished_from (unfinished_at criteria t up) start from k (omega arith) (omega arith)
         (λ r is l.
-        late n r end (since ∙ is) (since_some (unfinished_at task t up) start k r is).low l) in (
+        late n r end (since ∙ is)
+        (since_some (unfinished_at criteria t up) start k r is).low l) in (
           e,
           after,
           omega arith,
@@ -225,7 +230,7 @@ module _ (programme : ProgrammeValue) (options : OptionsValue) (unread : Option 
       ends_at : (k : ℕ) (d : SubtitleValue) → k < length programme.records
           → (s : SubtitleValue)
           → s ≡ get_or programme.records k d
-          → (s.tci < s.tco) × (task.ending (s.tco - 1 + 1) ≡ Some s.tci)
+          → (s.tci < s.tco) × (criteria.ending (s.tco - 1 + 1) ≡ Some s.tci)
       ends_at k d l s same =
           let times : s.tci < s.tco =
           subst (λ (x : SubtitleValue). x.tci < x.tco) (sym same) (is.each k d l).times in
@@ -233,7 +238,7 @@ module _ (programme : ProgrammeValue) (options : OptionsValue) (unread : Option 
           subst (Contains programme.records) (sym same) (Contains-get_or programme.records k d l) in
           let next : s.tco ≡ s.tco - 1 + 1 = omega arith in (
             times,
-            ap task.ending (sym next)
+            ap criteria.ending (sym next)
                 ∙ ending_is programme.drawing programme.records is s member,
           )
 
@@ -286,10 +291,10 @@ module _ (programme : ProgrammeValue) (options : OptionsValue) (unread : Option 
 -- ---- a stretch of which nothing is told
 
 module _ (programme : ProgrammeValue) (options : OptionsValue) (unread : Option Unread)
-    (beside : Bool) (undecided : ℕ → Bool) (t : Transmission) (a b : ℕ)
-    (untold : IsUntold (task_unsure programme options unread beside undecided) t a b)
+    (any_refused : Bool) (undecided : ℕ → Bool) (t : Transmission) (a b : ℕ)
+    (untold : IsUntold (criteria_unsure programme options unread any_refused undecided) t a b)
   where
-    still_untold : IsStill (task_unsure programme options unread beside undecided) t a b
+    still_untold : IsStill (criteria_unsure programme options unread any_refused undecided) t a b
     unfolding standing_at
     still_untold = record {
       up = rises_each t untold.rising;
@@ -303,14 +308,16 @@ module _ (programme : ProgrammeValue) (options : OptionsValue) (unread : Option 
     -- It has what suffices.
     pub enough_repeats : IsSufficientRepeats options.keeps programme t options a b
     enough_repeats = record {
-      stretch = repeated_untold programme t options unread beside undecided a b untold;
-      codes = codes programme options unread beside undecided t a b still_untold;
-      whole = whole_at_once programme options unread beside undecided t a b still_untold;
+      stretch = repeated_untold programme t options unread any_refused undecided a b untold;
+      codes = codes programme options unread any_refused undecided t a b still_untold;
+      whole = whole_at_once programme options unread any_refused undecided t a b still_untold;
     }
 
-    module _ (closed : NoneOpen (task_unsure programme options unread beside undecided) t a b)
+    module _ (closed : NoneOpen (criteria_unsure programme options unread any_refused undecided) t a
+        b)
       where
-        holds_untold : HoldsAtEnds (task_unsure programme options unread beside undecided) t a b
+        holds_untold : HoldsAtEnds (criteria_unsure programme options unread any_refused undecided)
+            t a b
         unfolding standing_at
         holds_untold = record { still = still_untold; shut = closed }
 
@@ -318,12 +325,13 @@ module _ (programme : ProgrammeValue) (options : OptionsValue) (unread : Option 
         pub finishes_untold : IsProgramme programme.drawing programme.records
             → FinishesInTimeBy options.keeps programme t options a b
         finishes_untold is =
-            finishes programme options unread beside undecided t a b holds_untold is
+            finishes programme options unread any_refused undecided t a b holds_untold is
 
 -- Where repeats may keep the page.
 pub law_of_untold_repeats : LawOfUntoldRepeats
-law_of_untold_repeats programme transmission options unread beside undecided a b untold = (
-  enough_repeats programme options unread beside undecided transmission a b untold,
+law_of_untold_repeats programme transmission options unread any_refused undecided a b untold = (
+  enough_repeats programme options unread any_refused undecided transmission a b untold,
   λ is closed.
-      finishes_untold programme options unread beside undecided transmission a b untold closed is,
+      finishes_untold programme options unread any_refused undecided transmission a b untold closed
+      is,
 )

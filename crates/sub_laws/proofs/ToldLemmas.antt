@@ -9,7 +9,7 @@ use Rattle.ttx_packet.specs.PacketAddress.{IsPacket}
 use Rattle.stl_rows.specs.Programme.{ProgrammeValue}
 use Rattle.sub_plan.specs.Options.{OptionsValue}
 use Rattle.sub_rules.specs.Events.{first_header_events, first_told, order_events}
-use Rattle.sub_rules.specs.FrameRules.{Task, Unread, task_of}
+use Rattle.sub_rules.specs.FrameRules.{Criteria, Unread, criteria_of}
 use Rattle.sub_rules.specs.Good.{Good}
 use Rattle.sub_rules.specs.PieceEvents.{all_of_pieces}
 use Rattle.sub_rules.specs.Pieces.Piece.{Sent}
@@ -33,8 +33,8 @@ abbrev Any : CheckFault → Type 0
 Any f = Unit {0}
 
 -- Part by part, where anything that is told begins with a refusal.
-pub broken_places : (g : Task) (frames : Transmission) → g.within ≡ 0
-    → (IsFalse g.beside
+pub broken_places : (g : Criteria) (frames : Transmission) → g.within ≡ 0
+    → (IsFalse g.any_refused
     → EachPacket IsPacket frames
     → first_told (all_of_pieces g (map Sent frames)) ≡ None
     → all_of_pieces g (map Sent frames) ≡ [])
@@ -51,14 +51,14 @@ broken_places g frames at_once refused = record {
 }
 
 -- Nothing is told exactly where all that is asked holds.
-pub nothing_told : (g : Task) (frames : Transmission) → EachPacket IsPacket frames
+pub nothing_told : (g : Criteria) (frames : Transmission) → EachPacket IsPacket frames
     → (events g frames ≡ []) ↔ AllOk g frames
 nothing_told g frames whole =
     told_none (events g frames)
     (all_told g frames Any (λ f e. tt) (λ u e. tt) (λ n f x a b. tt) whole)
 
 -- Where no refusal is told nothing is. For `check`.
-pub none_refused : (g : Task) (frames : Transmission) → EachPacket IsPacket frames
+pub none_refused : (g : Criteria) (frames : Transmission) → EachPacket IsPacket frames
     → first_told (events g frames) ≡ None
     → events g frames ≡ []
 none_refused g frames whole none =
@@ -84,12 +84,12 @@ pub none_told : (programme : ProgrammeValue) (options : OptionsValue) (unread : 
     → options.within ≡ 0
     → 0 < options.every
     → EachPacket IsPacket frames
-    → (events (task_of programme options unread) frames ≡ [])
+    → (events (criteria_of programme options unread) frames ≡ [])
     ↔ (Good programme frames options
     × (IsTrue options.asks_complete → Complete frames options)
     × (unread ≡ None))
 none_told programme options unread frames none at_once some whole =
-    let told = nothing_told (task_of programme options unread) frames whole in (
+    let told = nothing_told (criteria_of programme options unread) frames whole in (
       λ quiet.
           let h = told.0 quiet in (
             Good-from_holds programme options unread frames some h at_once none
@@ -99,6 +99,6 @@ none_told programme options unread frames none at_once some whole =
           ),
       λ good.
           told.1
-          (subst (λ o. AllOk (task_of programme options o) frames) (sym good.2)
+          (subst (λ o. AllOk (criteria_of programme options o) frames) (sym good.2)
           (holds-from_good programme options frames at_once none good.0 good.1)),
     )

@@ -15,7 +15,8 @@ use Rattle.sub_rules.specs.Events.{broken_cell, is_gap, is_incomplete, is_late, 
 use Rattle.sub_rules.specs.Events.{is_overdue, is_pending, is_silent, is_unfinished, undue_after}
 use Rattle.sub_rules.specs.Events.{unfinished_since}
 use Rattle.sub_rules.specs.Events.{undecided_within, wrong_cell}
-use Rattle.sub_rules.specs.FrameRules.{Task, Unread, end_frame, frame_at, packets_before, task_of}
+use Rattle.sub_rules.specs.FrameRules.{Criteria, Unread, criteria_of, end_frame, frame_at}
+use Rattle.sub_rules.specs.FrameRules.{packets_before}
 use Rattle.sub_rules.specs.Repeats.{GoodBy, IsDueWithin, IsFinishedBy, KeepsRulesBy}
 use Rattle.sub_rules.specs.Repeats.{SomeFinishedBy}
 use Rattle.sub_rules.specs.Transmission.{EachPacket, Transmission, first_frame, last_frame}
@@ -45,24 +46,24 @@ never frame = false
 module _ (programme : ProgrammeValue) (options : OptionsValue) (unread : Option Unread)
     (t : Transmission) (every : 0 < options.every)
     (is : IsProgramme programme.drawing programme.records)
-    (h : AllOk (task_of programme options unread) t) where
-  abbrev task : Task
-  task = task_of programme options unread
+    (h : AllOk (criteria_of programme options unread) t) where
+  abbrev criteria : Criteria
+  criteria = criteria_of programme options unread
 
   abbrev up : RiseTo t (length t)
   up = rising programme options unread t every h
 
   -- What is asked of each end.
   parts : (n f : ℕ) → IsEnd t n f
-      → (broken_cell task t n f ≡ None)
-      × (is_gap task t n f ≡ false)
-      × ((is_late task t n f && is_incomplete task t n) ≡ false)
-      × (is_silent task t n f ≡ false)
-      × (undecided_within task t f ≡ false)
+      → (broken_cell criteria t n f ≡ None)
+      × (is_gap criteria t n f ≡ false)
+      × ((is_late criteria t n f && is_incomplete criteria t n) ≡ false)
+      × (is_silent criteria t n f ≡ false)
+      × (undecided_within criteria t f ≡ false)
   parts n f end =
-      (quiet_parts task t n f).0 (quiet_at programme options unread t every h n f end)
+      (quiet_parts criteria t n f).0 (quiet_at programme options unread t every h n f end)
 
-  held : HoldsAtEnds task t (first_frame t) (last_frame t)
+  held : HoldsAtEnds criteria t (first_frame t) (last_frame t)
   held = record {
     still = record {
       up = up;
@@ -99,15 +100,15 @@ module _ (programme : ProgrammeValue) (options : OptionsValue) (unread : Option 
       (last end))
     where
       last : IsEnd t (length t) (end_frame t)
-          → is_unfinished task t (length t) (end_frame t) ≡ false
-      last end = go (is_late task t (length t) (end_frame t)) refl
+          → is_unfinished criteria t (length t) (end_frame t) ≡ false
+      last end = go (is_late criteria t (length t) (end_frame t)) refl
         where
-          pending_parts : is_late task t (length t) (end_frame t) ≡ false
-              → is_some (unfinished_since task t (length t) (end_frame t)) ≡ false
+          pending_parts : is_late criteria t (length t) (end_frame t) ≡ false
+              → is_some (unfinished_since criteria t (length t) (end_frame t)) ≡ false
           pending_parts is = let whole = h.whole in grind (arith, nat_tests)
 
-          go : (b : Bool) → is_late task t (length t) (end_frame t) ≡ b
-              → is_unfinished task t (length t) (end_frame t) ≡ false
+          go : (b : Bool) → is_late criteria t (length t) (end_frame t) ≡ b
+              → is_unfinished criteria t (length t) (end_frame t) ≡ false
           go true is =
               let first = first-same t in
               let last = last-same t in
@@ -136,8 +137,8 @@ module _ (programme : ProgrammeValue) (options : OptionsValue) (unread : Option 
 module _ (programme : ProgrammeValue) (options : OptionsValue) (t : Transmission)
     (is : IsProgramme programme.drawing programme.records)
     (good : GoodBy options.keeps programme t options) where
-  abbrev asked : Task
-  asked = task_of programme options None
+  abbrev asked : Criteria
+  asked = criteria_of programme options None
 
   abbrev from : ℕ
   from = frame_at t 0
@@ -310,7 +311,7 @@ pub none_told_repeats : (programme : ProgrammeValue) (options : OptionsValue)
     → IsProgramme programme.drawing programme.records
     → 0 < options.every
     → EachPacket IsPacket frames
-    → (events (task_of programme options unread) frames ≡ [])
+    → (events (criteria_of programme options unread) frames ≡ [])
     ↔ (GoodBy options.keeps programme frames options × (unread ≡ None))
 none_told_repeats programme options unread frames is every whole =
     grind (arith, nat_tests, nothing_told, Within-from_holds, holds-from_within)

@@ -11,7 +11,7 @@ use Rattle.ttx_page.specs.PacketKind.{kind}
 use Rattle.ttx_page.specs.Span.{is_open_after}
 use Rattle.sub_rules.specs.Events.{gap_length, is_incomplete, is_unfinished, latest, since_frames}
 use Rattle.sub_rules.specs.Events.{since_in_gap, unfinished_from, unfinished_since, wrong_after}
-use Rattle.sub_rules.specs.FrameRules.{Task, frame_at}
+use Rattle.sub_rules.specs.FrameRules.{Criteria, frame_at}
 use Rattle.sub_rules.specs.Transmission.{Transmission, on_air_until}
 use Rattle.sub_rules.proofs.EndLemmas.{gap_length-is}
 use Rattle.sub_laws.specs.CleanStretch.{IsEnd}
@@ -113,7 +113,7 @@ module _ (un : ℕ → Bool) (first : ℕ) where
 
 -- ---- the ends of frames that rise
 
-module _ (g : Task) (t : Transmission) (rises : RiseTo t (length t)) where
+module _ (g : Criteria) (t : Transmission) (rises : RiseTo t (length t)) where
   -- The end of frame f is unfinished, by what is on air up to it.
   abbrev pub unfinished_at : ℕ → Bool
   unfinished_at f =

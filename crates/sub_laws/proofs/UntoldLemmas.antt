@@ -1,6 +1,6 @@
 -- For `law_of_all_trusted` and `law_of_nothing_told`.
 -- Nothing is told of pieces exactly where each is sent and nothing is told of what they send,
--- `pieces_untold`; and so it is of refusals, `pieces_unrefused`. Of marks: `first_none`,
+-- `pieces_untold`; and so it is of refusals, `pieces_unrefused`. Of steps: `first_none`,
 -- `each_sent`.
 use Rattle.std.proofs.lemmas.Bool.Decides.{nat_tests}
 use Rattle.std.proofs.Common.{◌≡◌, ◌↔◌, ℕ, suc, Bool, true, false, not, ◌||◌, List, [], ◌∷◌, ◌++◌}
@@ -11,24 +11,24 @@ use Rattle.std.specs.List.{list_any}
 use Rattle.std.specs.Option.{option_or}
 use Rattle.sub_rules.specs.Events.{end_events, first_header_events, first_told}
 use Rattle.sub_rules.specs.Events.{order_events}
-use Rattle.sub_rules.specs.FrameRules.{Task}
-use Rattle.sub_rules.specs.PieceEvents.{all_announced, all_of_pieces, closing_of_pieces, announced}
-use Rattle.sub_rules.specs.PieceEvents.{ended_run, joins, marks_of_closing, marks_of_each}
-use Rattle.sub_rules.specs.PieceEvents.{marks_of_pieces, marks_of_sent, marks_of_waiting, no_run}
-use Rattle.sub_rules.specs.PieceEvents.{passed_after_all, sent_by_pieces, told_of_pieces}
+use Rattle.sub_rules.specs.FrameRules.{Criteria}
+use Rattle.sub_rules.specs.PieceEvents.{all_announced, all_of_pieces, announced, closing_of_pieces}
+use Rattle.sub_rules.specs.PieceEvents.{ended_run, joins, no_run, passed_after_all, sent_by_pieces}
+use Rattle.sub_rules.specs.PieceEvents.{steps_of_closing, steps_of_each, steps_of_pieces}
+use Rattle.sub_rules.specs.PieceEvents.{steps_of_sent, steps_of_waiting, told_of_pieces}
 use Rattle.sub_rules.specs.Pieces.{Piece, frames_of, sent_after}
 use Rattle.sub_rules.specs.Pieces.Piece.{Passed, Sent}
 use Rattle.sub_rules.specs.Transmission.{Transmission}
-use Rattle.sub_rules.specs.Trusted.Mark.{AtPes, Closes, Says}
+use Rattle.sub_rules.specs.Trusted.CheckStep.{AtPes, Closes, Says}
 use Rattle.sub_rules.specs.declared.event.Event.{Event}
 use Rattle.sub_rules.specs.declared.event.Event.TheVariants.{Told}
 use Rattle.sub_rules.specs.declared.fault.CheckFault.{CheckFault}
-use Rattle.sub_laws.proofs.MarkTestLemmas.{PassedPass, Passes, before_passes}
-use Rattle.sub_rules.proofs.MarkEventLemmas.{marks_first, said_by, first_of_two}
+use Rattle.sub_laws.proofs.StepTestLemmas.{PassedPass, Passes, before_passes}
+use Rattle.sub_rules.proofs.StepEventLemmas.{first_of_two, said_by, steps_first}
 use Rattle.sub_rules.proofs.PieceEventLemmas.{all_first}
 use Rattle.sub_rules.proofs.TrustedLemmas.{past_after, told_after-append}
 use Rattle.sub_laws.proofs.SaidLemmas.{pieces_said, said, said-append, said-says}
-use Rattle.sub_rules.specs.Trusted.{Mark, at_pes, doubted_by, is_said, run_of, tells_none}
+use Rattle.sub_rules.specs.Trusted.{CheckStep, at_pes, doubted_by, is_said, run_of, tells_none}
 use Rattle.sub_rules.specs.Trusted.{told_after, told_at, trusted_up_to}
 use Rattle.sub_rules.proofs.FrameEvents.{events}
 
@@ -42,7 +42,7 @@ two_none : (xs ys : List Event)
 two_none xs ys = grind (arith, nat_tests, first_of_two, both_none)
 
 -- No refusal is said of a PES packet exactly where none is said.
-none_said : (pes : ℕ) (ms : List Mark)
+none_said : (pes : ℕ) (ms : List CheckStep)
     → (first_told (said_by pes ms) ≡ None) ↔ (first_told (said ms) ≡ None)
 unfolding at_pes
 none_said pes [] = (λ e. e, λ e. e)
@@ -51,10 +51,10 @@ none_said pes (Says e ∷ ms) = none_said pes ms
 none_said pes (AtPes next ∷ ms) = none_said next ms
 none_said pes (m ∷ ms) = none_said pes ms
 
--- No refusal is told with marks exactly where none is among what they say.
-pub first_none : (t ms : List Mark)
+-- No refusal is told with steps exactly where none is among what they say.
+pub first_none : (t ms : List CheckStep)
     → (first_told (told_after t ms) ≡ None) ↔ (first_told (said ms) ≡ None)
-first_none t ms = grind (arith, nat_tests, marks_first, none_said)
+first_none t ms = grind (arith, nat_tests, steps_first, none_said)
 
 -- ---- where nothing is told
 
@@ -67,7 +67,7 @@ some_append [] ys e none = cc
 some_append (x ∷ xs) ys e none = cc
 
 -- Then nothing is said.
-said_none : (t ms : List Mark) → told_after t ms ≡ [] → said ms ≡ []
+said_none : (t ms : List CheckStep) → told_after t ms ≡ [] → said ms ≡ []
 unfolding told_after told_at
 said_none t [] e = refl
 said_none t (Says x ∷ ms) e = absurd (some_append (trusted_up_to t (doubted_by t x)) _ _ e)
@@ -76,12 +76,12 @@ said_none t (Closes are_left more ∷ ms) e =
 said_none t (m ∷ ms) e = said_none (m ∷ t) ms e
 
 -- The file ends.
-abbrev is_close : Mark → Bool
+abbrev is_close : CheckStep → Bool
 is_close (Closes are_left more) = true
 is_close m = false
 
 -- Where nothing is said before the file ends, nothing is told.
-quiet_so_far : (t ms : List Mark) → list_any is_said t ≡ false
+quiet_so_far : (t ms : List CheckStep) → list_any is_said t ≡ false
     → list_any is_close ms ≡ false
     → said ms ≡ []
     → (told_after t ms ≡ []) × (list_any is_said (past_after t ms) ≡ false)
@@ -92,7 +92,7 @@ quiet_so_far t (Closes are_left more ∷ ms) told still none = cc
 quiet_so_far t (m ∷ ms) told still none = quiet_so_far (m ∷ t) ms told still none
 
 -- Where it is not kept that anything was told before the file ends, nothing was.
-pub silent : (t ms : List Mark) → list_any is_close ms ≡ false
+pub silent : (t ms : List CheckStep) → list_any is_close ms ≡ false
     → list_any is_said (past_after t ms) ≡ false
     → (list_any is_said t ≡ false) × (told_after t ms ≡ [])
 unfolding told_after told_at past_after
@@ -104,22 +104,23 @@ silent t (m ∷ ms) still none = silent (m ∷ t) ms still none
 
 -- Nor is anything told where nothing is said as it ends, and nothing is refused of the subtitle
 -- file.
-closed_quiet : (t : List Mark) (pes : ℕ) (are_left beside : Bool) (es : List Event)
-    → beside ≡ false
+closed_quiet : (t : List CheckStep) (pes : ℕ) (are_left any_refused : Bool) (es : List Event)
+    → any_refused ≡ false
     → es ≡ []
     → list_any is_said t ≡ false
-    → told_after t (AtPes pes ∷ Closes are_left (beside || not (tells_none es)) ∷ map Says es) ≡ []
+    → told_after t (AtPes pes ∷ Closes are_left (any_refused || not (tells_none es)) ∷ map Says es)
+    ≡ []
 unfolding told_after told_at run_of
-closed_quiet t pes are_left beside [] alone none told = rw (alone, told) refl
-closed_quiet t pes are_left beside (e ∷ es) alone none told = cc
+closed_quiet t pes are_left any_refused [] alone none told = rw (alone, told) refl
+closed_quiet t pes are_left any_refused (e ∷ es) alone none told = cc
 
 -- ---- all that is told
 
-module _ (g : Task) where
+module _ (g : Criteria) where
   -- The file has not ended before its end.
   pub before_open : (pieces : List Piece)
       → Passes is_close
-      (marks_of_each g [] 0 pieces ++ marks_of_waiting g (sent_by_pieces g pieces))
+      (steps_of_each g [] 0 pieces ++ steps_of_waiting g (sent_by_pieces g pieces))
   before_open pieces =
       before_passes is_close g (record {
         at_pes = λ n. refl;
@@ -144,31 +145,31 @@ module _ (g : Task) where
 
   -- What is said before the file ends, and then.
   said_parts : (pieces : List Piece)
-      → said (marks_of_pieces g pieces)
-      ≡ said (marks_of_each g [] 0 pieces ++ marks_of_waiting g (sent_by_pieces g pieces))
+      → said (steps_of_pieces g pieces)
+      ≡ said (steps_of_each g [] 0 pieces ++ steps_of_waiting g (sent_by_pieces g pieces))
       ++ closing_of_pieces g (sent_by_pieces g pieces) (length pieces)
       (length (sent_by_pieces g pieces))
   said_parts pieces = grind (arith, nat_tests, said-append, said, said-says)
 
-  told_none : (pieces : List Piece) → g.beside ≡ false
-      → (told_of_pieces g pieces ≡ []) ↔ (said (marks_of_pieces g pieces) ≡ [])
+  told_none : (pieces : List Piece) → g.any_refused ≡ false
+      → (told_of_pieces g pieces ≡ []) ↔ (said (steps_of_pieces g pieces) ≡ [])
   unfolding told_of_pieces
-  told_none pieces alone = (said_none [] (marks_of_pieces g pieces), quiet)
+  told_none pieces alone = (said_none [] (steps_of_pieces g pieces), quiet)
     where
-      quiet : said (marks_of_pieces g pieces) ≡ []
-          → told_after [] (marks_of_pieces g pieces) ≡ []
+      quiet : said (steps_of_pieces g pieces) ≡ []
+          → told_after [] (steps_of_pieces g pieces) ≡ []
       quiet none =
           let frames = sent_by_pieces g pieces in
-          let before = marks_of_each g [] 0 pieces ++ marks_of_waiting g frames in
+          let before = steps_of_each g [] 0 pieces ++ steps_of_waiting g frames in
           let closing = closing_of_pieces g frames (length pieces) (length frames) in
           let parts = append_empty (said before) closing (sym (said_parts pieces) ∙ none) in
           let so_far =
           quiet_so_far [] before refl
           (before_open pieces).none parts.0 in
           told_after-append [] before
-          (marks_of_closing g frames (length pieces) (length frames))
+          (steps_of_closing g frames (length pieces) (length frames))
           ∙ rw so_far.0
-          (closed_quiet (past_after [] before) (length pieces) _ g.beside closing alone parts.1
+          (closed_quiet (past_after [] before) (length pieces) _ g.any_refused closing alone parts.1
           so_far.1)
 
 -- Up to which piece a run goes is told only where something else is.
@@ -183,28 +184,28 @@ unfolding all_announced passed_after_all
 announced_empty [] = grind (arith, nat_tests)
 announced_empty (e ∷ es) = grind (arith, nat_tests, append_empty, announced_one)
 
-module _ (g : Task) where
+module _ (g : Criteria) where
   -- A piece that is passed over is told.
   pub each_sent : (sent : Transmission) (pes : ℕ) (pieces : List Piece)
-      → first_told (said (marks_of_each g sent pes pieces)) ≡ None
+      → first_told (said (steps_of_each g sent pes pieces)) ≡ None
       → length (frames_of pieces) ≡ length pieces
-  unfolding marks_of_each frames_of
+  unfolding steps_of_each frames_of
   each_sent sent pes [] none = refl
   each_sent sent pes (Sent s ∷ pieces) none =
       let parts =
-      (two_none (said (marks_of_sent g sent pes s)) _).0
-      (ap first_told (sym (said-append (marks_of_sent g sent pes s) _)) ∙ none) in
+      (two_none (said (steps_of_sent g sent pes s)) _).0
+      (ap first_told (sym (said-append (steps_of_sent g sent pes s) _)) ∙ none) in
       ap suc (each_sent (sent_after g.within sent s) (suc pes) pieces parts.1)
   each_sent sent pes (Passed u ∷ pieces) none = cc
 
-  said_sent : (pieces : List Piece) → first_told (said (marks_of_pieces g pieces)) ≡ None
+  said_sent : (pieces : List Piece) → first_told (said (steps_of_pieces g pieces)) ≡ None
       → length (frames_of pieces) ≡ length pieces
   said_sent pieces none =
       grind (arith, nat_tests, two_none, said, said_parts, said-append, each_sent)
 
   -- Nothing is told of pieces exactly where each is sent and nothing is told of what they send,
   -- where nothing is refused of the subtitle file.
-  pub pieces_untold : (pieces : List Piece) → g.beside ≡ false
+  pub pieces_untold : (pieces : List Piece) → g.any_refused ≡ false
       → (all_of_pieces g pieces ≡ [])
       ↔ ((length (frames_of pieces) ≡ length pieces) × (events g (sent_by_pieces g pieces) ≡ []))
   unfolding all_of_pieces

@@ -8,8 +8,8 @@ use Rattle.stl_rows.specs.Programme.{IsProgramme, ProgrammeValue}
 use Rattle.sub_plan.specs.Options.{OptionsValue}
 use Rattle.sub_rules.specs.Events.{broken_at, first_header_events, first_told, late_events}
 use Rattle.sub_rules.specs.Events.{order_events, standing_at}
-use Rattle.sub_rules.specs.FrameRules.{HasHeader, IsCovered, IsEnded, IsPaced, ShowsDue, Task}
-use Rattle.sub_rules.specs.FrameRules.{Unread, end_frame, frame_at, task_of}
+use Rattle.sub_rules.specs.FrameRules.{Criteria, HasHeader, IsCovered, IsEnded, IsPaced, ShowsDue}
+use Rattle.sub_rules.specs.FrameRules.{Unread, criteria_of, end_frame, frame_at}
 use Rattle.sub_rules.specs.Good.{Good}
 use Rattle.sub_rules.specs.Repeats.{GoodBy}
 use Rattle.sub_rules.specs.PieceEvents.{all_of_pieces}
@@ -26,7 +26,7 @@ use Rattle.sub_rules.specs.declared.packet_rule.Watched.{Watched}
 use Rattle.sub_laws.specs.OnScreen.{Complete}
 
 -- The first cell that is not right after n frames of the list, at the end of frame f.
-pub record WrongFirst (g : Task) (frames : Transmission) (n f row column : ℕ) : Type 0 where
+pub record WrongFirst (g : Criteria) (frames : Transmission) (n f row column : ℕ) : Type 0 where
   pub is_cell : IsCell row column
   pub broken : ShowsDue g frames n f row column → ⊥
   pub above : (r k : ℕ) → IsCell r k → r < row → ShowsDue g frames n f r k
@@ -34,7 +34,7 @@ pub record WrongFirst (g : Task) (frames : Transmission) (n f row column : ℕ) 
 
 -- What each rule of a frame's end asks at the end of frame f, after n frames of the list. Where it
 -- is not known what is due, any code may be in any cell.
-abbrev pub IsKept : EndRule → Task → Transmission → ℕ → ℕ → Type 0
+abbrev pub IsKept : EndRule → Criteria → Transmission → ℕ → ℕ → Type 0
 IsKept end.Content g frames n f =
     IsFalse (g.undecided f)
     → (row column : ℕ)
@@ -47,7 +47,7 @@ IsKept end.Silent g frames n f = IsPaced g frames n f
 
 -- What stands broken there: a rule exactly where it is not kept; content at the first cell that is
 -- wrong.
-pub record StandsBroken (g : Task) (frames : Transmission) (n f : ℕ) : Type 0 where
+pub record StandsBroken (g : Criteria) (frames : Transmission) (n f : ℕ) : Type 0 where
   pub rules :
       (rule : EndRule)
       → (broken_at rule (standing_at g frames n f) ≡ None) ↔ IsKept rule g frames n f
@@ -66,7 +66,7 @@ pub record IsComparable (w : Watched) (before : List (List ℕ)) (p : List ℕ) 
   pub odd : KeepsRule rule.Parity w before p
 
 -- Each place of a transmission, and what is told of it.
-pub record TellsBroken (g : Task) (frames : Transmission) : Type 0 where
+pub record TellsBroken (g : Criteria) (frames : Transmission) : Type 0 where
   -- The first frame is not after the first TCI, and each later one is after the one before.
   pub start :
       (order_events g frames 0 ≡ [])
@@ -90,14 +90,14 @@ pub record TellsBroken (g : Task) (frames : Transmission) : Type 0 where
   -- Where anything is told of whole packets, a refusal is. Beside what is refused of the subtitle
   -- file what is trusted is told whatever else is.
   pub first :
-      IsFalse g.beside
+      IsFalse g.any_refused
       → EachPacket IsPacket frames
       → first_told (all_of_pieces g (map Sent frames)) ≡ None
       → all_of_pieces g (map Sent frames) ≡ []
 
 -- So what is told first is the first place that is broken.
 abbrev pub LawOfBrokenPlaces : Type 0
-LawOfBrokenPlaces = (g : Task) (frames : Transmission) → g.within ≡ 0 → TellsBroken g frames
+LawOfBrokenPlaces = (g : Criteria) (frames : Transmission) → g.within ≡ 0 → TellsBroken g frames
 
 -- Nothing is told of the pieces of a PES file exactly where each of them is sent, none being passed
 -- over, what they send is good within the frames that the options allow, where repeats may keep the
@@ -110,7 +110,7 @@ LawOfNothingToldRepeats =
     → IsProgramme programme.drawing programme.records
     → 0 < options.every
     → EachPacket IsPacket (joined options.within (frames_of pieces))
-    → (all_of_pieces (task_of programme options unread) pieces ≡ [])
+    → (all_of_pieces (criteria_of programme options unread) pieces ≡ [])
     ↔ ((length (frames_of pieces) ≡ length pieces)
     × GoodBy options.keeps programme (joined options.within (frames_of pieces)) options
     × (unread ≡ None))
@@ -125,7 +125,7 @@ LawOfNothingTold =
     → options.within ≡ 0
     → 0 < options.every
     → EachPacket IsPacket (frames_of pieces)
-    → (all_of_pieces (task_of programme options unread) pieces ≡ [])
+    → (all_of_pieces (criteria_of programme options unread) pieces ≡ [])
     ↔ ((length (frames_of pieces) ≡ length pieces)
     × Good programme (frames_of pieces) options
     × (IsTrue options.asks_complete → Complete (frames_of pieces) options)

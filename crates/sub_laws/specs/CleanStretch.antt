@@ -7,8 +7,8 @@ use Rattle.stl_rows.specs.Programme.{ProgrammeValue}
 use Rattle.sub_plan.specs.Options.{OptionsValue}
 use Rattle.sub_rules.specs.Events.{packet_fault, standing_at}
 use Rattle.sub_rules.specs.Fault.{fault_row}
-use Rattle.sub_rules.specs.FrameRules.{Task, Unread, frame_at, packets_before, packets_of_frame}
-use Rattle.sub_rules.specs.FrameRules.{task_of}
+use Rattle.sub_rules.specs.FrameRules.{Criteria, Unread, criteria_of, frame_at, packets_before}
+use Rattle.sub_rules.specs.FrameRules.{packets_of_frame}
 use Rattle.sub_rules.specs.PacketTests.{breaks}
 use Rattle.sub_rules.specs.Transmission.{IsRising, Transmission, first_frame, last_frame}
 use Rattle.sub_rules.specs.declared.packet_rule.PacketRule.{PacketRule}
@@ -63,7 +63,7 @@ is_needed r = (fault_row (packet_fault r 0 0)).doubts
 -- whole transmission, no packet at a frame of it breaks one of these rules, and at no end of it
 -- wrong content or a gap stands, whether it is told there or was before; and at each end it is
 -- known what is due, and within some frames what was so few frames ago.
-pub record IsUntold (g : Task) (frames : Transmission) (a b : ℕ) : Type 0 where
+pub record IsUntold (g : Criteria) (frames : Transmission) (a b : ℕ) : Type 0 where
   pub stretch : IsStretch frames a b
   pub rising : IsRising frames
   pub packets :
@@ -75,17 +75,18 @@ pub record IsUntold (g : Task) (frames : Transmission) (a b : ℕ) : Type 0 wher
   pub undecided : AtEnds (λ n f. IsFalse (standing_at g frames n f).undecided) frames a b
 
 -- At no end of the frames from a to b the page stands open.
-abbrev pub NoneOpen : Task → Transmission → ℕ → ℕ → Type 0
+abbrev pub NoneOpen : Criteria → Transmission → ℕ → ℕ → Type 0
 NoneOpen g frames a b =
     AtEnds (λ n f. IsFalse (standing_at g frames n f).incomplete) frames a b
 
--- The task of a programme and options, where subtitles of the file may be refused beside those of
--- the programme, and it is not known for that at these frames what is due. Where none is, it is
--- the task of the programme and options.
-abbrev pub task_unsure :
-    ProgrammeValue → OptionsValue → Option Unread → Bool → (ℕ → Bool) → Task
-task_unsure programme options unread beside undecided =
-    record (task_of programme options unread) { beside = beside; undecided = undecided }
+-- The criteria of a programme and options, where subtitles of the file may be refused beside those
+-- of the programme, and it is not known for that at these frames what is due. Where none is, they
+-- are the criteria of the programme and options.
+abbrev pub criteria_unsure :
+    ProgrammeValue → OptionsValue → Option Unread → Bool → (ℕ → Bool) → Criteria
+criteria_unsure programme options unread any_refused undecided =
+    record (criteria_of programme options unread)
+    { any_refused = any_refused; undecided = undecided }
 
 -- Where no repeat may keep the page, such a stretch has the parts of the rules that suffice, so it
 -- may be trusted (`LawOfStretch`); and where complete pages are asked for, and the page stands open
@@ -95,11 +96,11 @@ task_unsure programme options unread beside undecided =
 abbrev pub LawOfUntoldStretch : Type 0
 LawOfUntoldStretch =
     (programme : ProgrammeValue) (transmission : Transmission) (options : OptionsValue)
-    → (unread : Option Unread) (beside : Bool) (undecided : ℕ → Bool) (a b : ℕ)
+    → (unread : Option Unread) (any_refused : Bool) (undecided : ℕ → Bool) (a b : ℕ)
     → IsFalse options.keeps
     → options.within ≡ 0
-    → IsUntold (task_unsure programme options unread beside undecided) transmission a b
+    → IsUntold (criteria_unsure programme options unread any_refused undecided) transmission a b
     → IsSufficient programme transmission options a b
     × (IsTrue options.asks_complete
-    → NoneOpen (task_unsure programme options unread beside undecided) transmission a b
+    → NoneOpen (criteria_unsure programme options unread any_refused undecided) transmission a b
     → CompleteWithin transmission options a b)

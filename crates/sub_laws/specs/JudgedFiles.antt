@@ -7,10 +7,10 @@ use Rattle.stl_file.specs.Reader.{findings_for}
 use Rattle.stl_file.specs.SubtitleBlocks.{IsBlock}
 use Rattle.stl_file.specs.TakenOut.{is_read_whole, taken_out}
 use Rattle.stl_rows.specs.declared.layout.Drawing.{Drawing}
-use Rattle.stl_rows.specs.Judged.{JudgedValue, is_beside, judged_of, judges}
+use Rattle.stl_rows.specs.Judged.{JudgedValue, has_refused, judged_of, judges}
 use Rattle.stl_rows.specs.Loading.{of_day}
 use Rattle.sub_plan.specs.Options.{OptionsValue}
-use Rattle.sub_rules.specs.FrameRules.{Unread, is_undecided_beside, task_beside}
+use Rattle.sub_rules.specs.FrameRules.{Unread, criteria_of_judged, is_due_undecided}
 use Rattle.sub_rules.specs.PieceEvents.{all_of_pieces}
 use Rattle.sub_rules.specs.Pieces.{Piece}
 
@@ -38,7 +38,7 @@ LawOfJudgedAlike =
     (one other : JudgedValue) (options : OptionsValue) (unread : Option Unread)
     → (pieces : List Piece)
     → one.programme ≡ other.programme
-    → is_beside one ≡ is_beside other
-    → ((frame : ℕ) → is_undecided_beside one frame ≡ is_undecided_beside other frame)
-    → all_of_pieces (task_beside one options unread) pieces
-    ≡ all_of_pieces (task_beside other options unread) pieces
+    → has_refused one ≡ has_refused other
+    → ((frame : ℕ) → is_due_undecided one frame ≡ is_due_undecided other frame)
+    → all_of_pieces (criteria_of_judged one options unread) pieces
+    ≡ all_of_pieces (criteria_of_judged other options unread) pieces

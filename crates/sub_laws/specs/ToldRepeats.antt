@@ -6,7 +6,7 @@ use Rattle.sub_plan.specs.Options.{OptionsValue}
 use Rattle.sub_rules.specs.FrameRules.{Unread}
 use Rattle.sub_rules.specs.Repeats.{IsWholePage, KeepsDueCodes}
 use Rattle.sub_rules.specs.Transmission.{Transmission}
-use Rattle.sub_laws.specs.CleanStretch.{IsUntold, NoneOpen, task_unsure}
+use Rattle.sub_laws.specs.CleanStretch.{IsUntold, NoneOpen, criteria_unsure}
 use Rattle.sub_laws.specs.Repeats.{FinishesInTimeBy, IsRepeatedStretch}
 
 -- What suffices of the frames from a to b.
@@ -33,9 +33,9 @@ pub record IsSufficientRepeats
 abbrev pub LawOfUntoldRepeats : Type 0
 LawOfUntoldRepeats =
     (programme : ProgrammeValue) (transmission : Transmission) (options : OptionsValue)
-    → (unread : Option Unread) (beside : Bool) (undecided : ℕ → Bool) (a b : ℕ)
-    → IsUntold (task_unsure programme options unread beside undecided) transmission a b
+    → (unread : Option Unread) (any_refused : Bool) (undecided : ℕ → Bool) (a b : ℕ)
+    → IsUntold (criteria_unsure programme options unread any_refused undecided) transmission a b
     → IsSufficientRepeats options.keeps programme transmission options a b
     × (IsProgramme programme.drawing programme.records
-    → NoneOpen (task_unsure programme options unread beside undecided) transmission a b
+    → NoneOpen (criteria_unsure programme options unread any_refused undecided) transmission a b
     → FinishesInTimeBy options.keeps programme transmission options a b)

@@ -10,7 +10,7 @@ use Rattle.stl_rows.specs.Programme.{ProgrammeValue}
 use Rattle.sub_plan.specs.Options.{OptionsValue}
 use Rattle.sub_plan.specs.Schedule.{due_in}
 use Rattle.sub_rules.specs.Events.{is_late}
-use Rattle.sub_rules.specs.FrameRules.{task_of}
+use Rattle.sub_rules.specs.FrameRules.{criteria_of}
 use Rattle.sub_rules.specs.Kept.{IsRight}
 use Rattle.sub_rules.specs.Repeats.{IsDueWithin}
 use Rattle.sub_rules.specs.Transmission.{Transmission, on_air_until}
@@ -40,7 +40,7 @@ pub record IsDifferentEverywhere
   -- Where that end is not late, what is kept is no space and no code that is due there in frame f
   -- or in one of the `within` frames before it.
   pub undue :
-      IsFalse (is_late (task_of programme options None) read (length read) f)
+      IsFalse (is_late (criteria_of programme options None) read (length read) f)
       → IsDueWithin programme read options f row column
       (kept options.keeps options.page (on_air_until read f) row column)
       → ⊥

@@ -6,7 +6,7 @@ use Rattle.std.proofs.Common.{drop}
 use Rattle.std.proofs.Common.{MatchResult, Option, Result, Some, None, Ok, Err}
 use Rattle.std.proofs.lemmas.List.{length-append, length-map}
 use Rattle.std.proofs.lemmas.Bool.{cases_lt}
-use Rattle.sub_io.specs.Reading.{IfTold}
+use Rattle.sub_io.specs.Reading.{IfKnown}
 use Rattle.ttx_packet.specs.PageId.{PageIdValue}
 use Rattle.ttx_page.specs.Screen.{Display}
 use Rattle.ttx_page.proofs.RunLemmas.{RunsBy-append}
@@ -84,7 +84,7 @@ pub fails_listening : (l : Listening) (n : ℕ) (f : CheckFault) (old mid new : 
     → (is_pes_read f ≡ true → f ≡ check.Pes n pes.Read)
     → (is_pes_read f ≡ true → FailsWithin mid new)
     → ((frames : Transmission) (unread : Option Unread)
-    → IfTold old (λ bytes.
+    → IfKnown old (λ bytes.
     ReadsAs (clock_of l.options) 0 bytes frames unread → AreHeard l frames n))
     → is_pes_read f ≡ true
     → FailsListening l old new (fault.File f)

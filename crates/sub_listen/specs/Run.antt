@@ -5,7 +5,7 @@
 use Rattle.std.specs.Prelude.{◌≡◌, ℕ, zero, suc, ◌+◌, ◌<◌, ◌≤◌, ◌⊎◌, ◌&&◌, ◌==◌, Bool, false, not}
 use Rattle.std.specs.Prelude.{if◌then◌else◌, length, Option, Some, None, Result, option_map}
 use Rattle.std.specs.Prelude.{List, MatchResult}
-use Rattle.sub_io.specs.Reading.{IfTold}
+use Rattle.sub_io.specs.Reading.{IfKnown}
 use Rattle.ttx_packet.specs.PageId.{PageIdValue}
 use Rattle.ttx_page.specs.Screen.{Display}
 use Rattle.ttx_pes.specs.Reader.{FailsAtPacket, TakesPackets}
@@ -114,14 +114,14 @@ RefusesAfter l frames unread n f =
     × (f ≡ fault.File (unread_fault n (Some u)))
 
 -- The source failed at a PES packet: those before it were taken, and their frames were heard.
-pub record FailsListening (l : Listening) (told left : Option (List ℕ)) (f : ListenFault) : Type 0
+pub record FailsListening (l : Listening) (known left : Option (List ℕ)) (f : ListenFault) : Type 0
   where
     pub index : ℕ
     pub is : f ≡ fault.File (check.Pes index Read)
-    pub place : FailsAtPacket index told left
+    pub place : FailsAtPacket index known left
     pub heard :
         (frames : Transmission) (unread : Option Unread)
-        → IfTold told (λ bytes.
+        → IfKnown known (λ bytes.
         ReadsAs (clock_of l.options) 0 bytes frames unread → AreHeard l frames index)
 
 -- ---- the run of a receiver
@@ -144,9 +144,9 @@ pub record Runs
 -- these are left after.
 pub record HearsFile
     (leaves : ℕ → ℕ) (l : Listening) (frames : Transmission) (unread : Option Unread)
-    (told left : Option (List ℕ)) (w : PageIdValue) (old new : Display)
+    (known left : Option (List ℕ)) (w : PageIdValue) (old new : Display)
     (result : Result (Unit {0}) ListenFault)
     : Type 0 where
   pub runs : Runs leaves l frames unread w old new result
   -- Where there is a frame after those that are heard, nothing was read after its PES packet.
-  pub stops : runs.n < length frames → TakesPackets (runs.n + 1) told left
+  pub stops : runs.n < length frames → TakesPackets (runs.n + 1) known left

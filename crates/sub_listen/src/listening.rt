@@ -3,7 +3,7 @@
 ghost use Rattle.std.specs.Prelude.{◌≡◌, ◌+◌, ◌<◌, ◌≤◌, ◌&&◌, ◌==◌, IfErr, Option, false, true};
 ghost use Rattle.std.specs.Prelude.{if◌then◌else◌, not};
 ghost use Rattle.sub_io.specs.Device.{CanFail, CountsIf, failed};
-ghost use Rattle.sub_io.specs.Reading.{IfTold};
+ghost use Rattle.sub_io.specs.Reading.{IfKnown};
 ghost use Rattle.ttx_page.specs.Screen.{display};
 ghost use Rattle.sub_plan.specs.FrameTime.{clock_of};
 ghost use Rattle.sub_rules.specs.FrameRules.{Unread};
@@ -79,7 +79,7 @@ pub fn listen<R: Receiver + Drop, S: Source>(
     requires count { CanFail (S.failure_count pes.old) }
     requires tuned { R.tuned_to receiver.old ≡ listening.now.options.page }
     ensures exact { (frames : Transmission) (unread : Option Unread)
-        → IfTold (S.remaining pes.old) (λ bytes.
+        → IfKnown (S.remaining pes.old) (λ bytes.
         ReadsAs (clock_of listening.now.options) 0 bytes frames unread
         → failed is_failed_read result ≡ false
         → HearsFile R.leaves listening.now frames unread (S.remaining pes.old)
@@ -109,7 +109,7 @@ pub fn listen_pieces<R: Receiver + Drop, P: Pieces>(
     requires count { CanFail (P.failure_count pes.old) }
     requires tuned { R.tuned_to receiver.old ≡ listening.now.options.page }
     ensures exact { (frames : Transmission) (unread : Option Unread)
-        → IfTold (P.remaining pes.old) (λ bytes.
+        → IfKnown (P.remaining pes.old) (λ bytes.
         ReadsAs (clock_of listening.now.options) 0 bytes frames unread
         → failed is_failed_read result ≡ false
         → HearsFile R.leaves listening.now frames unread (P.remaining pes.old)

@@ -1,21 +1,26 @@
--- What comes next of bytes, by what was read of them. Main lemmas: next_short, next_start,
--- next_cut, next_piece, more_copied.
+-- What is copied of bytes: a piece that begins them, and bytes that no piece begins. Main lemmas:
+-- piece_copied, rest_stays, more_copied.
 use Rattle.std.proofs.Common.{◌≡◌, ◌∙◌, ap, sym, subst, arith, ℕ, ◌+◌, ◌<◌, ◌≤◌, ◌++◌, List}
-use Rattle.std.proofs.Common.{[], true, false, Option, Some, None, Ok, Err, length, take, drop}
+use Rattle.std.proofs.Common.{[], Bool, Option, Some, None, Ok, length, take, drop}
 use Rattle.std.proofs.Common.{length-append, take-add, take-append-drop}
 use Rattle.std.proofs.lemmas.List.{drop-drop, length-drop, length-take-le, take_all}
 use Rattle.std.proofs.Math.Seq.{drop-append_seam, take-append_seam}
 use Rattle.std.proofs.lemmas.Bool.Decides.{nat_tests}
 use Rattle.std.proofs.KnownBytes.{Appends-nil, Appends-trans}
-use Rattle.std.specs.Io.KnownBytes.{Appends, Consumes, IsAtEnd, prepend_known}
-use Rattle.ttx_pes.specs.PieceRange.{piece_size, told_piece}
-use Rattle.ttx_pes.specs.Fault.{is_read}
-use Rattle.ttx_pes.specs.Reading.{is_format_fault, size_at}
+use Rattle.std.specs.Prelude.{◌==◌, ◌&&◌}
+use Rattle.std.specs.Io.KnownBytes.{Appends, Consumes, IsAtEnd, Keeps}
+use Rattle.ttx_pes.specs.Advancing.{IsRest, rest_fault}
+use Rattle.ttx_pes.specs.PesPacket.{payload_size}
+use Rattle.ttx_pes.specs.PieceRange.{piece_size}
+use Rattle.ttx_pes.specs.Pieces.{IsPiece}
+use Rattle.ttx_pes.specs.Reading.{is_mark}
 use Rattle.ttx_pes.specs.declared.fault.PesFault.{PesFault}
-use Rattle.ttx_pes.specs.declared.fault.PesFault.TheVariants.{Truncated}
+use Rattle.ttx_pes.specs.declared.pieces.Came.TheVariants.{Piece}
+use Rattle.ttx_pes.proofs.LimitedLemmas.{piece_is, rest_told}
+use Rattle.ttx_pes.proofs.PieceRoomLemmas.{piece_sized}
 use Rattle.sub_io.specs.Device.{AppendsPrefix}
 use Rattle.sub_io.proofs.DeviceLemmas.{AppendsPrefix-first, AppendsPrefix-second}
-use Rattle.sub_listing.specs.Copying.{HasCopied}
+use Rattle.sub_listing.specs.Copying.{CopiesNext, HasCopied}
 use Rattle.sub_listing.specs.Extracting.{refusal_at}
 
 -- Bytes that were taken from the front of others.
@@ -31,34 +36,6 @@ pub front_taken : (b front : List ℕ) (left : Option (List ℕ))
 front_taken b front left taken =
     grind (arith, nat_tests, length-append, take-append_seam, drop-append_seam)
 
--- What was held before the rest is the whole.
-pub joined_again : (b front : List ℕ) (left : Option (List ℕ))
-    → Consumes (Some b) left front
-    → prepend_known front left ≡ Some b
-joined_again b front None taken = absurd taken
-joined_again b front (Some y) taken = ap Some (sym taken)
-
-pub refused_short : (b : List ℕ) → 0 < length b → length b < 6 → refusal_at b ≡ Some Truncated
-unfolding refusal_at
-refused_short b some short = grind (arith, nat_tests)
-
-pub refused_start : (b : List ℕ) (f : PesFault) → 6 ≤ length b → size_at (take 6 b) ≡ Err f
-    → refusal_at b ≡ Some f
-unfolding refusal_at
-refused_start b f long is = rw is (grind (arith, nat_tests))
-
-pub refused_cut : (b : List ℕ) (size : ℕ) → 6 ≤ length b → size_at (take 6 b) ≡ Ok size
-    → length b < size
-    → refusal_at b ≡ Some Truncated
-unfolding refusal_at
-refused_cut b size long is cut = rw is (grind (arith, nat_tests))
-
-pub whole_piece : (b : List ℕ) (size : ℕ) → 6 ≤ length b → size_at (take 6 b) ≡ Ok size
-    → size ≤ length b
-    → piece_size b ≡ Some size
-unfolding piece_size told_piece
-whole_piece b size long is fits = rw is (grind (arith, nat_tests))
-
 -- What a buffer took of the front of bytes.
 pub room_taken : (b room : List ℕ) (n : ℕ) (left : Option (List ℕ))
     → n ≤ length room
@@ -67,73 +44,88 @@ pub room_taken : (b room : List ℕ) (n : ℕ) (left : Option (List ℕ))
     × (IsAtEnd left → length b ≡ n)
 room_taken b room n left fits taken = grind (arith, nat_tests, front_taken, length-take-le)
 
--- The bytes end within the first six.
-pub next_short : (x z : Option (List ℕ)) (b room : List ℕ) (n : ℕ)
-    → x ≡ Some b
-    → Consumes (prepend_known [] x) z (take n room)
-    → n ≤ length room
-    → 0 < n
-    → n < 6
-    → IsAtEnd z
-    → (refusal_at b ≡ Some Truncated) × (take n b ≡ take n room) × (z ≡ Some (drop n b))
-next_short x z b room n told taken fits some short end =
-    grind (arith, nat_tests, room_taken, refused_short)
+-- ---- what comes next of bytes
 
--- They are no start of a PES packet.
-pub next_start : (x z : Option (List ℕ)) (b room : List ℕ) (f : PesFault)
-    → x ≡ Some b
-    → Consumes (prepend_known [] x) z (take 6 room)
-    → 6 ≤ length room
-    → size_at (take 6 room) ≡ Err f
-    → (refusal_at b ≡ Some f) × (take 6 b ≡ take 6 room) × (z ≡ Some (drop 6 b))
-next_start x z b room f told taken fits is =
-    let front = room_taken b room 6 z fits (rw told at taken) in
-    (refused_start b f front.2 (ap size_at front.0 ∙ is), front.0, front.1)
+-- A piece fits into the room. For `take`.
+pub piece_fits : (p : List ℕ) → IsPiece p → length p ≤ 1656
+piece_fits p is = (piece_sized p is).2
 
--- What was read of bytes whose first six tell a size.
-sized : (x y z : Option (List ℕ)) (b room more : List ℕ) (n : ℕ)
-    → x ≡ Some b
-    → Consumes (prepend_known [] x) y (take 6 room)
-    → 6 ≤ length room
-    → Consumes (prepend_known (take 6 room) y) z (take n more)
-    → n ≤ length more
-    → ((take n b ≡ take n more) × (z ≡ Some (drop n b)) × (n ≤ length b)
-    × (IsAtEnd z → length b ≡ n))
-    × (take 6 b ≡ take 6 room) × (6 ≤ length b)
-sized x y z b room more n told head fits taken bound =
-    grind (arith, nat_tests, room_taken, joined_again)
-
--- They end within the piece.
-pub next_cut : (x y z : Option (List ℕ)) (b room more : List ℕ) (n size : ℕ)
-    → x ≡ Some b
-    → Consumes (prepend_known [] x) y (take 6 room)
-    → 6 ≤ length room
-    → size_at (take 6 room) ≡ Ok size
-    → Consumes (prepend_known (take 6 room) y) z (take n more)
-    → n ≤ length more
-    → n < size
-    → IsAtEnd z
-    → (refusal_at b ≡ Some Truncated) × (take n b ≡ take n more) × (z ≡ Some (drop n b))
-next_cut x y z b room more n size told head fits is taken bound cut end =
-    let read = sized x y z b room more n told head fits taken bound in
-    let all = read.0.3 end in (
-      refused_cut b size read.2 (ap size_at read.1 ∙ is) (omega (arith, all, cut)),
-      read.0.0,
-      read.0.1,
+-- A piece that was taken of these bytes was written.
+pub piece_copied : (bytes p : List ℕ) (told left old new : Option (List ℕ)) (is_a_mark : Bool)
+    → told ≡ Some bytes
+    → IsPiece p
+    → Consumes told left p
+    → is_a_mark ≡ ((length p == payload_size) && is_mark (drop 6 p))
+    → Appends old new p
+    → CopiesNext bytes left old new (Ok (Piece is_a_mark))
+piece_copied bytes p told left old new is_a_mark is piece taken mark written =
+    let here : Consumes (Some bytes) left p = rw is at taken in
+    let front = front_taken bytes p left here in (
+      length p,
+      size left here,
+      mark
+          ∙ ap (λ (l : List ℕ). (length p == payload_size) && is_mark (drop 6 l)) (sym front.same),
+      record {
+        left_is = front.left_is;
+        written = subst (Appends old new) (sym front.same) written;
+      },
     )
+  where
+    size : (left : Option (List ℕ)) → Consumes (Some bytes) left p
+        → piece_size bytes ≡ Some (length p)
+    size None taken = absurd taken
+    size (Some rest) taken = ap piece_size taken ∙ piece_is p rest piece
 
--- A piece begins them.
-pub next_piece : (x y z : Option (List ℕ)) (b room more : List ℕ) (size : ℕ)
-    → x ≡ Some b
-    → Consumes (prepend_known [] x) y (take 6 room)
-    → 6 ≤ length room
-    → size_at (take 6 room) ≡ Ok size
-    → Consumes (prepend_known (take 6 room) y) z (take size more)
-    → size ≤ length more
-    → (piece_size b ≡ Some size) × (take size b ≡ take size more) × (z ≡ Some (drop size b))
-next_piece x y z b room more size told head fits is taken bound =
-    let read = sized x y z b room more size told head fits taken bound in
-    (whole_piece b size read.2 (ap size_at read.1 ∙ is) read.0.2, read.0.0, read.0.1)
+-- A part of it was.
+pub part_of_piece : (bytes p : List ℕ) (told left old new : Option (List ℕ))
+    → told ≡ Some bytes
+    → Consumes told left p
+    → AppendsPrefix old new p
+    → AppendsPrefix old new bytes
+part_of_piece bytes p told left old new is taken part = go left (rw is at taken)
+  where
+    go : (left : Option (List ℕ)) → Consumes (Some bytes) left p → AppendsPrefix old new bytes
+    go None taken = absurd taken
+    go (Some rest) taken =
+        subst (AppendsPrefix old new) (sym taken) (AppendsPrefix-first old new p rest part)
+
+-- Nothing is left.
+pub none_left : (bytes : List ℕ) (told left : Option (List ℕ))
+    → told ≡ Some bytes
+    → Keeps told left
+    → IsAtEnd left
+    → bytes ≡ []
+none_left bytes told left is kept end = go left (rw is at kept) end
+  where
+    go : (left : Option (List ℕ)) → Keeps (Some bytes) left → IsAtEnd left → bytes ≡ []
+    go None kept end = absurd kept
+    go (Some rest) kept end = sym kept ∙ end
+
+refused_rest : (b : List ℕ) (f : PesFault) → 0 < length b → rest_fault b ≡ Some f
+    → refusal_at b ≡ Some f
+unfolding refusal_at
+refused_rest b f some is = grind (arith, nat_tests)
+
+-- No piece begins them: they are all there.
+pub rest_stays : (bytes : List ℕ) (told left behind : Option (List ℕ)) (f : PesFault)
+    → told ≡ Some bytes
+    → Keeps told left
+    → IsRest told behind f
+    → (refusal_at bytes ≡ Some f) × (left ≡ Some bytes)
+rest_stays bytes told left behind f is kept rest = (
+  refused_rest bytes f (some behind (rw is at rest.consumed))
+      (rest_told told behind f rest bytes is),
+  stays left (rw is at kept),
+)
+  where
+    some : (behind : Option (List ℕ)) → Consumes (Some bytes) behind rest.bytes → 0 < length bytes
+    some None taken = absurd taken
+    some (Some more) taken =
+        omega (arith, rest.shows.some, ap length taken, length-append rest.bytes more)
+
+    stays : (left : Option (List ℕ)) → Keeps (Some bytes) left → left ≡ Some bytes
+    stays None kept = absurd kept
+    stays (Some rest) kept = ap Some kept
 
 -- ---- what was copied so far
 
@@ -218,9 +210,3 @@ pub all_copied : (bytes : List ℕ) (left next old mid : Option (List ℕ)) (lea
     → Appends old mid bytes
 all_copied bytes left next old mid least some taken end =
     grind (arith, nat_tests, front_taken, length-drop, take_all)
-
--- ---- faults
-
--- A fault of the format is none of the source.
-pub no_read : (f : PesFault) → is_format_fault f ≡ true → is_read f ≡ false
-no_read f is = grind (arith, nat_tests)

@@ -12,7 +12,7 @@ use Rattle.ttx_pes.specs.declared.fault.PesFault.{PesFault}
 use Rattle.std.proofs.lemmas.List.{append-nil, length-drop}
 use Rattle.ttx_pes.specs.PieceRange.{behind_pieces, count_pieces, first_pieces, piece_size}
 use Rattle.ttx_pes.proofs.PieceRangeLemmas.{behind_none, behind_one, count_none, count_one}
-use Rattle.ttx_pes.proofs.PieceRangeLemmas.{first_one, piece_told}
+use Rattle.ttx_pes.proofs.PieceRangeLemmas.{first_one, piece_stated}
 use Rattle.sub_listing.specs.Copying.{CopiesRest, HasCopied, HasCopiedPieces}
 use Rattle.sub_listing.specs.Extracting.{AreCut, AreGiven, AreRefused, begins_with_mark}
 use Rattle.sub_listing.specs.Extracting.{count_marks}
@@ -110,7 +110,7 @@ few_pieces (suc k) b = go (piece_size b) refl (λ s. few_pieces k (drop s b))
     go None is others = let none = count_none (suc k) b is in omega (arith, none)
     go (Some s) is others =
         let here = count_one k b s is in
-        let told = piece_told b s is in
+        let told = piece_stated b s is in
         let large = told.0 in
         let within = told.2 in
         let less = length-drop s b in
@@ -203,46 +203,21 @@ pub none_given : (bytes : List ℕ) (left old mid new : Option (List ℕ)) (k ga
 unfolding behind_pieces first_pieces
 none_given bytes left old mid new k gaps so_far none kept is = grind (arith, nat_tests, append-nil)
 
--- What was copied of what follows, and then of the rest of that.
-rest_part : (b : List ℕ) (mid there new next : Option (List ℕ)) (read : ℕ)
-    → HasCopied b next mid there read
-    → AppendsPrefix there new (drop read b)
-    → AppendsPrefix mid new b
-rest_part b mid there new next read copied part =
-    subst (AppendsPrefix mid new) (take-append-drop read b)
-    (AppendsPrefix-second mid there new (take read b) (drop read b) copied.written part)
-
--- A device failed then.
-pub rest_cut : (bytes : List ℕ) (left old mid there new next : Option (List ℕ)) (k gaps read : ℕ)
-    → HasCopiedPieces bytes left old mid k gaps
-    → HasCopied (behind_pieces k bytes) next mid there read
-    → AppendsPrefix there new (drop read (behind_pieces k bytes))
-    → AppendsPrefix old new bytes
-rest_cut bytes left old mid there new next k gaps read so_far copied part =
-    part_copied bytes left old mid new k gaps so_far
-    (rest_part (behind_pieces k bytes) mid there new next read copied part)
-
 -- What follows them is refused, and was written.
-pub rest_refused : (bytes : List ℕ) (left old mid there new next : Option (List ℕ))
-    (k gaps read : ℕ) (f : PesFault)
+pub rest_refused : (bytes : List ℕ) (left old mid new : Option (List ℕ)) (k gaps : ℕ) (f : PesFault)
     → HasCopiedPieces bytes left old mid k gaps
     → refusal_at (behind_pieces k bytes) ≡ Some f
-    → HasCopied (behind_pieces k bytes) next mid there read
-    → CopiesRest (drop read (behind_pieces k bytes)) there new (Ok tt)
+    → CopiesRest (behind_pieces k bytes) mid new (Ok tt)
     → AreRefused bytes old new f k
-rest_refused bytes left old mid there new next k gaps read f so_far is copied rest =
-    let b = behind_pieces k bytes in
+rest_refused bytes left old mid new k gaps f so_far is rest =
     let all = ap length (split_pieces k bytes so_far.number) in
-    let joined = length-append (first_pieces k bytes) b in
-    let less = length-drop read b in
+    let joined = length-append (first_pieces k bytes) (behind_pieces k bytes) in
     record {
       pieces = so_far.number;
-      taken = rest_cut bytes left old mid there new next k gaps read so_far copied rest.0;
+      taken = part_copied bytes left old mid new k gaps so_far rest.0;
       written = λ few.
           whole_copied bytes left old mid new k gaps so_far
-          (subst (Appends mid new) (take-append-drop read b)
-          (Appends-trans mid there new (take read b) (drop read b) copied.written
-          (rest.1 (omega (arith, few, all, joined, less)))));
+          (rest.1 (omega (arith, few, all, joined)));
       refused = λ few. is;
     }
 
@@ -272,16 +247,14 @@ pub cut_behind : (bytes : List ℕ) (left old mid new : Option (List ℕ)) (k ga
 cut_behind bytes left old mid new k gaps so_far kept = grind (arith, nat_tests)
 
 -- It failed in what follows them, which no piece begins.
-pub cut_in_rest : (bytes : List ℕ) (left old mid there new next : Option (List ℕ))
-    (k gaps read : ℕ) (f : PesFault)
+pub cut_in_rest : (bytes : List ℕ) (left old mid new : Option (List ℕ)) (k gaps : ℕ) (f : PesFault)
     → HasCopiedPieces bytes left old mid k gaps
     → refusal_at (behind_pieces k bytes) ≡ Some f
-    → HasCopied (behind_pieces k bytes) next mid there read
-    → AppendsPrefix there new (drop read (behind_pieces k bytes))
+    → AppendsPrefix mid new (behind_pieces k bytes)
     → AreCut bytes old new k
-cut_in_rest bytes left old mid there new next k gaps read f so_far is copied part = record {
+cut_in_rest bytes left old mid new k gaps f so_far is part = record {
   pieces = so_far.number;
   behind = mid;
   given = so_far.written;
-  rest = inr (f, is, rest_part (behind_pieces k bytes) mid there new next read copied part);
+  rest = inr (f, is, part);
 }

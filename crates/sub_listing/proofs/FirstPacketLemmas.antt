@@ -24,13 +24,13 @@ use Rattle.sub_listing.specs.declared.status.Status.TheVariants.{Fault}
 -- ---- a source that keeps what it tells
 
 -- What it told it tells then.
-pub told_kept : (old mid : Option (List ℕ)) (bytes : List ℕ)
+pub known_kept : (old mid : Option (List ℕ)) (bytes : List ℕ)
     → Keeps old mid
     → old ≡ Some bytes
     → mid ≡ Some bytes
-told_kept None mid bytes kept told = cc
-told_kept (Some x) None bytes kept told = absurd kept
-told_kept (Some x) (Some y) bytes kept told = cc
+known_kept None mid bytes kept told = cc
+known_kept (Some x) None bytes kept told = absurd kept
+known_kept (Some x) (Some y) bytes kept told = cc
 
 -- What is taken of it then is taken of it.
 pub consumed_kept : (old mid new : Option (List ℕ)) (bytes : List ℕ)
@@ -109,24 +109,24 @@ reads_kept failed old mid (gives v more) left kept reads = grind (arith, nat_tes
 -- PES packets were listed once the first was found. For `list_packets`.
 pub prints_found : (first : FirstNumber) (number : ℕ) (old mid left : Option (List ℕ))
     (old_count mid_count new_count : ℕ) (out : SinkCall) (status : Status)
-    → ((n : ℕ) → first.told ≡ Some n → number ≡ n)
+    → ((n : ℕ) → first.known ≡ Some n → number ≡ n)
     → Keeps old mid
     → mid_count ≡ old_count
     → PrintsListing (ListsPackets number)
-    (record { told = mid; left = left; old_count = mid_count; new_count = new_count }) out status
+    (record { known = mid; left = left; old_count = mid_count; new_count = new_count }) out status
     → PrintsFrom ListsPackets first
-    (record { told = old; left = left; old_count = old_count; new_count = new_count }) out status
+    (record { known = old; left = left; old_count = old_count; new_count = new_count }) out status
 prints_found
     first number old mid left old_count mid_count new_count out status found kept same prints =
-    grind (arith, nat_tests, told_kept, reads_kept)
+    grind (arith, nat_tests, known_kept, reads_kept)
 
 -- The source failed before. For `list_packets`.
 pub prints_failed : (first : FirstNumber) (number : ℕ) (source : SourceCall) (out : SinkCall)
     (status : Status)
-    → ((n : ℕ) → first.told ≡ Some n → number ≤ n)
+    → ((n : ℕ) → first.known ≡ Some n → number ≤ n)
     → number ≡ first.passed
-    → ((n : ℕ) → first.told ≡ Some n → first.left ≡ Some n)
-    → Keeps source.told source.left
+    → ((n : ℕ) → first.known ≡ Some n → first.left ≡ Some n)
+    → Keeps source.known source.left
     → source.new_count ≡ source.old_count + 1
     → PrintsOrFails out (fault_listing (counted_from number (check_line (Pes 0 Read)))) status
     → PrintsFrom ListsPackets first source out status
@@ -142,7 +142,7 @@ prints_failed first number source out status before passed same kept risen print
       exact = λ bytes told ok. cc;
       taken = λ other. (
         refl,
-        λ is. fails_within_first source.told source.left kept,
+        λ is. fails_within_first source.known source.left kept,
         λ is. cc,
       );
     };

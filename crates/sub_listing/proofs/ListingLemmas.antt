@@ -7,7 +7,7 @@ use Rattle.std.proofs.Common.{Option, Some, None, Ok, Err}
 use Rattle.std.specs.Io.KnownBytes.{Appends, Consumes, Keeps}
 use Rattle.std.proofs.KnownBytes.{Appends-kept, Appends-nil, Appends-trans}
 use Rattle.sub_io.specs.Device.{AppendsPrefix, RisesIf}
-use Rattle.sub_io.specs.Reading.{IfTold}
+use Rattle.sub_io.specs.Reading.{IfKnown}
 use Rattle.sub_io.proofs.DeviceLemmas.{AppendsPrefix-first, AppendsPrefix-second}
 use Rattle.sub_io.proofs.DeviceLemmas.{AppendsPrefix-whole}
 use Rattle.ttx_pes.specs.Outcome as pes
@@ -109,7 +109,7 @@ pub front-end :
     (Before At After : IsListed) (source : SourceCall) (out : SinkCall)
     (left now : Option (List ℕ)) (text : List ℕ)
     (status : Status)
-    → IsFront Before At source.told left out.old now
+    → IsFront Before At source.known left out.old now
     → Gives At After left source.left text (Some status)
     → Appends now out.new text
     → out.new_count ≡ out.old_count
@@ -131,7 +131,7 @@ pub front-cut :
     (Before At After : IsListed) (source : SourceCall) (out : SinkCall)
     (left now : Option (List ℕ)) (text : List ℕ)
     (end : Option Status)
-    → IsFront Before At source.told left out.old now
+    → IsFront Before At source.known left out.old now
     → Gives At After left source.left text end
     → AppendsPrefix now out.new text
     → out.new_count ≡ out.old_count + 1
@@ -166,7 +166,7 @@ front-cut Before At After source out left now text (Some status) i gives p risen
 -- Lines were cut, since the sink failed as the lines before were handed on. For `list`.
 pub front-stopped :
     (Before At : IsListed) (source : SourceCall) (out : SinkCall) (left now : Option (List ℕ))
-    → IsFront Before At source.told left out.old now
+    → IsFront Before At source.known left out.old now
     → IsCut At left source.left
     → Keeps now out.new
     → out.new_count ≡ out.old_count + 1
@@ -220,7 +220,7 @@ pub gives-next :
     → ((o : O) → before (piece o) ≡ followed text (after o))
     → ((o : O) (failed : Bool) (end : Option (List ℕ))
     → Takes' failed left o end → Takes failed told (piece o) end)
-    → IfTold told (λ bytes.
+    → IfKnown told (λ bytes.
     (rest : List ℕ) × (left ≡ Some rest) × (given bytes ≡ piece (given' rest)))
     → O
     → Gives (Lists before given Takes) (Lists after given' Takes') told left text None
@@ -234,7 +234,7 @@ pub gives-last :
     (told left : Option (List ℕ)) (o : O) (text : List ℕ) (failed : Bool)
     → text ≡ (listing_of o).text
     → has_failed (Some (listing_of o).status) ≡ failed
-    → IfTold told (λ bytes. failed ≡ false → o ≡ given bytes)
+    → IfKnown told (λ bytes. failed ≡ false → o ≡ given bytes)
     → Takes failed told o left
     → Lists listing_of given Takes told left (Some (listing_of o).status)
     (record { text = text; status = (listing_of o).status })
@@ -292,8 +292,8 @@ pub gives-opened :
     → r.progress ≡ progress.Reading
     → IsGsi r.gsi
     → Consumes told left r.gsi
-    → IfTold told (λ bytes. left ≡ Some (drop gsi_size bytes))
-    → IfTold told (λ bytes. opened_at bytes ≡ Ok r)
+    → IfKnown told (λ bytes. left ≡ Some (drop gsi_size bytes))
+    → IfKnown told (λ bytes. opened_at bytes ≡ Ok r)
     → Gives (ListsFrom None count) (ListsFrom (Some r) count) told left [] None
 unfolding findings_for
 gives-opened count r told left start reading gsi taken rest opened =
@@ -311,7 +311,7 @@ gives-opened count r told left start reading gsi taken rest opened =
 pub gives-refused :
     (count : ℕ) (f : StlFault) (told left : Option (List ℕ)) (text : List ℕ)
     → text ≡ line_of (stl_line f 0)
-    → IfTold told (λ bytes. stl_fault.is_file_read f ≡ false → opened_at bytes ≡ Err f)
+    → IfKnown told (λ bytes. stl_fault.is_file_read f ≡ false → opened_at bytes ≡ Err f)
     → (stl_fault.is_file_read f ≡ true
     → (bytes : List ℕ) × (length bytes < gsi_size) × Consumes told left bytes)
     → (stl_fault.is_format f ≡ true → RefusesOpening told left f)

@@ -6,7 +6,7 @@ use Rattle.std.proofs.KnownBytes.{Consumes-kept, Consumes-trans}
 use Rattle.std.proofs.lemmas.List.{append-nil, take_all, take_at, take-take}
 use lib.Seq.{length-take-le}
 use Rattle.std.proofs.lemmas.Option.{same_Some}
-use Rattle.sub_io.specs.Reading.{IfTold}
+use Rattle.sub_io.specs.Reading.{IfKnown}
 use Rattle.stl_file.specs.declared.fault.NormalFault.{NormalFault}
 use Rattle.stl_file.specs.declared.fault.NormalFault.TheVariants as normal
 use Rattle.stl_file.specs.File.{IsFile}
@@ -75,7 +75,7 @@ pub taken-at_end : (x y z : Option (List ℕ)) (n : ℕ) (xs ps : List ℕ)
     → Consumes y z (take n ps)
     → IsAtEnd z
     → length xs ≤ most_read
-    → IfTold x (λ bytes. xs ≡ take most_read bytes)
+    → IfKnown x (λ bytes. xs ≡ take most_read bytes)
 taken-at_end x y z n xs ps none p q end few =
     taken-to_end x z xs (Consumes-next x y z n xs ps xs same p q) end few
   where
@@ -86,7 +86,7 @@ taken-at_end x y z n xs ps none p q end few =
         → Consumes x y xs
         → IsAtEnd y
         → length xs ≤ most_read
-        → IfTold x (λ bytes. xs ≡ take most_read bytes)
+        → IfKnown x (λ bytes. xs ≡ take most_read bytes)
     taken-to_end None y xs p end few bytes e = absurd cc
     taken-to_end (Some b) None xs p end few bytes e = absurd p
     taken-to_end (Some b) (Some ys) xs p end few bytes e =
@@ -98,7 +98,7 @@ taken-at_end x y z n xs ps none p q end few =
 pub taken-to_most : (x y : Option (List ℕ)) (xs : List ℕ)
     → Consumes x y xs
     → length xs ≡ most_read
-    → IfTold x (λ bytes. xs ≡ take most_read bytes)
+    → IfKnown x (λ bytes. xs ≡ take most_read bytes)
 taken-to_most None y xs p size bytes e = absurd cc
 taken-to_most (Some b) None xs p size bytes e = absurd p
 taken-to_most (Some b) (Some ys) xs p size bytes e =

@@ -7,7 +7,7 @@ pub use Rattle.sub_io.specs.Device.{CanFail}
 -- A source in a call: the bytes that it had left before and has left after, where it tells them,
 -- and how often it had failed before and after.
 pub record SourceCall : Type 0 where
-  pub told : Option (List ℕ)
+  pub known : Option (List ℕ)
   pub left : Option (List ℕ)
   pub old_count : ℕ
   pub new_count : ℕ
@@ -23,7 +23,7 @@ pub record SinkCall : Type 0 where
 -- A source in a call, by what is left in such a source and how often it has failed.
 abbrev pub source_call : {S : Type 0} → (S → Option (List ℕ)) → (S → ℕ) → S → S → SourceCall
 source_call remaining failure_count old new = record {
-  told = remaining old;
+  known = remaining old;
   left = remaining new;
   old_count = failure_count old;
   new_count = failure_count new;
@@ -34,7 +34,7 @@ source_call remaining failure_count old new = record {
 abbrev pub read_call :
     {D : Type 0} → (D → Option (List ℕ)) → (D → Option (List ℕ)) → (D → ℕ) → D → D → SourceCall
 read_call told left failure_count old new = record {
-  told = told old;
+  known = told old;
   left = left new;
   old_count = failure_count old;
   new_count = failure_count new;

@@ -1,15 +1,16 @@
 -- What `extract` writes and tells of the bytes that a source gives: PES packets and marks, one
 -- after another, and what follows them.
-use Rattle.std.specs.Prelude.{◌≡◌, ℕ, zero, suc, ◌+◌, ◌<◌, ◌==◌, ◌&&◌, nat_le, nat_lt, Bool}
+use Rattle.std.specs.Prelude.{◌≡◌, ℕ, zero, suc, ◌+◌, ◌<◌, ◌==◌, ◌&&◌, Bool}
 use Rattle.std.specs.Prelude.{true, false, List, [], ◌++◌, codes, decimal, length, take, drop}
 use Rattle.std.specs.Prelude.{Option, Some, None, Result, Ok, Err, if◌then◌else◌, ◌⊎◌}
 use Rattle.std.specs.Io.KnownBytes.{Appends, Keeps}
 use Rattle.sub_io.specs.Device.{AppendsPrefix, RisesIf, failed}
-use Rattle.sub_io.specs.Reading.{IfTold}
+use Rattle.sub_io.specs.Reading.{IfKnown}
 use Rattle.ttx_pes.specs.PesPacket.{payload_size}
 use Rattle.ttx_pes.specs.PieceRange.{behind_pieces, by_piece, count_pieces, first_pieces}
 use Rattle.ttx_pes.specs.PieceRange.{piece_size}
-use Rattle.ttx_pes.specs.Reading.{is_mark, size_at}
+use Rattle.ttx_pes.specs.Advancing.{rest_fault}
+use Rattle.ttx_pes.specs.Reading.{is_mark}
 use Rattle.ttx_pes.specs.declared.fault.PesFault.{PesFault}
 use Rattle.ttx_pes.specs.declared.fault.PesFault.TheVariants as pes
 use Rattle.sub_rules.specs.declared.fault.CheckFault.TheVariants as check
@@ -40,18 +41,9 @@ count_marks (suc n) b =
     by_piece (piece_size b)
     (λ size. (if begins_with_mark size b then 1 else 0) + count_marks n (drop size b)) 0
 
--- So many bytes, whose first six tell this size, or that they are no start of a PES packet: why no
--- piece begins them.
-abbrev pub refusal_by : ℕ → Result ℕ PesFault → Option PesFault
-refusal_by count (Err f) = Some f
-refusal_by count (Ok size) = if nat_le size count then None else Some pes.Truncated
-
 -- Why no piece begins bytes, where there are any.
 unfoldable pub refusal_at : List ℕ → Option PesFault
-refusal_at b =
-    if length b == 0 then None
-    else if nat_lt (length b) 6 then Some pes.Truncated
-    else refusal_by (length b) (size_at (take 6 b))
+refusal_at b = if length b == 0 then None else rest_fault b
 
 -- The greatest number that is counted to.
 abbrev pub most_pieces : ℕ
@@ -108,11 +100,11 @@ pub record AreCut (bytes : List ℕ) (old new : Option (List ℕ)) (pes : ℕ) :
 -- it is a prefix of them.
 abbrev pub Extracts :
     Option (List ℕ) → Option (List ℕ) → Option (List ℕ) → Result Extracted ExtractFault → Type 0
-Extracts told old new (Ok e) = IfTold told (λ bytes. AreGiven bytes old new e.pes e.gaps)
-Extracts told old new (Err Empty) = IfTold told (λ bytes. (bytes ≡ []) × Keeps old new)
-Extracts told old new (Err (Refused f n)) = IfTold told (λ bytes. AreRefused bytes old new f n)
-Extracts told old new (Err (Read n)) = IfTold told (λ bytes. AreCut bytes old new n)
-Extracts told old new (Err Write) = IfTold told (AppendsPrefix old new)
+Extracts known old new (Ok e) = IfKnown known (λ bytes. AreGiven bytes old new e.pes e.gaps)
+Extracts known old new (Err Empty) = IfKnown known (λ bytes. (bytes ≡ []) × Keeps old new)
+Extracts known old new (Err (Refused f n)) = IfKnown known (λ bytes. AreRefused bytes old new f n)
+Extracts known old new (Err (Read n)) = IfKnown known (λ bytes. AreCut bytes old new n)
+Extracts known old new (Err Write) = IfKnown known (AppendsPrefix old new)
 
 -- ---- what is printed
 
@@ -137,7 +129,7 @@ extract_listing (Err f) = fault_listing (extract_line f)
 -- A file was written of what a source gave, and its line was printed.
 pub record EndsExtract (source : SourceCall) (file out : SinkCall) (status : Status) : Type 0 where
   pub answer : Result Extracted ExtractFault
-  pub extracts : Extracts source.told file.old file.new answer
+  pub extracts : Extracts source.known file.old file.new answer
   -- The devices fail where the answer says so, and nowhere else.
   pub source_count : RisesIf source.old_count (failed is_extract_read answer) source.new_count
   pub file_count : RisesIf file.old_count (failed is_extract_write answer) file.new_count

@@ -6,7 +6,7 @@ use Rattle.ttx_packet.specs.PageHeader.{header}
 use Rattle.ttx_packet.specs.declared.Header.{Header}
 use Rattle.std.specs.Io.KnownBytes.{Appends}
 use Rattle.sub_io.specs.Device.{AppendsPrefix, RisesIf}
-use Rattle.sub_io.specs.Reading.{IfTold}
+use Rattle.sub_io.specs.Reading.{IfKnown}
 use Rattle.sub_listing.specs.DeviceCall.{SinkCall, SourceCall}
 use Rattle.sub_listing.specs.Faults.{packet_line}
 use Rattle.sub_listing.specs.Lines.{address_line, header_line, text_line}
@@ -93,12 +93,12 @@ PrintsOrFails out listing status =
 pub record Lists
     {Outcome : Type 0} (listing_of : Outcome → Listing) (given : List ℕ → Outcome)
     (Takes : Bool → Option (List ℕ) → Outcome → Option (List ℕ) → Type 0)
-    (told left : Option (List ℕ)) (ending : Option Status) (listing : Listing)
+    (known left : Option (List ℕ)) (ending : Option Status) (listing : Listing)
     : Type 0 where
   pub outcome : Outcome
   pub listing_is : listing ≡ listing_of outcome
-  pub exact : IfTold told (λ bytes. has_failed ending ≡ false → outcome ≡ given bytes)
-  pub taken : ending ≢ None → Takes (has_failed ending) told outcome left
+  pub exact : IfKnown known (λ bytes. has_failed ending ≡ false → outcome ≡ given bytes)
+  pub taken : ending ≢ None → Takes (has_failed ending) known outcome left
 
 -- A source was read and listed, whether it failed or not, and the listing was printed, or a sink
 -- that failed has a prefix of it.
@@ -107,7 +107,7 @@ pub record PrintsListing
     : Type 0 where
   pub ending : Option Status
   pub listing : Listing
-  pub is_listed : Lists source.told source.left ending listing
+  pub is_listed : Lists source.known source.left ending listing
   pub source_count : RisesIf source.old_count (has_failed ending) source.new_count
   pub cut : ending ≡ None → out.new_count ≢ out.old_count
   pub printed : PrintsOrFails out listing status
@@ -116,13 +116,13 @@ pub record PrintsListing
 -- after them, and something is; or they end the listing.
 abbrev pub Gives : IsListed → IsListed
     → Option (List ℕ) → Option (List ℕ) → List ℕ → Option Status → Type 0
-Gives Before After told left text None =
+Gives Before After known left text None =
     ((end : Option (List ℕ)) (ending : Option Status) (more : Listing)
-    → After left end ending more → Before told end ending (followed text more))
+    → After left end ending more → Before known end ending (followed text more))
     × ((more : Listing) × After left left None more)
-Gives Before After told left text (Some status) =
-    Before told left (Some status) (record { text = text; status = status })
+Gives Before After known left text (Some status) =
+    Before known left (Some status) (record { text = text; status = status })
 
 -- A piece was not read whole, since the sink had failed: what is listed then has no end.
 abbrev pub IsCut : IsListed → Option (List ℕ) → Option (List ℕ) → Type 0
-IsCut Lists told left = (more : Listing) × Lists told left None more
+IsCut Lists known left = (more : Listing) × Lists known left None more

@@ -19,31 +19,31 @@ use Rattle.sub_listing.specs.Listing.{IsListed, Lists, Listing, done, followed, 
 -- are passed over; or there is no file of what comes then. Where the source failed, it failed at
 -- this block.
 abbrev pub ReadsSubtitles : Bool → ℕ → Option (List ℕ) → Outcome → Option (List ℕ) → Type 0
-ReadsSubtitles failed from told ends left =
-    (failed ≡ false) × (to : ℕ) × TakesPassed from to told left
-ReadsSubtitles failed from told (fails f block) left =
+ReadsSubtitles failed from known ends left =
+    (failed ≡ false) × (to : ℕ) × TakesPassed from to known left
+ReadsSubtitles failed from known (fails f block) left =
     (is_file_read f ≡ failed)
-    × (failed ≡ true → FailsReading whole from block None told left)
-    × (is_format f ≡ true → Refuses from block told left f)
-ReadsSubtitles failed from told (gives s block more) left =
-    (behind : Option (List ℕ)) × TakesSubtitle from block told behind s
+    × (failed ≡ true → FailsReading whole from block None known left)
+    × (is_format f ≡ true → Refuses from block known left f)
+ReadsSubtitles failed from known (gives s block more) left =
+    (behind : Option (List ℕ)) × TakesSubtitle from block known behind s
     × ReadsSubtitles failed block behind more left
 
 -- No GSI block was read: the source failed in it, or no file begins so.
-pub record ReadsNoGsi (failed : Bool) (told : Option (List ℕ)) (outcome : Outcome)
+pub record ReadsNoGsi (failed : Bool) (known : Option (List ℕ)) (outcome : Outcome)
     (left : Option (List ℕ)) : Type 0 where
   pub fault : StlFault
   pub outcome_is : outcome ≡ fails fault 0
   pub read : is_file_read fault ≡ failed
   pub failure :
-      failed ≡ true → (bytes : List ℕ) × (length bytes < gsi_size) × Consumes told left bytes
-  pub refused : is_format fault ≡ true → RefusesOpening told left fault
+      failed ≡ true → (bytes : List ℕ) × (length bytes < gsi_size) × Consumes known left bytes
+  pub refused : is_format fault ≡ true → RefusesOpening known left fault
 
 -- A GSI block was read, and subtitles after it, or none was.
 abbrev pub ReadsFile : Bool → Option (List ℕ) → Outcome → Option (List ℕ) → Type 0
-ReadsFile failed told outcome left =
-    ReadsNoGsi failed told outcome left
-    ⊎ ((behind : Option (List ℕ)) × (gsi : List ℕ) × IsGsi gsi × Consumes told behind gsi
+ReadsFile failed known outcome left =
+    ReadsNoGsi failed known outcome left
+    ⊎ ((behind : Option (List ℕ)) × (gsi : List ℕ) × IsGsi gsi × Consumes known behind gsi
     × ReadsSubtitles failed 0 behind outcome left)
 
 -- What is printed after `count` subtitles: each of them in turn, and at the end their number.

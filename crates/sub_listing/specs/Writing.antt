@@ -3,7 +3,7 @@ use Rattle.std.specs.Prelude.{◌≡◌, ◌≢◌, ◌<◌, ℕ, List, [], ◌+
 use Rattle.std.specs.Prelude.{false, Option, Result, Ok, Err, IsOkAnd}
 use Rattle.std.specs.Io.KnownBytes.{Appends, Consumes, Keeps}
 use Rattle.sub_io.specs.Device.{AppendsPrefix, RisesIf, failed}
-use Rattle.sub_io.specs.Reading.{IfTold}
+use Rattle.sub_io.specs.Reading.{IfKnown}
 use Rattle.stl_file.specs.Fault.{is_normal_write}
 use Rattle.stl_file.specs.NormalForm.{NormalAnswers}
 use Rattle.stl_file.specs.Reader.{block_of_byte}
@@ -64,7 +64,7 @@ pub record EndsWork
     (things : List ℕ) (HasWorked : Work)
     : Type 0 where
   pub answer : Result ℕ WriteFault
-  pub works : HasWorked input.told input.left file.old file.new answer
+  pub works : HasWorked input.known input.left file.old file.new answer
   -- The devices fail where the answer says so, and nowhere else.
   pub input_count : RisesIf input.old_count (failed is_input_failure answer) input.new_count
   pub file_count : RisesIf file.old_count (failed is_file_failure answer) file.new_count
@@ -89,24 +89,24 @@ WritesSchedule programme o serial old new (Err NoSubtitles) =
 -- The schedule of the programme that the input gives; or nothing, where it gives none: then it is
 -- told why, and at which block where the source failed.
 abbrev pub Schedules : Drawing → OptionsValue → Bool → Work
-Schedules drawing o serial told left old new (Ok count) =
-    IfTold told (λ bytes. IsOkAnd (loaded drawing bytes) (λ programme.
+Schedules drawing o serial known left old new (Ok count) =
+    IfKnown known (λ bytes. IsOkAnd (loaded drawing bytes) (λ programme.
     WritesSchedule programme o serial old new (Ok count)))
-Schedules drawing o serial told left old new (Err (write.Plan f)) =
-    IfTold told (λ bytes. IsOkAnd (loaded drawing bytes) (λ programme.
+Schedules drawing o serial known left old new (Err (write.Plan f)) =
+    IfKnown known (λ bytes. IsOkAnd (loaded drawing bytes) (λ programme.
     WritesSchedule programme o serial old new (Err f)))
-Schedules drawing o serial told left old new (Err (write.Load f)) =
-    IfTold told (λ bytes. TellsFault drawing bytes f.block f.kind)
-    × (load_fault.is_load_read f ≡ true → FailsLoading drawing told left f.block)
+Schedules drawing o serial known left old new (Err (write.Load f)) =
+    IfKnown known (λ bytes. TellsFault drawing bytes f.block f.kind)
+    × (load_fault.is_load_read f ≡ true → FailsLoading drawing known left f.block)
     × Keeps old new
-Schedules drawing o serial told left old new answer = ⊥
+Schedules drawing o serial known left old new answer = ⊥
 
 -- Want of memory is printed, with the last block of a subtitle that the file gives.
 abbrev pub PrintsMemory :
     Drawing → Option (List ℕ) → Option (List ℕ) → Option (List ℕ) → Type 0
-PrintsMemory drawing told old new =
+PrintsMemory drawing known old new =
     (block : ℕ) × Appends old new (line_of (load_line Memory block))
-    × IfTold told (λ bytes. EndsRecord drawing bytes block)
+    × IfKnown known (λ bytes. EndsRecord drawing bytes block)
 
 -- ---- `normal`
 
@@ -125,9 +125,9 @@ TellsRead old new input.Memory =
 -- The file has the normal form of the input, or a prefix of it where it failed; or nothing, where
 -- the input is refused or was not read.
 abbrev pub Normalizes : Work
-Normalizes told left old new (Ok count) =
-    IfTold told (λ bytes. NormalAnswers bytes old new (Ok count))
-Normalizes told left old new (Err (write.Normal f)) =
-    IfTold told (λ bytes. NormalAnswers bytes old new (Err f))
-Normalizes told left old new (Err (write.Input f)) = TellsRead told left f × Keeps old new
-Normalizes told left old new answer = ⊥
+Normalizes known left old new (Ok count) =
+    IfKnown known (λ bytes. NormalAnswers bytes old new (Ok count))
+Normalizes known left old new (Err (write.Normal f)) =
+    IfKnown known (λ bytes. NormalAnswers bytes old new (Err f))
+Normalizes known left old new (Err (write.Input f)) = TellsRead known left f × Keeps old new
+Normalizes known left old new answer = ⊥

@@ -1,21 +1,21 @@
-//! Copies PES packets, and such byte strings as are as long as their length field says, from a
-//! source into a file, each as soon as it has come.
-ghost use Rattle.std.specs.Prelude.{◌≡◌, ◌<◌, ◌≤◌, ◌==◌, ◌&&◌, Err, IfOk, OnErr, OnOk, drop};
-ghost use Rattle.std.specs.Prelude.{false, length, take, true};
-ghost use Rattle.std.specs.Io.KnownBytes.{Appends, Consumes, IsAtEnd, prepend_known};
-ghost use Rattle.sub_io.specs.Device.{AppendsPrefix, CanFail, CountsFailure, CountsIf, failed};
-ghost use Rattle.sub_io.specs.Reading.{IfTold};
-ghost use Rattle.ttx_pes.specs.PesPacket.{longest_packet, payload_size};
+//! Copies pieces into a file, each as soon as it has come, and bytes that no piece begins.
+ghost use Rattle.std.specs.Prelude.{◌≡◌, ◌==◌, ◌&&◌, Err, IfOk, OnErr, OnOk, drop};
+ghost use Rattle.std.specs.Prelude.{false, length, true};
+ghost use Rattle.std.specs.Io.KnownBytes.{Appends};
+ghost use Rattle.sub_io.specs.Device.{AppendsPrefix, CanFail, CountsIf, failed};
+ghost use Rattle.sub_io.specs.Reading.{IfKnown};
+ghost use Rattle.ttx_pes.specs.Advancing.{tells_rest};
+ghost use Rattle.ttx_pes.specs.PesPacket.{payload_size};
 ghost use Rattle.ttx_pes.specs.Reading.{is_mark};
-ghost use Rattle.sub_listing.specs.Copying.{CopiesNext, CopiesRest, IsNext, bytes_read};
-ghost use Rattle.sub_listing.specs.Copying.{is_copy_read, is_copy_write, is_piece};
-ghost use Rattle.sub_listing.specs.Copying.{tells_copied_read, tells_read};
+ghost use Rattle.sub_listing.specs.Copying.{CopiesNext, CopiesRest, is_copy_read};
+ghost use Rattle.sub_listing.specs.Copying.{is_copy_write, is_piece, tells_read};
 
-use sub_io::{Failed, Flush, Source, put_all};
-use ttx_pes::{PesFault, size_of};
+use std::marker::Model;
+use sub_io::{Flush, put_all};
+use ttx_pes::{Came, Pieces, REST_ROOM, TakePiece};
 
-/// Room for the longest piece.
-pub const PIECE_ROOM: usize = 1656;
+// Room for the longest piece.
+const PIECE_ROOM: usize = 1656;
 
 // The bytes that tell the size of a piece.
 const HEAD: usize = 6;
@@ -23,111 +23,64 @@ const HEAD: usize = 6;
 // The bytes of a payload, and of a mark.
 const PAYLOAD: usize = 184;
 
-/// What comes next of a source.
-#[derive(Clone, Copy)]
-pub enum Next {
-    /// Nothing: it is at its end.
-    End,
-    /// A piece.
-    Piece {
-        /// Its bytes.
-        size: usize,
-    },
-    /// Bytes that no piece begins.
-    Rest {
-        /// How many of them were read.
-        read: usize,
-        /// Why.
-        fault: PesFault,
-    },
-}
-
-/// What was copied.
-#[derive(Clone, Copy)]
-pub enum Copied {
-    /// Nothing: the source is at its end.
-    End,
-    /// A piece.
-    Piece {
-        /// Whether it is a mark.
-        is_mark: bool,
-    },
-    /// The first of the bytes that no piece begins, for this fault.
-    Rest(PesFault),
-}
-
 /// Which device failed.
 #[derive(Clone, Copy)]
 pub enum CopyFault {
-    /// The source.
+    /// The one that gives the pieces.
     Read,
     /// The file.
     Write,
 }
 
-// Pulls into the room, of which the first bytes are held already, until so many are, or the source
-// is at its end. Answers how many are held.
-fn read_up_to<S: Source>(
-    source: &mut S,
-    room: &mut [u8],
-    held: usize,
-    least: usize,
-) -> Result<usize, Failed>
-    requires count { CanFail (S.failure_count source.old) }
-    requires held { held ≤ least }
-    requires least { least ≤ length room.old }
-    ensures bytes { IfOk result (λ n. Consumes
-        (prepend_known (take held room.old) (S.remaining source.old)) (S.remaining source.new)
-        (take n room.new)) }
-    ensures bound { IfOk result (λ n. n ≤ least) }
-    ensures end { IfOk result (λ n. n < least → IsAtEnd (S.remaining source.new)) }
-    ensures count { CountsFailure (S.failure_count source.old) result
-        (S.failure_count source.new) }
-{
-    let mut at = held;
-    while at < least {
-        let n = source.pull(&mut room[at..least])?;
-        if n == 0 {
-            break;
-        }
-        at += n;
-    }
-    Ok(at)
+/// The bytes of the piece that was taken last. Contracts see them as a list.
+#[derive(Drop)]
+pub struct TakenPiece {
+    room: [u8; PIECE_ROOM],
+    len: usize,
 }
 
-// Reads what comes next, into the front of the room.
-#[tactic(auto, using(crate::proofs::CopyingLemmas::no_read))]
-fn read_next<S: Source>(source: &mut S, room: &mut [u8; PIECE_ROOM]) -> Result<Next, Failed>
-    requires count { CanFail (S.failure_count source.old) }
-    ensures told { IfTold (S.remaining source.old) (λ bytes.
-        IfOk result (IsNext bytes room.new (S.remaining source.new))) }
-    ensures bound { IfOk result (λ next. bytes_read next ≤ longest_packet) }
-    ensures own { IfOk result (λ next. tells_read next ≡ false) }
-    ensures count { CountsFailure (S.failure_count source.old) result
-        (S.failure_count source.new) }
-{
-    let begun = read_up_to(source, room, 0, HEAD)?;
-    if begun == 0 {
-        return Ok(Next::End);
+impl Model for TakenPiece {
+    ghost use Rattle.std.specs.Prelude.{ℕ, ◌≤◌, List, take};
+
+    ghost Value = { List ℕ };
+
+    ghost view = { λ p. take p.len p.room };
+
+    ghost invariant = { λ p. p.len ≤ 1656 };
+}
+
+impl TakenPiece {
+    /// None was.
+    pub fn new() -> Self {
+        TakenPiece {
+            room: [0; PIECE_ROOM],
+            len: 0,
+        }
     }
-    if begun < HEAD {
-        return Ok(Next::Rest {
-            read: begun,
-            fault: PesFault::Truncated,
-        });
+
+    // The bytes.
+    fn bytes(&self) -> &[u8]
+        ensures { result.now ≡ self.now }
+    {
+        let (bytes, _) = self.room.split_at(self.len);
+        bytes
     }
-    let size = match size_of(room.first_chunk().unwrap()) {
-        Ok(size) => size,
-        Err(fault) => return Ok(Next::Rest { read: HEAD, fault }),
-    };
-    let read = read_up_to(source, room, HEAD, size)?;
-    if read < size {
-        return Ok(Next::Rest {
-            read,
-            fault: PesFault::Truncated,
-        });
+}
+
+impl TakePiece for TakenPiece {
+    // Whether it is a mark.
+    type Answer = bool;
+
+    ghost is_take = { λ old piece answer new. (new ≡ piece)
+        × (answer ≡ ((length piece == payload_size) && is_mark (drop 6 piece))) };
+
+    #[tactic(auto, using(crate::proofs::CopyingLemmas::piece_fits))]
+    fn take(&mut self, piece: &[u8]) -> bool {
+        let (front, _) = self.room.split_at_mut(piece.len());
+        front.copy_from_slice(piece);
+        self.len = piece.len();
+        is_mark(piece)
     }
-    Ok(Next::Piece { size })
 }
 
 // Whether all bytes are FF.
@@ -167,73 +120,69 @@ fn put_and_hand_on<F: Flush>(file: &mut F, bytes: &[u8]) -> Result<(), CopyFault
     }
 }
 
-/// Copies what comes next, by way of the room, and has the file hand it on.
+/// Copies the next piece, if one comes, by way of `piece`, and has the file hand it on.
 ///
 /// # Errors
 ///
-/// `Read` where the source failed: then nothing was copied. `Write` where the file failed, and has
-/// a prefix of it.
-pub fn copy_next<S: Source, F: Flush>(
-    source: &mut S,
+/// `Read` where the device of the pieces failed: then nothing was copied. `Write` where the file
+/// failed, and has a prefix of the piece.
+pub fn copy_next<P: Pieces, F: Flush>(
+    pieces: &mut P,
     file: &mut F,
-    room: &mut [u8; PIECE_ROOM],
-) -> Result<Copied, CopyFault>
-    requires source { CanFail (S.failure_count source.old) }
+    piece: &mut TakenPiece,
+) -> Result<Came<bool>, CopyFault>
+    requires pieces { CanFail (P.failure_count pieces.old) }
     requires file { CanFail (F.failure_count file.old) }
-    ensures told { IfTold (S.remaining source.old) (λ bytes.
-        CopiesNext bytes (S.remaining source.new) (F.contents file.old) (F.contents file.new)
+    ensures told { IfKnown (P.remaining pieces.old) (λ bytes.
+        CopiesNext bytes (P.remaining pieces.new) (F.contents file.old) (F.contents file.new)
         result) }
+    ensures rest { tells_rest result ≡ true → P.is_rest pieces.new ≡ true }
     ensures held { F.held file.old ≡ 0 → failed is_copy_write result ≡ false
         → F.held file.new ≡ 0 }
-    ensures own { IfOk result (λ copied. tells_copied_read copied ≡ false) }
-    ensures handed_on { IfOk result (λ copied. is_piece copied ≡ true → F.held file.new ≡ 0) }
-    ensures source_count { CountsIf S.failure_count source.old (failed is_copy_read result)
-        source.new }
+    ensures own { IfOk result (λ came. tells_read came ≡ false) }
+    ensures handed_on { IfOk result (λ came. is_piece came ≡ true → F.held file.new ≡ 0) }
+    ensures device { P.device pieces.new ≡ P.device pieces.old }
+    ensures pieces_count { CountsIf P.failure_count pieces.old (failed is_copy_read result)
+        pieces.new }
     ensures file_count { CountsIf F.failure_count file.old (failed is_copy_write result) file.new }
 {
-    let Ok(next) = read_next(source, room) else {
+    let Ok(came) = pieces.next(piece) else {
         return Err(CopyFault::Read);
     };
-    match next {
-        Next::End => Ok(Copied::End),
-        Next::Piece { size } => {
-            let (piece, _) = room.split_at(size);
-            put_and_hand_on(file, piece)?;
-            Ok(Copied::Piece {
-                is_mark: is_mark(piece),
-            })
+    match came {
+        Came::Piece(is_mark) => {
+            if put_and_hand_on(file, piece.bytes()).is_err() {
+                return Err(CopyFault::Write);
+            }
+            Ok(Came::Piece(is_mark))
         }
-        Next::Rest { read, fault } => {
-            let (begun, _) = room.split_at(read);
-            put_and_hand_on(file, begun)?;
-            Ok(Copied::Rest(fault))
-        }
+        Came::Rest(fault) => Ok(Came::Rest(fault)),
+        Came::End => Ok(Came::End),
     }
 }
 
-/// Copies all that a source has still to give, by way of the room, and has the file hand it on. At
-/// most 2^64 - 1 times bytes are pulled.
+/// Copies all that is left, once it was told that no piece begins it, and has the file hand it on
+/// as it comes. At most 2^64 - 1 times bytes are read.
 ///
 /// # Errors
 ///
-/// `Read` where the source failed, `Write` where the file did: a prefix was copied.
-pub fn copy_rest<S: Source, F: Flush>(
-    source: &mut S,
-    file: &mut F,
-    room: &mut [u8; PIECE_ROOM],
-) -> Result<(), CopyFault>
-    requires source { CanFail (S.failure_count source.old) }
+/// `Read` where the device of the pieces failed, `Write` where the file did: a prefix was copied.
+pub fn copy_rest<P: Pieces, F: Flush>(pieces: &mut P, file: &mut F) -> Result<(), CopyFault>
+    requires rest { P.is_rest pieces.old ≡ true }
+    requires pieces { CanFail (P.failure_count pieces.old) }
     requires file { CanFail (F.failure_count file.old) }
-    ensures told { IfTold (S.remaining source.old) (λ bytes.
+    ensures told { IfKnown (P.remaining pieces.old) (λ bytes.
         CopiesRest bytes (F.contents file.old) (F.contents file.new) result) }
     ensures held { F.held file.old ≡ 0 → failed is_copy_write result ≡ false
         → F.held file.new ≡ 0 }
-    ensures source_count { CountsIf S.failure_count source.old (failed is_copy_read result)
-        source.new }
+    ensures device { P.device pieces.new ≡ P.device pieces.old }
+    ensures pieces_count { CountsIf P.failure_count pieces.old (failed is_copy_read result)
+        pieces.new }
     ensures file_count { CountsIf F.failure_count file.old (failed is_copy_write result) file.new }
 {
-    'pulls: for turn in 0..u64::MAX {
-        let Ok(n) = source.pull(room) else {
+    let mut room = [0; REST_ROOM];
+    'reads: for turn in 0..u64::MAX {
+        let Ok(n) = pieces.read_rest(&mut room) else {
             return Err(CopyFault::Read);
         };
         if n == 0 {

@@ -1,7 +1,7 @@
 //! `extract TS PES`: writes the PES packets that the packets of a PID of a recording carry.
 ghost use Rattle.std.specs.Prelude.{◌≡◌, ◌+◌, ◌<◌, IfErr, OnOk, false, if◌then◌else◌};
 ghost use Rattle.sub_io.specs.Device.{CountsIf, failed};
-ghost use Rattle.sub_listing.specs.DeviceCall.{CanFail, CountsFault, sink_call, source_call};
+ghost use Rattle.sub_listing.specs.DeviceCall.{CanFail, CountsFault, read_call, sink_call};
 ghost use Rattle.sub_listing.specs.Extracting.{EndsExtract, Extracts, extract_line};
 ghost use Rattle.sub_listing.specs.Extracting.{is_extract_read, is_extract_write};
 ghost use Rattle.sub_listing.specs.Extracting.{tells_refused_read};
@@ -9,15 +9,15 @@ ghost use Rattle.sub_listing.specs.Faults.{check_line};
 ghost use Rattle.sub_listing.specs.FaultLine.{counted_from};
 ghost use Rattle.sub_rules.specs.declared.fault.CheckFault.TheVariants.{Pes};
 
-use crate::copying::{Copied, CopyFault, PIECE_ROOM, copy_next, copy_rest};
+use crate::copying::{CopyFault, TakenPiece, copy_next, copy_rest};
 use crate::fault_line::FaultLine;
 use crate::faults::{line_of_check, line_of_file_write};
 use crate::lines::{Line, push_number, push_text};
 use crate::printing::{print_done, print_fault_line};
 use crate::status::Status;
-use sub_io::{Flush, Sink, Source};
+use sub_io::{Flush, Sink};
 use sub_rules::CheckFault;
-use ttx_pes::PesFault;
+use ttx_pes::{Came, PesFault, Pieces};
 
 /// What was written.
 #[derive(Clone, Copy)]
@@ -31,7 +31,7 @@ pub struct Extracted {
 /// Why what was written is no file of PES packets, or not all of it.
 #[derive(Clone, Copy)]
 pub enum ExtractFault {
-    /// The source failed.
+    /// The device that gives the pieces failed.
     Read {
         /// How many PES packets and marks had been given.
         pes: u64,
@@ -49,38 +49,39 @@ pub enum ExtractFault {
     },
 }
 
-/// Writes what a source gives, PES packets and marks one after another, as a source of those of a
-/// PID does (ISO/IEC 13818-1; `PesSource` of `mpeg_ts`), and prints how many there are, and how
-/// many of them are marks; or why what was written is no file of PES packets.
+/// Writes pieces one after another, PES packets and marks where they are those of a PID of a
+/// recording (ISO/IEC 13818-1; `RecordingPieces` of `mpeg_ts`), and prints how many there are, and
+/// how many of them are marks; or why what was written is no file of PES packets.
 ///
-/// Each is handed on as soon as it has come. Bytes that are no PES packet are written too. `Fault`
+/// Each is handed on as soon as it has come. Bytes that no piece begins are written too. `Fault`
 /// where a device failed.
-pub fn extract_packets<S: Source, F: Flush, K: Sink>(
-    source: &mut S,
+pub fn extract_packets<P: Pieces, F: Flush, K: Sink>(
+    pieces: &mut P,
     file: &mut F,
     out: &mut K,
 ) -> Status
-    requires source { CanFail (S.failure_count source.old) }
+    requires pieces { CanFail (P.failure_count pieces.old) }
     requires file { CanFail (F.failure_count file.old) }
     requires out { CanFail (K.failure_count out.old) }
     ensures extract { EndsExtract
-        (source_call S.remaining S.failure_count source.old source.new)
+        (read_call P.remaining P.left P.failure_count pieces.old pieces.new)
         (sink_call F.contents F.failure_count file.old file.new)
         (sink_call K.contents K.failure_count out.old out.new) result }
-    ensures source_count { CountsFault S.failure_count source.old result source.new }
+    ensures device { P.device pieces.new ≡ P.device pieces.old }
+    ensures pieces_count { CountsFault P.failure_count pieces.old result pieces.new }
     ensures file_count { CountsFault F.failure_count file.old result file.new }
     ensures out_count { CountsFault K.failure_count out.old result out.new }
     ensures fault { result ≡ Status.Fault
-        → S.failure_count source.old + F.failure_count file.old + K.failure_count out.old
-        < S.failure_count source.new + F.failure_count file.new + K.failure_count out.new }
+        → P.failure_count pieces.old + F.failure_count file.old + K.failure_count out.old
+        < P.failure_count pieces.new + F.failure_count file.new + K.failure_count out.new }
     ensures held { result ≡ Status.Done → F.held file.new ≡ 0 }
-    // Where the source may have to ask its device, all that was written before is handed on: each
-    // such call may fail, and where one did nothing is held back.
+    // Where a device may be asked, all that was written before is handed on: each such call may
+    // fail, and where one did nothing is held back.
     ensures followed { F.held file.old ≡ 0
-        → S.failure_count source.old < S.failure_count source.new
+        → P.failure_count pieces.old < P.failure_count pieces.new
         → F.held file.new ≡ 0 }
 {
-    match copy_pieces(source, file) {
+    match copy_pieces(pieces, file) {
         Ok(extracted) => {
             let mut line = Line::new();
             push_number(&mut line, b"written ", extracted.pes);
@@ -93,13 +94,14 @@ pub fn extract_packets<S: Source, F: Flush, K: Sink>(
 }
 
 // Copies all pieces, and what follows them.
-fn copy_pieces<S: Source, F: Flush>(source: &mut S, file: &mut F) -> Result<Extracted, ExtractFault>
-    requires source { CanFail (S.failure_count source.old) }
+fn copy_pieces<P: Pieces, F: Flush>(pieces: &mut P, file: &mut F) -> Result<Extracted, ExtractFault>
+    requires pieces { CanFail (P.failure_count pieces.old) }
     requires file { CanFail (F.failure_count file.old) }
-    ensures extracts { Extracts (S.remaining source.old) (F.contents file.old)
+    ensures extracts { Extracts (P.remaining pieces.old) (F.contents file.old)
         (F.contents file.new) result }
-    ensures source_count { CountsIf S.failure_count source.old (failed is_extract_read result)
-        source.new }
+    ensures device { P.device pieces.new ≡ P.device pieces.old }
+    ensures pieces_count { CountsIf P.failure_count pieces.old (failed is_extract_read result)
+        pieces.new }
     ensures file_count { CountsIf F.failure_count file.old (failed is_extract_write result)
         file.new }
     ensures held { F.held file.old ≡ 0 → failed is_extract_write result ≡ false
@@ -107,18 +109,18 @@ fn copy_pieces<S: Source, F: Flush>(source: &mut S, file: &mut F) -> Result<Extr
     ensures own { IfErr result (λ f. tells_refused_read f ≡ false) }
     ensures done { OnOk result (F.held file.new ≡ 0) }
 {
-    let mut room = [0; PIECE_ROOM];
+    let mut piece = TakenPiece::new();
     let mut gaps = 0;
     'pieces: for pes in 0..u64::MAX {
-        match copy_next(source, file, &mut room) {
-            Ok(Copied::End) => {
+        match copy_next(pieces, file, &mut piece) {
+            Ok(Came::End) => {
                 if pes == 0 {
                     return Err(ExtractFault::Empty);
                 }
                 return Ok(Extracted { pes, gaps });
             }
-            Ok(Copied::Piece { is_mark }) => gaps = counted(gaps, is_mark),
-            Ok(Copied::Rest(fault)) => match copy_rest(source, file, &mut room) {
+            Ok(Came::Piece(is_mark)) => gaps = counted(gaps, is_mark),
+            Ok(Came::Rest(fault)) => match copy_rest(pieces, file) {
                 Ok(()) => return Err(ExtractFault::Refused { fault, pes }),
                 Err(CopyFault::Read) => return Err(ExtractFault::Read { pes }),
                 Err(CopyFault::Write) => return Err(ExtractFault::Write),

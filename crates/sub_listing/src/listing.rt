@@ -38,8 +38,8 @@ pub trait Lister<I> {
     /// source that may have to wait.
     ghost is_followed: { Bool };
 
-    // The bytes that are still to come of such an input, where they are told.
-    ghost told: { I → Option (List ℕ) };
+    // The bytes that are still to come of such an input, where they are known.
+    ghost known: { I → Option (List ℕ) };
 
     // Those that its device has still to give.
     ghost left: { I → Option (List ℕ) };
@@ -73,16 +73,16 @@ pub trait Lister<I> {
             (printer_value (K.contents printer.new.out.now) (K.failure_count printer.new.out.now)
             printer.new.refused printer.new.failed printer.new.first) }
         ensures gives { printer.new.failed ≡ false → Gives (lists self.old) (lists self.new)
-            (told input.old) (left input.new) text.new.items result }
+            (known input.old) (left input.new) text.new.items result }
         ensures settled { printer.new.failed ≡ false → result ≡ None
-            → left input.new ≡ told input.new }
+            → left input.new ≡ known input.new }
         ensures ready { printer.new.failed ≡ false → result ≡ None → ready self.new }
         ensures fewer { printer.new.failed ≡ false → result ≡ None
             → pieces self.new < pieces self.old }
         ensures count { printer.new.failed ≡ false
             → CountsIf failure_count input.old (has_failed result) input.new }
         ensures cut { printer.new.failed ≡ true
-            → IsCut (lists self.old) (told input.old) (left input.new) }
+            → IsCut (lists self.old) (known input.old) (left input.new) }
         ensures cut_count { printer.new.failed ≡ true
             → failure_count input.new ≡ failure_count input.old }
         ensures held { device input.new ≡ device input.old }
@@ -100,7 +100,7 @@ pub fn list<I, L: Lister<I>, K: Flush>(lister: &mut L, input: &mut I, out: &mut 
     requires input { CanFail (L.failure_count input.old) }
     requires out { CanFail (K.failure_count out.old) }
     ensures listing { PrintsListing (L.lists lister.old)
-        (read_call L.told L.left L.failure_count input.old input.new)
+        (read_call L.known L.left L.failure_count input.old input.new)
         (sink_call K.contents K.failure_count out.old out.new) result }
     ensures input_count { CountsFault L.failure_count input.old result input.new }
     ensures held { L.device input.new ≡ L.device input.old }
@@ -135,7 +135,7 @@ fn list_to<I, L: Lister<I>, K: Flush>(
     requires goes_on { printer.old.failed ≡ false }
     ensures same { printer.new.out.ghost_name ≡ printer.old.out.ghost_name }
     ensures listing { PrintsListing (L.lists lister.old)
-        (read_call L.told L.left L.failure_count input.old input.new)
+        (read_call L.known L.left L.failure_count input.old input.new)
         (sink_call K.contents K.failure_count printer.old.out.now printer.new.out.now) result }
     ensures input_count { CountsFault L.failure_count input.old result input.new }
     ensures held { L.device input.new ≡ L.device input.old }

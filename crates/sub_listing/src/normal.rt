@@ -1,7 +1,7 @@
 //! `normal IN OUT`: writes the normal form of a subtitle file.
 ghost use Rattle.std.specs.Prelude.{◌≡◌, ◌<◌, IfErr, IfOk, List, OnOk, codes, take, ℕ};
 ghost use Rattle.sub_io.specs.Device.{CanFail, CountsIf, failed};
-ghost use Rattle.sub_io.specs.Reading.{IfTold};
+ghost use Rattle.sub_io.specs.Reading.{IfKnown};
 ghost use Rattle.stl_file.specs.Fault.{is_normal_write};
 ghost use Rattle.stl_file.specs.NormalForm.{NormalAnswers};
 ghost use Rattle.stl_file.specs.Reader.{block_of_byte};
@@ -113,7 +113,7 @@ pub fn read_input<A: Allocator + Drop, S: Source>(
     input: &mut S,
 ) -> Result<Vec<u8, A>, InputFault>
     requires { CanFail (S.failure_count input.old) }
-    ensures bytes { IfTold (S.remaining input.old) (λ bytes.
+    ensures bytes { IfKnown (S.remaining input.old) (λ bytes.
         IfOk result (λ v. v.items ≡ take most_read bytes)) }
     ensures read { IfErr result (TellsRead (S.remaining input.old) (S.remaining input.new)) }
     ensures count { CountsIf S.failure_count input.old (failed is_input_read result) input.new }

@@ -107,7 +107,7 @@ impl<P: Pieces> Lister<P> for PacketLister {
 
     ghost is_followed = { true };
 
-    ghost told = { λ p. P.remaining p };
+    ghost known = { λ p. P.remaining p };
 
     ghost left = { λ p. P.left p };
 

@@ -62,7 +62,7 @@ impl<S: Source> Lister<S> for SubtitleLister {
 
     ghost is_followed = { false };
 
-    ghost told = { λ s. S.remaining s };
+    ghost known = { λ s. S.remaining s };
 
     ghost left = { λ s. S.remaining s };
 

@@ -11,7 +11,7 @@ use Rattle.sub_rules.specs.Events.{closing_events, end_events, endings}
 use Rattle.sub_rules.specs.Events.{first_header_events, nothing_stands}
 use Rattle.sub_rules.specs.Events.{order_events, packet_fault, packets_told, rest_events}
 use Rattle.sub_rules.specs.Events.{rules_told, standing_at}
-use Rattle.sub_rules.specs.FrameRules.{Task, Unread, end_frame}
+use Rattle.sub_rules.specs.FrameRules.{Criteria, Unread, end_frame}
 use Rattle.sub_rules.specs.Transmission.{Transmission}
 use Rattle.sub_rules.specs.declared.event.Event.{Event}
 use Rattle.sub_rules.specs.declared.event.Event.TheVariants.{Told, Trusted}
@@ -46,7 +46,7 @@ module _ (test : Event → Bool)
   no_packet w frame from before packets (suc n) =
       only_first _ _ (no_rule frame (from + n) _) ∙ no_packet w frame from before packets n
 
-  module _ (g : Task) (frames : Transmission) where
+  module _ (g : Criteria) (frames : Transmission) where
     no_gap : (i n : ℕ) → list_any test (gap_events g frames i n) ≡ false
     unfolding gap_events
     no_gap i zero = refl
@@ -92,7 +92,7 @@ own_rule : (pes : ℕ) (r : PacketRule) (frame k : ℕ)
     → is_foreign pes (Told (packet_fault r frame k)) ≡ false
 own_rule pes r frame k = grind (arith, nat_tests)
 
-module _ (g : Task) (frames : Transmission) where
+module _ (g : Criteria) (frames : Transmission) where
   -- What is told of a frame.
   pub own_frame : (i : ℕ) → list_any (is_foreign i) (frame_events g frames i) ≡ false
   unfolding order_events first_header_events

@@ -3,7 +3,7 @@
 use Rattle.std.proofs.lemmas.Bool.Decides.{nat_tests}
 use Rattle.std.proofs.Common.{◌≡◌, ℕ, ◌+◌, ◌-◌, ◌<◌, arith}
 use Rattle.sub_rules.specs.Events.{end_before, gap_length, latest, standing_at, standing_before}
-use Rattle.sub_rules.specs.FrameRules.{Task, frame_at}
+use Rattle.sub_rules.specs.FrameRules.{Criteria, frame_at}
 use Rattle.sub_rules.specs.Transmission.{Transmission}
 
 -- How many frames of the day lie before a frame of the list.
@@ -16,7 +16,7 @@ gap_length-is frames n h1 = grind (arith, nat_tests)
 
 -- What stood broken at the end before.
 pub standing_before_is :
-    (g : Task) (frames : Transmission) (n f : ℕ)
+    (g : Criteria) (frames : Transmission) (n f : ℕ)
     → 0 < n
     → standing_before g frames n f ≡ standing_at g frames n (end_before frames n f)
 unfolding standing_before

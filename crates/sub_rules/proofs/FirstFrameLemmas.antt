@@ -7,11 +7,11 @@ use Rattle.sub_rules.specs.Events.{end_before, events_at_end, gap_length, is_gap
 use Rattle.sub_rules.specs.Events.{is_incomplete, is_late, is_unfinished, latest, order_events}
 use Rattle.sub_rules.specs.Events.{since_before, since_frames, since_in_gap, standing_at}
 use Rattle.sub_rules.specs.Events.{standing_before, unfinished_since}
-use Rattle.sub_rules.specs.FrameRules.{Task, frame_at}
-use Rattle.sub_rules.specs.PieceEvents.{marks_at_end, marks_of_arrival, marks_of_gap}
+use Rattle.sub_rules.specs.FrameRules.{Criteria, frame_at}
+use Rattle.sub_rules.specs.PieceEvents.{steps_at_end, steps_of_arrival, steps_of_gap}
 use Rattle.sub_rules.specs.Transmission.{SentFrame, Transmission}
 
-module _ (g : Task) (xs ys : Transmission) (n : ℕ)
+module _ (g : Criteria) (xs ys : Transmission) (n : ℕ)
     (numbers : map (λ (s : SentFrame). s.frame) xs ≡ map (λ (s : SentFrame). s.frame) ys)
     (first : take n xs ≡ take n ys)
   where
@@ -112,11 +112,11 @@ module _ (g : Task) (xs ys : Transmission) (n : ℕ)
     events_at_end-same i k f l m =
         rw (standing_before-same i f l, end_same i f, standing_at-same k f m) refl
 
-    -- ---- marks
+    -- ---- steps
 
-    pub marks_at_end-same : (i k f : ℕ) → i ≤ n → k ≤ n
-        → marks_at_end g xs i k f ≡ marks_at_end g ys i k f
-    marks_at_end-same i k f l m =
+    pub steps_at_end-same : (i k f : ℕ) → i ≤ n → k ≤ n
+        → steps_at_end g xs i k f ≡ steps_at_end g ys i k f
+    steps_at_end-same i k f l m =
         rw (
           since_before-same i f l,
           unfinished_since-same k f m,
@@ -124,23 +124,23 @@ module _ (g : Task) (xs ys : Transmission) (n : ℕ)
           events_at_end-same i k f l m,
         ) refl
 
-    pub marks_of_gap-same : (i m : ℕ) → i ≤ n → marks_of_gap g xs i m ≡ marks_of_gap g ys i m
-    unfolding marks_of_gap
-    marks_of_gap-same i zero l = refl
-    marks_of_gap-same i (suc m) l =
+    pub steps_of_gap-same : (i m : ℕ) → i ≤ n → steps_of_gap g xs i m ≡ steps_of_gap g ys i m
+    unfolding steps_of_gap
+    steps_of_gap-same i zero l = refl
+    steps_of_gap-same i (suc m) l =
         rw (
-          marks_of_gap-same i m l,
-          marks_at_end-same i i (latest xs i + suc m) l l,
+          steps_of_gap-same i m l,
+          steps_at_end-same i i (latest xs i + suc m) l l,
           latest-same i,
         ) refl
 
-    pub marks_of_arrival-same : (i : ℕ) → i ≤ n
-        → marks_of_arrival g xs i ≡ marks_of_arrival g ys i
-    marks_of_arrival-same i l =
+    pub steps_of_arrival-same : (i : ℕ) → i ≤ n
+        → steps_of_arrival g xs i ≡ steps_of_arrival g ys i
+    steps_of_arrival-same i l =
         rw (
           order_events-same i,
           gap_length-same i,
-          marks_of_gap-same i (gap_length ys i) l,
+          steps_of_gap-same i (gap_length ys i) l,
           frame_at-same i,
           since_before-same i (frame_at ys i) l,
         ) refl

@@ -1,7 +1,7 @@
 -- PES packets that are sent as one frame: within 0 frames each is one, `joined-none`; one PES
 -- packet on, `sent_after-other`, `sent_after-same`; more packets of the last frame,
 -- `with_packets-push`, `with_packets-frames`; some PES packets, and then others,
--- `joined_after-append`, `marks_of_each-append`; some packets of a frame, and then others,
+-- `joined_after-append`, `steps_of_each-append`; some packets of a frame, and then others,
 -- `packets_told-append`.
 use Rattle.std.proofs.lemmas.Bool.Decides.{nat_tests}
 use Rattle.std.proofs.Common.{◌≡◌, ℕ, zero, suc, ◌+◌, ◌<◌, ◌≤◌, true, false, List, [], ◌∷◌}
@@ -12,9 +12,8 @@ use Rattle.std.proofs.lemmas.List.{append-nil, get_or_append_left, get_or-append
 use Rattle.std.specs.List.{AllByRecursion}
 use lib.Seq.{take-append-le}
 use Rattle.sub_rules.specs.Events.{packets_told}
-use Rattle.sub_rules.specs.FrameRules.{Task, frame_at, packets_before}
-use Rattle.sub_rules.specs.FrameRules.{packets_of_frame}
-use Rattle.sub_rules.specs.PieceEvents.{marks_of_each}
+use Rattle.sub_rules.specs.FrameRules.{Criteria, frame_at, packets_before, packets_of_frame}
+use Rattle.sub_rules.specs.PieceEvents.{steps_of_each}
 use Rattle.sub_rules.specs.Pieces.{Piece, frames_of, goes_on_with, joined, joined_after, sent_after}
 use Rattle.sub_rules.specs.Pieces.{with_packets}
 use Rattle.sub_rules.specs.Pieces.Piece.{Passed, Sent}
@@ -201,19 +200,19 @@ frames_of-append (Sent s ∷ xs) ys = ap (λ (fs : Transmission). s ∷ fs) (fra
 frames_of-append (Passed u ∷ xs) ys = frames_of-append xs ys
 
 -- What comes of the one, and then of the other.
-pub marks_of_each-append : (g : Task) (sent : Transmission) (pes n : ℕ) (xs ys : List Piece)
+pub steps_of_each-append : (g : Criteria) (sent : Transmission) (pes n : ℕ) (xs ys : List Piece)
     → n ≡ pes + length xs
-    → marks_of_each g sent pes (xs ++ ys)
-    ≡ marks_of_each g sent pes xs
-    ++ marks_of_each g (joined_after g.within sent (frames_of xs)) n ys
-unfolding marks_of_each frames_of joined_after
-marks_of_each-append g sent pes n [] ys d = ap (λ (k : ℕ). marks_of_each g sent k ys) (omega arith)
-marks_of_each-append g sent pes n (Sent s ∷ xs) ys d =
+    → steps_of_each g sent pes (xs ++ ys)
+    ≡ steps_of_each g sent pes xs
+    ++ steps_of_each g (joined_after g.within sent (frames_of xs)) n ys
+unfolding steps_of_each frames_of joined_after
+steps_of_each-append g sent pes n [] ys d = ap (λ (k : ℕ). steps_of_each g sent k ys) (omega arith)
+steps_of_each-append g sent pes n (Sent s ∷ xs) ys d =
     let next = sent_after g.within sent s in
-    let rest = marks_of_each-append g next (suc pes) n xs ys (omega arith) in
+    let rest = steps_of_each-append g next (suc pes) n xs ys (omega arith) in
     grind (arith, nat_tests, append_assoc)
-marks_of_each-append g sent pes n (Passed u ∷ xs) ys d =
-    let rest = marks_of_each-append g sent (suc pes) n xs ys (omega arith) in
+steps_of_each-append g sent pes n (Passed u ∷ xs) ys d =
+    let rest = steps_of_each-append g sent (suc pes) n xs ys (omega arith) in
     grind (arith, nat_tests, append_assoc)
 
 -- ---- packets of a frame

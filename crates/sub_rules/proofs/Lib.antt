@@ -7,11 +7,11 @@ pub mod FirstFrameLemmas
 pub mod FrameEvents
 pub mod FrameLists
 pub mod JoinedLemmas
-pub mod MarkEventLemmas
 pub mod PacketLists
 pub mod PesReadingLemmas
 pub mod PieceEventLemmas
 pub mod PieceFileLemmas
 pub mod PrefixEventLemmas
+pub mod StepEventLemmas
 pub mod TestLemmas
 pub mod TrustedLemmas

@@ -10,12 +10,12 @@ use Rattle.sub_rules.specs.Events.{broken_at, closing_events, end_events, end_ru
 use Rattle.sub_rules.specs.Events.{endings, first_told, nothing_stands, rule_events}
 use Rattle.sub_rules.specs.Events.{unread_fault}
 use Rattle.sub_rules.specs.Fault.{fault_at_pes}
-use Rattle.sub_rules.specs.FrameRules.{Task, Unread}
-use Rattle.sub_rules.specs.PieceEvents.{LawOfFirstTold, all_announced, announced, all_of_pieces}
-use Rattle.sub_rules.specs.PieceEvents.{told_of_pieces, marks_of_closing, marks_of_each}
-use Rattle.sub_rules.specs.PieceEvents.{marks_of_pieces, marks_of_sent, marks_of_waiting}
+use Rattle.sub_rules.specs.FrameRules.{Criteria, Unread}
+use Rattle.sub_rules.specs.PieceEvents.{LawOfFirstTold, all_announced, all_of_pieces, announced}
 use Rattle.sub_rules.specs.PieceEvents.{closing_of_pieces, ended_run, joins, no_run, passed_after}
-use Rattle.sub_rules.specs.PieceEvents.{passed_after_all, until_passed}
+use Rattle.sub_rules.specs.PieceEvents.{passed_after_all, steps_of_closing, steps_of_each}
+use Rattle.sub_rules.specs.PieceEvents.{steps_of_pieces, steps_of_sent, steps_of_waiting}
+use Rattle.sub_rules.specs.PieceEvents.{told_of_pieces, until_passed}
 use Rattle.sub_rules.specs.Pieces.{Piece, frames_of, read_until_passed, sent_after}
 use Rattle.sub_rules.specs.Pieces.Piece.{Passed, Sent}
 use Rattle.sub_rules.specs.Transmission.{Transmission}
@@ -27,10 +27,10 @@ use Rattle.sub_rules.proofs.PrefixEventLemmas.{frame_events-prefix}
 use Rattle.sub_rules.proofs.AnyToldLemmas.{own_closing, own_names}
 use Rattle.sub_rules.proofs.EndRuleLemmas.{nothing_at}
 use Rattle.sub_rules.proofs.JoinedLemmas.{joined-within, sent_after-none}
-use Rattle.sub_rules.proofs.MarkEventLemmas.{marks_first, none_waits, said_by, said_says, said_sent}
-use Rattle.sub_rules.proofs.MarkEventLemmas.{first_of_two}
+use Rattle.sub_rules.proofs.StepEventLemmas.{first_of_two, none_waits, said_by, said_says}
+use Rattle.sub_rules.proofs.StepEventLemmas.{said_sent, steps_first}
 use Rattle.sub_rules.proofs.PacketLists.{or-none}
-use Rattle.sub_rules.specs.Trusted.{Mark, at_pes, pes_told, told_after}
+use Rattle.sub_rules.specs.Trusted.{CheckStep, at_pes, pes_told, told_after}
 use Rattle.sub_rules.proofs.FrameEvents.{events, events_of_first, frame_events}
 use Rattle.sub_rules.specs.declared.standing.Standing.{Standing}
 
@@ -73,7 +73,7 @@ endings_first last f = go end_rules
     go (rule ∷ rules) =
         rw (nothing_at rule) (ended rule (broken_at rule last) _ ∙ go rules)
 
-closing_first : (g : Task) (frames : Transmission) (n : ℕ) (u : Unread)
+closing_first : (g : Criteria) (frames : Transmission) (n : ℕ) (u : Unread)
     → length frames ≡ n
     → g.unread ≡ Some u
     → first_told (closing_events g frames n) ≡ Some (unread_fault n (Some u))
@@ -81,11 +81,11 @@ unfolding closing_events
 closing_first g frames n u h1 h2 = grind (arith, nat_tests, first_of_two, endings_first)
 
 -- What is told of frames, the first of them frame i of the list.
-told_plain : Task → Transmission → ℕ → Transmission → List Event
+told_plain : Criteria → Transmission → ℕ → Transmission → List Event
 told_plain g frames i [] = []
 told_plain g frames i (s ∷ others) = frame_events g frames i ++ told_plain g frames (suc i) others
 
-plain_all : (g : Task) (frames : Transmission) (i n : ℕ) (others : Transmission)
+plain_all : (g : Criteria) (frames : Transmission) (i n : ℕ) (others : Transmission)
     → i + length others ≡ n
     → events_of_first g frames n ≡ events_of_first g frames i ++ told_plain g frames i others
 unfolding told_plain events_of_first
@@ -101,19 +101,19 @@ own_unread : (n : ℕ) (u : Unread)
 own_unread n u = grind (arith, nat_tests)
 
 -- From some frames on, all of which are read both ways.
-walk : (g : Task) (at_once : g.within ≡ 0) (done all first : Transmission) (n pes : ℕ)
-    (pieces : List Piece) (u : Option Unread) (after : List Mark)
+walk : (g : Criteria) (at_once : g.within ≡ 0) (done all first : Transmission) (n pes : ℕ)
+    (pieces : List Piece) (u : Option Unread) (after : List CheckStep)
     → length done ≡ n
     → all ≡ done ++ frames_of pieces
     → first ≡ done ++ (read_until_passed pieces g.unread).frames
     → u ≡ (read_until_passed pieces g.unread).unread
     → (length (frames_of pieces) ≡ length pieces
     → (p : ℕ) → said_by p after ≡ closing_events g all (length all))
-    → first_told (said_by pes (marks_of_each g done n pieces ++ after))
+    → first_told (said_by pes (steps_of_each g done n pieces ++ after))
     ≡ first_told (told_plain (record g { unread = u }) first n
     (read_until_passed pieces g.unread).frames
     ++ closing_events (record g { unread = u }) first (length first))
-unfolding marks_of_each frames_of read_until_passed told_plain at_pes
+unfolding steps_of_each frames_of read_until_passed told_plain at_pes
 walk g at_once done all first n pes [] u after size all_is first_is u_is closing =
     ap first_told (closing refl pes) ∙ rw (all_is, first_is, u_is) refl
 walk g at_once done all first n pes (Passed v ∷ pieces) u after size all_is first_is u_is closing =
@@ -122,7 +122,7 @@ walk g at_once done all first n pes (Passed v ∷ pieces) u after size all_is fi
     ∙ ap (λ (k : ℕ). Some (unread_fault k (Some v))) (sym long)
     ∙ sym (closing_first (record g { unread = u }) first (length first) v refl u_is)
 walk g at_once done all first n pes (Sent s ∷ pieces) u after size all_is first_is u_is closing =
-    let h : Task = record g { unread = u } in
+    let h : Criteria = record g { unread = u } in
     let next = done ++ s ∷ [] in
     let stop = read_until_passed pieces g.unread in
     let longer : length next ≡ suc n = length-append done (s ∷ []) ∙ omega (arith, size) in
@@ -137,13 +137,13 @@ walk g at_once done all first n pes (Sent s ∷ pieces) u after size all_is firs
     ∙ ap (λ (fs : Transmission). frame_events h fs n) (sym first_next) in
     let goes_on : sent_after g.within done s ≡ next =
     ap (λ (w : ℕ). sent_after w done s) at_once ∙ sent_after-none done s in
-    let here = marks_of_sent g done n s in
-    let rest : List Mark = marks_of_each g next (suc n) pieces in
+    let here = steps_of_sent g done n s in
+    let rest : List CheckStep = steps_of_each g next (suc n) pieces in
     let others : List Event = told_plain h first (suc n) stop.frames in
     let closed : List Event = closing_events h first (length first) in
     ap (λ (sent : Transmission). first_told (said_by pes
-    ((here ++ marks_of_each g sent (suc n) pieces) ++ after))) goes_on
-    ∙ ap (λ (ms : List Mark). first_told (said_by pes ms)) (append_assoc here rest after)
+    ((here ++ steps_of_each g sent (suc n) pieces) ++ after))) goes_on
+    ∙ ap (λ (ms : List CheckStep). first_told (said_by pes ms)) (append_assoc here rest after)
     ∙ ap first_told (said_sent g at_once done s n pes (rest ++ after) size)
     ∙ first_of_two (frame_events g next n) (said_by n (rest ++ after))
     ∙ ap (option_or (first_told (frame_events g next n)))
@@ -154,7 +154,7 @@ walk g at_once done all first n pes (Sent s ∷ pieces) u after size all_is firs
     ∙ ap first_told (sym (append_assoc (frame_events h first n) others closed))
 
 -- After pieces that are all sent.
-closing_same : (g : Task) (frames : Transmission) (n : ℕ) → length frames ≡ n
+closing_same : (g : Criteria) (frames : Transmission) (n : ℕ) → length frames ≡ n
     → map (at_pes n) (closing_of_pieces g frames n n) ≡ closing_events g frames n
 unfolding closing_of_pieces
 closing_same g frames n h1 =
@@ -162,39 +162,39 @@ closing_same g frames n h1 =
     grind (arith, nat_tests)
 
 -- The refusal that is told first, of the frames up to there.
-told_of_frames : (g : Task) (pieces : List Piece) → g.within ≡ 0
+told_of_frames : (g : Criteria) (pieces : List Piece) → g.within ≡ 0
     → first_told (all_of_pieces g pieces)
     ≡ first_told (events (until_passed g pieces) (read_until_passed pieces g.unread).frames)
 unfolding all_of_pieces told_of_pieces events events_of_first pes_told
 told_of_frames g pieces at_once =
     let frames = frames_of pieces in
     let stop = read_until_passed pieces g.unread in
-    let h : Task = until_passed g pieces in
-    let told : List Event = told_after [] (marks_of_pieces g pieces) in
-    let each : List Mark = marks_of_each g [] 0 pieces in
+    let h : Criteria = until_passed g pieces in
+    let told : List Event = told_after [] (steps_of_pieces g pieces) in
+    let each : List CheckStep = steps_of_each g [] 0 pieces in
     all_first told
-    ∙ marks_first [] (marks_of_pieces g pieces)
+    ∙ steps_first [] (steps_of_pieces g pieces)
     ∙ ap (λ (fs : Transmission). first_told (said_by 0
-    (each ++ marks_of_waiting g fs ++ marks_of_closing g fs (length pieces) (length fs))))
+    (each ++ steps_of_waiting g fs ++ steps_of_closing g fs (length pieces) (length fs))))
     (joined-within g.within frames at_once)
-    ∙ ap (λ (ms : List Mark). first_told (said_by 0 ms))
-    (append_assoc each (marks_of_waiting g frames)
-    (marks_of_closing g frames (length pieces) (length frames)))
+    ∙ ap (λ (ms : List CheckStep). first_told (said_by 0 ms))
+    (append_assoc each (steps_of_waiting g frames)
+    (steps_of_closing g frames (length pieces) (length frames)))
     ∙ walk g at_once [] frames stop.frames 0 0 pieces stop.unread
-    (marks_of_waiting g frames ++ marks_of_closing g frames (length pieces) (length frames)) refl
+    (steps_of_waiting g frames ++ steps_of_closing g frames (length pieces) (length frames)) refl
     refl refl refl closing_is
     ∙ ap (λ (l : List Event). first_told (l ++ closing_events h stop.frames
     (length stop.frames)))
     (sym (plain_all h stop.frames 0 (length stop.frames) stop.frames (omega arith)))
   where
     closing_is : length (frames_of pieces) ≡ length pieces → (p : ℕ)
-        → said_by p (marks_of_waiting g (frames_of pieces)
-        ++ marks_of_closing g (frames_of pieces) (length pieces) (length (frames_of pieces)))
+        → said_by p (steps_of_waiting g (frames_of pieces)
+        ++ steps_of_closing g (frames_of pieces) (length pieces) (length (frames_of pieces)))
         ≡ closing_events g (frames_of pieces) (length (frames_of pieces))
     closing_is all p =
         let frames = frames_of pieces in
-        ap (λ (ms : List Mark). said_by p
-        (ms ++ marks_of_closing g frames (length pieces) (length frames)))
+        ap (λ (ms : List CheckStep). said_by p
+        (ms ++ steps_of_closing g frames (length pieces) (length frames)))
         (none_waits g at_once frames)
         ∙ said_says (length pieces) (closing_of_pieces g frames (length pieces) (length frames))
         ∙ ap (λ (k : ℕ). map (at_pes k) (closing_of_pieces g frames k (length frames))) (sym all)

@@ -1,6 +1,6 @@
 -- What is told of a frame is told by the frames up to it alone: `frame_events-prefix`; and so are
 -- since which frame the page is not whole, `unfinished_since-prefix`, whether that is late,
--- `is_late-prefix`, what stands broken, `standing_at-prefix`, and the marks of a frame.
+-- `is_late-prefix`, what stands broken, `standing_at-prefix`, and the steps of a frame.
 use Rattle.std.proofs.lemmas.Bool.Decides.{nat_tests}
 use Rattle.std.proofs.Common.{◌≡◌, ℕ, zero, suc, ◌-◌, ◌<◌, ◌≤◌, ◌++◌}
 use Rattle.std.proofs.Common.{length, get_or, Option, refl, arith}
@@ -11,15 +11,15 @@ use Rattle.sub_rules.specs.Events.{first_header_events, gap_length}
 use Rattle.sub_rules.specs.Events.{is_gap, is_incomplete, is_late, is_unfinished, latest}
 use Rattle.sub_rules.specs.Events.{order_events, since_before, since_frames, since_in_gap}
 use Rattle.sub_rules.specs.Events.{standing_at, standing_before, unfinished_since}
-use Rattle.sub_rules.specs.FrameRules.{Task, Unread, frame_at, packets_before, packets_of_frame}
-use Rattle.sub_rules.specs.PieceEvents.{marks_at_end, marks_of_arrival, marks_of_ending}
-use Rattle.sub_rules.specs.PieceEvents.{marks_of_gap}
+use Rattle.sub_rules.specs.FrameRules.{Criteria, Unread, frame_at, packets_before, packets_of_frame}
+use Rattle.sub_rules.specs.PieceEvents.{steps_at_end, steps_of_arrival, steps_of_ending}
+use Rattle.sub_rules.specs.PieceEvents.{steps_of_gap}
 use Rattle.sub_rules.specs.Transmission.{Transmission}
 use Rattle.sub_rules.proofs.FrameEvents.{frame_events, gap_events}
 
--- Frames, more of them, and a task with another end of reading.
-module _ (g : Task) (u : Option Unread) (done more : Transmission) where
-  abbrev h : Task
+-- Frames, more of them, and criteria with another end of reading.
+module _ (g : Criteria) (u : Option Unread) (done more : Transmission) where
+  abbrev h : Criteria
   h = record g { unread = u }
 
   abbrev all : Transmission
@@ -157,11 +157,11 @@ module _ (g : Task) (u : Option Unread) (done more : Transmission) where
         events_at_end-prefix i (suc i) (frame_at done i) some (omega arith) (omega arith),
       ) refl
 
-  -- ---- the marks of a frame
+  -- ---- the steps of a frame
 
-  pub marks_at_end-prefix : (i n f : ℕ) → 0 < length done → i ≤ length done → n ≤ length done
-      → marks_at_end g all i n f ≡ marks_at_end h done i n f
-  marks_at_end-prefix i n f some l m =
+  pub steps_at_end-prefix : (i n f : ℕ) → 0 < length done → i ≤ length done → n ≤ length done
+      → steps_at_end g all i n f ≡ steps_at_end h done i n f
+  steps_at_end-prefix i n f some l m =
       grind (
         arith,
         nat_tests,
@@ -171,35 +171,35 @@ module _ (g : Task) (u : Option Unread) (done more : Transmission) where
         events_at_end-prefix,
       )
 
-  pub marks_of_gap-prefix : (i n : ℕ) → 0 < length done → i ≤ length done
-      → marks_of_gap g all i n ≡ marks_of_gap h done i n
-  unfolding marks_of_gap
-  marks_of_gap-prefix i zero some l = grind (arith, nat_tests)
-  marks_of_gap-prefix i (suc n) some l =
-      grind (arith, nat_tests, marks_at_end-prefix, latest-prefix, (marks_of_gap-prefix i n some l))
+  pub steps_of_gap-prefix : (i n : ℕ) → 0 < length done → i ≤ length done
+      → steps_of_gap g all i n ≡ steps_of_gap h done i n
+  unfolding steps_of_gap
+  steps_of_gap-prefix i zero some l = grind (arith, nat_tests)
+  steps_of_gap-prefix i (suc n) some l =
+      grind (arith, nat_tests, steps_at_end-prefix, latest-prefix, (steps_of_gap-prefix i n some l))
 
-  pub marks_of_arrival-prefix : (i : ℕ) → i < length done
-      → marks_of_arrival g all i ≡ marks_of_arrival h done i
-  marks_of_arrival-prefix i l =
+  pub steps_of_arrival-prefix : (i : ℕ) → i < length done
+      → steps_of_arrival g all i ≡ steps_of_arrival h done i
+  steps_of_arrival-prefix i l =
       grind (
         arith,
         nat_tests,
         order_events-prefix,
         gap_length-prefix,
-        marks_of_gap-prefix,
+        steps_of_gap-prefix,
         frame_at-prefix,
         since_before-prefix,
       )
 
-  pub marks_of_ending-prefix : (i : ℕ) → i < length done
-      → marks_of_ending g all i ≡ marks_of_ending h done i
-  marks_of_ending-prefix i l =
+  pub steps_of_ending-prefix : (i : ℕ) → i < length done
+      → steps_of_ending g all i ≡ steps_of_ending h done i
+  steps_of_ending-prefix i l =
       grind (
         arith,
         nat_tests,
         first_header_events-prefix,
         frame_at-prefix,
-        marks_at_end-prefix,
+        steps_at_end-prefix,
         packets_of_frame-prefix,
         standing_at-prefix,
       )

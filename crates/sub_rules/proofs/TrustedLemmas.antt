@@ -1,29 +1,29 @@
--- What is told with marks, one list after another, `told_after-append`, and which marks came then,
+-- What is told with steps, one list after another, `told_after-append`, and which steps came then,
 -- `past_after-append`.
 use Rattle.std.proofs.lemmas.Bool.Decides.{nat_tests}
 use Rattle.std.proofs.Common.{◌≡◌, ◌&&◌, List, [], ◌∷◌, ◌++◌, refl, sym, ap, ◌∙◌, append_assoc}
 use Rattle.std.proofs.Common.{arith}
 use Rattle.sub_rules.specs.declared.event.Event.{Event}
-use Rattle.sub_rules.specs.Trusted.{Mark, tells_none, told_after, told_at}
+use Rattle.sub_rules.specs.Trusted.{CheckStep, tells_none, told_after, told_at}
 
 -- Nothing is told by two lists exactly where nothing is by either.
 pub tells_none-two : (xs ys : List Event) → tells_none (xs ++ ys) ≡ (tells_none xs && tells_none ys)
 tells_none-two xs ys = grind (arith, nat_tests)
 
--- ---- marks, one after another
+-- ---- steps, one after another
 
--- These marks came, the latest first, where those came after these.
-unfoldable pub past_after : List Mark → List Mark → List Mark
+-- These steps came, the latest first, where those came after these.
+unfoldable pub past_after : List CheckStep → List CheckStep → List CheckStep
 past_after past [] = past
 past_after past (m ∷ ms) = past_after (m ∷ past) ms
 
-pub past_after-append : (t xs ys : List Mark)
+pub past_after-append : (t xs ys : List CheckStep)
     → past_after t (xs ++ ys) ≡ past_after (past_after t xs) ys
 unfolding past_after
 past_after-append t [] ys = refl
 past_after-append t (x ∷ xs) ys = past_after-append (x ∷ t) xs ys
 
-pub told_after-append : (t xs ys : List Mark)
+pub told_after-append : (t xs ys : List CheckStep)
     → told_after t (xs ++ ys) ≡ told_after t xs ++ told_after (past_after t xs) ys
 unfolding told_after past_after
 told_after-append t [] ys = refl

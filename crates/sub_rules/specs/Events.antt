@@ -17,7 +17,7 @@ use Rattle.ttx_page.specs.Page.{Rows, cell, space}
 use Rattle.ttx_page.specs.PacketKind.{kind}
 use Rattle.ttx_page.specs.Shown.{kept}
 use Rattle.ttx_page.specs.Span.{holds_header, is_open_after}
-use Rattle.sub_rules.specs.FrameRules.{Task, Unread, end_frame, frame_at, packets_before}
+use Rattle.sub_rules.specs.FrameRules.{Criteria, Unread, end_frame, frame_at, packets_before}
 use Rattle.sub_rules.specs.FrameRules.{packets_of_frame}
 use Rattle.sub_rules.specs.FrameRules.Unread.{BadPacket, NoFrame}
 use Rattle.sub_rules.specs.Kept.{has_row}
@@ -83,24 +83,24 @@ wrong_after keeps page packets due =
 
 -- The first cell that is not right after n frames of the list, at the end of frame f. Where it is
 -- not known what is due, any code may be in any cell.
-abbrev pub wrong_cell : Task → Transmission → ℕ → ℕ → Option (ℕ × ℕ)
+abbrev pub wrong_cell : Criteria → Transmission → ℕ → ℕ → Option (ℕ × ℕ)
 wrong_cell g frames n f =
     if g.undecided f
     then None
     else wrong_after g.watched.keeps g.watched.page (packets_before frames n) (g.due f)
 
 -- A header of the page in this frame is one of the last `every` frames up to f, or of a later one.
-abbrev pub covers : Task → ℕ → SentFrame → Bool
+abbrev pub covers : Criteria → ℕ → SentFrame → Bool
 covers g f s = holds_header (kind g.watched.page) s.packets && nat_lt f (s.frame + g.every)
 
 -- As many frames as the repeat bound end with f, from the first frame on, and none of the first n
 -- frames of the list has a header of the page that is so late.
-unfoldable pub is_gap : Task → Transmission → ℕ → ℕ → Bool
+unfoldable pub is_gap : Criteria → Transmission → ℕ → ℕ → Bool
 is_gap g frames n f =
     nat_le (frame_at frames 0 + g.every) (f + 1) && not (list_any (covers g f) (take n frames))
 
 -- The page is open after the first n frames of the list, where complete pages are asked for.
-unfoldable pub is_incomplete : Task → Transmission → ℕ → Bool
+unfoldable pub is_incomplete : Criteria → Transmission → ℕ → Bool
 is_incomplete g frames n =
     g.watched.complete && is_open_after (kind g.watched.page) (packets_before frames n)
 
@@ -108,7 +108,7 @@ is_incomplete g frames n =
 
 -- The end of frame f, after n frames of the list, is unfinished: a cell is not right, or the page
 -- is open where complete pages are asked for.
-abbrev pub is_unfinished : Task → Transmission → ℕ → ℕ → Bool
+abbrev pub is_unfinished : Criteria → Transmission → ℕ → ℕ → Bool
 is_unfinished g frames n f = is_some (wrong_cell g frames n f) || is_incomplete g frames n
 
 -- The greatest number of the first n frames of the list.
@@ -123,7 +123,7 @@ silent_for (Some pace) last f = nat_le (last + pace) f
 
 -- As many frames as the pace end with f, all after the first n frames of the list, whatever is in
 -- these; or there is none of them.
-unfoldable pub is_silent : Task → Transmission → ℕ → ℕ → Bool
+unfoldable pub is_silent : Criteria → Transmission → ℕ → ℕ → Bool
 is_silent g frames zero f = is_some g.pace
 is_silent g frames (suc n) f = silent_for g.pace (latest frames (suc n)) f
 
@@ -139,26 +139,26 @@ unfinished_from since unfinished f = if unfinished then Some (unwrap_or since f)
 
 -- That up to the first k ends of frames of the day after the first n frames of the list, by the one
 -- at the end of the last of these.
-unfoldable pub since_in_gap : Task → Transmission → ℕ → Option ℕ → ℕ → Option ℕ
+unfoldable pub since_in_gap : Criteria → Transmission → ℕ → Option ℕ → ℕ → Option ℕ
 since_in_gap g frames n since zero = since
 since_in_gap g frames n since (suc k) =
     let f = latest frames n + suc k in
     unfinished_from (since_in_gap g frames n since k) (is_unfinished g frames n f) f
 
 -- That up to the end of frame n - 1 of the list; none before the first one.
-unfoldable pub since_frames : Task → Transmission → ℕ → Option ℕ
+unfoldable pub since_frames : Criteria → Transmission → ℕ → Option ℕ
 since_frames g frames zero = None
 since_frames g frames (suc i) =
     unfinished_from (since_in_gap g frames i (since_frames g frames i) (gap_length frames i))
     (is_unfinished g frames (suc i) (frame_at frames i)) (frame_at frames i)
 
 -- That up to the end of frame f, after n frames of the list; none where that end is finished.
-unfoldable pub unfinished_since : Task → Transmission → ℕ → ℕ → Option ℕ
+unfoldable pub unfinished_since : Criteria → Transmission → ℕ → ℕ → Option ℕ
 unfinished_since g frames n f =
     since_in_gap g frames n (since_frames g frames n) (f - latest frames n)
 
 -- That up to the end before the one of frame f, up to which n frames of the list counted.
-unfoldable pub since_before : Task → Transmission → ℕ → ℕ → Option ℕ
+unfoldable pub since_before : Criteria → Transmission → ℕ → ℕ → Option ℕ
 since_before g frames zero f = None
 since_before g frames (suc i) f = unfinished_since g frames (suc i) (f - 1)
 
@@ -171,14 +171,14 @@ is_missed (Some tci) first since = nat_le since tci || (since == first && nat_lt
 
 -- An end of frame f, up to which the ends are unfinished since this frame, is overdue: the page had
 -- to be whole by now. A finished end is not.
-abbrev pub is_overdue : Task → ℕ → Option ℕ → ℕ → Bool
+abbrev pub is_overdue : Criteria → ℕ → Option ℕ → ℕ → Bool
 is_overdue g first None f = false
 is_overdue g first (Some since) f =
     nat_le (since + g.within) f || is_missed (g.ending (f + 1)) first since
 
 -- The end of frame f, after n frames of the list, is late where it is unfinished. Within 0 frames
 -- each is; else those that are overdue.
-unfoldable pub is_late : Task → Transmission → ℕ → ℕ → Bool
+unfoldable pub is_late : Criteria → Transmission → ℕ → ℕ → Bool
 is_late g frames n f =
     g.within == 0 || is_overdue g (frame_at frames 0) (unfinished_since g frames n f) f
 
@@ -208,13 +208,13 @@ was_undecided undecided first f (suc n) =
     was_undecided undecided first f n || (nat_le (first + suc n) f && undecided (f - suc n))
 
 -- So at the end of frame f, for the frames within which the page has to be whole.
-abbrev pub undecided_within : Task → Transmission → ℕ → Bool
+abbrev pub undecided_within : Criteria → Transmission → ℕ → Bool
 undecided_within g frames f = was_undecided g.undecided (frame_at frames 0) f g.within
 
 -- The first cell in which is kept, after n frames of the list, what was not due within these
 -- frames.
 -- Where it is not known of one of them what was due, it may have been any code.
-abbrev pub undue_cell : Task → Transmission → ℕ → ℕ → Option (ℕ × ℕ)
+abbrev pub undue_cell : Criteria → Transmission → ℕ → ℕ → Option (ℕ × ℕ)
 undue_cell g frames n f =
     if undecided_within g frames f
     then None
@@ -224,12 +224,12 @@ undue_cell g frames n f =
 
 -- What of the page's content stands broken at the end of frame f, after n frames of the list: where
 -- it is late each cell has to be right, and else what is kept there was due within these frames.
-abbrev pub broken_cell : Task → Transmission → ℕ → ℕ → Option (ℕ × ℕ)
+abbrev pub broken_cell : Criteria → Transmission → ℕ → ℕ → Option (ℕ × ℕ)
 broken_cell g frames n f =
     if is_late g frames n f then wrong_cell g frames n f else undue_cell g frames n f
 
 -- What stands broken at the end of frame f, after n frames of the list.
-unfoldable pub standing_at : Task → Transmission → ℕ → ℕ → Standing
+unfoldable pub standing_at : Criteria → Transmission → ℕ → ℕ → Standing
 standing_at g frames n f = record {
   content = broken_cell g frames n f;
   gap = is_gap g frames n f;
@@ -274,13 +274,13 @@ end_before frames i f =
     if nat_lt (latest frames i + 1) f then f - 1 else frame_at frames (i - 1)
 
 -- What stood broken at that end; nothing before the first one.
-unfoldable pub standing_before : Task → Transmission → ℕ → ℕ → Standing
+unfoldable pub standing_before : Criteria → Transmission → ℕ → ℕ → Standing
 standing_before g frames zero f = nothing_stands
 standing_before g frames (suc i) f = standing_at g frames (suc i) (end_before frames (suc i) f)
 
 -- What is told at the end of frame f, up to which i frames of the list counted at the end before,
 -- and now n.
-abbrev pub events_at_end : Task → Transmission → ℕ → ℕ → ℕ → List Event
+abbrev pub events_at_end : Criteria → Transmission → ℕ → ℕ → ℕ → List Event
 events_at_end g frames i n f =
     end_events (standing_before g frames i f) (end_before frames i f) (standing_at g frames n f) f
 
@@ -293,7 +293,7 @@ is_early (Some first_in) frame = nat_lt first_in frame
 
 -- What is told of the number of frame i of the list: the first one is not after the first TCI, and
 -- each other one is after the one before.
-unfoldable pub order_events : Task → Transmission → ℕ → List Event
+unfoldable pub order_events : Criteria → Transmission → ℕ → List Event
 order_events g frames zero =
     if is_early g.first_in (frame_at frames 0)
     then Told (fault.Early (frame_at frames 0)) ∷ []
@@ -331,7 +331,7 @@ abbrev pub packet_events : Watched → ℕ → List (List ℕ) → List (List �
 packet_events w frame before packets n = packets_told w frame 0 before packets n
 
 -- What is told of the first frame after its packets: it has a header of the page.
-unfoldable pub first_header_events : Task → Transmission → ℕ → List Event
+unfoldable pub first_header_events : Criteria → Transmission → ℕ → List Event
 first_header_events g frames zero =
     if holds_header (kind g.watched.page) (packets_of_frame frames 0)
     then []
@@ -357,7 +357,7 @@ is_short None frame = false
 is_short (Some last_out) frame = nat_lt frame last_out
 
 -- The last end is unfinished and not late: the page may be whole in a frame that does not come.
-unfoldable pub is_pending : Task → Transmission → Bool
+unfoldable pub is_pending : Criteria → Transmission → Bool
 is_pending g frames =
     let n = length frames in
     is_some (unfinished_since g frames n (end_frame frames))
@@ -365,19 +365,19 @@ is_pending g frames =
 
 -- What is told of what follows the list: of the bytes that are left; else that the last TCO is
 -- after the last frame, or that the page was not whole at its end.
-abbrev pub late_events : Task → Transmission → List Event
+abbrev pub late_events : Criteria → Transmission → List Event
 late_events g frames =
     if is_short g.last_out (end_frame frames) || is_pending g frames
     then Told (fault.Late (end_frame frames)) ∷ []
     else []
 
 -- What is told where frames were read, by what keeps the file from being read to its end.
-abbrev pub rest_events : Task → Transmission → Option Unread → List Event
+abbrev pub rest_events : Criteria → Transmission → Option Unread → List Event
 rest_events g frames (Some unread) = Told (unread_fault (length frames) (Some unread)) ∷ []
 rest_events g frames None = late_events g frames
 
 -- What is told after the last frame of the list; of a list without one, why it has none.
-unfoldable pub closing_events : Task → Transmission → ℕ → List Event
+unfoldable pub closing_events : Criteria → Transmission → ℕ → List Event
 closing_events g frames zero = Told (unread_fault 0 g.unread) ∷ []
 closing_events g frames (suc n) =
     endings (standing_at g frames (suc n) (end_frame frames)) (end_frame frames)

@@ -1,5 +1,5 @@
--- What is asked at the end of each frame, in terms of the first frames of a transmission and of a
--- task: what the transmission is checked against.
+-- What is asked at the end of each frame, in terms of the first frames of a transmission and of the
+-- criteria: what the transmission is checked against.
 use Rattle.std.specs.Prelude.{◌≡◌, ℕ, ◌+◌, ◌-◌, ◌<◌, ◌⊎◌, ◌&&◌, Bool, false, true, List, []}
 use Rattle.std.specs.Prelude.{Option, Some, map, take, length, IsTrue, IsFalse}
 use Rattle.std.specs.Prelude.{slice_index, slice_index_or, flat_map}
@@ -8,7 +8,7 @@ use Rattle.ttx_page.specs.PacketKind.{kind}
 use Rattle.ttx_page.specs.Span.{holds_header, is_open_after}
 use Rattle.ttx_pes.specs.declared.fault.PesFault.{PesFault}
 use Rattle.stl_rows.specs.DuePage.{tci_of_ending}
-use Rattle.stl_rows.specs.Judged.{JudgedValue, is_beside, is_undecided_in}
+use Rattle.stl_rows.specs.Judged.{JudgedValue, has_refused, is_undecided_in}
 use Rattle.stl_rows.specs.Programme.{ProgrammeValue, first_in, last_out}
 use Rattle.sub_plan.specs.Options.{OptionsValue}
 use Rattle.sub_plan.specs.Schedule.{due_in}
@@ -28,7 +28,7 @@ pub data Unread : Type 0 where
 -- whose TCO a frame is, the first TCI and the last TCO; whether subtitles of the file are refused,
 -- and at which frames it is not known for that what is due; and what keeps the PES file from being
 -- read to its end, if anything does.
-pub record Task : Type 0 where
+pub record Criteria : Type 0 where
   pub watched : Watched
   pub every : ℕ
   pub within : ℕ
@@ -37,7 +37,7 @@ pub record Task : Type 0 where
   pub ending : ℕ → Option ℕ
   pub first_in : Option ℕ
   pub last_out : Option ℕ
-  pub beside : Bool
+  pub any_refused : Bool
   pub undecided : ℕ → Bool
   pub unread : Option Unread
 
@@ -51,10 +51,10 @@ watched_of programme options = record {
   keeps = options.keeps;
 }
 
--- The task of a programme of a file in which nothing is refused, where this is watched with this
--- repeat bound, within these frames, with this pace.
-abbrev pub task_with : ProgrammeValue → Watched → ℕ → ℕ → Option ℕ → Option Unread → Task
-task_with programme watched every within pace unread = record {
+-- The criteria of a programme of a file in which nothing is refused, where this is watched with
+-- this repeat bound, within these frames, with this pace.
+abbrev pub criteria_with : ProgrammeValue → Watched → ℕ → ℕ → Option ℕ → Option Unread → Criteria
+criteria_with programme watched every within pace unread = record {
   watched = watched;
   every = every;
   within = within;
@@ -63,28 +63,28 @@ task_with programme watched every within pace unread = record {
   ending = tci_of_ending programme.records;
   first_in = first_in programme.records;
   last_out = last_out programme.records;
-  beside = false;
+  any_refused = false;
   undecided = λ frame. false;
   unread = unread;
 }
 
--- The task of a programme and options.
-abbrev pub task_of : ProgrammeValue → OptionsValue → Option Unread → Task
-task_of programme options unread =
-    task_with programme (watched_of programme options) options.every options.within options.pace
+-- The criteria of a programme and options.
+abbrev pub criteria_of : ProgrammeValue → OptionsValue → Option Unread → Criteria
+criteria_of programme options unread =
+    criteria_with programme (watched_of programme options) options.every options.within options.pace
     unread
 
 -- It is not known what is due at this frame.
-abbrev pub is_undecided_beside : JudgedValue → ℕ → Bool
-is_undecided_beside j frame = is_beside j && is_undecided_in j frame
+abbrev pub is_due_undecided : JudgedValue → ℕ → Bool
+is_due_undecided j frame = has_refused j && is_undecided_in j frame
 
--- The task of what can be judged of a subtitle file. Where nothing of it is refused it is that of
--- the programme.
-abbrev pub task_beside : JudgedValue → OptionsValue → Option Unread → Task
-task_beside j options unread =
-    record (task_of j.programme options unread) {
-      beside = is_beside j;
-      undecided = is_undecided_beside j;
+-- The criteria of what can be judged of a subtitle file. Where nothing of it is refused they are
+-- those of the programme.
+abbrev pub criteria_of_judged : JudgedValue → OptionsValue → Option Unread → Criteria
+criteria_of_judged j options unread =
+    record (criteria_of j.programme options unread) {
+      any_refused = has_refused j;
+      undecided = is_due_undecided j;
     }
 
 -- The number of frame i of the list, from 0.
@@ -104,29 +104,29 @@ abbrev pub end_frame : Transmission → ℕ
 end_frame frames = frame_at frames (length frames - 1)
 
 -- A header of the page is among the packets of frame i of the list.
-abbrev pub HasHeader : Task → Transmission → ℕ → Type 0
+abbrev pub HasHeader : Criteria → Transmission → ℕ → Type 0
 HasHeader g frames i = holds_header (kind g.watched.page) (packets_of_frame frames i) ≡ true
 
 -- After n frames of the list, at the end of frame f of the day, the cell is right.
-abbrev pub ShowsDue : Task → Transmission → ℕ → ℕ → ℕ → ℕ → Type 0
+abbrev pub ShowsDue : Criteria → Transmission → ℕ → ℕ → ℕ → ℕ → Type 0
 ShowsDue g frames n f row column =
     IsRight g.watched.keeps g.watched.page (packets_before frames n) (g.due f) row column
 
 -- Of the frames of the day that end with f, as many as the repeat bound, one is before the first
 -- frame of the list, or has a header of the page.
-abbrev pub IsCovered : Task → Transmission → ℕ → ℕ → Type 0
+abbrev pub IsCovered : Criteria → Transmission → ℕ → ℕ → Type 0
 IsCovered g frames n f =
     (f + 1 < frame_at frames 0 + g.every)
     ⊎ ((j : ℕ) × (j < n) × (f < frame_at frames j + g.every) × HasHeader g frames j)
 
 -- Where a pace is asked for, one of the first n frames of the list is less than that many frames
 -- before frame f, or after it.
-abbrev pub IsPaced : Task → Transmission → ℕ → ℕ → Type 0
+abbrev pub IsPaced : Criteria → Transmission → ℕ → ℕ → Type 0
 IsPaced g frames n f =
     (pace : ℕ) → g.pace ≡ Some pace → (j : ℕ) × (j < n) × (f < frame_at frames j + pace)
 
 -- Where complete pages are asked for, the page is not open after n frames of the list.
-abbrev pub IsEnded : Task → Transmission → ℕ → Type 0
+abbrev pub IsEnded : Criteria → Transmission → ℕ → Type 0
 IsEnded g frames n =
     IsTrue g.watched.complete
     → IsFalse (is_open_after (kind g.watched.page) (packets_before frames n))

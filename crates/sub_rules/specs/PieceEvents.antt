@@ -16,14 +16,14 @@ use Rattle.sub_rules.specs.Events.{first_told, gap_length, is_late, latest, orde
 use Rattle.sub_rules.specs.Events.{packet_events, packets_told, since_before, standing_at}
 use Rattle.sub_rules.specs.Events.{unfinished_since, unread_fault}
 use Rattle.sub_rules.specs.Fault.{check_code, fault_row, place_of}
-use Rattle.sub_rules.specs.FrameRules.{Task, Unread, end_frame, frame_at, packets_before}
+use Rattle.sub_rules.specs.FrameRules.{Criteria, Unread, end_frame, frame_at, packets_before}
 use Rattle.sub_rules.specs.FrameRules.{packets_of_frame}
 use Rattle.sub_rules.specs.Pieces.{Piece, frames_of, goes_on_with, joined, read_until_passed}
 use Rattle.sub_rules.specs.Pieces.{sent_after}
 use Rattle.sub_rules.specs.Pieces.Piece.{Passed, Sent}
 use Rattle.sub_rules.specs.Transmission.{SentFrame, Transmission}
-use Rattle.sub_rules.specs.Trusted.{Mark, stands_none, tells_none, told_after}
-use Rattle.sub_rules.specs.Trusted.Mark.{AtEnd, AtPes, Begins, Closes, Ends, GoesBack, Says}
+use Rattle.sub_rules.specs.Trusted.{CheckStep, stands_none, tells_none, told_after}
+use Rattle.sub_rules.specs.Trusted.CheckStep.{AtEnd, AtPes, Begins, Closes, Ends, GoesBack, Says}
 use Rattle.sub_rules.specs.declared.event.Event.{Event}
 use Rattle.sub_rules.specs.declared.event.Event.TheVariants.{PassedUntil, Told}
 use Rattle.sub_rules.specs.declared.fault.CheckFault.{CheckFault}
@@ -34,19 +34,19 @@ use Rattle.sub_rules.specs.declared.fault_place.FaultPlace.TheVariants as place
 
 -- Beside what is refused of the subtitle file, and within frames, it is told of the frames before
 -- one that is trusted no more whether the page was whole at the last of their ends.
-abbrev pub goes_back : Task → Bool
-goes_back g = g.beside && not (g.within == 0)
+abbrev pub goes_back : Criteria → Bool
+goes_back g = g.any_refused && not (g.within == 0)
 
 -- Since which frame it was not, where that is asked.
-abbrev pub marks_before : Task → Option ℕ → List Mark
-marks_before g since = if goes_back g then GoesBack since ∷ [] else []
+abbrev pub steps_before : Criteria → Option ℕ → List CheckStep
+steps_before g since = if goes_back g then GoesBack since ∷ [] else []
 
 -- What comes at the end of frame f, up to which i frames of the list counted at the end before, and
 -- now n: within frames, since which the page is not whole, and whether that is late; and what is
 -- told.
-abbrev pub marks_at_end : Task → Transmission → ℕ → ℕ → ℕ → List Mark
-marks_at_end g frames i n f =
-    marks_before g (since_before g frames i f)
+abbrev pub steps_at_end : Criteria → Transmission → ℕ → ℕ → ℕ → List CheckStep
+steps_at_end g frames i n f =
+    steps_before g (since_before g frames i f)
     ++ (if g.within == 0
     then []
     else AtEnd f (unfinished_since g frames n f) (is_late g frames n f) ∷ [])
@@ -54,79 +54,79 @@ marks_at_end g frames i n f =
 
 -- What comes at the ends of the first n frames of the day after all of the first i frames of the
 -- list and before frame i.
-unfoldable pub marks_of_gap : Task → Transmission → ℕ → ℕ → List Mark
-marks_of_gap g frames i zero = []
-marks_of_gap g frames i (suc n) =
-    marks_of_gap g frames i n ++ marks_at_end g frames i i (latest frames i + suc n)
+unfoldable pub steps_of_gap : Criteria → Transmission → ℕ → ℕ → List CheckStep
+steps_of_gap g frames i zero = []
+steps_of_gap g frames i (suc n) =
+    steps_of_gap g frames i n ++ steps_at_end g frames i i (latest frames i + suc n)
 
 -- ---- each piece by itself
 
 -- What comes before the packets of frame i of the list: what is told of its number, and the ends of
 -- the frames of the day before it.
-abbrev pub marks_of_arrival : Task → Transmission → ℕ → List Mark
-marks_of_arrival g frames i =
+abbrev pub steps_of_arrival : Criteria → Transmission → ℕ → List CheckStep
+steps_of_arrival g frames i =
     map Says (order_events g frames i)
-    ++ marks_of_gap g frames i (gap_length frames i)
+    ++ steps_of_gap g frames i (gap_length frames i)
     ++ Begins (frame_at frames i)
-    ∷ marks_before g (since_before g frames i (frame_at frames i))
+    ∷ steps_before g (since_before g frames i (frame_at frames i))
 
 -- What comes of its packets.
-abbrev pub marks_of_packets : Task → Transmission → ℕ → List Mark
-marks_of_packets g frames i =
+abbrev pub steps_of_packets : Criteria → Transmission → ℕ → List CheckStep
+steps_of_packets g frames i =
     map Says
     (packet_events g.watched (frame_at frames i) (packets_before frames i)
     (packets_of_frame frames i) (length (packets_of_frame frames i)))
 
 -- What comes at its end.
-abbrev pub marks_of_ending : Task → Transmission → ℕ → List Mark
-marks_of_ending g frames i =
+abbrev pub steps_of_ending : Criteria → Transmission → ℕ → List CheckStep
+steps_of_ending g frames i =
     map Says (first_header_events g frames i)
-    ++ marks_at_end g frames i (suc i) (frame_at frames i)
+    ++ steps_at_end g frames i (suc i) (frame_at frames i)
     ++ Ends (frame_at frames i)
     (holds_beginning g.watched.keeps (kind g.watched.page) (packets_of_frame frames i))
     (stands_none (standing_at g frames (suc i) (frame_at frames i))) ∷ []
 
 -- Within frames a frame ends where a PES packet of another one comes, or none: what comes at the
 -- end of the last frame that was sent.
-unfoldable pub marks_of_waiting : Task → Transmission → List Mark
-marks_of_waiting g [] = []
-marks_of_waiting g (s ∷ sent) =
-    if g.within == 0 then [] else marks_of_ending g (s ∷ sent) (length sent)
+unfoldable pub steps_of_waiting : Criteria → Transmission → List CheckStep
+steps_of_waiting g [] = []
+steps_of_waiting g (s ∷ sent) =
+    if g.within == 0 then [] else steps_of_ending g (s ∷ sent) (length sent)
 
 -- What comes of more packets of the last frame that was sent.
-abbrev pub marks_of_more : Task → Transmission → List (List ℕ) → List Mark
-marks_of_more g sent packets =
+abbrev pub steps_of_more : Criteria → Transmission → List (List ℕ) → List CheckStep
+steps_of_more g sent packets =
     map Says
     (packets_told g.watched (end_frame sent)
     (length (packets_of_frame sent (length sent - 1)))
     (packets_before sent (length sent)) packets (length packets))
 
 -- What comes of another frame, where these were sent before it.
-abbrev pub marks_of_next : Task → Transmission → SentFrame → List Mark
-marks_of_next g sent s =
+abbrev pub steps_of_next : Criteria → Transmission → SentFrame → List CheckStep
+steps_of_next g sent s =
     let frames = sent ++ s ∷ [] in
     let i = length sent in
-    marks_of_arrival g frames i
-    ++ marks_of_packets g frames i
-    ++ (if g.within == 0 then marks_of_ending g frames i else [])
+    steps_of_arrival g frames i
+    ++ steps_of_packets g frames i
+    ++ (if g.within == 0 then steps_of_ending g frames i else [])
 
 -- What comes of a PES packet that is sent, where these frames were sent before it.
-unfoldable pub marks_of_sent : Task → Transmission → ℕ → SentFrame → List Mark
-marks_of_sent g sent pes s =
+unfoldable pub steps_of_sent : Criteria → Transmission → ℕ → SentFrame → List CheckStep
+steps_of_sent g sent pes s =
     if goes_on_with g.within sent s
-    then AtPes pes ∷ marks_of_more g sent s.packets
-    else marks_of_waiting g sent ++ AtPes pes ∷ marks_of_next g sent s
+    then AtPes pes ∷ steps_of_more g sent s.packets
+    else steps_of_waiting g sent ++ AtPes pes ∷ steps_of_next g sent s
 
 -- What comes of pieces, the first of them PES packet `pes`, where these frames were sent before it.
 -- What a piece that is passed over puts on air is not known: its fault doubts the frame before.
-unfoldable pub marks_of_each : Task → Transmission → ℕ → List Piece → List Mark
-marks_of_each g sent pes [] = []
-marks_of_each g sent pes (Sent s ∷ pieces) =
-    marks_of_sent g sent pes s
-    ++ marks_of_each g (sent_after g.within sent s) (suc pes) pieces
-marks_of_each g sent pes (Passed u ∷ pieces) =
+unfoldable pub steps_of_each : Criteria → Transmission → ℕ → List Piece → List CheckStep
+steps_of_each g sent pes [] = []
+steps_of_each g sent pes (Sent s ∷ pieces) =
+    steps_of_sent g sent pes s
+    ++ steps_of_each g (sent_after g.within sent s) (suc pes) pieces
+steps_of_each g sent pes (Passed u ∷ pieces) =
     AtPes pes ∷ Says (Told (unread_fault pes (Some u)))
-    ∷ marks_of_each g sent (suc pes) pieces
+    ∷ steps_of_each g sent (suc pes) pieces
 
 -- What is told where there are pieces and none is sent: nothing but what keeps the bytes from being
 -- read on.
@@ -135,28 +135,29 @@ told_of_unread pes None = []
 told_of_unread pes (Some u) = Told (unread_fault pes (Some u)) ∷ []
 
 -- What is told after the last one, of `pes` pieces that send n frames.
-unfoldable pub closing_of_pieces : Task → Transmission → ℕ → ℕ → List Event
+unfoldable pub closing_of_pieces : Criteria → Transmission → ℕ → ℕ → List Event
 closing_of_pieces g frames (suc pes) zero = told_of_unread (suc pes) g.unread
 closing_of_pieces g frames pes n = closing_events g frames n
 
 -- What comes then.
-abbrev pub marks_of_closing : Task → Transmission → ℕ → ℕ → List Mark
-marks_of_closing g frames pes n =
+abbrev pub steps_of_closing : Criteria → Transmission → ℕ → ℕ → List CheckStep
+steps_of_closing g frames pes n =
     AtPes pes
-    ∷ Closes (is_some g.unread) (g.beside || not (tells_none (closing_of_pieces g frames pes n)))
+    ∷ Closes (is_some g.unread)
+    (g.any_refused || not (tells_none (closing_of_pieces g frames pes n)))
     ∷ map Says (closing_of_pieces g frames pes n)
 
 -- The frames that are sent by pieces, within frames those of PES packets of one frame as one.
-abbrev pub sent_by_pieces : Task → List Piece → Transmission
+abbrev pub sent_by_pieces : Criteria → List Piece → Transmission
 sent_by_pieces g pieces = joined g.within (frames_of pieces)
 
 -- What comes of all pieces of a file.
-abbrev pub marks_of_pieces : Task → List Piece → List Mark
-marks_of_pieces g pieces =
+abbrev pub steps_of_pieces : Criteria → List Piece → List CheckStep
+steps_of_pieces g pieces =
     let frames = sent_by_pieces g pieces in
-    marks_of_each g [] 0 pieces
-    ++ marks_of_waiting g frames
-    ++ marks_of_closing g frames (length pieces) (length frames)
+    steps_of_each g [] 0 pieces
+    ++ steps_of_waiting g frames
+    ++ steps_of_closing g frames (length pieces) (length frames)
 
 -- ---- pieces that are passed over one directly after the other
 
@@ -231,23 +232,23 @@ passed_after_all run (e ∷ es) = passed_after_all (passed_after run e) es
 -- ---- the whole
 
 -- What is told of pieces, where nothing is told after them.
-unfoldable pub events_of_pieces : Task → List Piece → List Event
-events_of_pieces g pieces = all_announced no_run (told_after [] (marks_of_each g [] 0 pieces))
+unfoldable pub events_of_pieces : Criteria → List Piece → List Event
+events_of_pieces g pieces = all_announced no_run (told_after [] (steps_of_each g [] 0 pieces))
 
 -- What is told of each piece, and after the last one.
-unfoldable pub told_of_pieces : Task → List Piece → List Event
-told_of_pieces g pieces = told_after [] (marks_of_pieces g pieces)
+unfoldable pub told_of_pieces : Criteria → List Piece → List Event
+told_of_pieces g pieces = told_after [] (steps_of_pieces g pieces)
 
 -- All that is told of a PES file that is read on after the pieces that are passed over.
-unfoldable pub all_of_pieces : Task → List Piece → List Event
+unfoldable pub all_of_pieces : Criteria → List Piece → List Event
 all_of_pieces g pieces =
     let told = told_of_pieces g pieces in
     all_announced no_run told ++ ended_run (passed_after_all no_run told)
 
 -- ---- what is told first
 
--- The task of what is read up to the first piece that is passed over.
-abbrev pub until_passed : Task → List Piece → Task
+-- The criteria of what is read up to the first piece that is passed over.
+abbrev pub until_passed : Criteria → List Piece → Criteria
 until_passed g pieces = record g { unread = (read_until_passed pieces g.unread).unread }
 
 -- Of a PES file that is read on the refusal is told first that is told of it where reading stops at
@@ -255,7 +256,7 @@ until_passed g pieces = record g { unread = (read_until_passed pieces g.unread).
 -- So who reads the whole list finds at its front what is told where nothing else is asked for.
 abbrev pub LawOfFirstTold : Type 0
 LawOfFirstTold =
-    (g : Task) (pieces : List Piece)
+    (g : Criteria) (pieces : List Piece)
     → g.within ≡ 0
     → first_told (all_of_pieces g pieces)
     ≡ first_told

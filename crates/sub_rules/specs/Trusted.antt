@@ -1,7 +1,7 @@
 -- Which frames may stay on air as they are, told beside all that is broken (own).
 --
--- What comes of a file comes one mark after another: what is told, and where a piece of the file,
--- the packets of a frame and its end are. All here is said of the marks that came so far, `past`,
+-- What comes of a file comes one step after another: what is told, and where a piece of the file,
+-- the packets of a frame and its end are. All here is said of the steps that came so far, `past`,
 -- the latest first.
 --
 -- A frame is quiet when nothing of which a receiver depends is told of its packets, and nothing
@@ -34,50 +34,50 @@ use Rattle.sub_rules.specs.declared.standing.Standing.{Standing}
 -- bytes are left that may have been sent in the last frame, and whether what is trusted is told
 -- whatever came before; up to the end before the frame that comes, or whose end comes, the ends are
 -- unfinished since this one.
-pub data Mark : Type 0 where
-  AtPes : ℕ → Mark
-  Says : Event → Mark
-  Begins : ℕ → Mark
-  AtEnd : ℕ → Option ℕ → Bool → Mark
-  Ends : ℕ → Bool → Bool → Mark
-  Closes : Bool → Bool → Mark
-  GoesBack : Option ℕ → Mark
+pub data CheckStep : Type 0 where
+  AtPes : ℕ → CheckStep
+  Says : Event → CheckStep
+  Begins : ℕ → CheckStep
+  AtEnd : ℕ → Option ℕ → Bool → CheckStep
+  Ends : ℕ → Bool → Bool → CheckStep
+  Closes : Bool → Bool → CheckStep
+  GoesBack : Option ℕ → CheckStep
 
 -- ---- where the file has come to
 
 -- The PES packet of which is told.
-unfoldable pub pes_told : List Mark → ℕ
+unfoldable pub pes_told : List CheckStep → ℕ
 pes_told [] = 0
 pes_told (AtPes pes ∷ past) = pes
 pes_told (m ∷ past) = pes_told past
 
 -- The frame of the last PES packet; 0 before the first one.
-unfoldable pub last_begun : List Mark → ℕ
+unfoldable pub last_begun : List CheckStep → ℕ
 last_begun [] = 0
 last_begun (Begins f ∷ past) = f
 last_begun (m ∷ past) = last_begun past
 
 -- The first of the frames up to the last end at whose ends the page is not whole.
-unfoldable pub since_of : List Mark → Option ℕ
+unfoldable pub since_of : List CheckStep → Option ℕ
 since_of [] = None
 since_of (AtEnd f since late ∷ past) = since
 since_of (m ∷ past) = since_of past
 
 -- That, where the last end is late.
-unfoldable pub late_of : List Mark → Option ℕ
+unfoldable pub late_of : List CheckStep → Option ℕ
 late_of [] = None
 late_of (AtEnd f since late ∷ past) = if late then since else None
 late_of (m ∷ past) = late_of past
 
 -- The first of the frames up to the one before the last frame that began, or whose end came, at
 -- whose ends the page is not whole; where that is asked.
-unfoldable pub back_of : List Mark → Option ℕ
+unfoldable pub back_of : List CheckStep → Option ℕ
 back_of [] = None
 back_of (GoesBack since ∷ past) = since
 back_of (m ∷ past) = back_of past
 
 -- Something was told.
-abbrev pub is_said : Mark → Bool
+abbrev pub is_said : CheckStep → Bool
 is_said (Says e) = true
 is_said m = false
 
@@ -85,19 +85,19 @@ is_said m = false
 
 -- The first frame that is trusted no more where this event is told: a refusal may be of a frame,
 -- nothing else. What is told at a late end is of the frame since which the page is not whole.
-unfoldable pub doubted_by : List Mark → Event → Option ℕ
+unfoldable pub doubted_by : List CheckStep → Event → Option ℕ
 doubted_by past (Told f) =
     doubted_frame (last_begun past) (late_of past) (fault_row f).doubts (fault_row f).place
 doubted_by past event = None
 
 -- It is told that a frame is not after the one before.
-unfoldable pub tells_fall : Mark → Bool
+unfoldable pub tells_fall : CheckStep → Bool
 tells_fall (Says (Told (fault.Order pes))) = true
 tells_fall m = false
 
 -- The last frame is quiet so far: frames rose up to it, and since it began nothing is told that
 -- doubts a frame.
-unfoldable pub stays_quiet : List Mark → Bool
+unfoldable pub stays_quiet : List CheckStep → Bool
 stays_quiet [] = true
 stays_quiet (Begins f ∷ past) = not (list_any tells_fall past)
 stays_quiet (Says e ∷ past) = stays_quiet past && is_none (doubted_by past e)
@@ -112,7 +112,7 @@ stands_none s = not (list_any (λ rule. is_some (broken_at rule s)) end_rules)
 -- The run of quiet frames that goes on here, by the first of them that has such a header, if one
 -- has. A frame without a PES packet goes with those around it: what is told at its end may end the
 -- run.
-unfoldable pub run_of : List Mark → Option ℕ
+unfoldable pub run_of : List CheckStep → Option ℕ
 run_of [] = None
 run_of (Says e ∷ past) = if is_none (doubted_by past e) then run_of past else None
 run_of (Ends f has_beginning none ∷ past) =
@@ -128,7 +128,7 @@ whole_at f since = if is_none since then Some f else None
 
 -- The first frame, from that on with which the run begins, at whose end the page was whole. It says
 -- nothing where no run goes on.
-unfoldable pub whole_of : List Mark → Option ℕ
+unfoldable pub whole_of : List CheckStep → Option ℕ
 whole_of [] = None
 whole_of (AtEnd f since late ∷ past) = option_or (whole_of past) (whole_at f since)
 whole_of (Ends f has_beginning none ∷ past) =
@@ -145,13 +145,13 @@ trusted run whole f = []
 
 -- What is told where a frame is trusted no more, if one is: those before it, without the last ones
 -- at whose ends the page was not whole, where that is asked.
-abbrev pub trusted_up_to : List Mark → Option ℕ → List Event
+abbrev pub trusted_up_to : List CheckStep → Option ℕ → List Event
 trusted_up_to past None = []
 trusted_up_to past (Some f) = trusted (run_of past) (whole_of past) (unwrap_or (back_of past) f)
 
 -- The first frame that is not trusted at the end of the file: that since which the page is not
 -- whole at the last end; else the last frame, where bytes are left that may have been sent in it.
-abbrev pub closing_at : List Mark → Bool → ℕ
+abbrev pub closing_at : List CheckStep → Bool → ℕ
 closing_at past left =
     unwrap_or (since_of past)
     (if left then unwrap_or (back_of past) (last_begun past) else suc (last_begun past))
@@ -167,10 +167,10 @@ abbrev pub tells_none : List Event → Bool
 tells_none [] = true
 tells_none (e ∷ es) = false
 
--- What is told with a mark: an event, and before it the frames that are trusted up to the first one
+-- What is told with a step: an event, and before it the frames that are trusted up to the first one
 -- that it tells of. At the end of the file what is trusted of the last run is told only where
 -- anything else is, of either file.
-unfoldable pub told_at : List Mark → Mark → List Event
+unfoldable pub told_at : List CheckStep → CheckStep → List Event
 told_at past (Says e) = trusted_up_to past (doubted_by past e) ++ at_pes (pes_told past) e ∷ []
 told_at past (Closes left more) =
     if list_any is_said past || more
@@ -178,7 +178,7 @@ told_at past (Closes left more) =
     else []
 told_at past m = []
 
--- What is told with marks, one after another, where these came before.
-unfoldable pub told_after : List Mark → List Mark → List Event
+-- What is told with steps, one after another, where these came before.
+unfoldable pub told_after : List CheckStep → List CheckStep → List Event
 told_after past [] = []
 told_after past (m ∷ ms) = told_at past m ++ told_after (m ∷ past) ms

@@ -2,7 +2,7 @@
 ghost use Rattle.std.specs.Prelude.{◌≡◌, ◌≢◌, ℕ, ◌+◌, ◌<◌, ◌≤◌, List, IfErr, IfOk, IsSome, Option};
 ghost use Rattle.std.specs.Prelude.{Ok, Some, false, true};
 ghost use Rattle.sub_io.specs.Device.{CanFail, CountsIf, failed};
-ghost use Rattle.sub_io.specs.Reading.{IfTold};
+ghost use Rattle.sub_io.specs.Reading.{IfKnown};
 ghost use Rattle.ttx_pes.specs.PesPacket.{PesValue};
 ghost use Rattle.ttx_pes.specs.Pieces.{behind_piece};
 ghost use Rattle.ttx_pes.specs.Reader.{FailsWithin, TakesPesPacket};
@@ -50,7 +50,7 @@ pub fn next_piece<P: Pieces>(
     requires reading { reader.old.progress ≡ Reading pes }
     requires few { pes ≤ most_packets }
     ensures exact { (pieces : List Piece) (unread : Option Unread)
-        → IfTold (P.remaining source.old) (λ bytes. failed is_pes_read result ≡ false
+        → IfKnown (P.remaining source.old) (λ bytes. failed is_pes_read result ≡ false
         → ReadsPieces (clock_of options.now) pes bytes pieces unread
         → TellsPiece (clock_of options.now) pes bytes pieces unread reader.new.frame result) }
     // Exactly the bytes of the piece were taken.
@@ -59,7 +59,7 @@ pub fn next_piece<P: Pieces>(
     // Where it is sent, they are a PES packet of the grammar.
     ensures sent { (sending : Sending) → result ≡ Ok (Some (NextPiece.Sent sending))
         → TakesPesPacket (P.remaining source.old) (P.remaining source.new) reader.new.frame }
-    ensures left { IfTold (P.remaining source.old) (λ bytes. IfOk result (λ piece. IsSome piece
+    ensures left { IfKnown (P.remaining source.old) (λ bytes. IfOk result (λ piece. IsSome piece
         → P.remaining source.new ≡ Some (behind_piece bytes))) }
     ensures progress { IfOk result (λ piece. IsSome piece
         → reader.new.progress ≡ Reading (pes + 1)) }

@@ -1,7 +1,7 @@
 -- For `law_of_trusted_alike`.
--- Two tasks that ask alike wherever the one knows what is due: where that was so at the last frames
--- an end is late for both or for none, `late_same`, and where nothing stands broken for the one
--- nothing does for the other, `alike_quiet`.
+-- Two sets of criteria that ask alike wherever the one knows what is due: where that was so at the
+-- last frames an end is late for both or for none, `late_same`, and where nothing stands broken for
+-- the one nothing does for the other, `alike_quiet`.
 use Rattle.std.proofs.lemmas.Bool.Decides.{nat_tests}
 use Rattle.std.proofs.Common.{◌≡◌, ℕ, ◌+◌, ◌-◌, ◌≤◌, inl, inr, Bool, true, false}
 use Rattle.std.proofs.Common.{◌&&◌, ◌||◌, ◌==◌, nat_le, Option, Some, None, length, refl, sym, ap}
@@ -13,7 +13,7 @@ use Rattle.sub_rules.specs.Events.{broken_cell, is_gap, is_incomplete, is_late}
 use Rattle.sub_rules.specs.Events.{is_overdue, is_silent}
 use Rattle.sub_rules.specs.Events.{is_unfinished, undecided_within, undue_cell}
 use Rattle.sub_rules.specs.Events.{wrong_after, wrong_cell}
-use Rattle.sub_rules.specs.FrameRules.{Task, frame_at, packets_before}
+use Rattle.sub_rules.specs.FrameRules.{Criteria, frame_at, packets_before}
 use Rattle.sub_rules.specs.Transmission.{Transmission}
 use Rattle.sub_laws.specs.CleanStretch.{IsEnd}
 use Rattle.sub_laws.proofs.DueCodeLemmas.{MayShow, none_undue, undue_none}
@@ -25,21 +25,21 @@ use Rattle.sub_laws.proofs.UnfinishedLemmas.{none_since, since_at, since_end, si
 use Rattle.sub_laws.proofs.UnfinishedLemmas.{since_some}
 use Rattle.sub_laws.proofs.UnfinishedLemmas.{unfinished_at}
 
--- The task where at each frame it is known what is due: these pages; with the TCI of the subtitle
--- whose TCO a frame is, the first TCI and the last TCO.
-abbrev pub task_known : Task → (ℕ → Rows) → (ℕ → Option ℕ) → Option ℕ → Option ℕ → Task
-task_known g due ending first_in last_out =
+-- The criteria where at each frame it is known what is due: these pages; with the TCI of the
+-- subtitle whose TCO a frame is, the first TCI and the last TCO.
+abbrev pub criteria_known : Criteria → (ℕ → Rows) → (ℕ → Option ℕ) → Option ℕ → Option ℕ → Criteria
+criteria_known g due ending first_in last_out =
     record g {
       due = due;
       ending = ending;
       first_in = first_in;
       last_out = last_out;
-      beside = false;
+      any_refused = false;
       undecided = λ frame. false;
     }
 
 -- It asks what the other one asks, wherever that one knows what is due.
-pub record AsksAlike (g : Task) (due : ℕ → Rows) (ending : ℕ → Option ℕ) : Type 0 where
+pub record AsksAlike (g : Criteria) (due : ℕ → Rows) (ending : ℕ → Option ℕ) : Type 0 where
   pub due_is : (f : ℕ) → g.undecided f ≡ false → due f ≡ g.due f
   pub ending_is : (f : ℕ) → g.undecided f ≡ false → ending (f + 1) ≡ g.ending (f + 1)
 
@@ -49,10 +49,10 @@ or_true b = grind (arith, nat_tests)
 late_true : (since within f : ℕ) → since + within ≤ f → nat_le (since + within) f ≡ true
 late_true since within f l = grind (arith, nat_tests)
 
-module _ (g : Task) (due : ℕ → Rows) (ending : ℕ → Option ℕ) (first_in last_out : Option ℕ)
+module _ (g : Criteria) (due : ℕ → Rows) (ending : ℕ → Option ℕ) (first_in last_out : Option ℕ)
     (alike : AsksAlike g due ending) where
-  abbrev h : Task
-  h = task_known g due ending first_in last_out
+  abbrev h : Criteria
+  h = criteria_known g due ending first_in last_out
 
   -- An end is unfinished for both or for none where it is known what is due.
   pub same_unfinished : (t : Transmission) (n f : ℕ) → g.undecided f ≡ false

@@ -10,22 +10,22 @@ use Rattle.stl_rows.specs.DuePage.{drawn_or_blank, due, ends_at, is_due, tci_of_
 use Rattle.stl_rows.specs.Programme.{ProgrammeValue, first_in, last_out}
 use Rattle.sub_plan.specs.Options.{OptionsValue}
 use Rattle.sub_rules.specs.FrameRules.{Unread}
-use Rattle.sub_laws.specs.CleanStretch.{task_unsure}
-use Rattle.sub_trusted.specs.TrustedAlike.{HasOthers, IsWithin, LawOfTrustedAlike}
+use Rattle.sub_laws.specs.CleanStretch.{criteria_unsure}
+use Rattle.sub_trusted.specs.TrustedAlike.{HasOthers, IsDueAmong, LawOfTrustedAlike}
 use Rattle.sub_trusted.proofs.AlikeLateLemmas.{AsksAlike}
 use Rattle.sub_trusted.proofs.TrustedAlikeLemmas.{told_too}
 
 module _ (undecided : ℕ → Bool) (f : ℕ) (known : undecided f ≡ false) where
   -- One that is due at the other frames alone neither is due here nor ends after this frame.
-  not_due : (t : SubtitleValue) → IsWithin undecided t → is_due f t ≡ false
+  not_due : (t : SubtitleValue) → IsDueAmong undecided t → is_due f t ≡ false
   not_due t is = grind (arith, nat_tests)
 
-  not_ended : (t : SubtitleValue) → IsWithin undecided t → ends_at (f + 1) t ≡ false
+  not_ended : (t : SubtitleValue) → IsDueAmong undecided t → ends_at (f + 1) t ≡ false
   not_ended t is = grind (arith, nat_tests)
 
   -- So what is found among all is found among those alone.
   same_found : (test : SubtitleValue → Bool)
-      → ((t : SubtitleValue) → IsWithin undecided t → test t ≡ false)
+      → ((t : SubtitleValue) → IsDueAmong undecided t → test t ≡ false)
       → (judged all : List SubtitleValue) → HasOthers undecided judged all
       → find test all ≡ find test judged
   same_found test none judged [] is = grind (arith, nat_tests)
@@ -35,10 +35,10 @@ module _ (undecided : ℕ → Bool) (f : ℕ) (known : undecided f ≡ false) wh
       grind (arith, nat_tests, (same_found test none judged all more))
 
 module _ (programme : ProgrammeValue) (options : OptionsValue) (unread : Option Unread)
-    (beside : Bool) (undecided : ℕ → Bool) (records : List SubtitleValue)
+    (any_refused : Bool) (undecided : ℕ → Bool) (records : List SubtitleValue)
     (others : HasOthers undecided programme.records records) where
   alike_with :
-      AsksAlike (task_unsure programme options unread beside undecided)
+      AsksAlike (criteria_unsure programme options unread any_refused undecided)
       (due programme.drawing records) (tci_of_ending records)
   unfolding due tci_of_ending
   alike_with = record {
@@ -53,9 +53,11 @@ module _ (programme : ProgrammeValue) (options : OptionsValue) (unread : Option 
   }
 
 pub law_of_trusted_alike : LawOfTrustedAlike
-law_of_trusted_alike programme options unread beside undecided records pieces from to b others told
+law_of_trusted_alike programme options unread any_refused undecided records pieces from to b others
+    told
     low high whole =
-    told_too (task_unsure programme options unread beside undecided)
+    told_too (criteria_unsure programme options unread any_refused undecided)
     (due programme.drawing records) (tci_of_ending records) (first_in records) (last_out records)
-    (alike_with programme options unread beside undecided records others) pieces from to told b low
+    (alike_with programme options unread any_refused undecided records others) pieces from to told b
+    low
     high whole

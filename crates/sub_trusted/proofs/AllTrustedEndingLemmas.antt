@@ -13,11 +13,11 @@ use Rattle.ttx_page.specs.PacketKind.{kind}
 use Rattle.ttx_page.specs.Span.{holds_beginning}
 use Rattle.sub_rules.specs.Events.{end_before, events_at_end, first_header_events, standing_at}
 use Rattle.sub_rules.specs.Events.{standing_before}
-use Rattle.sub_rules.specs.FrameRules.{Task, Unread, frame_at, packets_of_frame}
-use Rattle.sub_rules.specs.PieceEvents.{closing_of_pieces, marks_at_end, marks_of_closing}
-use Rattle.sub_rules.specs.PieceEvents.{marks_of_ending}
+use Rattle.sub_rules.specs.FrameRules.{Criteria, Unread, frame_at, packets_of_frame}
+use Rattle.sub_rules.specs.PieceEvents.{closing_of_pieces, steps_at_end, steps_of_closing}
+use Rattle.sub_rules.specs.PieceEvents.{steps_of_ending}
 use Rattle.sub_rules.specs.Transmission.{Transmission}
-use Rattle.sub_rules.specs.Trusted.Mark.{AtPes, Closes, Ends, Says}
+use Rattle.sub_rules.specs.Trusted.CheckStep.{AtPes, Closes, Ends, Says}
 use Rattle.sub_rules.specs.declared.event.Event.{Event}
 use Rattle.sub_rules.specs.declared.event.Event.TheVariants.{Trusted}
 use Rattle.sub_trusted.proofs.TrustedEndingLemmas.{ending}
@@ -30,17 +30,17 @@ use Rattle.sub_trusted.proofs.LateDoubtLemmas.{end_doubt, header_none}
 use Rattle.sub_trusted.proofs.AllTrustedLeadLemmas.{IsTold, Leads, Leads-append, Leads-both}
 use Rattle.sub_trusted.proofs.AllTrustedLeadLemmas.{Leads-cons}
 use Rattle.sub_trusted.proofs.AllTrustedLeadLemmas.{Leads-nil, put_told, told_left}
-use Rattle.sub_trusted.proofs.SayMarkLemmas.{IsSaid, doubt_of, is_order, kept_some, said}
-use Rattle.sub_trusted.proofs.AllTrustedMarkLemmas.{Follows, doubt_told, end_follows, end_orders}
-use Rattle.sub_trusted.proofs.AllTrustedMarkLemmas.{end_past, follows_said, top, whole_kept}
-use Rattle.sub_trusted.proofs.AllTrustedMarkLemmas.{whole_now}
+use Rattle.sub_trusted.proofs.SaidStepLemmas.{IsSaid, doubt_of, is_order, kept_some, said}
+use Rattle.sub_trusted.proofs.AllTrustedKeptLemmas.{Follows, doubt_told, end_follows, end_orders}
+use Rattle.sub_trusted.proofs.AllTrustedKeptLemmas.{end_past, follows_said, top, whole_kept}
+use Rattle.sub_trusted.proofs.AllTrustedKeptLemmas.{whole_now}
 use Rattle.sub_trusted.proofs.AllTrustedStepLemmas.{Open, Past, Sending, clean_still, in_part}
 use Rattle.sub_trusted.proofs.AllTrustedStepLemmas.{later_in}
 use Rattle.sub_trusted.proofs.AllTrustedStepLemmas.{sending_says}
 use Rattle.sub_trusted.proofs.TrustedFrameLemmas.{count_most, risen, risen_low}
 use Rattle.sub_rules.proofs.TrustedLemmas.{past_after}
-use Rattle.sub_rules.specs.Trusted.{Mark, back_of, closing_at, is_said, stays_quiet, last_begun}
-use Rattle.sub_rules.specs.Trusted.{late_of}
+use Rattle.sub_rules.specs.Trusted.{CheckStep, back_of, closing_at, is_said, last_begun, late_of}
+use Rattle.sub_rules.specs.Trusted.{stays_quiet}
 use Rattle.sub_laws.specs.CleanStretch.{IsEnd}
 use Rattle.sub_trusted.specs.TrustedFrames.{rising_part}
 use Rattle.sub_rules.specs.Trusted.{run_of}
@@ -58,7 +58,7 @@ put_when : (c : Bool) (run whole : Option ℕ) (x from w : ℕ) → c ≡ true �
 put_when c run whole x from w is run_is whole_is l =
     rw is (put_told run whole x from w run_is whole_is l)
 
-header_orders : (g : Task) (frames : Transmission) (n : ℕ)
+header_orders : (g : Criteria) (frames : Transmission) (n : ℕ)
     → list_any is_order (first_header_events g frames n) ≡ false
 unfolding first_header_events is_order tells_fall
 header_orders g frames n = grind (arith, nat_tests)
@@ -85,19 +85,19 @@ run_there : (run : Option ℕ) (has : Bool) (f : ℕ) → has ≡ true
 run_there None has f header low = (f, le_refl f, rw header refl)
 run_there (Some from) has f header low = (from, low from refl, refl)
 
-module _ (g : Task) (frames : Transmission) (a b i : ℕ)
+module _ (g : Criteria) (frames : Transmission) (a b i : ℕ)
     (fits : Fits g frames a b i) where
-  abbrev Follow : ℕ → ℕ → List Mark → Type 0
+  abbrev Follow : ℕ → ℕ → List CheckStep → Type 0
   Follow n p t = Follows g frames a b i fits n p t
 
-  abbrev Lead : (List Mark → Type 0) → List Mark → List Mark → Type 0
+  abbrev Lead : (List CheckStep → Type 0) → List CheckStep → List CheckStep → Type 0
   Lead S t ms = Leads (top g frames a b i fits) b S t ms
 
-  abbrev OpenHere : ℕ → List Mark → Type 0
+  abbrev OpenHere : ℕ → List CheckStep → Type 0
   OpenHere n t = Open g frames a b i fits n (packets_of_frame frames n) t
 
   -- The end of frame n was looked at.
-  record Finishing (n : ℕ) (t : List Mark) : Type 0 where
+  record Finishing (n : ℕ) (t : List CheckStep) : Type 0 where
     follows : Follow n (frame_at frames n + 1) t
     clean : i ≤ n → stays_quiet t ≡ true
     quiet : i ≤ n → stands_none (standing_at g frames (suc n) (frame_at frames n)) ≡ true
@@ -116,14 +116,14 @@ module _ (g : Task) (frames : Transmission) (a b i : ℕ)
   here n same = ap (frame_at frames) same
 
   -- Nothing stood before it where a run is there.
-  stood_own : (n from : ℕ) (t : List Mark) → n < length frames
+  stood_own : (n from : ℕ) (t : List CheckStep) → n < length frames
       → Opens g frames 0 n (packets_of_frame frames n) t
       → run_of t ≡ Some from
       → stands_none (standing_before g frames n (frame_at frames n)) ≡ true
   stood_own n from t there opens is = grind (arith, nat_tests, up_of, stood)
 
   -- The end before it.
-  end_before_own : (n : ℕ) (t : List Mark) → n < length frames → OpenHere n t → i < n
+  end_before_own : (n : ℕ) (t : List CheckStep) → n < length frames → OpenHere n t → i < n
       → IsEnd (rising_part frames) n (frame_at frames n - 1)
   end_before_own n t there (opens, sending) l =
       let (from, low, run) = sending.follows.run l in
@@ -134,7 +134,7 @@ module _ (g : Task) (frames : Transmission) (a b i : ℕ)
 
   -- What is kept after what is told there, where it doubts no frame; before the header's frame
   -- whatever it does.
-  finishing : (n : ℕ) (t u v : List Mark) → n < length frames → OpenHere n t
+  finishing : (n : ℕ) (t u v : List CheckStep) → n < length frames → OpenHere n t
       → Looks g frames (suc n) (frame_at frames n) t u
       → Backs g frames n (frame_at frames n) u
       → IsSaid u v (events_at_end g frames n (suc n) (frame_at frames n))
@@ -186,12 +186,12 @@ module _ (g : Task) (frames : Transmission) (a b i : ℕ)
             omega arith;
       }
 
-  end_leads_to : (n : ℕ) (t : List Mark) → n < length frames → OpenHere n t
-      → Lead (Finishing n) t (marks_at_end g frames n (suc n) (frame_at frames n))
+  end_leads_to : (n : ℕ) (t : List CheckStep) → n < length frames → OpenHere n t
+      → Lead (Finishing n) t (steps_at_end g frames n (suc n) (frame_at frames n))
   end_leads_to n t there (opens, sending) =
       with_end g frames (Lead (Finishing n)) n (suc n) (frame_at frames n) t opens.keeps.at_once
       opens.keeps.plain
-      (λ v mark ms silent. Leads-cons (top g frames a b i fits) b (Finishing n) v mark ms)
+      (λ v step ms silent. Leads-cons (top g frames a b i fits) b (Finishing n) v step ms)
       (λ u looks backs. go u looks backs (doubt_of u es) refl)
     where
       es : List Event
@@ -201,7 +201,7 @@ module _ (g : Task) (frames : Transmission) (a b i : ℕ)
       in_part_low l =
           later_in g frames a b i fits n (packets_of_frame frames n) t there (opens, sending) l
 
-      go : (u : List Mark) → Looks g frames (suc n) (frame_at frames n) t u
+      go : (u : List CheckStep) → Looks g frames (suc n) (frame_at frames n) t u
           → Backs g frames n (frame_at frames n) u
           → (o : Option ℕ) → doubt_of u es ≡ o
           → Lead (Finishing n) u (map Says es)
@@ -238,7 +238,7 @@ module _ (g : Task) (frames : Transmission) (a b i : ℕ)
 
   -- ---- it ends
 
-  ended_now : (n : ℕ) (t : List Mark) → Finishing n t
+  ended_now : (n : ℕ) (t : List CheckStep) → Finishing n t
       → Follow (suc n) (frame_at frames (suc n - 1) + 1)
       (Ends (frame_at frames n) (has n) (quiet_at n) ∷ t)
   unfolding run_of whole_of last_begun since_of late_of back_of stays_quiet tells_fall
@@ -301,18 +301,18 @@ module _ (g : Task) (frames : Transmission) (a b i : ℕ)
         ];
       }
 
-  pub ending_leads : (n : ℕ) (t : List Mark) → n < length frames → OpenHere n t
-      → Lead (Past g frames a b i fits (suc n)) t (marks_of_ending g frames n)
+  pub ending_leads : (n : ℕ) (t : List CheckStep) → n < length frames → OpenHere n t
+      → Lead (Past g frames a b i fits (suc n)) t (steps_of_ending g frames n)
   ending_leads n t there (opens, sending) =
       let f : ℕ = frame_at frames n in
-      let last : Mark = Ends f (has n) (quiet_at n) in
+      let last : CheckStep = Ends f (has n) (quiet_at n) in
       let q : ℕ = frame_at frames (suc n - 1) + 1 in
       Leads-both (top g frames a b i fits) b (Closed g frames 0 (suc n)) (Follow (suc n) q) t
-      (marks_of_ending g frames n) (ending g frames 0 n t there opens).after
+      (steps_of_ending g frames n) (ending g frames 0 n t there opens).after
       (Leads-append (top g frames a b i fits) b (Finishing n) (Follow (suc n) q) t
-      (map Says (first_header_events g frames n) ++ marks_at_end g frames n (suc n) f) (last ∷ [])
+      (map Says (first_header_events g frames n) ++ steps_at_end g frames n (suc n) f) (last ∷ [])
       (Leads-append (top g frames a b i fits) b (OpenHere n) (Finishing n) t
-      (map Says (first_header_events g frames n)) (marks_at_end g frames n (suc n) f) header
+      (map Says (first_header_events g frames n)) (steps_at_end g frames n (suc n) f) header
       (λ u so. end_leads_to n u there so))
       (λ v so.
       Leads-cons (top g frames a b i fits) b (Follow (suc n) q) v last []
@@ -333,13 +333,13 @@ module _ (g : Task) (frames : Transmission) (a b i : ℕ)
 
   -- ---- the end of the file
 
-  pub closing_told : (pes : ℕ) (t : List Mark)
+  pub closing_told : (pes : ℕ) (t : List CheckStep)
       → Past g frames a b i fits (length frames) t
       → (list_any is_said t
-      || (g.beside || not (tells_none (closing_of_pieces g frames pes (length frames)))))
+      || (g.any_refused || not (tells_none (closing_of_pieces g frames pes (length frames)))))
       ≡ true
       → IsTold (top g frames a b i fits) b
-      (told_after t (marks_of_closing g frames pes (length frames)))
+      (told_after t (steps_of_closing g frames pes (length frames)))
   unfolding told_after told_at run_of whole_of last_begun since_of late_of back_of stays_quiet
       tells_fall
   closing_told pes t (closed, follows) told =
@@ -356,9 +356,9 @@ module _ (g : Task) (frames : Transmission) (a b i : ℕ)
       let high : b ≤ frame_at frames (n - 1) = let l = fits.last in omega arith in
       let (w, under, whole) = follows.whole (omega arith) (omega arith) in
       let es : List Event = closing_of_pieces g frames pes n in
-      let more : Bool = g.beside || not (tells_none es) in
-      let t0 : List Mark = AtPes pes ∷ t in
-      let t1 : List Mark = Closes (is_some g.unread) more ∷ t0 in
+      let more : Bool = g.any_refused || not (tells_none es) in
+      let t0 : List CheckStep = AtPes pes ∷ t in
+      let t1 : List CheckStep = Closes (is_some g.unread) more ∷ t0 in
       let x : ℕ = closing_at t (is_some g.unread) in
       let past : b < x =
       closing_past (since_of t) (back_of t) (is_some g.unread) (last_begun t) b

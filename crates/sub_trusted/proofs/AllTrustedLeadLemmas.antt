@@ -1,5 +1,5 @@
 -- For `law_of_all_trusted`.
--- Marks one after another with which a stretch is told as trusted, or after which what is kept goes
+-- Steps one after another with which a stretch is told as trusted, or after which what is kept goes
 -- on to that: `Leads`; and that a run is told where a frame is doubted, `said_told`.
 use Rattle.std.proofs.lemmas.Bool.Decides.{nat_tests}
 use Rattle.std.proofs.Common.{◌≡◌, ℕ, ◌-◌, ◌<◌, ◌≤◌, ◌⊎◌, inl, inr, List, [], ◌∷◌, ◌++◌, map}
@@ -8,14 +8,13 @@ use Rattle.std.proofs.lemmas.Bool.{lt-ltb}
 use Rattle.std.proofs.lemmas.List.Elements.{Contains-append_left, Contains-append_right}
 use Rattle.std.proofs.lemmas.Option.{none-some}
 use Rattle.std.specs.Option.{option_or}
-use Rattle.sub_rules.specs.Trusted.Mark.{Says}
+use Rattle.sub_rules.specs.Trusted.CheckStep.{Says}
 use Rattle.sub_rules.specs.declared.event.Event.{Event}
 use Rattle.sub_rules.specs.declared.event.Event.TheVariants.{Trusted}
 use Rattle.sub_rules.proofs.TrustedLemmas.{past_after, past_after-append, told_after-append}
-use Rattle.sub_trusted.proofs.SayMarkLemmas.{back_to, doubt_after, doubt_of, kept}
-use Rattle.sub_rules.specs.Trusted.{Mark, at_pes, back_of, doubted_by, pes_told, run_of}
-use Rattle.sub_rules.specs.Trusted.{told_after, told_at}
-use Rattle.sub_rules.specs.Trusted.{trusted, trusted_up_to, whole_of}
+use Rattle.sub_trusted.proofs.SaidStepLemmas.{back_to, doubt_after, doubt_of, kept}
+use Rattle.sub_rules.specs.Trusted.{CheckStep, at_pes, back_of, doubted_by, pes_told, run_of}
+use Rattle.sub_rules.specs.Trusted.{told_after, told_at, trusted, trusted_up_to, whole_of}
 
 -- ---- a run that is told
 
@@ -25,7 +24,7 @@ pub put_told : (run whole : Option ℕ) (x from w : ℕ) → run ≡ Some from �
 put_told run whole x from w run_is whole_is l =
     rw (run_is, whole_is, lt-ltb w x l) (0, omega arith, refl)
 
-put_up_to : (t : List Mark) (d : Option ℕ) (x from w : ℕ) → d ≡ Some x → run_of t ≡ Some from
+put_up_to : (t : List CheckStep) (d : Option ℕ) (x from w : ℕ) → d ≡ Some x → run_of t ≡ Some from
     → whole_of t ≡ Some w
     → w < back_to t x
     → Contains (trusted_up_to t d) (Trusted from (back_to t x - 1))
@@ -42,7 +41,7 @@ pub kept_on : (run d : Option ℕ) (from : ℕ) → d ≡ None → run ≡ Some 
 kept_on run d from none is = grind (arith, nat_tests)
 
 -- It is told with the first event that doubts a frame.
-pub said_told : (t : List Mark) (es : List Event) (x from w : ℕ) → doubt_of t es ≡ Some x
+pub said_told : (t : List CheckStep) (es : List Event) (x from w : ℕ) → doubt_of t es ≡ Some x
     → run_of t ≡ Some from
     → whole_of t ≡ Some w
     → w < back_to t x
@@ -73,15 +72,15 @@ said_told t (e ∷ es) x from w is run whole l =
         (put_up_to t (doubted_by t e) x from w
         (or_some (doubted_by t e) (doubt_of t es) x y some is) run whole l))
 
--- ---- marks
+-- ---- steps
 
 module _ (top b : ℕ) where
   -- Frames up to b, from one on that is not after this one, are told as trusted among these.
   abbrev pub IsTold : List Event → Type 0
   IsTold es = (from : ℕ) × (to : ℕ) × (from ≤ top) × (b ≤ to) × Contains es (Trusted from to)
 
-  -- They are with these marks, or what is kept after them is so.
-  abbrev pub Leads : (List Mark → Type 0) → List Mark → List Mark → Type 0
+  -- They are with these steps, or what is kept after them is so.
+  abbrev pub Leads : (List CheckStep → Type 0) → List CheckStep → List CheckStep → Type 0
   Leads S t ms = IsTold (told_after t ms) ⊎ S (past_after t ms)
 
   pub told_left : (xs ys : List Event) → IsTold xs → IsTold (xs ++ ys)
@@ -92,19 +91,20 @@ module _ (top b : ℕ) where
   told_right xs ys (from, to, low, high, c) =
       (from, to, low, high, Contains-append_right xs ys (Trusted from to) c)
 
-  pub Leads-nil : (S : List Mark → Type 0) (t : List Mark) → S t → Leads S t []
+  pub Leads-nil : (S : List CheckStep → Type 0) (t : List CheckStep) → S t → Leads S t []
   unfolding past_after
   Leads-nil S t s = inr s
 
-  pub Leads-cons : (S : List Mark → Type 0) (t : List Mark) (m : Mark) (ms : List Mark)
+  pub Leads-cons : (S : List CheckStep → Type 0) (t : List CheckStep) (m : CheckStep)
+      (ms : List CheckStep)
       → Leads S (m ∷ t) ms
       → Leads S t (m ∷ ms)
   unfolding told_after past_after
   Leads-cons S t m ms h1 = grind (arith, nat_tests, told_right)
 
-  pub Leads-append : (S U : List Mark → Type 0) (t : List Mark) (xs ys : List Mark)
+  pub Leads-append : (S U : List CheckStep → Type 0) (t : List CheckStep) (xs ys : List CheckStep)
       → Leads S t xs
-      → ((u : List Mark) → S u → Leads U u ys)
+      → ((u : List CheckStep) → S u → Leads U u ys)
       → Leads U t (xs ++ ys)
   Leads-append S U t xs ys (inl told) rest =
       inl
@@ -118,8 +118,9 @@ module _ (top b : ℕ) where
     | inr u ↦ inr (subst U (sym (past_after-append t xs ys)) u)
   ]
 
-  -- What else is so after these marks.
-  pub Leads-both : (A S : List Mark → Type 0) (t : List Mark) (ms : List Mark) → A (past_after t ms)
+  -- What else is so after these steps.
+  pub Leads-both : (A S : List CheckStep → Type 0) (t : List CheckStep) (ms : List CheckStep)
+      → A (past_after t ms)
       → Leads S t ms
       → Leads (λ u. A u × S u) t ms
   Leads-both A S t ms is (inl told) = inl told

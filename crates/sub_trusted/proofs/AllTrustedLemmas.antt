@@ -9,10 +9,10 @@ use Rattle.std.proofs.lemmas.Bool.{or_parts, or_right}
 use Rattle.std.proofs.lemmas.List.Elements.{Contains-append_left}
 use Rattle.ttx_page.specs.PacketKind.{kind}
 use Rattle.ttx_page.specs.Span.{holds_beginning}
-use Rattle.sub_rules.specs.FrameRules.{Task, Unread, end_frame}
+use Rattle.sub_rules.specs.FrameRules.{Criteria, Unread, end_frame}
 use Rattle.sub_rules.specs.PieceEvents.{all_announced, all_of_pieces, closing_of_pieces, ended_run}
-use Rattle.sub_rules.specs.PieceEvents.{marks_of_closing, marks_of_each, marks_of_waiting, no_run}
-use Rattle.sub_rules.specs.PieceEvents.{passed_after_all, sent_by_pieces, told_of_pieces}
+use Rattle.sub_rules.specs.PieceEvents.{no_run, passed_after_all, sent_by_pieces, steps_of_closing}
+use Rattle.sub_rules.specs.PieceEvents.{steps_of_each, steps_of_waiting, told_of_pieces}
 use Rattle.sub_rules.specs.Pieces.{Piece, frames_of, joined_after, sent_after}
 use Rattle.sub_rules.specs.Pieces.Piece.{Passed, Sent}
 use Rattle.sub_rules.specs.Transmission.{Transmission}
@@ -25,15 +25,14 @@ use Rattle.sub_trusted.proofs.AllTrustedStretchLemmas.{Fits, fits}
 use Rattle.sub_trusted.proofs.AllTrustedLeadLemmas.{IsTold, Leads, told_left, told_right}
 use Rattle.sub_laws.proofs.PrefixLemmas.{frame_at-take, last-same, packets-take}
 use Rattle.sub_trusted.proofs.AllTrustedEndingLemmas.{closing_told}
-use Rattle.sub_trusted.proofs.AllTrustedMarkLemmas.{top}
+use Rattle.sub_trusted.proofs.AllTrustedKeptLemmas.{top}
 use Rattle.sub_trusted.proofs.AllTrustedPieceLemmas.{Outside, PastAt, pieces_lead}
 use Rattle.sub_laws.proofs.PieceWalkLemmas.{EachPassed}
 use Rattle.sub_trusted.proofs.TrustedFrameLemmas.{part_length, risen}
 use Rattle.sub_laws.proofs.UntoldLemmas.{before_open, silent}
 use Rattle.std.specs.List.{list_any}
-use Rattle.sub_rules.specs.Trusted.{Mark, back_of, is_said, last_begun, run_of, since_of}
-use Rattle.sub_rules.specs.Trusted.{tells_none}
-use Rattle.sub_rules.specs.Trusted.{told_after, told_at, whole_of}
+use Rattle.sub_rules.specs.Trusted.{CheckStep, back_of, is_said, last_begun, run_of, since_of}
+use Rattle.sub_rules.specs.Trusted.{tells_none, told_after, told_at, whole_of}
 
 -- ---- anything is told
 
@@ -43,14 +42,14 @@ unfolding all_announced passed_after_all
 nothing_of told none = grind (arith, nat_tests)
 
 -- Of the closing nothing is told where nothing was told and nothing follows.
-closing_silent : (g : Task) (frames : Transmission) (pes n : ℕ) (t : List Mark)
+closing_silent : (g : Criteria) (frames : Transmission) (pes n : ℕ) (t : List CheckStep)
     → (list_any is_said t
-    || (g.beside || not (tells_none (closing_of_pieces g frames pes n)))) ≡ false
-    → told_after t (marks_of_closing g frames pes n) ≡ []
+    || (g.any_refused || not (tells_none (closing_of_pieces g frames pes n)))) ≡ false
+    → told_after t (steps_of_closing g frames pes n) ≡ []
 unfolding told_after told_at run_of whole_of last_begun since_of back_of
 closing_silent g frames pes n t e = grind (arith, nat_tests)
 
-module _ (g : Task) (pieces : List Piece) (a b i : ℕ)
+module _ (g : Criteria) (pieces : List Piece) (a b i : ℕ)
     (can : CanStay g pieces a b) (fit : Fits g (sent_by_pieces g pieces) a b i) where
   abbrev frames : Transmission
   frames = sent_by_pieces g pieces
@@ -83,25 +82,25 @@ module _ (g : Task) (pieces : List Piece) (a b i : ℕ)
   abbrev Among : List Event → Type 0
   Among es = IsTold (top g frames a b i fit) b es
 
-  abbrev marks : List Mark
-  marks = marks_of_each g [] 0 pieces ++ marks_of_waiting g frames
+  abbrev steps : List CheckStep
+  steps = steps_of_each g [] 0 pieces ++ steps_of_waiting g frames
 
-  abbrev close : List Mark
-  close = marks_of_closing g frames (length pieces) (length frames)
+  abbrev close : List CheckStep
+  close = steps_of_closing g frames (length pieces) (length frames)
 
   -- What comes of the pieces.
   goes : Leads (top g frames a b i fit) b (PastAt g frames a b i fit (length frames))
-      [] marks
+      [] steps
   goes = pieces_lead g frames a b i fit pieces refl outside
 
   -- Something is told as the file ends, or was.
-  abbrev tells : List Mark → Bool
+  abbrev tells : List CheckStep → Bool
   tells t =
       list_any is_said t
-      || (g.beside
+      || (g.any_refused
       || not (tells_none (closing_of_pieces g frames (length pieces) (length frames))))
 
-  any_told : (t : List Mark) → past_after [] marks ≡ t → told_after [] (marks ++ close) ≢ []
+  any_told : (t : List CheckStep) → past_after [] steps ≡ t → told_after [] (steps ++ close) ≢ []
       → tells t ≡ true
   any_told t after something =
       grind (
@@ -115,35 +114,36 @@ module _ (g : Task) (pieces : List Piece) (a b i : ℕ)
         told_after-append,
       )
 
-  all_marks : tells (past_after [] marks) ≡ true → Among (told_after [] (marks ++ close))
-  all_marks anything =
-      subst Among (sym (told_after-append [] marks close)) (of_goes goes)
+  all_steps : tells (past_after [] steps) ≡ true → Among (told_after [] (steps ++ close))
+  all_steps anything =
+      subst Among (sym (told_after-append [] steps close)) (of_goes goes)
     where
       of_goes : Leads (top g frames a b i fit) b
-          (PastAt g frames a b i fit (length frames)) [] marks
-          → Among (told_after [] marks ++ told_after (past_after [] marks) close)
+          (PastAt g frames a b i fit (length frames)) [] steps
+          → Among (told_after [] steps ++ told_after (past_after [] steps) close)
       of_goes (inl told) =
-          told_left (top g frames a b i fit) b (told_after [] marks)
-          (told_after (past_after [] marks) close) told
+          told_left (top g frames a b i fit) b (told_after [] steps)
+          (told_after (past_after [] steps) close) told
       of_goes (inr past) =
-          told_right (top g frames a b i fit) b (told_after [] marks)
-          (told_after (past_after [] marks) close)
-          (closing_told g frames a b i fit (length pieces) (past_after [] marks) past anything)
+          told_right (top g frames a b i fit) b (told_after [] steps)
+          (told_after (past_after [] steps) close)
+          (closing_told g frames a b i fit (length pieces) (past_after [] steps) past anything)
 
   -- Something of the PES file is told, or of the subtitle file.
-  anything_tells : IsAnythingTold g pieces → tells (past_after [] marks) ≡ true
+  anything_tells : IsAnythingTold g pieces → tells (past_after [] steps) ≡ true
   unfolding all_of_pieces told_of_pieces
   anything_tells (inl something) =
-      any_told (past_after [] marks) refl
+      any_told (past_after [] steps) refl
       (λ none. something (nothing_of (told_of_pieces g pieces) none))
-  anything_tells (inr beside) = or_right (list_any is_said (past_after [] marks)) _ (rw beside refl)
+  anything_tells (inr any_refused) = or_right (list_any is_said (past_after [] steps)) _
+      (rw any_refused refl)
 
   pub all_told : IsAnythingTold g pieces → Among (all_of_pieces g pieces)
   unfolding all_of_pieces told_of_pieces
   all_told anything =
       let told : List Event = told_of_pieces g pieces in
-      let same : told ≡ told_after [] (marks ++ close) = refl in
-      let (from, to, low, high, c) = all_marks (anything_tells anything) in (
+      let same : told ≡ told_after [] (steps ++ close) = refl in
+      let (from, to, low, high, c) = all_steps (anything_tells anything) in (
         from,
         to,
         low,

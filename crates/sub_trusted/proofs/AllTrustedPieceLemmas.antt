@@ -2,37 +2,36 @@
 -- What comes of pieces while the frames of a stretch that can stay go by: `pieces_lead`.
 use Rattle.std.proofs.Common.{◌≡◌, ℕ, ◌+◌, ◌-◌, ◌<◌, ◌≤◌, ◌⊎◌, inl, inr, List, [], ◌∷◌, ◌++◌}
 use Rattle.std.proofs.Common.{length, refl, sym, subst, arith, append-nil}
-use Rattle.sub_rules.specs.FrameRules.{Task, end_frame, frame_at, packets_of_frame}
-use Rattle.sub_rules.specs.PieceEvents.{marks_of_each, marks_of_waiting}
+use Rattle.sub_rules.specs.FrameRules.{Criteria, end_frame, frame_at, packets_of_frame}
+use Rattle.sub_rules.specs.PieceEvents.{steps_of_each, steps_of_waiting}
 use Rattle.sub_rules.specs.Pieces.{Piece, frames_of, joined_after}
 use Rattle.sub_rules.specs.Transmission.{Transmission}
-use Rattle.sub_rules.specs.Trusted.Mark.{AtPes}
+use Rattle.sub_rules.specs.Trusted.CheckStep.{AtPes}
 use Rattle.sub_trusted.proofs.TrustedKeptLemmas.{closed_at, opens_at}
 use Rattle.sub_trusted.proofs.AllTrustedStretchLemmas.{Fits}
 use Rattle.sub_laws.proofs.GrowingFrameLemmas.{end_is, long, so_many}
 use Rattle.sub_laws.proofs.PieceWalkLemmas.{EachPassed, Sends, Steps, each_piece, waits}
 use Rattle.sub_trusted.proofs.AllTrustedLeadLemmas.{Leads, Leads-append, Leads-cons, Leads-nil}
-use Rattle.sub_trusted.proofs.SayMarkLemmas.{told_of}
+use Rattle.sub_trusted.proofs.SaidStepLemmas.{told_of}
 use Rattle.sub_trusted.proofs.AllTrustedEndingLemmas.{ending_leads}
-use Rattle.sub_trusted.proofs.AllTrustedMarkLemmas.{Follows, top}
+use Rattle.sub_trusted.proofs.AllTrustedKeptLemmas.{Follows, top}
 use Rattle.sub_trusted.proofs.AllTrustedStepLemmas.{Open, Past, arrival_leads, more_leads}
 use Rattle.sub_trusted.proofs.AllTrustedStepLemmas.{passed_leads}
 use Rattle.sub_trusted.proofs.AllTrustedStepLemmas.{passed_past}
 use Rattle.sub_trusted.proofs.TrustedFrameLemmas.{risen}
-use Rattle.sub_rules.specs.Trusted.{Mark, back_of, stays_quiet, last_begun, late_of, run_of}
-use Rattle.sub_rules.specs.Trusted.{since_of}
-use Rattle.sub_rules.specs.Trusted.{tells_fall, whole_of}
+use Rattle.sub_rules.specs.Trusted.{CheckStep, back_of, last_begun, late_of, run_of, since_of}
+use Rattle.sub_rules.specs.Trusted.{stays_quiet, tells_fall, whole_of}
 use Rattle.std.proofs.lemmas.Bool.Decides.{nat_tests}
 
-module _ (g : Task) (frames : Transmission) (a b i : ℕ)
+module _ (g : Criteria) (frames : Transmission) (a b i : ℕ)
     (fits : Fits g frames a b i) where
-  abbrev Lead : (List Mark → Type 0) → List Mark → List Mark → Type 0
+  abbrev Lead : (List CheckStep → Type 0) → List CheckStep → List CheckStep → Type 0
   Lead S t ms = Leads (top g frames a b i fits) b S t ms
 
-  abbrev pub PastAt : ℕ → List Mark → Type 0
+  abbrev pub PastAt : ℕ → List CheckStep → Type 0
   PastAt n t = Past g frames a b i fits n t
 
-  abbrev OpenAt : ℕ → List (List ℕ) → List Mark → Type 0
+  abbrev OpenAt : ℕ → List (List ℕ) → List CheckStep → Type 0
   OpenAt n packets t = Open g frames a b i fits n packets t
 
   -- A piece that is passed over where these frames were sent may not have been sent in the stretch.
@@ -43,17 +42,17 @@ module _ (g : Task) (frames : Transmission) (a b i : ℕ)
       → (end_frame sent < a) ⊎ (b < end_frame sent)
 
   -- Of which PES packet is told changes nothing.
-  follows_at : (n p pes : ℕ) (t : List Mark) → Follows g frames a b i fits n p t
+  follows_at : (n p pes : ℕ) (t : List CheckStep) → Follows g frames a b i fits n p t
       → Follows g frames a b i fits n p (AtPes pes ∷ t)
   unfolding run_of whole_of since_of back_of tells_fall
   follows_at n p pes t follows = grind (arith, nat_tests)
 
-  past_at : (n pes : ℕ) (t : List Mark) → PastAt n t → PastAt n (AtPes pes ∷ t)
+  past_at : (n pes : ℕ) (t : List CheckStep) → PastAt n t → PastAt n (AtPes pes ∷ t)
   past_at n pes t (closed, follows) =
       let p : ℕ = frame_at frames (n - 1) + 1 in
       (closed_at g frames 0 n pes t closed, follows_at n p pes t follows)
 
-  open_at : (n pes : ℕ) (packets : List (List ℕ)) (t : List Mark) → OpenAt n packets t
+  open_at : (n pes : ℕ) (packets : List (List ℕ)) (t : List CheckStep) → OpenAt n packets t
       → OpenAt n packets (AtPes pes ∷ t)
   unfolding stays_quiet back_of
   open_at n pes packets t (opens, sending) = (
@@ -67,7 +66,8 @@ module _ (g : Task) (frames : Transmission) (a b i : ℕ)
 
   -- What comes of a frame, or of a piece that is passed over.
   steps :
-      Steps (List Mark) told_of g frames (Leads (top g frames a b i fits) b) PastAt OpenAt Outside
+      Steps (List CheckStep) told_of g frames (Leads (top g frames a b i fits) b) PastAt OpenAt
+      Outside
   steps = record {
     at_ended = past_at;
     at_open = open_at;
@@ -97,22 +97,23 @@ module _ (g : Task) (frames : Transmission) (a b i : ℕ)
       → joined_after g.within [] (frames_of pieces) ≡ frames
       → EachPassed g.within Outside [] pieces
       → Lead (PastAt (length frames)) []
-      (marks_of_each g [] 0 pieces ++ marks_of_waiting g frames)
+      (steps_of_each g [] 0 pieces ++ steps_of_waiting g frames)
   pieces_lead pieces all outside =
-      let T : (List Mark → Type 0) → List Mark → List Mark → Type 0 =
+      let T : (List CheckStep → Type 0) → List CheckStep → List CheckStep → Type 0 =
       Leads (top g frames a b i fits) b in
       Leads-append (top g frames a b i fits) b
-      (Sends (List Mark) told_of g frames T PastAt OpenAt Outside frames) (PastAt (length frames))
-      [] (marks_of_each g [] 0 pieces) (marks_of_waiting g frames)
-      (each_piece (List Mark) told_of g frames T PastAt OpenAt Outside
+      (Sends (List CheckStep) told_of g frames T PastAt OpenAt Outside frames)
+      (PastAt (length frames))
+      [] (steps_of_each g [] 0 pieces) (steps_of_waiting g frames)
+      (each_piece (List CheckStep) told_of g frames T PastAt OpenAt Outside
       (Leads-nil (top g frames a b i fits) b) at_pes (Leads-append (top g frames a b i fits) b)
       steps [] 0 [] pieces all outside (inl (inr refl, starts)))
       (λ u so.
-      waits (List Mark) told_of g frames T PastAt OpenAt Outside
+      waits (List CheckStep) told_of g frames T PastAt OpenAt Outside
       (Leads-nil (top g frames a b i fits) b) at_pes (Leads-append (top g frames a b i fits) b)
       steps frames [] u (sym (append-nil frames)) so)
     where
-      at_pes : (S : List Mark → Type 0) (t : List Mark) (pes : ℕ) (ms : List Mark)
+      at_pes : (S : List CheckStep → Type 0) (t : List CheckStep) (pes : ℕ) (ms : List CheckStep)
           → Lead S (told_of pes t) ms
           → Lead S t (AtPes pes ∷ ms)
       at_pes S t pes ms rest = Leads-cons (top g frames a b i fits) b S t (AtPes pes) ms rest

@@ -1,5 +1,5 @@
 -- For `law_of_all_trusted`.
--- What comes of a frame, mark after mark, while the frames of a stretch that can stay go by: before
+-- What comes of a frame, step after step, while the frames of a stretch that can stay go by: before
 -- its packets, `arrival_leads`, of its packets, `more_leads`, and of a piece that is passed over,
 -- `passed_leads`.
 use Rattle.std.proofs.lemmas.Bool.Decides.{nat_tests}
@@ -15,11 +15,11 @@ use Rattle.std.proofs.lemmas.Option.{none-some, same_Some}
 use Rattle.std.specs.List.{list_any}
 use Rattle.sub_rules.specs.Events.{gap_length, latest, order_events, packet_fault, packets_told}
 use Rattle.sub_rules.specs.Events.{rules_told, since_before, unread_fault}
-use Rattle.sub_rules.specs.FrameRules.{Task, Unread, frame_at, packets_before, packets_of_frame}
-use Rattle.sub_rules.specs.PieceEvents.{goes_back, marks_at_end, marks_before, marks_of_arrival}
-use Rattle.sub_rules.specs.PieceEvents.{marks_of_gap}
+use Rattle.sub_rules.specs.FrameRules.{Criteria, Unread, frame_at, packets_before, packets_of_frame}
+use Rattle.sub_rules.specs.PieceEvents.{goes_back, steps_at_end, steps_before, steps_of_arrival}
+use Rattle.sub_rules.specs.PieceEvents.{steps_of_gap}
 use Rattle.sub_rules.specs.Transmission.{Transmission}
-use Rattle.sub_rules.specs.Trusted.Mark.{Begins, GoesBack, Says}
+use Rattle.sub_rules.specs.Trusted.CheckStep.{Begins, GoesBack, Says}
 use Rattle.sub_rules.specs.declared.event.Event.{Event}
 use Rattle.sub_rules.specs.declared.event.Event.TheVariants.{Told}
 use Rattle.sub_rules.specs.declared.packet_rule.PacketRule.{PacketRule}
@@ -36,14 +36,13 @@ use Rattle.sub_trusted.proofs.AllTrustedLeadLemmas.{Leads, Leads-append, Leads-b
 use Rattle.sub_trusted.proofs.AllTrustedLeadLemmas.{Leads-nil}
 use Rattle.sub_laws.proofs.PrefixLemmas.{RiseTo, rises_to}
 use Rattle.sub_laws.proofs.RisingEndLemmas.{latest_at}
-use Rattle.sub_trusted.proofs.SayMarkLemmas.{back_past, back_to, doubt_of, is_order, rose, said}
-use Rattle.sub_trusted.proofs.AllTrustedMarkLemmas.{Follows, doubt_told, end_leads, follows_said}
-use Rattle.sub_trusted.proofs.AllTrustedMarkLemmas.{follows_says, follows_to, top}
+use Rattle.sub_trusted.proofs.SaidStepLemmas.{back_past, back_to, doubt_of, is_order, rose, said}
+use Rattle.sub_trusted.proofs.AllTrustedKeptLemmas.{Follows, doubt_told, end_leads, follows_said}
+use Rattle.sub_trusted.proofs.AllTrustedKeptLemmas.{follows_says, follows_to, top}
 use Rattle.sub_trusted.proofs.TrustedFrameLemmas.{count_most, part_rises, risen}
 use Rattle.sub_rules.proofs.TrustedLemmas.{past_after}
-use Rattle.sub_rules.specs.Trusted.{Mark, back_of, stays_quiet, last_begun, late_of, run_of}
-use Rattle.sub_rules.specs.Trusted.{since_of}
-use Rattle.sub_rules.specs.Trusted.{tells_fall, whole_of}
+use Rattle.sub_rules.specs.Trusted.{CheckStep, back_of, last_begun, late_of, run_of, since_of}
+use Rattle.sub_rules.specs.Trusted.{stays_quiet, tells_fall, whole_of}
 
 -- ---- events that do not tell of the order
 
@@ -70,13 +69,13 @@ unfolding is_order tells_fall
 passed_orders pes u = grind (arith, nat_tests)
 
 -- Of frames that rise nothing is told of the order, nor is one doubted.
-order_orders : (g : Task) (frames : Transmission) (n : ℕ)
+order_orders : (g : Criteria) (frames : Transmission) (n : ℕ)
     → (0 < n → frame_at frames (n - 1) < frame_at frames n)
     → list_any is_order (order_events g frames n) ≡ false
 unfolding order_events is_order tells_fall
 order_orders g frames n up = grind (arith, nat_tests)
 
-order_silent : (g : Task) (frames : Transmission) (n : ℕ) → 0 < n
+order_silent : (g : Criteria) (frames : Transmission) (n : ℕ) → 0 < n
     → frame_at frames (n - 1) < frame_at frames n
     → order_events g frames n ≡ []
 unfolding order_events
@@ -110,18 +109,18 @@ keeps_part w before xs ys zs all k l r needed =
     rw (append_assoc before xs (take k ys), sym at, sym front)
     (all (length xs + k) few r needed)
 
-module _ (g : Task) (frames : Transmission) (a b i : ℕ)
+module _ (g : Criteria) (frames : Transmission) (a b i : ℕ)
     (fits : Fits g frames a b i) where
-  abbrev Follow : ℕ → ℕ → List Mark → Type 0
+  abbrev Follow : ℕ → ℕ → List CheckStep → Type 0
   Follow n p t = Follows g frames a b i fits n p t
 
-  abbrev Lead : (List Mark → Type 0) → List Mark → List Mark → Type 0
+  abbrev Lead : (List CheckStep → Type 0) → List CheckStep → List CheckStep → Type 0
   Lead S t ms = Leads (top g frames a b i fits) b S t ms
 
   -- ---- the ends of frames of the day before a frame
 
   -- The run that is there is one of frames that rise up to frame n.
-  up_here : (n x p : ℕ) (t : List Mark) → Keeps g frames 0 n x t
+  up_here : (n x p : ℕ) (t : List CheckStep) → Keeps g frames 0 n x t
       → (rose t ≡ true → RiseTo frames (suc n))
       → Follow n p t
       → i < n
@@ -139,16 +138,16 @@ module _ (g : Task) (frames : Transmission) (a b i : ℕ)
       let low = fits.low in
       omega arith
 
-  gap_leads : (n k : ℕ) (t : List Mark) → n < length frames → k < gap_length frames n
+  gap_leads : (n k : ℕ) (t : List CheckStep) → n < length frames → k < gap_length frames n
       → Arrives g frames 0 n k t
       → Follow n (latest frames n + suc k) t
       → Lead (λ u. Arrives g frames 0 n (suc k) u × Follow n (latest frames n + suc (suc k)) u) t
-      (marks_at_end g frames n n (latest frames n + suc k))
+      (steps_at_end g frames n n (latest frames n + suc k))
   gap_leads n k t there l arrives follows =
       let f : ℕ = latest frames n + suc k in
       let q : ℕ = latest frames n + suc (suc k) in
       Leads-both (top g frames a b i fits) b (Arrives g frames 0 n (suc k)) (Follow n q) t
-      (marks_at_end g frames n n f) (gap_step g frames 0 n k t there l arrives).after
+      (steps_at_end g frames n n f) (gap_step g frames 0 n k t there l arrives).after
       (end_leads g frames a b i fits n n f q t arrives.keeps.at_once arrives.keeps.plain
       (omega arith) follows
       (λ below.
@@ -174,28 +173,28 @@ module _ (g : Task) (frames : Transmission) (a b i : ℕ)
           arrives.rises follows below
 
   -- The first k of them have been.
-  abbrev Arriving : ℕ → ℕ → List Mark → Type 0
+  abbrev Arriving : ℕ → ℕ → List CheckStep → Type 0
   Arriving n k u = Arrives g frames 0 n k u × Follow n (latest frames n + suc k) u
 
-  gaps_lead : (n k : ℕ) (t : List Mark) → n < length frames → k ≤ gap_length frames n
+  gaps_lead : (n k : ℕ) (t : List CheckStep) → n < length frames → k ≤ gap_length frames n
       → Arriving n 0 t
-      → Lead (Arriving n k) t (marks_of_gap g frames n k)
-  unfolding marks_of_gap
+      → Lead (Arriving n k) t (steps_of_gap g frames n k)
+  unfolding steps_of_gap
   gaps_lead n zero t there l arriving =
       Leads-nil (top g frames a b i fits) b (Arriving n 0) t arriving
   gaps_lead n (suc k) t there l arriving =
       Leads-append (top g frames a b i fits) b (Arriving n k) (Arriving n (suc k)) t
-      (marks_of_gap g frames n k) (marks_at_end g frames n n (latest frames n + suc k))
+      (steps_of_gap g frames n k) (steps_at_end g frames n n (latest frames n + suc k))
       (gaps_lead n k t there (omega arith) arriving)
       (λ u so. gap_leads n k u there (omega arith) so.0 so.1)
 
   -- ---- before the packets of a frame
 
   -- The first n frames have ended.
-  abbrev pub Past : ℕ → List Mark → Type 0
+  abbrev pub Past : ℕ → List CheckStep → Type 0
   Past n u = Closed g frames 0 n u × Follow n (frame_at frames (n - 1) + 1) u
 
-  order_leads : (n : ℕ) (t : List Mark) → n < length frames → Past n t
+  order_leads : (n : ℕ) (t : List CheckStep) → n < length frames → Past n t
       → Lead (Arriving n 0) t (map Says (order_events g frames n))
   order_leads n t there (closed, follows) =
       Leads-both (top g frames a b i fits) b (Arrives g frames 0 n 0)
@@ -240,21 +239,22 @@ module _ (g : Task) (frames : Transmission) (a b i : ℕ)
           ]
 
   -- Frame n is sent.
-  pub record Sending (n : ℕ) (t : List Mark) : Type 0 where
+  pub record Sending (n : ℕ) (t : List CheckStep) : Type 0 where
     pub follows : Follow n (frame_at frames n) t
     pub clean : i ≤ n → stays_quiet t ≡ true
     pub back : i < n → b < frame_at frames n → (r : ℕ) → back_of t ≡ Some r → b < r
 
   -- So are these packets in it so far.
-  abbrev pub Open : ℕ → List (List ℕ) → List Mark → Type 0
+  abbrev pub Open : ℕ → List (List ℕ) → List CheckStep → Type 0
   Open n packets u = Opens g frames 0 n packets u × Sending n u
 
   -- Since which frame the page was not whole before frame n.
   abbrev before_it : ℕ → Option ℕ
   before_it n = since_before g frames n (frame_at frames n)
 
-  begins_open : (n : ℕ) (t : List Mark) → n < length frames → Arriving n (gap_length frames n) t
-      → Lead (Open n []) (Begins (frame_at frames n) ∷ t) (marks_before g (before_it n))
+  begins_open : (n : ℕ) (t : List CheckStep) → n < length frames
+      → Arriving n (gap_length frames n) t
+      → Lead (Open n []) (Begins (frame_at frames n) ∷ t) (steps_before g (before_it n))
   unfolding run_of whole_of last_begun since_of late_of back_of stays_quiet tells_fall
   begins_open n t there (arrives, follows) = go (goes_back g) refl
     where
@@ -265,7 +265,7 @@ module _ (g : Task) (frames : Transmission) (a b i : ℕ)
           (up_of g frames 0 n (latest frames n + suc (gap_length frames n)) from t arrives.keeps
           arrives.rises is).long)
 
-      sent : List Mark
+      sent : List CheckStep
       sent = Begins (frame_at frames n) ∷ t
 
       opens : Opens g frames 0 n [] sent
@@ -327,23 +327,23 @@ module _ (g : Task) (frames : Transmission) (a b i : ℕ)
             },
           ))
 
-  pub arrival_leads : (n : ℕ) (t : List Mark) → n < length frames → Past n t
-      → Lead (Open n []) t (marks_of_arrival g frames n)
+  pub arrival_leads : (n : ℕ) (t : List CheckStep) → n < length frames → Past n t
+      → Lead (Open n []) t (steps_of_arrival g frames n)
   arrival_leads n t there past =
       Leads-append (top g frames a b i fits) b (Arriving n (gap_length frames n)) (Open n []) t
-      (map Says (order_events g frames n) ++ marks_of_gap g frames n (gap_length frames n))
-      (Begins (frame_at frames n) ∷ marks_before g (before_it n))
+      (map Says (order_events g frames n) ++ steps_of_gap g frames n (gap_length frames n))
+      (Begins (frame_at frames n) ∷ steps_before g (before_it n))
       (Leads-append (top g frames a b i fits) b (Arriving n 0)
       (Arriving n (gap_length frames n)) t (map Says (order_events g frames n))
-      (marks_of_gap g frames n (gap_length frames n)) (order_leads n t there past)
+      (steps_of_gap g frames n (gap_length frames n)) (order_leads n t there past)
       (λ u so. gaps_lead n (gap_length frames n) u there (le_refl (gap_length frames n)) so))
       (λ v here.
       Leads-cons (top g frames a b i fits) b (Open n []) v (Begins (frame_at frames n))
-      (marks_before g (before_it n)) (begins_open n v there here))
+      (steps_before g (before_it n)) (begins_open n v there here))
 
   -- ---- while it is sent
 
-  pub sending_says : (n : ℕ) (t : List Mark) (es : List Event) → Sending n t
+  pub sending_says : (n : ℕ) (t : List CheckStep) (es : List Event) → Sending n t
       → list_any is_order es ≡ false
       → (i ≡ n → doubt_of t es ≡ None)
       → (i < n → (x : ℕ) → doubt_of t es ≡ Some x → (b < back_to t x) × (b < frame_at frames n))
@@ -386,7 +386,7 @@ module _ (g : Task) (frames : Transmission) (a b i : ℕ)
       ]
 
   -- What is so of a frame that is sent after the one with the header.
-  pub later_in : (n : ℕ) (packets : List (List ℕ)) (t : List Mark) → n < length frames
+  pub later_in : (n : ℕ) (packets : List (List ℕ)) (t : List CheckStep) → n < length frames
       → Open n packets t
       → i < n
       → (n < risen frames) × (a ≤ frame_at frames n)
@@ -398,7 +398,8 @@ module _ (g : Task) (frames : Transmission) (a b i : ℕ)
       let up = h.up in
       (in_part n there h, omega arith)
 
-  pub more_leads : (n : ℕ) (packets more rest : List (List ℕ)) (t : List Mark) → n < length frames
+  pub more_leads : (n : ℕ) (packets more rest : List (List ℕ)) (t : List CheckStep)
+      → n < length frames
       → packets_of_frame frames n ≡ packets ++ more ++ rest
       → Open n packets t
       → Lead (Open n (packets ++ more)) t
@@ -440,7 +441,7 @@ module _ (g : Task) (frames : Transmission) (a b i : ℕ)
           (fits.packets n in_it low high))
 
   -- A piece is passed over before the next frame comes.
-  pub passed_past : (n pes : ℕ) (u : Unread) (t : List Mark) → n ≤ length frames
+  pub passed_past : (n pes : ℕ) (u : Unread) (t : List CheckStep) → n ≤ length frames
       → (0 < n → n ≤ risen frames → (frame_at frames (n - 1) < a) ⊎ (b < frame_at frames (n - 1)))
       → Past n t
       → Lead (Past n) t (map Says (Told (unread_fault pes (Some u)) ∷ []))
@@ -468,7 +469,7 @@ module _ (g : Task) (frames : Transmission) (a b i : ℕ)
       ]))
 
   -- Or while one is sent.
-  pub passed_leads : (n pes : ℕ) (packets : List (List ℕ)) (u : Unread) (t : List Mark)
+  pub passed_leads : (n pes : ℕ) (packets : List (List ℕ)) (u : Unread) (t : List CheckStep)
       → n < length frames
       → (n < risen frames → (frame_at frames n < a) ⊎ (b < frame_at frames n))
       → Open n packets t

@@ -11,7 +11,7 @@ use Rattle.ttx_page.specs.PacketKind.{kind}
 use Rattle.ttx_page.specs.Span.{holds_beginning}
 use Rattle.sub_rules.specs.Events.{is_late, is_unfinished, nothing_stands, standing_at}
 use Rattle.sub_rules.specs.Events.{unfinished_since}
-use Rattle.sub_rules.specs.FrameRules.{Task, Unread, frame_at, packets_before, packets_of_frame}
+use Rattle.sub_rules.specs.FrameRules.{Criteria, Unread, frame_at, packets_before, packets_of_frame}
 use Rattle.sub_rules.specs.PacketTests.{breaks}
 use Rattle.sub_rules.specs.PieceEvents.{sent_by_pieces}
 use Rattle.sub_rules.specs.Pieces.{Piece}
@@ -74,7 +74,7 @@ module _ (frames : Transmission) where
 -- ---- what is so of the stretch
 
 -- Frame i of the list is one of a stretch that can stay.
-pub record Fits (g : Task) (frames : Transmission) (a b i : ℕ) : Type 0 where
+pub record Fits (g : Criteria) (frames : Transmission) (a b i : ℕ) : Type 0 where
   pub there : i < risen frames
   pub low : a ≤ frame_at frames i
   pub high : frame_at frames i ≤ b
@@ -117,7 +117,7 @@ unseen : (at_once : Bool) {since : Option ℕ} → since ≡ None
     → (if at_once then None else since) ≡ None
 unseen at_once none = grind (arith, nat_tests)
 
-module _ (g : Task) (pieces : List Piece) (a b : ℕ) (can : CanStay g pieces a b) where
+module _ (g : Criteria) (pieces : List Piece) (a b : ℕ) (can : CanStay g pieces a b) where
   abbrev frames : Transmission
   frames = sent_by_pieces g pieces
 

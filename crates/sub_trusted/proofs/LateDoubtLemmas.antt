@@ -18,7 +18,7 @@ use Rattle.sub_rules.specs.Events.{first_header_events, gap_length, is_unfinishe
 use Rattle.sub_rules.specs.Events.{order_events, packet_fault, packets_told, rule_events}
 use Rattle.sub_rules.specs.Events.{rules_told, since_frames, since_in_gap, unfinished_from}
 use Rattle.sub_rules.specs.Events.{since_before, unfinished_since, unread_fault}
-use Rattle.sub_rules.specs.FrameRules.{Task, Unread, frame_at}
+use Rattle.sub_rules.specs.FrameRules.{Criteria, Unread, frame_at}
 use Rattle.sub_rules.specs.PacketTests.{breaks}
 use Rattle.sub_rules.specs.Transmission.{Transmission}
 use Rattle.sub_rules.specs.declared.end_rule.EndRule.{EndRule}
@@ -31,9 +31,10 @@ use Rattle.sub_laws.specs.CleanStretch.{is_needed}
 use Rattle.sub_trusted.proofs.DoubtLemmas.{EachTrusted, OnTrusted, each-own}
 use Rattle.sub_laws.proofs.FirstFoundLemmas.{Finds, Finds-like, first_found, found_so_far}
 use Rattle.sub_laws.proofs.FirstFoundLemmas.{end_found, packet_found}
-use Rattle.sub_rules.specs.Trusted.{Mark, doubted_by, last_begun, late_of, stands_none, tells_fall}
+use Rattle.sub_rules.specs.Trusted.{CheckStep, doubted_by, last_begun, late_of, stands_none}
+use Rattle.sub_rules.specs.Trusted.{tells_fall}
 use Rattle.sub_rules.specs.declared.standing.Standing.{Standing}
-use Rattle.sub_trusted.proofs.SayMarkLemmas.{is_order}
+use Rattle.sub_trusted.proofs.SaidStepLemmas.{is_order}
 
 -- ---- packets
 
@@ -68,7 +69,7 @@ keeps_joined w before xs ys one two k l r needed = elim (cases_lt k (length xs))
       ) (two i few r needed))
 ]
 
-module _ (t : List Mark) (w : Watched) (frame from : ℕ)
+module _ (t : List CheckStep) (w : Watched) (frame from : ℕ)
     (before packets : List (List ℕ))
   where
     -- The frame of a packet is trusted no more exactly by the rules on which a receiver depends.
@@ -122,12 +123,12 @@ module _ (P : ℕ → ℕ → Type 0) where
   end_own old before new f =
       each-own P 0 (end_events old before new f) (own_end 0 old before new f)
 
-  pub order_own : (g : Task) (frames : Transmission) (i : ℕ)
+  pub order_own : (g : Criteria) (frames : Transmission) (i : ℕ)
       → EachTrusted P (order_events g frames i)
   unfolding order_events
   order_own g frames i = each-own P i (order_events g frames i) (grind (arith, nat_tests))
 
-  pub header_own : (g : Task) (frames : Transmission) (i : ℕ)
+  pub header_own : (g : Criteria) (frames : Transmission) (i : ℕ)
       → EachTrusted P (first_header_events g frames i)
   unfolding first_header_events
   header_own g frames i =
@@ -135,7 +136,7 @@ module _ (P : ℕ → ℕ → Type 0) where
 
 -- ---- numbers, and the first header
 
-module _ (t : List Mark) (g : Task) (frames : Transmission) where
+module _ (t : List CheckStep) (g : Criteria) (frames : Transmission) where
   pub order_at : (i x : ℕ) → first_found (doubted_by t) (order_events g frames i) ≡ Some x
       → x ≡ last_begun t
   unfolding order_events doubted_by
@@ -147,7 +148,7 @@ module _ (t : List Mark) (g : Task) (frames : Transmission) where
   header_none i = grind (arith, nat_tests)
 
 -- Where nothing is told of the order a frame is after the one before.
-pub order_rises : (g : Task) (frames : Transmission) (i : ℕ)
+pub order_rises : (g : Criteria) (frames : Transmission) (i : ℕ)
     → list_any is_order (order_events g frames i) ≡ false
     → 0 < i
     → frame_at frames (i - 1) < frame_at frames i
@@ -155,7 +156,7 @@ unfolding order_events is_order tells_fall
 order_rises g frames i none some = grind (arith, nat_tests)
 
 -- A piece that is passed over doubts the frame before it.
-pub passed_at : (t : List Mark) (pes : ℕ) (u : Unread)
+pub passed_at : (t : List CheckStep) (pes : ℕ) (u : Unread)
     → first_found (doubted_by t) (Told (unread_fault pes (Some u)) ∷ []) ≡ Some (last_begun t)
 unfolding doubted_by
 passed_at t pes u = grind (arith, nat_tests)
@@ -164,19 +165,19 @@ passed_at t pes u = grind (arith, nat_tests)
 
 -- What is told of a rule doubts the frame of its end, or at a late end the one since which the page
 -- is not whole.
-end_rule_doubts : (t : List Mark) (rule : EndRule) (f : ℕ) (cell : ℕ × ℕ)
+end_rule_doubts : (t : List CheckStep) (rule : EndRule) (f : ℕ) (cell : ℕ × ℕ)
     → doubted_by t (Told (end_fault rule f cell)) ≡ Some (unwrap_or (late_of t) f)
 unfolding doubted_by
 end_rule_doubts t rule f cell = grind arith
 
-end_rule_doubt : (t : List Mark) (rule : EndRule) (before f : ℕ) (old new : Option (ℕ × ℕ))
+end_rule_doubt : (t : List CheckStep) (rule : EndRule) (before f : ℕ) (old new : Option (ℕ × ℕ))
     → Finds (doubted_by t) (λ x. x ≡ unwrap_or (late_of t) f) (new ≡ None) (old ≡ None → new ≡ None)
     (rule_events rule old before new f)
 unfolding doubted_by
 end_rule_doubt t rule before f old new = grind (arith, nat_tests, end_rule_doubts)
 
 -- So does what is told at an end; where it does not, nothing stands that did not stand before.
-pub end_doubt : (t : List Mark) (before f : ℕ) (old new : Standing)
+pub end_doubt : (t : List CheckStep) (before f : ℕ) (old new : Standing)
     → Finds (doubted_by t) (λ x. x ≡ unwrap_or (late_of t) f) (stands_none new ≡ true)
     (stands_none old ≡ true → stands_none new ≡ true) (end_events old before new f)
 end_doubt t before f old new =
@@ -190,7 +191,7 @@ pub late_low : (late : Bool) (since : Option ℕ) (f : ℕ)
     → unwrap_or (if late then since else None) f ≤ f
 late_low late since f h = grind (arith, nat_tests)
 
-module _ (g : Task) (frames : Transmission) where
+module _ (g : Criteria) (frames : Transmission) where
   bound : (b : ℕ) (since : Option ℕ) (un : Bool) (f r : ℕ) → unfinished_from since un f ≡ Some r
       → f ≤ b
       → ((s : ℕ) → since ≡ Some s → s ≤ b)

@@ -1,15 +1,15 @@
 pub mod AlikeLateLemmas
 pub mod AlikeProgrammeLemmas
 pub mod AllTrustedEndingLemmas
+pub mod AllTrustedKeptLemmas
 pub mod AllTrustedLeadLemmas
 pub mod AllTrustedLemmas
-pub mod AllTrustedMarkLemmas
 pub mod AllTrustedPieceLemmas
 pub mod AllTrustedStepLemmas
 pub mod AllTrustedStretchLemmas
 pub mod DoubtLemmas
 pub mod LateDoubtLemmas
-pub mod SayMarkLemmas
+pub mod SaidStepLemmas
 pub mod TrustedAlikeLemmas
 pub mod TrustedAsReadLemmas
 pub mod TrustedEndingLemmas

@@ -1,6 +1,6 @@
 -- For `law_of_trusted_alike`.
--- Frames that are told as trusted beside what is refused of a subtitle file are so by each task
--- that asks alike wherever it is known what is due: `told_too`.
+-- Frames that are told as trusted beside what is refused of a subtitle file are so by each of the
+-- criteria that ask alike wherever it is known what is due: `told_too`.
 use Rattle.std.proofs.lemmas.Bool.Decides.{nat_tests}
 use Rattle.std.proofs.Common.{◌≡◌, ◌≢◌, ℕ, ◌-◌, ◌<◌, ◌≤◌, inl, inr, true}
 use Rattle.std.proofs.Common.{List, [], Contains, Option, Some, length, refl, ap, ◌∙◌}
@@ -9,7 +9,7 @@ use Rattle.ttx_page.specs.Page.{Rows}
 use Rattle.ttx_page.specs.PacketKind.{kind}
 use Rattle.ttx_page.specs.Span.{holds_beginning}
 use Rattle.sub_rules.specs.Events.{end_rules, nothing_stands, standing_at}
-use Rattle.sub_rules.specs.FrameRules.{Task, Unread, frame_at}
+use Rattle.sub_rules.specs.FrameRules.{Criteria, Unread, frame_at}
 use Rattle.sub_rules.specs.PieceEvents.{all_of_pieces, sent_by_pieces}
 use Rattle.sub_rules.specs.Pieces.{Piece}
 use Rattle.sub_rules.specs.Transmission.{Transmission}
@@ -24,7 +24,8 @@ use Rattle.sub_laws.proofs.PrefixLemmas.{RiseTo, frame_at-take, packets-take, ri
 use Rattle.sub_laws.proofs.StandingLemmas.{known_at}
 use Rattle.sub_trusted.specs.TrustedAlike.{AreTrusted, IsWholeAt}
 use Rattle.sub_trusted.specs.TrustedFrames.{BeginsText, CanStay, rising_part}
-use Rattle.sub_trusted.proofs.AlikeLateLemmas.{AsksAlike, alike_quiet, same_unfinished, task_known}
+use Rattle.sub_trusted.proofs.AlikeLateLemmas.{AsksAlike, alike_quiet, criteria_known}
+use Rattle.sub_trusted.proofs.AlikeLateLemmas.{same_unfinished}
 use Rattle.sub_trusted.proofs.AllTrustedLemmas.{law_of_all_trusted}
 use Rattle.sub_trusted.proofs.TrustedFrameLemmas.{count_most, part_last, part_length, part_rises}
 use Rattle.sub_trusted.proofs.TrustedFrameLemmas.{j_low, rises_more, risen, risen_low, stands_quiet}
@@ -38,11 +39,11 @@ none_stands : stands_none nothing_stands ≡ true
 unfolding end_rules
 none_stands = refl
 
-module _ (g : Task) (due : ℕ → Rows) (ending : ℕ → Option ℕ) (first_in last_out : Option ℕ)
+module _ (g : Criteria) (due : ℕ → Rows) (ending : ℕ → Option ℕ) (first_in last_out : Option ℕ)
     (alike : AsksAlike g due ending) (pieces : List Piece) (from to : ℕ)
     (told : Contains (all_of_pieces g pieces) (Trusted from to)) where
-  abbrev h : Task
-  h = task_known g due ending first_in last_out
+  abbrev h : Criteria
+  h = criteria_known g due ending first_in last_out
 
   abbrev frames : Transmission
   frames = sent_by_pieces g pieces

@@ -10,10 +10,10 @@ use Rattle.std.proofs.lemmas.Option.{none-some}
 use Rattle.ttx_page.specs.PacketKind.{kind}
 use Rattle.ttx_page.specs.Span.{holds_beginning}
 use Rattle.sub_rules.specs.Events.{events_at_end, first_header_events, latest, standing_at}
-use Rattle.sub_rules.specs.FrameRules.{Task, end_frame, frame_at, packets_of_frame}
-use Rattle.sub_rules.specs.PieceEvents.{marks_at_end, marks_of_ending}
+use Rattle.sub_rules.specs.FrameRules.{Criteria, end_frame, frame_at, packets_of_frame}
+use Rattle.sub_rules.specs.PieceEvents.{steps_at_end, steps_of_ending}
 use Rattle.sub_rules.specs.Transmission.{Transmission}
-use Rattle.sub_rules.specs.Trusted.Mark.{Ends, Says}
+use Rattle.sub_rules.specs.Trusted.CheckStep.{Ends, Says}
 use Rattle.sub_rules.specs.declared.event.Event.{Event}
 use Rattle.sub_trusted.proofs.TrustedKeptLemmas.{Closed, IsAbove, IsWhole, Opens, Quiet, may_before}
 use Rattle.sub_trusted.proofs.TrustedKeptLemmas.{opens_said, run_more, run_new, run_low, run_found}
@@ -22,15 +22,15 @@ use Rattle.sub_trusted.proofs.LateDoubtLemmas.{before_low, header_none, header_o
 use Rattle.sub_trusted.proofs.LateDoubtLemmas.{seen_since}
 use Rattle.sub_laws.proofs.PrefixLemmas.{before, rises_to}
 use Rattle.sub_laws.proofs.RisingEndLemmas.{latest_at}
-use Rattle.sub_trusted.proofs.SayMarkLemmas.{Goes-append, Goes-cons, Goes-nil, Goes-says}
+use Rattle.sub_trusted.proofs.SaidStepLemmas.{Goes-append, Goes-cons, Goes-nil, Goes-says}
 use Rattle.sub_trusted.proofs.TrustedRunLemmas.{Run}
 use Rattle.sub_trusted.proofs.TrustedLookLemmas.{HasEnd}
 use Rattle.sub_trusted.proofs.TrustedStepLemmas.{Passes, Tells, end_tells}
 use Rattle.sub_trusted.proofs.TrustedStepLemmas.{keeps_end}
-use Rattle.sub_trusted.proofs.SayMarkLemmas.{rose}
-use Rattle.sub_rules.specs.Trusted.{Mark, back_of, stays_quiet, last_begun, late_of, run_of}
-use Rattle.sub_rules.specs.Trusted.{since_of}
-use Rattle.sub_rules.specs.Trusted.{stands_none, tells_fall, told_at, whole_at, whole_of}
+use Rattle.sub_trusted.proofs.SaidStepLemmas.{rose}
+use Rattle.sub_rules.specs.Trusted.{CheckStep, back_of, last_begun, late_of, run_of, since_of}
+use Rattle.sub_rules.specs.Trusted.{stands_none, stays_quiet, tells_fall, told_at, whole_at}
+use Rattle.sub_rules.specs.Trusted.{whole_of}
 
 -- Where the page was whole in the run that is left at the end of a frame.
 whole_ended : (run whole since : Option ℕ) (f w : ℕ)
@@ -38,9 +38,9 @@ whole_ended : (run whole since : Option ℕ) (f w : ℕ)
     → ((since ≡ None) × (f ≡ w)) ⊎ ((whole ≡ Some w) × (is_some run ≡ true))
 whole_ended run whole since f w e = grind (arith, nat_tests)
 
-module _ (g : Task) (frames : Transmission) (base : ℕ) where
+module _ (g : Criteria) (frames : Transmission) (base : ℕ) where
   -- All packets of frame n were sent, and its end was looked at.
-  record Ending (n : ℕ) (t : List Mark) : Type 0 where
+  record Ending (n : ℕ) (t : List CheckStep) : Type 0 where
     opens : Opens g frames base n (packets_of_frame frames n) t
     since_is : since_of t ≡ seen_since g frames (suc n) (frame_at frames n)
     since : rose t ≡ true → (r : ℕ) → since_of t ≡ Some r → r ≤ frame_at frames n
@@ -53,11 +53,11 @@ module _ (g : Task) (frames : Transmission) (base : ℕ) where
   quiet n = stands_none (standing_at g frames (suc n) (frame_at frames n))
 
   -- It ends.
-  abbrev mark : ℕ → Mark
-  mark n = Ends (frame_at frames n) (has n) (quiet n)
+  abbrev step : ℕ → CheckStep
+  step n = Ends (frame_at frames n) (has n) (quiet n)
 
-  ended : (n : ℕ) (t : List Mark) → n < length frames → Ending n t
-      → Closed g frames base (suc n) (mark n ∷ t)
+  ended : (n : ℕ) (t : List CheckStep) → n < length frames → Ending n t
+      → Closed g frames base (suc n) (step n ∷ t)
   unfolding run_of whole_of last_begun since_of late_of back_of stays_quiet tells_fall
   ended n t there ending = record {
     keeps = record {
@@ -93,7 +93,7 @@ module _ (g : Task) (frames : Transmission) (base : ℕ) where
         (omega arith, omega arith);
   }
     where
-      kept : (from : ℕ) → run_of (mark n ∷ t) ≡ Some from
+      kept : (from : ℕ) → run_of (step n ∷ t) ≡ Some from
           → (stays_quiet t ≡ true) × (quiet n ≡ true)
           × ((run_of t ≡ Some from)
           ⊎ ((run_of t ≡ None) × (has n ≡ true) × (frame_at frames n ≡ from)))
@@ -105,7 +105,7 @@ module _ (g : Task) (frames : Transmission) (base : ℕ) where
           let both = ending.opens.clean clean in
           record { rises = ending.opens.rises both.0; kept = both.1; none = none }
 
-      run_then : (from : ℕ) → run_of (mark n ∷ t) ≡ Some from → Run g frames (suc n) from
+      run_then : (from : ℕ) → run_of (step n ∷ t) ≡ Some from → Run g frames (suc n) from
       run_then from is =
           let (clean, none, was) = kept from is in
           elim was [
@@ -116,8 +116,8 @@ module _ (g : Task) (frames : Transmission) (base : ℕ) where
                 subst (Run g frames (suc n)) here (run_new g frames n (quiet_is clean none) header)
           ]
 
-      whole_then : (from w : ℕ) → run_of (mark n ∷ t) ≡ Some from
-          → whole_of (mark n ∷ t) ≡ Some w
+      whole_then : (from w : ℕ) → run_of (step n ∷ t) ≡ Some from
+          → whole_of (step n ∷ t) ≡ Some w
           → IsWhole g frames from w
       whole_then from w is whole =
           let (clean, none, was) = kept from is in
@@ -139,7 +139,7 @@ module _ (g : Task) (frames : Transmission) (base : ℕ) where
             ]
           ]
 
-      above_then : (from : ℕ) → run_of (mark n ∷ t) ≡ Some from → IsAbove g frames base from
+      above_then : (from : ℕ) → run_of (step n ∷ t) ≡ Some from → IsAbove g frames base from
       above_then from is i under =
           let (clean, none, was) = kept from is in
           let rises = ending.opens.rises (ending.opens.clean clean).0 in
@@ -157,18 +157,18 @@ module _ (g : Task) (frames : Transmission) (base : ℕ) where
       falls_then falls false is = refl
       falls_then falls true is = absurd (true≢false (sym (ending.opens.clean is).0 ∙ falls))
 
-  pub ending : (n : ℕ) (t : List Mark) → n < length frames
+  pub ending : (n : ℕ) (t : List CheckStep) → n < length frames
       → Opens g frames base n (packets_of_frame frames n) t
-      → Tells g frames base (Closed g frames base (suc n)) t (marks_of_ending g frames n)
+      → Tells g frames base (Closed g frames base (suc n)) t (steps_of_ending g frames n)
   unfolding told_at
   ending n t there opens =
       let f : ℕ = frame_at frames n in
       let packets : List (List ℕ) = packets_of_frame frames n in
-      let last : Mark = mark n in
+      let last : CheckStep = step n in
       Goes-append (Passes g frames base) (Ending n) (Closed g frames base (suc n)) t
-      (map Says (first_header_events g frames n) ++ marks_at_end g frames n (suc n) f) (last ∷ [])
+      (map Says (first_header_events g frames n) ++ steps_at_end g frames n (suc n) f) (last ∷ [])
       (Goes-append (Passes g frames base) (Opens g frames base n packets) (Ending n) t
-      (map Says (first_header_events g frames n)) (marks_at_end g frames n (suc n) f) (header opens)
+      (map Says (first_header_events g frames n)) (steps_at_end g frames n (suc n) f) (header opens)
       (λ u so. at_its_end u so))
       (λ v so.
       Goes-cons (Passes g frames base) (Closed g frames base (suc n)) v last [] refl
@@ -188,7 +188,8 @@ module _ (g : Task) (frames : Transmission) (base : ℕ) where
           opens_said g frames base n (packets_of_frame frames n) (packets_of_frame frames n) t u es
           opens said (λ quiet kept. kept))
 
-      top : (u : List Mark) → Opens g frames base n (packets_of_frame frames n) u → rose u ≡ true
+      top : (u : List CheckStep) → Opens g frames base n (packets_of_frame frames n) u → rose u
+          ≡ true
           → latest frames (suc n) ≤ frame_at frames n
       top u so rises =
           let last = latest_at frames (suc n) (so.rises rises) (omega arith) in
@@ -196,7 +197,7 @@ module _ (g : Task) (frames : Transmission) (base : ℕ) where
           ap (frame_at frames) (omega arith) in
           omega arith
 
-      below : (u : List Mark) → Opens g frames base n (packets_of_frame frames n) u
+      below : (u : List CheckStep) → Opens g frames base n (packets_of_frame frames n) u
           → rose u ≡ true
           → 0 < n
           → latest frames n < frame_at frames n
@@ -206,8 +207,8 @@ module _ (g : Task) (frames : Transmission) (base : ℕ) where
           let last = latest_at frames n (λ i a b. rise i a (omega arith)) some in
           omega arith
 
-      at_its_end : (u : List Mark) → Opens g frames base n (packets_of_frame frames n) u
-          → Tells g frames base (Ending n) u (marks_at_end g frames n (suc n) (frame_at frames n))
+      at_its_end : (u : List CheckStep) → Opens g frames base n (packets_of_frame frames n) u
+          → Tells g frames base (Ending n) u (steps_at_end g frames n (suc n) (frame_at frames n))
       at_its_end u so =
           let f : ℕ = frame_at frames n in
           let es : List Event = events_at_end g frames n (suc n) f in

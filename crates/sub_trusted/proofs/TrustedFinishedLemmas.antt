@@ -8,11 +8,11 @@ use Rattle.std.proofs.lemmas.List.{take-append-drop}
 use Rattle.stl_rows.specs.Programme.{ProgrammeValue}
 use Rattle.sub_plan.specs.Options.{OptionsValue}
 use Rattle.sub_rules.specs.Events.{standing_at, undecided_within, unfinished_since}
-use Rattle.sub_rules.specs.FrameRules.{Task, Unread}
+use Rattle.sub_rules.specs.FrameRules.{Criteria, Unread}
 use Rattle.sub_rules.specs.Repeats.{SomeFinishedBy}
 use Rattle.sub_rules.specs.Transmission.{Transmission}
 use Rattle.sub_rules.proofs.PrefixEventLemmas.{unfinished_since-prefix}
-use Rattle.sub_laws.specs.CleanStretch.{IsEnd, task_unsure}
+use Rattle.sub_laws.specs.CleanStretch.{IsEnd, criteria_unsure}
 use Rattle.sub_trusted.specs.TrustedFrames.{rising_part}
 use Rattle.sub_trusted.proofs.TrustedKeptLemmas.{MayStand}
 use Rattle.sub_laws.proofs.FinishedLemmas.{finished_of, since_no}
@@ -22,11 +22,11 @@ use Rattle.sub_trusted.proofs.TrustedFrameLemmas.{count_most, part_last}
 use Rattle.sub_trusted.proofs.TrustedFrameLemmas.{part_length, part_rises, risen, risen_low, untold}
 
 module _ (programme : ProgrammeValue) (options : OptionsValue) (unread : Option Unread)
-    (beside : Bool) (undecided : ℕ → Bool) (frames : Transmission) (from to : ℕ)
-    (may : MayStand (task_unsure programme options unread beside undecided) frames from to)
+    (any_refused : Bool) (undecided : ℕ → Bool) (frames : Transmission) (from to : ℕ)
+    (may : MayStand (criteria_unsure programme options unread any_refused undecided) frames from to)
   where
-    abbrev g : Task
-    g = task_unsure programme options unread beside undecided
+    abbrev g : Criteria
+    g = criteria_unsure programme options unread any_refused undecided
 
     abbrev part : Transmission
     part = rising_part frames
@@ -99,8 +99,10 @@ module _ (programme : ProgrammeValue) (options : OptionsValue) (unread : Option 
       may.w,
       may.whole.low,
       may.high,
-      finished_of programme options unread beside undecided part up may.whole.n may.w end_in_part
+      finished_of programme options unread any_refused undecided part up may.whole.n may.w
+          end_in_part
           (known_at g part may.whole.n may.w known)
-          (since_no programme options unread beside undecided part up may.whole.n may.w end_in_part
+          (since_no programme options unread any_refused undecided part up may.whole.n may.w
+          end_in_part
           (since_none some)),
     )

@@ -11,7 +11,7 @@ use Rattle.std.proofs.lemmas.List.{length-take-le, take-append-drop, take-take}
 use Rattle.ttx_page.specs.PacketKind.{begins_text, kind}
 use Rattle.ttx_page.specs.Span.{holds_beginning}
 use Rattle.sub_rules.specs.Events.{standing_at}
-use Rattle.sub_rules.specs.FrameRules.{Task, frame_at, packets_of_frame}
+use Rattle.sub_rules.specs.FrameRules.{Criteria, frame_at, packets_of_frame}
 use Rattle.sub_rules.specs.PacketTests.{breaks}
 use Rattle.sub_rules.specs.Transmission.{Transmission, last_frame, packets_of}
 use Rattle.sub_rules.specs.declared.packet_rule.PacketRule.{PacketRule}
@@ -93,7 +93,7 @@ pub part_last : (frames : Transmission) → 0 < risen frames
 part_last frames some = take_last frames (risen frames) (risen_low frames) some
 
 -- What stands broken at an end depends on the frames that count alone.
-pub standing-take : (g : Task) (frames : Transmission) (m n f : ℕ) → 0 < m → m ≤ length frames
+pub standing-take : (g : Criteria) (frames : Transmission) (m n f : ℕ) → 0 < m → m ≤ length frames
     → n ≤ m
     → standing_at g (take m frames) n f ≡ standing_at g frames n f
 standing-take g frames m n f some fits l =
@@ -102,7 +102,8 @@ standing-take g frames m n f some fits l =
     (standing_at-prefix g g.unread (take m frames) (drop m frames) n f (omega arith) (omega arith))
     ∙ ap (λ fs. standing_at g fs n f) (take-append-drop m frames)
 
-module _ (g : Task) (frames : Transmission) (from to : ℕ) (stays : StaysTo g frames from to) where
+module _ (g : Criteria) (frames : Transmission) (from to : ℕ)
+    (stays : StaysTo g frames from to) where
   abbrev m : ℕ
   m = risen frames
 

@@ -12,10 +12,11 @@ use Rattle.std.specs.Option.{option_or}
 use Rattle.ttx_page.specs.PacketKind.{kind}
 use Rattle.ttx_page.specs.Span.{holds_beginning}
 use Rattle.sub_rules.specs.Events.{gap_length, latest, standing_at, standing_before}
-use Rattle.sub_rules.specs.FrameRules.{Task, end_frame, frame_at, packets_before, packets_of_frame}
+use Rattle.sub_rules.specs.FrameRules.{Criteria, end_frame, frame_at, packets_before}
+use Rattle.sub_rules.specs.FrameRules.{packets_of_frame}
 use Rattle.sub_rules.specs.PacketTests.{breaks}
 use Rattle.sub_rules.specs.Transmission.{Transmission}
-use Rattle.sub_rules.specs.Trusted.Mark.{AtPes}
+use Rattle.sub_rules.specs.Trusted.CheckStep.{AtPes}
 use Rattle.sub_rules.specs.declared.event.Event.{Event}
 use Rattle.sub_rules.specs.declared.packet_rule.PacketRule.{PacketRule}
 use Rattle.sub_rules.proofs.EndLemmas.{gap_length-is, standing_before_is}
@@ -23,12 +24,11 @@ use Rattle.sub_laws.specs.CleanStretch.{IsEnd, is_needed}
 use Rattle.sub_trusted.proofs.LateDoubtLemmas.{KeepsAll, seen_since}
 use Rattle.sub_laws.proofs.PrefixLemmas.{RiseTo, before, packet_at, rises_to}
 use Rattle.sub_laws.proofs.RisingEndLemmas.{latest_at}
-use Rattle.sub_trusted.proofs.SayMarkLemmas.{IsSaid, doubt_of, kept_some, orders_doubted, rose}
+use Rattle.sub_trusted.proofs.SaidStepLemmas.{IsSaid, doubt_of, kept_some, orders_doubted, rose}
 use Rattle.sub_trusted.proofs.TrustedRunLemmas.{EndsQuiet, Run, Stays, StaysTo}
 use Rattle.sub_rules.specs.PieceEvents.{goes_back}
-use Rattle.sub_rules.specs.Trusted.{Mark, back_of, stays_quiet, last_begun, late_of, run_of}
-use Rattle.sub_rules.specs.Trusted.{since_of}
-use Rattle.sub_rules.specs.Trusted.{stands_none, tells_fall, whole_at, whole_of}
+use Rattle.sub_rules.specs.Trusted.{CheckStep, back_of, last_begun, late_of, run_of, since_of}
+use Rattle.sub_rules.specs.Trusted.{stands_none, stays_quiet, tells_fall, whole_at, whole_of}
 
 -- ---- tests
 
@@ -54,7 +54,7 @@ whole_found whole since f w e = grind (arith, nat_tests)
 
 -- No end is looked at: there is no frame since which the page is not whole, and it was whole in a
 -- run that is there.
-pub record SeesNone (t : List Mark) : Type 0 where
+pub record SeesNone (t : List CheckStep) : Type 0 where
   pub since : since_of t ≡ None
   pub late : late_of t ≡ None
   pub whole : is_some (run_of t) ≡ true → is_some (whole_of t) ≡ true
@@ -64,7 +64,7 @@ pub whole_some : (whole since : Option ℕ) (f : ℕ) → since ≡ None
     → is_some (option_or whole (whole_at f since)) ≡ true
 whole_some whole since f none = grind (arith, nat_tests)
 
-module _ (g : Task) (frames : Transmission) where
+module _ (g : Criteria) (frames : Transmission) where
   -- ---- frames that may stay
 
   -- The page was whole at the end of frame w, which is not before the first one of the run, where
@@ -126,7 +126,8 @@ module _ (g : Task) (frames : Transmission) where
   -- ---- frames that rise
 
   -- No frame is doubted where the run is kept.
-  pub calm : (t u : List Mark) (es : List Event) → IsSaid t u es → (from : ℕ) → run_of u ≡ Some from
+  pub calm : (t u : List CheckStep) (es : List Event) → IsSaid t u es → (from : ℕ) → run_of u
+      ≡ Some from
       → doubt_of t es ≡ None
   calm t u es said from is = (kept_some (run_of t) (doubt_of t es) from (sym said.run_is ∙ is)).1
 
@@ -242,10 +243,10 @@ module _ (g : Task) (frames : Transmission) where
 
 -- ---- what is kept
 
-module _ (g : Task) (frames : Transmission) (base : ℕ) where
+module _ (g : Criteria) (frames : Transmission) (base : ℕ) where
   -- The run that is kept is one of the first n frames, and comes after the first `base` of them;
   -- none of the ends from it on that come before frame x finds anything broken.
-  pub record Keeps (n x : ℕ) (t : List Mark) : Type 0 where
+  pub record Keeps (n x : ℕ) (t : List CheckStep) : Type 0 where
     pub run : (from : ℕ) → run_of t ≡ Some from → Run g frames n from
     pub ends : (from : ℕ) → run_of t ≡ Some from → EndsQuiet g frames n from x
     pub whole : (from w : ℕ) → run_of t ≡ Some from → whole_of t ≡ Some w → IsWhole g frames from w
@@ -255,12 +256,13 @@ module _ (g : Task) (frames : Transmission) (base : ℕ) where
     pub plain : goes_back g ≡ false → back_of t ≡ None
 
   -- Up to another frame, where the ends before that find nothing broken.
-  pub keeps_to : (n x y : ℕ) (t : List Mark) → Keeps n x t
+  pub keeps_to : (n x y : ℕ) (t : List CheckStep) → Keeps n x t
       → ((from : ℕ) → run_of t ≡ Some from → EndsQuiet g frames n from y)
       → Keeps n y t
   keeps_to n x y t keeps ends = grind (arith, nat_tests)
 
-  pub passes_before : (late n x y : ℕ) (t : List Mark) → Keeps n x t → MayEnd g frames late n x y
+  pub passes_before : (late n x y : ℕ) (t : List CheckStep) → Keeps n x t
+      → MayEnd g frames late n x y
       → end_frame frames ≤ late
       → late ≤ end_frame frames + 1
       → (from w : ℕ)
@@ -296,7 +298,7 @@ module _ (g : Task) (frames : Transmission) (base : ℕ) where
       }
 
   -- It is kept after events too.
-  pub keeps_said : (n x : ℕ) (t u : List Mark) (es : List Event) → Keeps n x t → IsSaid t u es
+  pub keeps_said : (n x : ℕ) (t u : List CheckStep) (es : List Event) → Keeps n x t → IsSaid t u es
       → Keeps n x u
   keeps_said n x t u es keeps said = record {
     run = λ from is. keeps.run from (was from is);
@@ -334,7 +336,7 @@ module _ (g : Task) (frames : Transmission) (base : ℕ) where
   -- ---- before a frame
 
   -- The first k ends of frames of the day before frame n have been.
-  pub record Arrives (n k : ℕ) (t : List Mark) : Type 0 where
+  pub record Arrives (n k : ℕ) (t : List CheckStep) : Type 0 where
     pub keeps : Keeps n (latest frames n + suc k) t
     pub floor : base ≤ n
     pub rises : rose t ≡ true → RiseTo frames (suc n)
@@ -344,7 +346,8 @@ module _ (g : Task) (frames : Transmission) (base : ℕ) where
         → back_of t ≡ Some r
         → (0 < n) × (r ≤ latest frames n + k)
 
-  pub up_of : (n x from : ℕ) (t : List Mark) → Keeps n x t → (rose t ≡ true → RiseTo frames (suc n))
+  pub up_of : (n x from : ℕ) (t : List CheckStep) → Keeps n x t
+      → (rose t ≡ true → RiseTo frames (suc n))
       → run_of t ≡ Some from
       → Up g frames n
   up_of n x from t keeps so is =
@@ -357,7 +360,7 @@ module _ (g : Task) (frames : Transmission) (base : ℕ) where
       record { some = some; last = last; rises = rises; up = up; long = omega arith }
 
   -- Nothing stands at the end before one of these ends, or before the frame's own.
-  pub stood : (n f from : ℕ) (t : List Mark) → n < length frames → Keeps n f t
+  pub stood : (n f from : ℕ) (t : List CheckStep) → n < length frames → Keeps n f t
       → run_of t ≡ Some from
       → Up g frames n
       → latest frames n < f
@@ -389,7 +392,7 @@ module _ (g : Task) (frames : Transmission) (base : ℕ) where
   -- ---- frames that have ended, and one that is sent
 
   -- The first n frames have ended, and no end after that of the last of them has been.
-  pub record Closed (n : ℕ) (t : List Mark) : Type 0 where
+  pub record Closed (n : ℕ) (t : List CheckStep) : Type 0 where
     pub keeps : Keeps n (frame_at frames (n - 1) + 1) t
     pub floor : base ≤ n
     pub last : 0 < n → last_begun t ≡ frame_at frames (n - 1)
@@ -403,7 +406,7 @@ module _ (g : Task) (frames : Transmission) (base : ℕ) where
         → (0 < n) × (r ≤ frame_at frames (n - 1))
 
   -- After these frame n is sent, and these packets in it so far.
-  pub record Opens (n : ℕ) (packets : List (List ℕ)) (t : List Mark) : Type 0 where
+  pub record Opens (n : ℕ) (packets : List (List ℕ)) (t : List CheckStep) : Type 0 where
     pub keeps : Keeps n (frame_at frames n) t
     pub floor : base ≤ suc n
     pub last : last_begun t ≡ frame_at frames n
@@ -415,22 +418,22 @@ module _ (g : Task) (frames : Transmission) (base : ℕ) where
     pub back : rose t ≡ true → (r : ℕ) → back_of t ≡ Some r → r ≤ frame_at frames n
 
   -- Of which PES packet is told changes nothing.
-  pub closed_at : (n pes : ℕ) (t : List Mark) → Closed n t → Closed n (AtPes pes ∷ t)
+  pub closed_at : (n pes : ℕ) (t : List CheckStep) → Closed n t → Closed n (AtPes pes ∷ t)
   unfolding run_of whole_of last_begun since_of late_of back_of stays_quiet tells_fall
   closed_at n pes t closed = grind (arith, nat_tests)
 
   -- Frames rose before these events where they rose up to here.
-  pub rose_before : (t u : List Mark) (es : List Event) → IsSaid t u es → rose u ≡ true
+  pub rose_before : (t u : List CheckStep) (es : List Event) → IsSaid t u es → rose u ≡ true
       → rose t ≡ true
   rose_before t u es said e = let rises_is = said.rises_is in grind (arith, nat_tests)
 
   -- Nor do events before the first frame.
-  pub closed_said : (n : ℕ) (t u : List Mark) (es : List Event) → Closed n t → IsSaid t u es
+  pub closed_said : (n : ℕ) (t u : List CheckStep) (es : List Event) → Closed n t → IsSaid t u es
       → Closed n u
   closed_said n t u es closed said =
       grind (arith, nat_tests, keeps_said, rose, kept_some, doubt_of, rose_before)
 
-  pub opens_at : (n pes : ℕ) (packets : List (List ℕ)) (t : List Mark) → Opens n packets t
+  pub opens_at : (n pes : ℕ) (packets : List (List ℕ)) (t : List CheckStep) → Opens n packets t
       → Opens n packets (AtPes pes ∷ t)
   unfolding run_of whole_of last_begun since_of late_of back_of stays_quiet tells_fall
   opens_at n pes packets t opens = grind (arith, nat_tests)
@@ -438,7 +441,7 @@ module _ (g : Task) (frames : Transmission) (base : ℕ) where
   -- ---- while a frame is sent
 
   -- Frames before frame n may be trusted up to the one before it.
-  pub may_before : (n : ℕ) (packets : List (List ℕ)) (t : List Mark) → n < length frames
+  pub may_before : (n : ℕ) (packets : List (List ℕ)) (t : List CheckStep) → n < length frames
       → Opens n packets t
       → (from : ℕ) → run_of t ≡ Some from
       → (late y : ℕ) → y ≤ frame_at frames n
@@ -446,7 +449,7 @@ module _ (g : Task) (frames : Transmission) (base : ℕ) where
   may_before n packets t there opens from is late y high = grind (arith, nat_tests)
 
   -- What is kept after events that doubt none but this frame.
-  pub opens_said : (n : ℕ) (packets more : List (List ℕ)) (t u : List Mark) (es : List Event)
+  pub opens_said : (n : ℕ) (packets more : List (List ℕ)) (t u : List CheckStep) (es : List Event)
       → Opens n packets t
       → IsSaid t u es
       → (doubt_of t es ≡ None

@@ -1,5 +1,5 @@
 -- For what may stay.
--- What is kept of the marks of an end, `Looks`, `Backs`, and that what comes there may be taken as
+-- What is kept of the steps of an end, `Looks`, `Backs`, and that what comes there may be taken as
 -- what is told once it was looked at: `with_end`.
 use Rattle.std.proofs.lemmas.Bool.Decides.{nat_tests}
 use Rattle.std.proofs.Common.{◌≡◌, ℕ, ◌≤◌, true, false, not}
@@ -10,24 +10,23 @@ use Rattle.std.proofs.lemmas.Option.{none-some}
 use Rattle.std.specs.Option.{option_or}
 use Rattle.sub_rules.specs.Events.{events_at_end, is_late}
 use Rattle.sub_rules.specs.Events.{since_before}
-use Rattle.sub_rules.specs.FrameRules.{Task}
-use Rattle.sub_rules.specs.PieceEvents.{goes_back, marks_at_end}
+use Rattle.sub_rules.specs.FrameRules.{Criteria}
+use Rattle.sub_rules.specs.PieceEvents.{goes_back, steps_at_end}
 use Rattle.sub_rules.specs.Transmission.{Transmission}
-use Rattle.sub_rules.specs.Trusted.Mark.{Says}
+use Rattle.sub_rules.specs.Trusted.CheckStep.{Says}
 use Rattle.sub_laws.specs.CleanStretch.{IsEnd}
 use Rattle.sub_trusted.proofs.TrustedKeptLemmas.{SeesNone}
 use Rattle.sub_trusted.proofs.LateDoubtLemmas.{seen_since}
 use Rattle.sub_laws.proofs.PrefixLemmas.{RiseTo}
-use Rattle.sub_trusted.proofs.SayMarkLemmas.{rose}
-use Rattle.sub_rules.specs.Trusted.{Mark, back_of, stays_quiet, last_begun, late_of, run_of}
-use Rattle.sub_rules.specs.Trusted.{since_of}
-use Rattle.sub_rules.specs.Trusted.{tells_fall, told_at, whole_at, whole_of}
+use Rattle.sub_trusted.proofs.SaidStepLemmas.{rose}
+use Rattle.sub_rules.specs.Trusted.{CheckStep, back_of, last_begun, late_of, run_of, since_of}
+use Rattle.sub_rules.specs.Trusted.{stays_quiet, tells_fall, told_at, whole_at, whole_of}
 
--- ---- the mark of an end
+-- ---- the step of an end
 
-module _ (g : Task) (frames : Transmission) where
+module _ (g : Criteria) (frames : Transmission) where
   -- The end of frame f was looked at, up to which n frames count.
-  pub record Looks (n f : ℕ) (t u : List Mark) : Type 0 where
+  pub record Looks (n f : ℕ) (t u : List CheckStep) : Type 0 where
     pub run_is : run_of u ≡ run_of t
     pub whole_is :
         is_some (run_of t) ≡ true
@@ -43,23 +42,23 @@ module _ (g : Task) (frames : Transmission) where
 
   -- Up to the end before that of frame f, up to which i frames counted, the page was not whole
   -- since this frame.
-  abbrev pub Backs : ℕ → ℕ → List Mark → Type 0
+  abbrev pub Backs : ℕ → ℕ → List CheckStep → Type 0
   Backs i f u = (r : ℕ) → back_of u ≡ Some r → since_before g frames i f ≡ Some r
 
-  -- It has a mark within some frames; where each end is told at once one would change nothing. So
+  -- It has a step within some frames; where each end is told at once one would change nothing. So
   -- what comes there may be taken as what is told once it was looked at.
-  pub with_end : (T : List Mark → List Mark → Type 0) (i n f : ℕ) (t : List Mark)
+  pub with_end : (T : List CheckStep → List CheckStep → Type 0) (i n f : ℕ) (t : List CheckStep)
       → ((g.within == 0) ≡ true → SeesNone t)
       → (goes_back g ≡ false → back_of t ≡ None)
-      → ((v : List Mark) (m : Mark) (ms : List Mark)
+      → ((v : List CheckStep) (m : CheckStep) (ms : List CheckStep)
       → told_at v m ≡ []
       → T (m ∷ v) ms
       → T v (m ∷ ms))
-      → ((u : List Mark)
+      → ((u : List CheckStep)
       → Looks n f t u
       → Backs i f u
       → T u (map Says (events_at_end g frames i n f)))
-      → T t (marks_at_end g frames i n f)
+      → T t (steps_at_end g frames i n f)
   unfolding told_at run_of whole_of last_begun since_of late_of back_of stays_quiet tells_fall
   with_end T i n f t none plain cons so = grind (arith, nat_tests, none-some)
 

@@ -12,14 +12,14 @@ use Rattle.ttx_page.specs.Span.{holds_beginning}
 use Rattle.stl_rows.specs.Programme.{IsProgramme, ProgrammeValue}
 use Rattle.sub_plan.specs.Options.{OptionsValue}
 use Rattle.sub_rules.specs.Events.{standing_at}
-use Rattle.sub_rules.specs.FrameRules.{Task, Unread, frame_at}
+use Rattle.sub_rules.specs.FrameRules.{Criteria, Unread, frame_at}
 use Rattle.sub_rules.specs.Good.{HoldsHeader}
 use Rattle.sub_rules.specs.PieceEvents.{all_of_pieces, sent_by_pieces}
 use Rattle.sub_rules.specs.Pieces.{Piece}
 use Rattle.sub_rules.specs.Repeats.{SomeFinishedBy}
 use Rattle.sub_rules.specs.Transmission.{Transmission, first_frame, packets_of}
 use Rattle.sub_rules.specs.declared.event.Event.TheVariants.{Trusted}
-use Rattle.sub_laws.specs.CleanStretch.{IsUntold, NoneOpen, task_unsure}
+use Rattle.sub_laws.specs.CleanStretch.{IsUntold, NoneOpen, criteria_unsure}
 use Rattle.sub_laws.specs.Repeats.{FinishesInTimeBy}
 use Rattle.sub_laws.specs.ToldRepeats.{IsSufficientRepeats}
 use Rattle.sub_trusted.specs.TrustedFrames.{IsAsRead, LawOfTrusted, LawOfTrustedKnown, MayStay}
@@ -42,13 +42,13 @@ use Rattle.sub_trusted.proofs.TrustedPassedLemmas.{passed_outside}
 use Rattle.sub_trusted.proofs.TrustedPieceLemmas.{all_stay_within}
 
 module _ (programme : ProgrammeValue) (options : OptionsValue) (unread : Option Unread)
-    (beside : Bool) (undecided : ℕ → Bool) (pieces : List Piece) (from to : ℕ)
+    (any_refused : Bool) (undecided : ℕ → Bool) (pieces : List Piece) (from to : ℕ)
     (told :
-    Contains (all_of_pieces (task_unsure programme options unread beside undecided) pieces)
+    Contains (all_of_pieces (criteria_unsure programme options unread any_refused undecided) pieces)
     (Trusted from to))
   where
-    abbrev g : Task
-    g = task_unsure programme options unread beside undecided
+    abbrev g : Criteria
+    g = criteria_unsure programme options unread any_refused undecided
 
     abbrev frames : Transmission
     frames = sent_by_pieces g pieces
@@ -76,7 +76,7 @@ module _ (programme : ProgrammeValue) (options : OptionsValue) (unread : Option 
       enough_there =
           sufficient_too options.keeps programme options part on_air from to quiet.rising
           quiet.stretch.from is begins
-          (enough_repeats programme options unread beside undecided part from to quiet)
+          (enough_repeats programme options unread any_refused undecided part from to quiet)
 
       -- The first frame holds a header with which the text begins.
       begins_there :
@@ -96,7 +96,8 @@ module _ (programme : ProgrammeValue) (options : OptionsValue) (unread : Option 
       finishes_there holds =
           finishes_too options.keeps programme options part on_air from to quiet.rising
           quiet.stretch.from is begins
-          (finishes_untold programme options unread beside undecided part from to quiet closed_there
+          (finishes_untold programme options unread any_refused undecided part from to quiet
+          closed_there
           holds)
 
       -- One of them at least.
@@ -106,7 +107,7 @@ module _ (programme : ProgrammeValue) (options : OptionsValue) (unread : Option 
           let some : (options.within == 0) ≡ false = grind (arith, nat_tests) in
           some_too options.keeps programme options part on_air from to quiet.rising
           quiet.stretch.from is begins from to (le_refl from) (le_refl to)
-          (finished_there programme options unread beside undecided frames from to may some)
+          (finished_there programme options unread any_refused undecided frames from to may some)
 
       may_stay : IsProgramme programme.drawing programme.records
           → MayStayBy programme on_air options from to
@@ -130,31 +131,36 @@ module _ (programme : ProgrammeValue) (options : OptionsValue) (unread : Option 
         complete = λ asks.
             complete_too options.keeps programme options part on_air from to quiet.rising
             quiet.stretch.from is begins
-            (complete_untold programme part options unread beside undecided from to at_once quiet
+            (complete_untold programme part options unread any_refused undecided from to at_once
+            quiet
             asks closed_there);
       }
 
 pub law_of_trusted_repeats : LawOfTrustedRepeats
-law_of_trusted_repeats programme options unread beside undecided pieces from to holds told =
+law_of_trusted_repeats programme options unread any_refused undecided pieces from to holds told =
     record {
       passed =
-          passed_outside (task_unsure programme options unread beside undecided) pieces from to
+          passed_outside (criteria_unsure programme options unread any_refused undecided) pieces
+          from to
           told;
       stays = λ on_air is.
-          may_stay programme options unread beside undecided pieces from to told on_air is holds;
+          may_stay programme options unread any_refused undecided pieces from to told on_air is
+          holds;
     }
 
 pub law_of_trusted : LawOfTrusted
-law_of_trusted programme options unread beside undecided pieces from to none at_once told = record {
-  passed =
-      passed_outside (task_unsure programme options unread beside undecided) pieces from to told;
-  stays = λ on_air is.
-      may_stay_at_once programme options unread beside undecided pieces from to told on_air is none
-      at_once;
-}
+law_of_trusted programme options unread any_refused undecided pieces from to none at_once told =
+    record {
+      passed =
+          passed_outside (criteria_unsure programme options unread any_refused undecided) pieces from
+          to told;
+      stays = λ on_air is.
+          may_stay_at_once programme options unread any_refused undecided pieces from to told on_air
+          is none at_once;
+    }
 
 -- Of frames of which nothing is told it is known at the end of each what was due at the last ones.
-known : (g : Task) (part : Transmission) (from to : ℕ) → IsUntold g part from to
+known : (g : Criteria) (part : Transmission) (from to : ℕ) → IsUntold g part from to
     → (f x : ℕ) → first_frame part ≤ f → x ≤ f + g.within
     → from ≤ x
     → x ≤ to

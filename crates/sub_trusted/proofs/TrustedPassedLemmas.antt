@@ -10,18 +10,19 @@ use Rattle.std.proofs.lemmas.Bool.{true≢false}
 use Rattle.std.proofs.lemmas.List.Elements.{All-append, All-cons, All-nil}
 use Rattle.std.proofs.lemmas.Option.{none-some, same_Some}
 use Rattle.sub_rules.specs.Events.{unread_fault}
-use Rattle.sub_rules.specs.FrameRules.{Task, Unread, end_frame, frame_at}
-use Rattle.sub_rules.specs.PieceEvents.{all_announced, all_of_pieces, goes_back, marks_of_closing}
-use Rattle.sub_rules.specs.PieceEvents.{marks_of_each, marks_of_pieces, marks_of_waiting, no_run}
-use Rattle.sub_rules.specs.PieceEvents.{passed_after_all, sent_by_pieces, told_of_pieces}
+use Rattle.sub_rules.specs.FrameRules.{Criteria, Unread, end_frame, frame_at}
+use Rattle.sub_rules.specs.PieceEvents.{all_announced, all_of_pieces, goes_back, no_run}
+use Rattle.sub_rules.specs.PieceEvents.{passed_after_all, sent_by_pieces, steps_of_closing}
+use Rattle.sub_rules.specs.PieceEvents.{steps_of_each, steps_of_pieces, steps_of_waiting}
+use Rattle.sub_rules.specs.PieceEvents.{told_of_pieces}
 use Rattle.sub_rules.specs.Pieces.{Piece, frames_of, joined_after}
 use Rattle.sub_rules.specs.Pieces.Piece.{Passed}
 use Rattle.sub_rules.specs.Transmission.{Transmission}
-use Rattle.sub_rules.specs.Trusted.Mark.{AtPes, Says}
+use Rattle.sub_rules.specs.Trusted.CheckStep.{AtPes, Says}
 use Rattle.sub_rules.specs.declared.event.Event.{Event}
 use Rattle.sub_rules.specs.declared.event.Event.TheVariants.{Told, Trusted}
 use Rattle.sub_rules.proofs.JoinedLemmas.{frames_of-append, joined_after-append}
-use Rattle.sub_rules.proofs.JoinedLemmas.{marks_of_each-append}
+use Rattle.sub_rules.proofs.JoinedLemmas.{steps_of_each-append}
 use Rattle.sub_rules.proofs.TrustedLemmas.{past_after, told_after-append}
 use Rattle.sub_trusted.specs.TrustedFrames.{IsPassedOutside}
 use Rattle.sub_trusted.proofs.TrustedPieceLemmas.{Last, SendsOn, all_pass, each_passes, start}
@@ -32,21 +33,20 @@ use Rattle.sub_trusted.proofs.DoubtLemmas.{each-weaker}
 use Rattle.sub_laws.proofs.GrowingFrameLemmas.{Grows, frame_is, grows}
 use Rattle.sub_trusted.proofs.LateDoubtLemmas.{passed_at}
 use Rattle.sub_laws.proofs.PrefixLemmas.{RiseTo, last-same}
-use Rattle.sub_trusted.proofs.SayMarkLemmas.{Goes, Goes-says, back_low, back_to, doubt_of, rose}
-use Rattle.sub_trusted.proofs.SayMarkLemmas.{said}
+use Rattle.sub_trusted.proofs.SaidStepLemmas.{Goes, Goes-says, back_low, back_to, doubt_of, rose}
+use Rattle.sub_trusted.proofs.SaidStepLemmas.{said}
 use Rattle.sub_trusted.proofs.TrustedFrameLemmas.{part_length, part_rises}
-use Rattle.sub_rules.specs.Trusted.{Mark, back_of, stays_quiet, last_begun, late_of, run_of}
-use Rattle.sub_rules.specs.Trusted.{since_of}
-use Rattle.sub_rules.specs.Trusted.{tells_fall, told_after, told_at, whole_of}
+use Rattle.sub_rules.specs.Trusted.{CheckStep, back_of, last_begun, late_of, run_of, since_of}
+use Rattle.sub_rules.specs.Trusted.{stays_quiet, tells_fall, told_after, told_at, whole_of}
 
 -- With the frames that are read after it those before it are all.
-before_all : (g : Task) (earlier later : List Piece) (u : Unread)
+before_all : (g : Criteria) (earlier later : List Piece) (u : Unread)
     → joined_after g.within (sent_by_pieces g earlier) (frames_of later)
     ≡ sent_by_pieces g (earlier ++ Passed u ∷ later)
 unfolding frames_of
 before_all g earlier later u = grind (arith, nat_tests, frames_of-append, joined_after-append)
 
-module _ (g : Task) (earlier : List Piece) (u : Unread) (later : List Piece)
+module _ (g : Criteria) (earlier : List Piece) (u : Unread) (later : List Piece)
     (some : 0 < length (sent_by_pieces g earlier))
     (rises : RiseTo (sent_by_pieces g earlier) (length (sent_by_pieces g earlier)))
   where
@@ -75,10 +75,10 @@ module _ (g : Task) (earlier : List Piece) (u : Unread) (later : List Piece)
 
     -- ---- before it
 
-    abbrev first : List Mark
-    first = marks_of_each g [] 0 earlier
+    abbrev first : List CheckStep
+    first = steps_of_each g [] 0 earlier
 
-    abbrev t : List Mark
+    abbrev t : List CheckStep
     t = past_after [] first
 
     before : Goes (Passes g sent 0) (SendsOn g sent 0 sent) [] first
@@ -110,10 +110,10 @@ module _ (g : Task) (earlier : List Piece) (u : Unread) (later : List Piece)
     abbrev es : List Event
     es = Told (unread_fault pes (Some u)) ∷ []
 
-    abbrev now : List Mark
+    abbrev now : List CheckStep
     now = AtPes pes ∷ t
 
-    abbrev v : List Mark
+    abbrev v : List CheckStep
     v = past_after now (map Says es)
 
     now_last : last_begun now ≡ end_frame sent
@@ -216,7 +216,7 @@ module _ (g : Task) (earlier : List Piece) (u : Unread) (later : List Piece)
     ended : EachTrusted Outside (told_after now (map Says es))
     unfolding run_of back_of
     ended =
-        (Goes-says Outside (λ z. List Mark) now es
+        (Goes-says Outside (λ z. List CheckStep) now es
         (All-cons (OnTrusted Outside) (Told (unread_fault pes (Some u))) []
         tt (All-nil (OnTrusted Outside)))
         (λ x from w doubted run whole under.
@@ -230,20 +230,20 @@ module _ (g : Task) (earlier : List Piece) (u : Unread) (later : List Piece)
     -- ---- all
 
     pub each_outside : EachTrusted Outside (all_of_pieces g all)
-    unfolding all_of_pieces told_of_pieces marks_of_each told_after told_at
+    unfolding all_of_pieces told_of_pieces steps_of_each told_after told_at
     each_outside =
-        let rest : List Mark =
-        marks_of_each g sent (suc pes) later
-        ++ marks_of_waiting g frames
-        ++ marks_of_closing g frames (length all) (length frames) in
-        let own : List Mark = AtPes pes ∷ map Says es in
-        let parts : marks_of_pieces g all ≡ first ++ (own ++ rest) =
-        ap (λ (ms : List Mark). ms
-        ++ marks_of_waiting g frames
-        ++ marks_of_closing g frames (length all) (length frames))
-        (marks_of_each-append g [] 0 pes earlier (Passed u ∷ later) (omega arith))
-        ∙ joined first (own ++ marks_of_each g sent (suc pes) later) (marks_of_waiting g frames)
-        (marks_of_closing g frames (length all) (length frames)) in
+        let rest : List CheckStep =
+        steps_of_each g sent (suc pes) later
+        ++ steps_of_waiting g frames
+        ++ steps_of_closing g frames (length all) (length frames) in
+        let own : List CheckStep = AtPes pes ∷ map Says es in
+        let parts : steps_of_pieces g all ≡ first ++ (own ++ rest) =
+        ap (λ (ms : List CheckStep). ms
+        ++ steps_of_waiting g frames
+        ++ steps_of_closing g frames (length all) (length frames))
+        (steps_of_each-append g [] 0 pes earlier (Passed u ∷ later) (omega arith))
+        ∙ joined first (own ++ steps_of_each g sent (suc pes) later) (steps_of_waiting g frames)
+        (steps_of_closing g frames (length all) (length frames)) in
         let told : EachTrusted Outside (told_of_pieces g all) =
         subst (EachTrusted Outside)
         (sym
@@ -266,12 +266,13 @@ module _ (g : Task) (earlier : List Piece) (u : Unread) (later : List Piece)
         (each-announced Outside no_run (told_of_pieces g all) told)
         (each-ended Outside (passed_after_all no_run (told_of_pieces g all)))
       where
-        joined : (ks ls ms ns : List Mark) → ks ++ ls ++ ms ++ ns ≡ ks ++ (ls ++ ms ++ ns)
+        joined : (ks ls ms ns : List CheckStep) → ks ++ ls ++ ms ++ ns ≡ ks ++ (ls ++ ms ++ ns)
         joined ks ls ms ns =
-            ap (λ (l : List Mark). l ++ ns) (append_assoc ks ls ms) ∙ append_assoc ks (ls ++ ms) ns
+            ap (λ (l : List CheckStep). l ++ ns) (append_assoc ks ls ms)
+            ∙ append_assoc ks (ls ++ ms) ns
 
 -- No piece is passed over that may have been sent in the frames that are told as trusted.
-pub passed_outside : (g : Task) (pieces : List Piece) (from to : ℕ)
+pub passed_outside : (g : Criteria) (pieces : List Piece) (from to : ℕ)
     → Contains (all_of_pieces g pieces) (Trusted from to)
     → IsPassedOutside g pieces from to
 passed_outside g pieces from to told earlier later u is some few =

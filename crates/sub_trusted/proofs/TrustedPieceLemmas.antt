@@ -8,14 +8,14 @@ use Rattle.std.proofs.Common.{subst, arith, append-nil, unwrap_or, if◌then◌e
 use Rattle.std.proofs.lemmas.List.Elements.{All-append, All-cons, All-nil}
 use Rattle.std.proofs.lemmas.Option.{none-some}
 use Rattle.sub_rules.specs.Events.{closing_events}
-use Rattle.sub_rules.specs.FrameRules.{Task, end_frame, packets_of_frame}
-use Rattle.sub_rules.specs.PieceEvents.{all_announced, all_of_pieces, closing_of_pieces}
-use Rattle.sub_rules.specs.PieceEvents.{marks_of_closing, marks_of_each, marks_of_waiting, no_run}
-use Rattle.sub_rules.specs.PieceEvents.{passed_after_all, sent_by_pieces, told_of_pieces}
+use Rattle.sub_rules.specs.FrameRules.{Criteria, end_frame, packets_of_frame}
+use Rattle.sub_rules.specs.PieceEvents.{all_announced, all_of_pieces, closing_of_pieces, no_run}
+use Rattle.sub_rules.specs.PieceEvents.{passed_after_all, sent_by_pieces, steps_of_closing}
+use Rattle.sub_rules.specs.PieceEvents.{steps_of_each, steps_of_waiting, told_of_pieces}
 use Rattle.sub_rules.specs.Pieces.{Piece, frames_of, joined_after, sent_after}
 use Rattle.sub_rules.specs.Pieces.Piece.{Passed, Sent}
 use Rattle.sub_rules.specs.Transmission.{Transmission}
-use Rattle.sub_rules.specs.Trusted.Mark.{AtPes, Closes, Says}
+use Rattle.sub_rules.specs.Trusted.CheckStep.{AtPes, Closes, Says}
 use Rattle.sub_rules.specs.declared.event.Event.{Event}
 use Rattle.sub_rules.proofs.AnyToldLemmas.{own_closing}
 use Rattle.sub_rules.proofs.TrustedLemmas.{past_after, told_after-append}
@@ -28,18 +28,16 @@ use Rattle.sub_trusted.proofs.DoubtLemmas.{EachTrusted, OnTrusted, each-announce
 use Rattle.sub_trusted.proofs.DoubtLemmas.{each-own, each-weaker}
 use Rattle.sub_laws.proofs.GrowingFrameLemmas.{long, so_many}
 use Rattle.sub_laws.proofs.PieceWalkLemmas.{EachPassed, Sends, Steps, each_piece, waits}
-use Rattle.sub_trusted.proofs.SayMarkLemmas.{Goes, Goes-append, Goes-nil, Goes-pes, Goes-says}
-use Rattle.sub_trusted.proofs.SayMarkLemmas.{each_put, rose, told_of}
+use Rattle.sub_trusted.proofs.SaidStepLemmas.{Goes, Goes-append, Goes-nil, Goes-pes, Goes-says}
+use Rattle.sub_trusted.proofs.SaidStepLemmas.{each_put, rose, told_of}
 use Rattle.std.specs.Prelude.{⊤}
-use Rattle.sub_rules.specs.Trusted.{Mark, back_of, closing_at, is_said, stays_quiet, last_begun}
-use Rattle.sub_rules.specs.Trusted.{late_of}
-use Rattle.sub_rules.specs.Trusted.{run_of}
-use Rattle.sub_rules.specs.Trusted.{since_of, tells_fall, tells_none, told_after, told_at}
-use Rattle.sub_rules.specs.Trusted.{trusted, whole_of}
+use Rattle.sub_rules.specs.Trusted.{CheckStep, back_of, closing_at, is_said, last_begun, late_of}
+use Rattle.sub_rules.specs.Trusted.{run_of, since_of, stays_quiet, tells_fall, tells_none}
+use Rattle.sub_rules.specs.Trusted.{told_after, told_at, trusted, whole_of}
 use Rattle.std.specs.List.{list_any}
 
 -- What is trusted at the end of a file is before this frame.
-abbrev pub last_late : Task → Transmission → ℕ
+abbrev pub last_late : Criteria → Transmission → ℕ
 last_late g frames =
     if is_some g.unread then end_frame frames else end_frame frames + 1
 
@@ -47,13 +45,13 @@ late_low_bound : (left : Bool) (last : ℕ)
     → (last ≤ (if left then last else last + 1)) × ((if left then last else last + 1) ≤ last + 1)
 late_low_bound left last = grind (arith, nat_tests)
 
-module _ (g : Task) (frames : Transmission) (base : ℕ) where
+module _ (g : Criteria) (frames : Transmission) (base : ℕ) where
   abbrev P : ℕ → ℕ → Type 0
   P = Passes g frames base
 
   -- What comes of a frame, or of a piece that is passed over.
   steps :
-      Steps (List Mark) told_of g frames (Goes P) (Closed g frames base) (Opens g frames base)
+      Steps (List CheckStep) told_of g frames (Goes P) (Closed g frames base) (Opens g frames base)
       (λ sent. ⊤)
   steps = record {
     at_ended = closed_at g frames base;
@@ -76,18 +74,19 @@ module _ (g : Task) (frames : Transmission) (base : ℕ) where
   none_asked sent (Passed u ∷ pieces) = (tt, none_asked sent pieces)
 
   -- What is kept where these frames were sent.
-  abbrev pub SendsOn : Transmission → List Mark → Type 0
+  abbrev pub SendsOn : Transmission → List CheckStep → Type 0
   SendsOn sent t =
-      Sends (List Mark) told_of g frames (Goes P) (Closed g frames base) (Opens g frames base)
+      Sends (List CheckStep) told_of g frames (Goes P) (Closed g frames base) (Opens g frames base)
       (λ l. ⊤) sent t
 
   -- What comes of pieces.
-  pub each_passes : (sent : Transmission) (pes : ℕ) (t : List Mark) (pieces : List Piece)
+  pub each_passes : (sent : Transmission) (pes : ℕ) (t : List CheckStep) (pieces : List Piece)
       → joined_after g.within sent (frames_of pieces) ≡ frames
       → SendsOn sent t
-      → Goes P (SendsOn frames) t (marks_of_each g sent pes pieces)
+      → Goes P (SendsOn frames) t (steps_of_each g sent pes pieces)
   each_passes sent pes t pieces all sends =
-      each_piece (List Mark) told_of g frames (Goes P) (Closed g frames base) (Opens g frames base)
+      each_piece (List CheckStep) told_of g frames (Goes P) (Closed g frames base)
+      (Opens g frames base)
       (λ l. ⊤) (Goes-nil P) (Goes-pes P) (Goes-append P) steps sent pes t pieces all
       (none_asked sent pieces) sends
 
@@ -111,19 +110,19 @@ module _ (g : Task) (frames : Transmission) (base : ℕ) where
       ≤ (if left then last else last + 1)
   end_low since back left last h k = grind (arith, nat_tests)
 
-  closing : (pes : ℕ) (t : List Mark) → Closed g frames base (length frames) t
-      → EachTrusted Last (told_after t (marks_of_closing g frames pes (length frames)))
+  closing : (pes : ℕ) (t : List CheckStep) → Closed g frames base (length frames) t
+      → EachTrusted Last (told_after t (steps_of_closing g frames pes (length frames)))
   unfolding told_after told_at run_of whole_of last_begun since_of late_of back_of stays_quiet
       tells_fall
   closing pes t closed =
       let n : ℕ = length frames in
       let es : List Event = closing_of_pieces g frames pes n in
-      let more : Bool = g.beside || not (tells_none es) in
-      let t0 : List Mark = AtPes pes ∷ t in
-      let t1 : List Mark = Closes (is_some g.unread) more ∷ t0 in
+      let more : Bool = g.any_refused || not (tells_none es) in
+      let t0 : List CheckStep = AtPes pes ∷ t in
+      let t1 : List CheckStep = Closes (is_some g.unread) more ∷ t0 in
       All-append (OnTrusted Last) (told_at t0 (Closes (is_some g.unread) more))
       (told_after t1 (map Says es)) (last (list_any is_said t || more))
-      (Goes-says Last (λ u. List Mark) t1 es (closing_own pes n refl)
+      (Goes-says Last (λ u. List CheckStep) t1 es (closing_own pes n refl)
       (λ x from w doubt run whole l. absurd (none-some from run)) (λ u said. u)).each
     where
       low : (from : ℕ) → run_of t ≡ Some from
@@ -159,26 +158,27 @@ module _ (g : Task) (frames : Transmission) (base : ℕ) where
           }) few.0 few.1 from w run whole l)
 
   -- What comes of pieces, and after the last one.
-  pub all_pass : (sent : Transmission) (pes count : ℕ) (t : List Mark) (pieces : List Piece)
+  pub all_pass : (sent : Transmission) (pes count : ℕ) (t : List CheckStep) (pieces : List Piece)
       → joined_after g.within sent (frames_of pieces) ≡ frames
       → SendsOn sent t
       → EachTrusted Last
       (told_after t
-      (marks_of_each g sent pes pieces
-      ++ marks_of_waiting g frames
-      ++ marks_of_closing g frames count (length frames)))
+      (steps_of_each g sent pes pieces
+      ++ steps_of_waiting g frames
+      ++ steps_of_closing g frames count (length frames)))
   all_pass sent pes count t pieces all sends =
-      let marks : List Mark = marks_of_each g sent pes pieces in
+      let check_steps : List CheckStep = steps_of_each g sent pes pieces in
       let n : ℕ = length frames in
-      let close : List Mark = marks_of_closing g frames count n in
+      let close : List CheckStep = steps_of_closing g frames count n in
       let goes =
-      Goes-append P (SendsOn frames) (Closed g frames base n) t marks (marks_of_waiting g frames)
+      Goes-append P (SendsOn frames) (Closed g frames base n) t check_steps
+      (steps_of_waiting g frames)
       (each_passes sent pes t pieces all sends)
       (λ u so.
-      waits (List Mark) told_of g frames (Goes P) (Closed g frames base) (Opens g frames base)
+      waits (List CheckStep) told_of g frames (Goes P) (Closed g frames base) (Opens g frames base)
       (λ l. ⊤) (Goes-nil P) (Goes-pes P) (Goes-append P) steps frames [] u
       (sym (append-nil frames)) so) in
-      let first : List Mark = marks ++ marks_of_waiting g frames in
+      let first : List CheckStep = check_steps ++ steps_of_waiting g frames in
       subst (EachTrusted Last) (sym (told_after-append t first close))
       (All-append (OnTrusted Last) (told_after t first) (told_after (past_after t first) close)
       (each-weaker P Last (told_after t first)
@@ -194,7 +194,7 @@ module _ (g : Task) (frames : Transmission) (base : ℕ) where
 
 -- ---- all
 
-module _ (g : Task) (frames : Transmission) where
+module _ (g : Criteria) (frames : Transmission) where
   pub start : Closed g frames 0 0 []
   unfolding run_of whole_of last_begun since_of late_of back_of stays_quiet
   start = grind (arith, nat_tests)

@@ -2,7 +2,7 @@
 -- What a run of quiet frames holds, `Run`; and the frames of one that may stay, `Stays`.
 use Rattle.std.proofs.Common.{◌≡◌, ℕ, ◌+◌, ◌-◌, ◌<◌, ◌≤◌, ◌⊎◌, true, false, length}
 use Rattle.sub_rules.specs.Events.{standing_at}
-use Rattle.sub_rules.specs.FrameRules.{Task, end_frame, frame_at, packets_of_frame}
+use Rattle.sub_rules.specs.FrameRules.{Criteria, end_frame, frame_at, packets_of_frame}
 use Rattle.sub_rules.specs.PacketTests.{breaks}
 use Rattle.sub_rules.specs.Transmission.{Transmission}
 use Rattle.sub_rules.specs.declared.packet_rule.PacketRule.{PacketRule}
@@ -11,7 +11,7 @@ use Rattle.sub_laws.proofs.PrefixLemmas.{RiseTo, before, packet_at}
 use Rattle.sub_rules.specs.Trusted.{stands_none}
 use Rattle.sub_trusted.specs.TrustedFrames.{BeginsText}
 
-module _ (g : Task) (frames : Transmission) where
+module _ (g : Criteria) (frames : Transmission) where
   -- No end of a frame from one up to another, that one left out, up to which n frames of the list
   -- count at the most, finds anything broken.
   abbrev pub EndsQuiet : ℕ → ℕ → ℕ → Type 0

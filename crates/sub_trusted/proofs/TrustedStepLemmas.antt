@@ -1,5 +1,5 @@
 -- For what may stay.
--- What comes of a frame, mark after mark: before its packets, `arrival`, of its packets,
+-- What comes of a frame, step after step: before its packets, `arrival`, of its packets,
 -- `more_sent`, of a piece that is passed over, `passed`, and at an end, `end_tells`. What is told
 -- as trusted with them is so.
 use Rattle.std.proofs.lemmas.Bool.Decides.{nat_tests}
@@ -14,11 +14,11 @@ use Rattle.std.specs.List.{list_any}
 use Rattle.sub_rules.specs.Events.{end_before, events_at_end, gap_length, is_late, latest}
 use Rattle.sub_rules.specs.Events.{order_events, packets_told, standing_at, standing_before}
 use Rattle.sub_rules.specs.Events.{since_before, unread_fault}
-use Rattle.sub_rules.specs.FrameRules.{Task, Unread, end_frame, frame_at, packets_before}
-use Rattle.sub_rules.specs.PieceEvents.{goes_back, marks_at_end, marks_before, marks_of_arrival}
-use Rattle.sub_rules.specs.PieceEvents.{marks_of_gap}
+use Rattle.sub_rules.specs.FrameRules.{Criteria, Unread, end_frame, frame_at, packets_before}
+use Rattle.sub_rules.specs.PieceEvents.{goes_back, steps_at_end, steps_before, steps_of_arrival}
+use Rattle.sub_rules.specs.PieceEvents.{steps_of_gap}
 use Rattle.sub_rules.specs.Transmission.{Transmission}
-use Rattle.sub_rules.specs.Trusted.Mark.{Begins, GoesBack, Says}
+use Rattle.sub_rules.specs.Trusted.CheckStep.{Begins, GoesBack, Says}
 use Rattle.sub_rules.specs.declared.event.Event.{Event}
 use Rattle.sub_rules.specs.declared.event.Event.TheVariants.{Told}
 use Rattle.sub_trusted.proofs.TrustedKeptLemmas.{Arrives, Closed, IsWhole, Keeps, MayEnd, MayPass}
@@ -34,28 +34,27 @@ use Rattle.sub_trusted.proofs.LateDoubtLemmas.{order_own, order_rises, packets_d
 use Rattle.sub_trusted.proofs.LateDoubtLemmas.{before_low, passed_at, seen_low, seen_since}
 use Rattle.sub_laws.proofs.PrefixLemmas.{RiseTo, before}
 use Rattle.sub_laws.proofs.RisingEndLemmas.{latest_at}
-use Rattle.sub_trusted.proofs.SayMarkLemmas.{Goes, Goes-append, Goes-cons, Goes-nil, Goes-says}
-use Rattle.sub_trusted.proofs.SayMarkLemmas.{IsSaid, back_low, back_to, doubt_of, is_order}
-use Rattle.sub_trusted.proofs.SayMarkLemmas.{kept_some, rose}
+use Rattle.sub_trusted.proofs.SaidStepLemmas.{Goes, Goes-append, Goes-cons, Goes-nil, Goes-says}
+use Rattle.sub_trusted.proofs.SaidStepLemmas.{IsSaid, back_low, back_to, doubt_of, is_order}
+use Rattle.sub_trusted.proofs.SaidStepLemmas.{kept_some, rose}
 use Rattle.sub_trusted.proofs.TrustedLookLemmas.{Backs, HasEnd, Looks, with_end}
 use Rattle.sub_trusted.proofs.TrustedRunLemmas.{EndsQuiet}
 use Rattle.sub_rules.proofs.EndLemmas.{gap_length-is}
-use Rattle.sub_rules.specs.Trusted.{Mark, back_of, stays_quiet, last_begun, late_of, run_of}
-use Rattle.sub_rules.specs.Trusted.{since_of}
-use Rattle.sub_rules.specs.Trusted.{stands_none, tells_fall, told_at, whole_of}
+use Rattle.sub_rules.specs.Trusted.{CheckStep, back_of, last_begun, late_of, run_of, since_of}
+use Rattle.sub_rules.specs.Trusted.{stands_none, stays_quiet, tells_fall, told_at, whole_of}
 
 -- ---- what is told
 
-module _ (g : Task) (frames : Transmission) (base : ℕ) where
+module _ (g : Criteria) (frames : Transmission) (base : ℕ) where
   -- What is told as trusted may stay: from frame `base` of the list on, and where all frames rise
   -- before the last of them.
   abbrev pub Passes : ℕ → ℕ → Type 0
   Passes = MayPass g frames base (end_frame frames)
 
-  abbrev pub Tells : (List Mark → Type 0) → List Mark → List Mark → Type 0
+  abbrev pub Tells : (List CheckStep → Type 0) → List CheckStep → List CheckStep → Type 0
   Tells S t ms = Goes Passes S t ms
 
-  passes : (n x y : ℕ) (t : List Mark) → Keeps g frames base n x t
+  passes : (n x y : ℕ) (t : List CheckStep) → Keeps g frames base n x t
       → MayEnd g frames (end_frame frames) n x y
       → (from w : ℕ)
       → run_of t ≡ Some from
@@ -69,7 +68,7 @@ module _ (g : Task) (frames : Transmission) (base : ℕ) where
   -- ---- an end
 
   -- What is kept where an end was looked at.
-  pub keeps_end : (n x m f : ℕ) (t u : List Mark) → Looks g frames m f t u
+  pub keeps_end : (n x m f : ℕ) (t u : List CheckStep) → Looks g frames m f t u
       → Keeps g frames base n x t
       → ((from : ℕ) → run_of t ≡ Some from → HasEnd g frames m f from)
       → Keeps g frames base n x u
@@ -105,7 +104,7 @@ module _ (g : Task) (frames : Transmission) (base : ℕ) where
 
   -- What is told at the end of frame f, up to which n frames counted before and now m, doubts no
   -- later one.
-  pub end_tells : (n m f : ℕ) (t : List Mark) (S : List Mark → Type 0)
+  pub end_tells : (n m f : ℕ) (t : List CheckStep) (S : List CheckStep → Type 0)
       → ((from : ℕ) → run_of t ≡ Some from → latest frames m ≤ f)
       → Keeps g frames base n f t
       → ((from : ℕ) → run_of t ≡ Some from → HasEnd g frames m f from)
@@ -115,12 +114,12 @@ module _ (g : Task) (frames : Transmission) (base : ℕ) where
       → y ≤ f
       → MayEnd g frames (end_frame frames) n f y)
       → ((from : ℕ) → run_of t ≡ Some from → 0 < n → latest frames n < f)
-      → ((u v : List Mark)
+      → ((u v : List CheckStep)
       → Looks g frames m f t u
       → Backs g frames n f u
       → IsSaid u v (events_at_end g frames n m f)
       → S v)
-      → Tells S t (marks_at_end g frames n m f)
+      → Tells S t (steps_at_end g frames n m f)
   end_tells n m f t S high keeps low may past after =
       with_end g frames (Tells S) n m f t keeps.at_once keeps.plain (Goes-cons Passes S)
       (λ u looks backs.
@@ -145,10 +144,10 @@ module _ (g : Task) (frames : Transmission) (base : ℕ) where
 
   -- ---- the ends of frames of the day before a frame
 
-  pub gap_step : (n k : ℕ) (t : List Mark) → n < length frames → k < gap_length frames n
+  pub gap_step : (n k : ℕ) (t : List CheckStep) → n < length frames → k < gap_length frames n
       → Arrives g frames base n k t
       → Tells (Arrives g frames base n (suc k)) t
-      (marks_at_end g frames n n (latest frames n + suc k))
+      (steps_at_end g frames n n (latest frames n + suc k))
   gap_step n k t there l arrives =
       let f : ℕ = latest frames n + suc k in
       let keeps = arrives.keeps in
@@ -196,7 +195,7 @@ module _ (g : Task) (frames : Transmission) (base : ℕ) where
             last = λ all. absurd (omega arith);
           }
 
-      quiet : (u v : List Mark)
+      quiet : (u v : List CheckStep)
           → Looks g frames n (latest frames n + suc k) t u
           → IsSaid u v (events_at_end g frames n n (latest frames n + suc k))
           → (from : ℕ) → run_of v ≡ Some from
@@ -233,14 +232,14 @@ module _ (g : Task) (frames : Transmission) (base : ℕ) where
                 (standing_at g frames n f)).quiet none before))
           ]
 
-  gaps : (n k : ℕ) (t : List Mark) → n < length frames → k ≤ gap_length frames n
+  gaps : (n k : ℕ) (t : List CheckStep) → n < length frames → k ≤ gap_length frames n
       → Arrives g frames base n 0 t
-      → Tells (Arrives g frames base n k) t (marks_of_gap g frames n k)
-  unfolding marks_of_gap
+      → Tells (Arrives g frames base n k) t (steps_of_gap g frames n k)
+  unfolding steps_of_gap
   gaps n zero t there l arrives = Goes-nil Passes (Arrives g frames base n 0) t arrives
   gaps n (suc k) t there l arrives =
       Goes-append Passes (Arrives g frames base n k) (Arrives g frames base n (suc k)) t
-      (marks_of_gap g frames n k) (marks_at_end g frames n n (latest frames n + suc k))
+      (steps_of_gap g frames n k) (steps_at_end g frames n n (latest frames n + suc k))
       (gaps n k t there (omega arith) arrives)
       (λ u so. gap_step n k u there (omega arith) so)
 
@@ -252,20 +251,20 @@ module _ (g : Task) (frames : Transmission) (base : ℕ) where
   may_ended n x within low = grind (arith, nat_tests)
 
   -- Nor is a frame told after that one where it is trusted no more.
-  closed_back : (n x from : ℕ) (t : List Mark) → Closed g frames base n t
+  closed_back : (n x from : ℕ) (t : List CheckStep) → Closed g frames base n t
       → run_of t ≡ Some from
       → x ≤ frame_at frames (n - 1)
       → back_to t x ≤ frame_at frames (n - 1)
   closed_back n x from t closed run low = grind (arith, nat_tests, back_low, run_rises, rose)
 
-  opens_back : (n x from : ℕ) (packets : List (List ℕ)) (t : List Mark)
+  opens_back : (n x from : ℕ) (packets : List (List ℕ)) (t : List CheckStep)
       → Opens g frames base n packets t
       → run_of t ≡ Some from
       → x ≤ frame_at frames n
       → back_to t x ≤ frame_at frames n
   opens_back n x from packets t opens run low = grind (arith, nat_tests, back_low, run_rises, rose)
 
-  pub order_step : (n : ℕ) (t : List Mark) → n < length frames → Closed g frames base n t
+  pub order_step : (n : ℕ) (t : List CheckStep) → n < length frames → Closed g frames base n t
       → Tells (Arrives g frames base n 0) t (map Says (order_events g frames n))
   order_step n t there closed =
       Goes-says Passes (Arrives g frames base n 0) t (order_events g frames n)
@@ -294,7 +293,7 @@ module _ (g : Task) (frames : Transmission) (base : ℕ) where
         back = λ e r is. back u said e r is;
       })
     where
-      back : (u : List Mark) → IsSaid t u (order_events g frames n) → rose u ≡ true
+      back : (u : List CheckStep) → IsSaid t u (order_events g frames n) → rose u ≡ true
           → (r : ℕ) → back_of u ≡ Some r
           → (0 < n) × (r ≤ latest frames n + 0)
       back u said e r is =
@@ -303,7 +302,7 @@ module _ (g : Task) (frames : Transmission) (base : ℕ) where
           let last = latest_at frames n (closed.rises rose_then) some in
           (some, omega arith)
 
-      up : (u : List Mark) → IsSaid t u (order_events g frames n) → rose u ≡ true
+      up : (u : List CheckStep) → IsSaid t u (order_events g frames n) → rose u ≡ true
           → RiseTo frames (suc n)
       up u said e i a b =
           let rises_is = said.rises_is in
@@ -318,7 +317,7 @@ module _ (g : Task) (frames : Transmission) (base : ℕ) where
                 (order_rises g frames n none (omega arith))
           ]
 
-  pub begins : (n : ℕ) (t : List Mark) → n < length frames
+  pub begins : (n : ℕ) (t : List CheckStep) → n < length frames
       → Arrives g frames base n (gap_length frames n) t
       → Opens g frames base n [] (Begins (frame_at frames n) ∷ t)
   unfolding run_of whole_of last_begun since_of late_of back_of stays_quiet tells_fall
@@ -355,12 +354,12 @@ module _ (g : Task) (frames : Transmission) (base : ℕ) where
       }
 
   -- Since which frame the page was not whole before it.
-  pub begins_back : (n : ℕ) (t : List Mark) → Opens g frames base n [] t → goes_back g ≡ true
+  pub begins_back : (n : ℕ) (t : List CheckStep) → Opens g frames base n [] t → goes_back g ≡ true
       → Opens g frames base n [] (GoesBack (since_before g frames n (frame_at frames n)) ∷ t)
   unfolding run_of whole_of last_begun since_of late_of back_of stays_quiet tells_fall
   begins_back n t opens back = grind (arith, nat_tests, before_low, latest_at)
 
-  goes_back_tells : (n : ℕ) (t : List Mark) (b : Bool) → goes_back g ≡ b
+  goes_back_tells : (n : ℕ) (t : List CheckStep) (b : Bool) → goes_back g ≡ b
       → Opens g frames base n [] t
       → Tells (Opens g frames base n []) t
       (if b then GoesBack (since_before g frames n (frame_at frames n)) ∷ [] else [])
@@ -368,32 +367,32 @@ module _ (g : Task) (frames : Transmission) (base : ℕ) where
   goes_back_tells n t false is opens =
       Goes-nil Passes (Opens g frames base n []) t opens
   goes_back_tells n t true is opens =
-      let mark : Mark = GoesBack (since_before g frames n (frame_at frames n)) in
-      Goes-cons Passes (Opens g frames base n []) t mark [] refl
-      (Goes-nil Passes (Opens g frames base n []) (mark ∷ t) (begins_back n t opens is))
+      let step : CheckStep = GoesBack (since_before g frames n (frame_at frames n)) in
+      Goes-cons Passes (Opens g frames base n []) t step [] refl
+      (Goes-nil Passes (Opens g frames base n []) (step ∷ t) (begins_back n t opens is))
 
-  pub arrival : (n : ℕ) (t : List Mark) → n < length frames → Closed g frames base n t
-      → Tells (Opens g frames base n []) t (marks_of_arrival g frames n)
+  pub arrival : (n : ℕ) (t : List CheckStep) → n < length frames → Closed g frames base n t
+      → Tells (Opens g frames base n []) t (steps_of_arrival g frames n)
   unfolding told_at
   arrival n t there closed =
       Goes-append Passes (Arrives g frames base n (gap_length frames n))
       (Opens g frames base n []) t
-      (map Says (order_events g frames n) ++ marks_of_gap g frames n (gap_length frames n))
+      (map Says (order_events g frames n) ++ steps_of_gap g frames n (gap_length frames n))
       (Begins (frame_at frames n)
-      ∷ marks_before g (since_before g frames n (frame_at frames n)))
+      ∷ steps_before g (since_before g frames n (frame_at frames n)))
       (Goes-append Passes (Arrives g frames base n 0)
       (Arrives g frames base n (gap_length frames n)) t (map Says (order_events g frames n))
-      (marks_of_gap g frames n (gap_length frames n)) (order_step n t there closed)
+      (steps_of_gap g frames n (gap_length frames n)) (order_step n t there closed)
       (λ u so. gaps n (gap_length frames n) u there (le_refl (gap_length frames n)) so))
       (λ v here.
       Goes-cons Passes (Opens g frames base n []) v (Begins (frame_at frames n))
-      (marks_before g (since_before g frames n (frame_at frames n))) refl
+      (steps_before g (since_before g frames n (frame_at frames n))) refl
       (goes_back_tells n (Begins (frame_at frames n) ∷ v) (goes_back g) refl
       (begins n v there here)))
 
   -- ---- while it is sent
 
-  pub more_sent : (n : ℕ) (packets more : List (List ℕ)) (t : List Mark) → n < length frames
+  pub more_sent : (n : ℕ) (packets more : List (List ℕ)) (t : List CheckStep) → n < length frames
       → Opens g frames base n packets t
       → Tells (Opens g frames base n (packets ++ more)) t
       (map Says
@@ -420,7 +419,7 @@ module _ (g : Task) (frames : Transmission) (base : ℕ) where
       keeps_joined g.watched (packets_before frames n) packets more kept (finds.quiet none)))
 
   -- A piece that is passed over before the next frame comes.
-  pub passed_ended : (n pes : ℕ) (u : Unread) (t : List Mark) → n ≤ length frames
+  pub passed_ended : (n pes : ℕ) (u : Unread) (t : List CheckStep) → n ≤ length frames
       → Closed g frames base n t
       → Tells (Closed g frames base n) t (map Says (Told (unread_fault pes (Some u)) ∷ []))
   passed_ended n pes u t within closed =
@@ -439,7 +438,7 @@ module _ (g : Task) (frames : Transmission) (base : ℕ) where
       (λ v said. closed_said g frames base n t v es closed said)
 
   -- Or while it is sent.
-  pub passed : (n pes : ℕ) (packets : List (List ℕ)) (u : Unread) (t : List Mark)
+  pub passed : (n pes : ℕ) (packets : List (List ℕ)) (u : Unread) (t : List CheckStep)
       → n < length frames
       → Opens g frames base n packets t
       → Tells (Opens g frames base n packets) t (map Says (Told (unread_fault pes (Some u)) ∷ []))

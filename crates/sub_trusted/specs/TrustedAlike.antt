@@ -6,15 +6,15 @@ use Rattle.stl_file.specs.Subtitle.{SubtitleValue}
 use Rattle.stl_rows.specs.Programme.{ProgrammeValue}
 use Rattle.sub_plan.specs.Options.{OptionsValue}
 use Rattle.sub_rules.specs.Events.{is_unfinished}
-use Rattle.sub_rules.specs.FrameRules.{Task, Unread, task_of}
+use Rattle.sub_rules.specs.FrameRules.{Criteria, Unread, criteria_of}
 use Rattle.sub_rules.specs.PieceEvents.{all_of_pieces}
 use Rattle.sub_rules.specs.Pieces.{Piece}
 use Rattle.sub_rules.specs.declared.event.Event.TheVariants.{Trusted}
-use Rattle.sub_laws.specs.CleanStretch.{AtEnds, task_unsure}
+use Rattle.sub_laws.specs.CleanStretch.{AtEnds, criteria_unsure}
 use Rattle.sub_trusted.specs.TrustedFrames.{rising_of}
 
 -- A subtitle that is due at some of these frames and at no other.
-pub record IsWithin (undecided : ℕ → Bool) (t : SubtitleValue) : Type 0 where
+pub record IsDueAmong (undecided : ℕ → Bool) (t : SubtitleValue) : Type 0 where
   pub times : t.tci < t.tco
   pub within : (f : ℕ) → t.tci ≤ f → f < t.tco → IsTrue (undecided f)
 
@@ -23,15 +23,15 @@ abbrev pub HasOthers : (ℕ → Bool) → List SubtitleValue → List SubtitleVa
 HasOthers undecided judged [] = judged ≡ []
 HasOthers undecided judged (t ∷ all) =
     ((rest : List SubtitleValue) × (judged ≡ t ∷ rest) × HasOthers undecided rest all)
-    ⊎ (IsWithin undecided t × HasOthers undecided judged all)
+    ⊎ (IsDueAmong undecided t × HasOthers undecided judged all)
 
 -- At the end of a frame the page is whole.
-abbrev pub IsWholeAt : Task → List Piece → ℕ → Type 0
+abbrev pub IsWholeAt : Criteria → List Piece → ℕ → Type 0
 IsWholeAt g pieces b =
     AtEnds (λ n f. IsFalse (is_unfinished g (rising_of g pieces) n f)) (rising_of g pieces) b b
 
 -- Frames are told as trusted, those from one up to another all in one.
-abbrev pub AreTrusted : Task → List Piece → ℕ → ℕ → Type 0
+abbrev pub AreTrusted : Criteria → List Piece → ℕ → ℕ → Type 0
 AreTrusted g pieces from to =
     (first : ℕ)
     × (last : ℕ)
@@ -46,14 +46,16 @@ AreTrusted g pieces from to =
 abbrev pub LawOfTrustedAlike : Type 0
 LawOfTrustedAlike =
     (programme : ProgrammeValue) (options : OptionsValue) (unread : Option Unread)
-    → (beside : Bool) (undecided : ℕ → Bool) (records : List SubtitleValue)
+    → (any_refused : Bool) (undecided : ℕ → Bool) (records : List SubtitleValue)
     → (pieces : List Piece) (from to b : ℕ)
     → HasOthers undecided programme.records records
-    → Contains (all_of_pieces (task_unsure programme options unread beside undecided) pieces)
+    → Contains (all_of_pieces (criteria_unsure programme options unread any_refused undecided)
+    pieces)
     (Trusted from to)
     → from ≤ b
     → b ≤ to
     → (0 < options.within
-    → IsWholeAt (task_unsure programme options unread beside undecided) pieces b)
-    → all_of_pieces (task_of (record programme { records = records }) options unread) pieces ≢ []
-    → AreTrusted (task_of (record programme { records = records }) options unread) pieces from b
+    → IsWholeAt (criteria_unsure programme options unread any_refused undecided) pieces b)
+    → all_of_pieces (criteria_of (record programme { records = records }) options unread) pieces
+    ≢ []
+    → AreTrusted (criteria_of (record programme { records = records }) options unread) pieces from b

@@ -8,7 +8,7 @@ use Rattle.ttx_page.specs.Span.{holds_beginning}
 use Rattle.stl_rows.specs.Programme.{ProgrammeValue}
 use Rattle.sub_plan.specs.Options.{OptionsValue}
 use Rattle.sub_rules.specs.Events.{is_unfinished, standing_at}
-use Rattle.sub_rules.specs.FrameRules.{Task, Unread, frame_at, packets_of_frame}
+use Rattle.sub_rules.specs.FrameRules.{Criteria, Unread, frame_at, packets_of_frame}
 use Rattle.sub_rules.specs.Good.{HoldsHeader}
 use Rattle.sub_rules.specs.PieceEvents.{all_of_pieces, sent_by_pieces}
 use Rattle.sub_rules.specs.Pieces.{Piece}
@@ -17,7 +17,7 @@ use Rattle.sub_rules.specs.Transmission.{IsRising, Transmission, first_frame, la
 use Rattle.sub_rules.specs.Transmission.{packets_of}
 use Rattle.sub_rules.specs.Trusted.{stands_none}
 use Rattle.sub_rules.specs.declared.event.Event.TheVariants.{Trusted}
-use Rattle.sub_laws.specs.CleanStretch.{AtEnds, IsUntold, task_unsure}
+use Rattle.sub_laws.specs.CleanStretch.{AtEnds, IsUntold, criteria_unsure}
 use Rattle.sub_laws.specs.OnScreen.{CompleteWithin}
 use Rattle.sub_laws.specs.Stretch.{MayBeTrusted}
 
@@ -39,12 +39,12 @@ abbrev pub rising_part : Transmission → Transmission
 rising_part frames = take (rising_count frames (length frames)) frames
 
 -- The rising part of what is read of pieces.
-abbrev pub rising_of : Task → List Piece → Transmission
+abbrev pub rising_of : Criteria → List Piece → Transmission
 rising_of g pieces = rising_part (sent_by_pieces g pieces)
 
 -- A header with which the text begins is among the packets of frame i of the list: any header of
 -- the page; where repeats may keep it, one that erases it.
-abbrev pub BeginsText : Task → Transmission → ℕ → Type 0
+abbrev pub BeginsText : Criteria → Transmission → ℕ → Type 0
 BeginsText g frames i =
     holds_beginning g.watched.keeps (kind g.watched.page) (packets_of_frame frames i) ≡ true
 
@@ -62,7 +62,7 @@ pub record IsAsRead (read on_air : Transmission) (from to : ℕ) : Type 0 where
 -- the PES packet before it, be it between two PES packets of that frame or after its last one: so
 -- where that frame is in the rising part it is none of those from one to another. What comes before
 -- the next frame that is read is the past of whoever tunes in there.
-abbrev pub IsPassedOutside : Task → List Piece → ℕ → ℕ → Type 0
+abbrev pub IsPassedOutside : Criteria → List Piece → ℕ → ℕ → Type 0
 IsPassedOutside g pieces from to =
     (earlier later : List Piece) (u : Unread)
     → pieces ≡ earlier ++ Passed u ∷ later
@@ -73,7 +73,7 @@ IsPassedOutside g pieces from to =
 -- The frames from one to another, as they are read of these pieces, stay whatever is on air before
 -- them and after them.
 pub record StaysAsRead
-    (g : Task) (pieces : List Piece) (from to : ℕ) (Stays : Transmission → Type 0)
+    (g : Criteria) (pieces : List Piece) (from to : ℕ) (Stays : Transmission → Type 0)
     : Type 0 where
   -- What the pieces put on air that are passed over is there, and not in these frames.
   pub passed : IsPassedOutside g pieces from to
@@ -101,19 +101,20 @@ pub record MayStay
 abbrev pub LawOfTrusted : Type 0
 LawOfTrusted =
     (programme : ProgrammeValue) (options : OptionsValue) (unread : Option Unread)
-    → (beside : Bool) (undecided : ℕ → Bool) (pieces : List Piece) (from to : ℕ)
+    → (any_refused : Bool) (undecided : ℕ → Bool) (pieces : List Piece) (from to : ℕ)
     → IsFalse options.keeps
     → options.within ≡ 0
-    → Contains (all_of_pieces (task_unsure programme options unread beside undecided) pieces)
+    → Contains (all_of_pieces (criteria_unsure programme options unread any_refused undecided)
+    pieces)
     (Trusted from to)
-    → StaysAsRead (task_unsure programme options unread beside undecided) pieces from to
+    → StaysAsRead (criteria_unsure programme options unread any_refused undecided) pieces from to
     (λ on_air. MayStay programme on_air options from to)
 
 -- At each of them it is known what is due; and within some frames at each of so many before one of
 -- them that is not before the first frame that was read.
 abbrev pub LawOfTrustedKnown : Type 0
 LawOfTrustedKnown =
-    (g : Task) (pieces : List Piece) (from to : ℕ)
+    (g : Criteria) (pieces : List Piece) (from to : ℕ)
     → Contains (all_of_pieces g pieces) (Trusted from to)
     → (f : ℕ)
     → first_frame (rising_of g pieces) ≤ f
@@ -128,7 +129,7 @@ LawOfTrustedKnown =
 -- finished; no piece is passed over that may have been sent in it; and it ends before the last of
 -- these frames where that is doubted, since a frame that is not after it follows, or bytes that
 -- can't be read on.
-pub record CanStay (g : Task) (pieces : List Piece) (a b : ℕ) : Type 0 where
+pub record CanStay (g : Criteria) (pieces : List Piece) (a b : ℕ) : Type 0 where
   pub untold : IsUntold g (rising_of g pieces) a b
   pub quiet :
       AtEnds (λ n f. IsTrue (stands_none (standing_at g (rising_of g pieces) n f)))
@@ -143,15 +144,15 @@ pub record CanStay (g : Task) (pieces : List Piece) (a b : ℕ) : Type 0 where
   pub before_unread : (u : Unread) → g.unread ≡ Some u → b < last_frame (rising_of g pieces)
 
 -- Anything is told: of the PES file; or of the subtitle file, of which something is refused.
-abbrev pub IsAnythingTold : Task → List Piece → Type 0
-IsAnythingTold g pieces = (all_of_pieces g pieces ≢ []) ⊎ IsTrue g.beside
+abbrev pub IsAnythingTold : Criteria → List Piece → Type 0
+IsAnythingTold g pieces = (all_of_pieces g pieces ≢ []) ⊎ IsTrue g.any_refused
 
 -- Where anything is told, the frames of such a stretch from one with a header on with which the
 -- text begins are told as trusted, all in one. So no frame that may stay is left out, but within
 -- some frames for those after the last one that is finished.
 abbrev pub LawOfAllTrusted : Type 0
 LawOfAllTrusted =
-    (g : Task) (pieces : List Piece) (a b i : ℕ)
+    (g : Criteria) (pieces : List Piece) (a b i : ℕ)
     → CanStay g pieces a b
     → i < length (rising_of g pieces)
     → a ≤ frame_at (rising_of g pieces) i

@@ -11,7 +11,7 @@ use Rattle.sub_rules.specs.Pieces.{Piece}
 use Rattle.sub_rules.specs.Repeats.{SomeFinishedBy}
 use Rattle.sub_rules.specs.Transmission.{Transmission, packets_of}
 use Rattle.sub_rules.specs.declared.event.Event.TheVariants.{Trusted}
-use Rattle.sub_laws.specs.CleanStretch.{task_unsure}
+use Rattle.sub_laws.specs.CleanStretch.{criteria_unsure}
 use Rattle.sub_laws.specs.Repeats.{MayBeTrustedBy}
 use Rattle.sub_trusted.specs.TrustedFrames.{StaysAsRead}
 
@@ -39,9 +39,10 @@ pub record MayStayBy
 abbrev pub LawOfTrustedRepeats : Type 0
 LawOfTrustedRepeats =
     (programme : ProgrammeValue) (options : OptionsValue) (unread : Option Unread)
-    → (beside : Bool) (undecided : ℕ → Bool) (pieces : List Piece) (from to : ℕ)
+    → (any_refused : Bool) (undecided : ℕ → Bool) (pieces : List Piece) (from to : ℕ)
     → IsProgramme programme.drawing programme.records
-    → Contains (all_of_pieces (task_unsure programme options unread beside undecided) pieces)
+    → Contains (all_of_pieces (criteria_unsure programme options unread any_refused undecided)
+    pieces)
     (Trusted from to)
-    → StaysAsRead (task_unsure programme options unread beside undecided) pieces from to
+    → StaysAsRead (criteria_unsure programme options unread any_refused undecided) pieces from to
     (λ on_air. MayStayBy programme on_air options from to)

@@ -9,7 +9,7 @@ mod words;
 
 ghost use Rattle.std.specs.Prelude.{◌≡◌, IfErr, IfOk};
 ghost use Rattle.sub_io.specs.Buffered.{failures_and_refused};
-ghost use Rattle.sub_answer.specs.Ending.{lines_of, told_of_files};
+ghost use Rattle.sub_answer.specs.Ending.{BufferHoldsLineAlone, known_of_files, lines_of};
 ghost use Rattle.sub_files.specs.FileCalls.{CallsInTurn};
 ghost use Rattle.sub_headline.specs.Run.{Answered, EndsRun, IsCause, RunsProgram};
 ghost use Rattle.subttx.specs.Words.{words_given};
@@ -59,10 +59,11 @@ fn run<D: FileSystem, K: Sink>(
 ) -> Ended<K>
     requires { K.failure_count standard_output ≡ 0 }
     ensures { RunsProgram (CallsInTurn D.is_call files.old files.new)
-        (told_of_files D.Input.remaining D.Input.failure_count
+        (known_of_files D.Input.remaining D.Input.failure_count
         D.Output.contents D.Output.failure_count)
         D.Output.is_close (words_given given)
-        K.contents K.failure_count standard_output result.standard_output result.code }
+        K.contents K.failure_count K.is_push
+        standard_output result.standard_output result.code }
 {
     match room(alloc, BUFFER) {
         Some(mut room) => {
@@ -95,9 +96,10 @@ fn answer_or_say<D: FileSystem, K: Sink>(
 ) -> Status
     requires { failures_and_refused (K.failure_count out.old.device) out.old.refused ≡ 0 }
     ensures { EndsRun (CallsInTurn D.is_call files.old files.new)
-        (told_of_files D.Input.remaining D.Input.failure_count
+        (known_of_files D.Input.remaining D.Input.failure_count
         D.Output.contents D.Output.failure_count)
         D.Output.is_close (words_given given)
+        (BufferHoldsLineAlone K.contents K.failure_count K.is_push)
         (lines_of K.contents K.failure_count out.old)
         (lines_of K.contents K.failure_count out.new) result }
 {
@@ -116,9 +118,10 @@ fn answer_given<D: FileSystem, K: Sink>(
 ) -> Result<Status, UsageFault>
     requires { failures_and_refused (K.failure_count out.old.device) out.old.refused ≡ 0 }
     ensures ends { IfOk result (Answered (CallsInTurn D.is_call files.old files.new)
-        (told_of_files D.Input.remaining D.Input.failure_count
+        (known_of_files D.Input.remaining D.Input.failure_count
         D.Output.contents D.Output.failure_count)
         D.Output.is_close (words_given given)
+        (BufferHoldsLineAlone K.contents K.failure_count K.is_push)
         (lines_of K.contents K.failure_count out.old)
         (lines_of K.contents K.failure_count out.new)) }
     ensures unanswered { IfErr result (λ _. out.new ≡ out.old) }

@@ -1,11 +1,12 @@
 //! What tests of transport streams share: packets, and what the packets of a PID give.
 
-ghost use Rattle.std.specs.Prelude.{⊤};
+ghost use Rattle.std.specs.Prelude.{◌≡◌, ⊤, true};
+ghost use Rattle.sub_io.specs.Device.{CanFail};
 
 use mpeg_ts::{PacketSize, Pid, RecordingPieces};
 use std::process::Abort;
 use sub_io::{MemSink, MemSource, Sink, put_all};
-use ttx_pes::{Came, Pieces, TakePiece};
+use ttx_pes::{Came, Pieces, REST_ROOM, TakePiece};
 
 /// Bytes 0 to 3 of packets of PID 101 (hexadecimal) that begin a PES packet, by their counters.
 pub(crate) const BEGINS_0: [u8; 4] = [0x47, 0x41, 0x01, 0x10];
@@ -56,6 +57,18 @@ fn put_piece(sink: &mut MemSink<'_>, piece: &[u8]) {
     }
 }
 
+// Puts what no piece begins, as far as there is room.
+fn put_rest<P: Pieces>(sink: &mut MemSink<'_>, pieces: &mut P)
+    requires rest { P.is_rest pieces.old ≡ true }
+    requires failures { CanFail (P.failure_count pieces.old) }
+{
+    let mut room = [0; REST_ROOM];
+    if let Ok(count) = pieces.read_rest(&mut room) {
+        let (rest, _) = room.split_at(count);
+        put_piece(sink, rest);
+    }
+}
+
 /// Puts each piece behind those before it, as far as there is room.
 #[derive(Drop)]
 pub(crate) struct Gathered<'a> {
@@ -97,10 +110,13 @@ pub(crate) fn assert_gives_of(
     for _ in 0..wanted.len() + 1 {
         match pieces.next(&mut gathered) {
             Ok(Came::Piece(())) => {}
+            Ok(Came::Rest(_)) => {
+                put_rest(&mut gathered.sink, &mut pieces);
+                break;
+            }
             _ => break,
         }
     }
-    put_piece(&mut gathered.sink, pieces.read());
     assert!(rt; gathered.sink.written() == wanted_bytes.written());
 }
 

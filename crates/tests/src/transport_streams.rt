@@ -6,9 +6,9 @@ use crate::transport_recordings::{
     MARK_HEAD, MARK_REST, NULL, WRONG_1, ZEROS, assert_gives, assert_gives_of, put_pieces,
 };
 use fixtures::{FIRST, SECOND};
-use mpeg_ts::{PacketSize, PesSource, Pid, RecordingPieces};
+use mpeg_ts::{PacketSize, Pid, RecordingPieces};
 use sub_io::{FailAt, MemSink, MemSource, Source};
-use ttx_pes::{Came, PesFault, Pieces};
+use ttx_pes::{Came, PesFault, Pieces, REST_ROOM};
 
 #[test]
 fn gives_the_pes_packets_of_the_pid(rt: HostRuntime) {
@@ -228,27 +228,6 @@ fn knows_the_pids_that_may_carry_pes_packets(rt: HostRuntime) {
 }
 
 #[test]
-fn lends_a_pes_packet_whole(rt: HostRuntime) {
-    let mut room = [0; 1024];
-    let mut sink = MemSink::new(&mut room);
-    put_pieces(&mut sink, &[&BEGINS_0, &FIRST, &BEGINS_2, &SECOND]);
-    let Some(pid) = Pid::new(0x101) else {
-        return assert!(rt; false);
-    };
-    let mut source = PesSource::new(MemSource::new(sink.written()), pid, PacketSize::Plain);
-    assert!(rt; source.held().is_empty());
-    assert!(rt; source.read_on().is_ok());
-    assert!(rt; source.held() == &FIRST[..]);
-    assert!(rt; source.pass(184));
-    assert!(rt; !source.pass(1));
-    // The mark before the second PES packet is lent by itself.
-    assert!(rt; source.read_on().is_ok());
-    assert!(rt; source.pass(184));
-    assert!(rt; source.read_on().is_ok());
-    assert!(rt; source.held() == &SECOND[..]);
-}
-
-#[test]
 fn gives_a_mark_and_then_the_pes_packet_that_is_ready(rt: HostRuntime) {
     let mut recording_room = [0; 1024];
     let mut recorded = MemSink::new(&mut recording_room);
@@ -287,9 +266,14 @@ fn gives_a_mark_and_then_the_pes_packet_that_is_ready(rt: HostRuntime) {
     // The mark before a PES packet is known with it; what is no PES packet stays.
     assert!(rt; ends == [piece, piece, piece, piece, rest, rest]);
     assert!(rt; ready == [false, false, true, false, true, true]);
-    assert!(rt; pieces.read().len() == 184);
-    pieces.pass_read();
-    assert!(rt; pieces.read().is_empty());
+    let mut rest_room = [0; REST_ROOM];
+    match pieces.next(&mut gathered) {
+        Ok(Came::Rest(_)) => {
+            assert!(rt; pieces.read_rest(&mut rest_room) == Ok(184));
+            assert!(rt; pieces.read_rest(&mut rest_room) == Ok(0));
+        }
+        _ => assert!(rt; false),
+    }
     assert!(rt; pieces.next(&mut gathered) == Ok(Came::End));
 }
 

@@ -1,19 +1,11 @@
 -- Tests of all PIDs but one: others_any.
-use Rattle.std.proofs.Common.{◌≡◌, ℕ, ◌+◌, ◌≤◌, ◌||◌, Bool, List, ◌++◌, drop, length, take}
-use Rattle.std.proofs.Common.{◌∙◌, ap, arith, append-nil, sym}
+use Rattle.std.proofs.Common.{◌≡◌, ℕ, ◌+◌, ◌||◌, Bool, List, ◌++◌, drop, take}
+use Rattle.std.proofs.Common.{◌∙◌, ap, sym}
 use Rattle.std.specs.List.{list_any}
-use Rattle.std.proofs.lemmas.List.{drop-drop, drop_all, take_all}
+use Rattle.std.proofs.lemmas.List.{drop-drop}
 use Rattle.std.proofs.lemmas.List.Folds.{list_any-append}
 
 module _ {A : Type 0} (test : A → Bool) (xs : List A) (n : ℕ) where
-  -- Without the one at a place that there is not, all.
-  pub others_all : length xs ≤ n → list_any test (take n xs ++ drop (n + 1) xs) ≡ list_any test xs
-  others_all past =
-      ap (list_any test)
-      (ap (λ (ys : List A). take n xs ++ ys) (drop_all (n + 1) xs (omega arith))
-      ∙ append-nil (take n xs)
-      ∙ take_all n xs past)
-
   -- Without the one at a place, those before it and those behind it.
   pub others_any :
       list_any test (take n xs ++ drop (n + 1) xs)

@@ -1,7 +1,9 @@
 pub mod CarrierLemmas
 pub mod CounterLemmas
+pub mod EndingsLemmas
 pub mod FollowingLemmas
 pub mod HeardLemmas
+pub mod InStepLemmas
 pub mod PendingLemmas
 pub mod SurveyLemmas
 pub mod TextLemmas

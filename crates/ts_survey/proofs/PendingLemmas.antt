@@ -1,9 +1,9 @@
--- Strange PCR are told one after another: tells-first, tells-none and shifted.
-use Rattle.std.proofs.Common.{◌≡◌, ℕ, zero, suc, ◌+◌, ◌<◌, ◌≤◌, true, false, List, [], ◌∷◌, ◌++◌}
+-- Strange PCR are told one after another: tells-first and shifted.
+use Rattle.std.proofs.Common.{◌≡◌, ℕ, ◌+◌, ◌<◌, ◌≤◌, true, false, List, [], ◌∷◌, ◌++◌}
 use Rattle.std.proofs.Common.{Option, Some, None, is_some, drop, length, replicate, slice_index_or}
-use Rattle.std.proofs.Common.{refl, sym, ap, ◌∙◌, subst, arith, append-nil}
+use Rattle.std.proofs.Common.{refl, sym, ap, ◌∙◌, subst, arith}
 use Rattle.std.proofs.lemmas.Bool.{true≢false}
-use Rattle.std.proofs.lemmas.List.{append_assoc, drop-append-le, drop-drop, drop_all, length-drop}
+use Rattle.std.proofs.lemmas.List.{append_assoc, drop-append-le, drop-drop, length-drop}
 use Rattle.std.proofs.lemmas.List.{replicate_more}
 use Rattle.ts_survey.specs.Lines.{AddsWords, clock_told, pending_words}
 use Rattle.ts_survey.specs.declared.carrier.Pending.{Pending}
@@ -32,20 +32,6 @@ module _ (pid : ℕ) (pids : Pids) where
       adds-words (clock_told pid pids (Some one)) (pending_words pid pids ps) first
       (subst (λ words. AddsWords mid words new) (words-behind ps) more)
 
-  -- Where there is none nothing is told.
-  pub tells-none : (text : Text) (ps : List (Option Pending))
-      → is_some (slice_index_or ps 0 None) ≡ false
-      → AddsWords text (pending_words pid pids ps) text
-  tells-none text [] none = record {
-    added = λ whole. sym (append-nil text.bytes.items);
-    stays_lost = λ lost. lost;
-  }
-  tells-none text (None ∷ ps) none = record {
-    added = λ whole. sym (append-nil text.bytes.items);
-    stays_lost = λ lost. lost;
-  }
-  tells-none text (Some one ∷ ps) none = absurd (true≢false none)
-
 -- The first one taken away, and a place without one added behind.
 pub shifted : (ps now : List (Option Pending)) (k : ℕ)
     → k < length ps
@@ -64,20 +50,3 @@ shifted ps now k below is =
   where
     some : 1 ≤ length (drop k ps)
     some = let size = length-drop k ps in omega arith
-
--- After all places none is left.
-pub none-left : (ps now : List (Option Pending)) (k : ℕ)
-    → length ps ≡ 4
-    → 4 ≤ k
-    → now ≡ drop k ps ++ replicate k None
-    → slice_index_or now 0 None ≡ None
-none-left ps now k four past is =
-    ap (λ (l : List (Option Pending)). slice_index_or l 0 None)
-    (is
-    ∙ ap (λ (l : List (Option Pending)). l ++ replicate k None)
-    (drop_all k ps (omega (arith, four))))
-    ∙ first k
-  where
-    first : (n : ℕ) → slice_index_or (replicate {A = Option Pending} n None) 0 None ≡ None
-    first zero = refl
-    first (suc n) = refl

@@ -1,7 +1,9 @@
 pub mod Adaptation
 pub mod Counters
+pub mod Endings
 pub mod Following
 pub mod Heard
+pub mod InStep
 pub mod Intervals
 pub mod Lines
 pub mod Missing

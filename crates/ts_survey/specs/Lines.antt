@@ -15,10 +15,6 @@ use Rattle.ts_survey.specs.declared.text.Text.{Text}
 abbrev pub AddsWords : Text → List (List ℕ) → Text → Type 0
 AddsWords old words new = Adds old (concat words) new
 
--- What is told ends with these words.
-abbrev pub EndsWithWords : List (List ℕ) → Text → Type 0
-EndsWithWords words new = (told : Text) × AddsWords told words new
-
 -- A number.
 abbrev pub number_word : ℕ → List ℕ
 number_word number = 0x20 ∷ decimal number

@@ -7,5 +7,5 @@ use Rattle.ts_survey.specs.declared.recording.Kind.TheVariants.{Stream}
 -- It is one, whose packets have that distance, and of which the PID that is asked for is followed.
 abbrev pub IsAsked : SurveyOptions → ℕ → Kind → Type 0
 IsAsked options distance (Stream packets multiplex) =
-    (packets.distance ≡ distance) × (multiplex.asked ≡ options.pid)
+    (packets.distance.bytes ≡ distance) × (multiplex.asked ≡ options.pid)
 IsAsked options distance _ = ⊥

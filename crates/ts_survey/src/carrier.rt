@@ -4,8 +4,8 @@ ghost use Rattle.std.specs.Prelude.{None, codes, false, if◌then◌else◌, is_
 ghost use Rattle.mpeg_ts.specs.GoodPackets.{Hole};
 ghost use Rattle.mpeg_ts.specs.Joining.{after_note};
 ghost use Rattle.mpeg_ts.specs.TransportPacket.{announces_jump, counter, has_payload, is_wrong};
-ghost use Rattle.ts_survey.specs.Lines.{AddsWords, EndsWithWords, clock_line, clock_told};
-ghost use Rattle.ts_survey.specs.Lines.{end_line, pending_words};
+ghost use Rattle.ts_survey.specs.Endings.{carrier_line, carrier_words};
+ghost use Rattle.ts_survey.specs.Lines.{AddsWords, clock_line, clock_told, pending_words};
 ghost use Rattle.ts_survey.specs.Missing.{ends_within_packet, lost_before, lost_with, more_lost};
 
 use crate::adaptation::{is_scrambled, pts_said};
@@ -204,6 +204,7 @@ impl Carrier {
         ensures all { IfNone number (AddsWords text.old
             (pending_words self.old.pid pids.now self.old.pending) text.new) }
         ensures none { IfNone number (slice_index_or self.new.pending 0 None ≡ None) }
+        ensures same { self.new ≡ record self.old { pending = self.new.pending } }
     {
         for _ in 0..PENDING {
             if !self.settle_first(number, pids, text) {
@@ -222,7 +223,7 @@ impl Carrier {
             → self.new.pending ≡ drop 1 self.old.pending ++ None ∷ [] }
         ensures waits { result ≡ false → (self.new ≡ self.old) × (text.new ≡ text.old) }
         ensures none { IfNone number (result ≡ is_some (slice_index_or self.old.pending 0 None)) }
-        ensures pid { self.new.pid ≡ self.old.pid }
+        ensures same { self.new ≡ record self.old { pending = self.new.pending } }
     {
         let [first, second, third, fourth] = self.pending;
         let Some(one) = first else {
@@ -254,12 +255,8 @@ impl Carrier {
     }
 
     /// The recording is over: the last that is told is the line of the PID.
-    pub fn end(&mut self, text: &mut Text)
-        ensures { EndsWithWords (end_line self.new.pid self.new.packets_of.to.lines.count
-            self.new.packets_of.to.lines.marks self.new.packets self.new.scrambled
-            self.new.packets_of.to.refusal
-            (ends_within_packet self.new.begun self.new.packets_of.to.last)
-            self.new.begun) text.new }
+    pub fn end(&self, text: &mut Text)
+        ensures { AddsWords text.old (carrier_words self.now) text.new }
     {
         self.packets_of.to.end(text);
         self.tell_end(text);
@@ -267,17 +264,13 @@ impl Carrier {
 
     // Tells how many packets came, and what of them is given.
     fn tell_end(&self, text: &mut Text)
-        ensures { AddsWords text.old (end_line self.now.pid self.now.packets_of.to.lines.count
-            self.now.packets_of.to.lines.marks self.now.packets self.now.scrambled
-            self.now.packets_of.to.refusal
-            (ends_within_packet self.now.begun self.now.packets_of.to.last)
-            self.now.begun) text.new }
+        ensures { AddsWords text.old (carrier_line self.now) text.new }
     {
         let given = &self.packets_of.to;
         text.put(b"end");
         text.number(self.pid as u64);
-        text.number(given.lines().count());
-        text.number(given.lines().marks());
+        text.number(given.count());
+        text.number(given.marks());
         text.number(self.packets);
         text.number(self.scrambled);
         text.number(given.refusal() as u64);

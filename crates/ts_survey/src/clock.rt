@@ -2,7 +2,9 @@
 ghost use Rattle.std.specs.Prelude.{◌≡◌, min, take};
 ghost use Rattle.ts_survey.specs.Usual as specs;
 ghost use Rattle.ts_survey.specs.Usual.{IsMiddle};
+ghost use Rattle.ts_survey.specs.Endings.{clock_words, pcr_line};
 ghost use Rattle.ts_survey.specs.Intervals.{IsUsual};
+ghost use Rattle.ts_survey.specs.Lines.{AddsWords};
 
 use crate::text::{CLOCK, Text, forward};
 use mpeg_ts::{PACKET, announces_jump};
@@ -181,15 +183,19 @@ impl Clock {
         }
     }
 
-    fn tell(&self, pcr: u64, text: &mut Text) {
+    fn tell(&self, pcr: u64, text: &mut Text)
+        ensures { AddsWords text.old (pcr_line self.now.pid pcr) text.new }
+    {
         text.put(b"pcr");
-        text.number(u64::from(self.pid));
+        text.number(self.pid as u64);
         text.number(pcr);
         text.put(b"\n");
     }
 
     /// The recording is over: the last PCR is told.
-    pub fn end(&self, text: &mut Text) {
+    pub fn end(&self, text: &mut Text)
+        ensures { AddsWords text.old (clock_words self.now) text.new }
+    {
         if let Some((pcr, _)) = self.last {
             self.tell(pcr, text);
         }

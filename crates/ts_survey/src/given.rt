@@ -1,5 +1,7 @@
 //! What the packets of a PID carry, piece after piece: PES packets, marks, and what is none.
 ghost use Rattle.std.specs.Prelude.{◌≡◌, []};
+ghost use Rattle.ts_survey.specs.Endings.{given_words, with_due_mark};
+ghost use Rattle.ts_survey.specs.Lines.{AddsWords};
 ghost use Rattle.ts_survey.specs.Missing.{more_lost};
 
 use crate::adaptation::pts_said;
@@ -88,17 +90,29 @@ impl Given {
         self.lines.flush(text);
     }
 
-    /// Nothing comes any more.
-    pub fn end(&mut self, text: &mut Text) {
-        self.tell_mark(text);
-        self.lines.end(text);
+    /// Nothing comes any more: tells what is kept back.
+    pub fn end(&self, text: &mut Text)
+        ensures { AddsWords text.old (given_words self.now) text.new }
+    {
+        if self.has_mark {
+            self.lines.end_at_mark(self.lost, self.scrambled, text);
+        } else {
+            self.lines.end(text);
+        }
     }
 
-    /// The lines of its PES packets.
-    pub fn lines(&self) -> &PesLines
-        ensures { result.now ≡ self.now.lines }
+    /// PES packets and marks, with one that is due.
+    pub fn count(&self) -> u64
+        ensures { result ≡ with_due_mark self.now self.now.lines.count }
     {
-        &self.lines
+        self.lines.count().saturating_add(self.has_mark as u64)
+    }
+
+    /// How many of them are marks.
+    pub fn marks(&self) -> u64
+        ensures { result ≡ with_due_mark self.now self.now.lines.marks }
+    {
+        self.lines.marks().saturating_add(self.has_mark as u64)
     }
 }
 

@@ -14,6 +14,7 @@ mod adaptation;
 mod carrier;
 mod character_set;
 mod clock;
+mod distance;
 mod given;
 mod heard;
 mod laws;

@@ -1,11 +1,15 @@
 //! All that is followed in a transport stream, one packet after another.
-ghost use Rattle.std.specs.Prelude.{◌≡◌, ◌≢◌, ◌<◌, IfNone, IfSome};
+ghost use Rattle.std.specs.Prelude.{◌≡◌, ◌≢◌, ◌<◌, IfSome, map};
+ghost use Rattle.ts_survey.specs.Endings.{carrier_words, clock_words, end_words, pictures_words};
+ghost use Rattle.ts_survey.specs.Endings.{pid_words, pids_words, waiting_words, words_of};
+ghost use Rattle.ts_survey.specs.Lines.{AddsWords};
 ghost use Rattle.ts_survey.specs.Missing.{NoteHoles};
 ghost use Rattle.ts_survey.specs.Payload as specs;
 
 use crate::adaptation::{payload_in, pcr_base};
 use crate::carrier::{Carrier, LOOKED_AT};
 use crate::clock::Clock;
+use crate::packets_in_step::TakesPackets;
 use crate::pictures::Pictures;
 use crate::pid_state::{NONE, NULL_PID, PidState, Pids};
 use crate::section::{
@@ -28,6 +32,7 @@ pub struct Multiplex {
     page: PageId,
     // The PID that alone is followed, where one is asked for.
     asked: Option<u16>,
+    // That of the last packet.
     number: u64,
     // The packet at which strange PCR are looked at again.
     settle_at: u64,
@@ -73,11 +78,6 @@ impl Multiplex {
     /// Whether memory ran out.
     pub fn is_short(&self) -> bool {
         self.is_short
-    }
-
-    /// Packets so far.
-    pub fn number(&self) -> u64 {
-        self.number
     }
 
     // Has the sections of a PID read.
@@ -155,35 +155,6 @@ impl Multiplex {
         self.pids.set(pid, state);
     }
 
-    /// A packet came.
-    pub fn take(&mut self, packet: &[u8; PACKET], text: &mut Text) {
-        self.number = self.number.saturating_add(1);
-        let pid = pid_of(packet);
-        if pid == NULL_PID {
-            return;
-        }
-        let state = self.pids.count(pid, packet, self.number);
-        if state.table != NONE {
-            self.read_sections(state.table, packet, text);
-        }
-        if state.clock != NONE {
-            self.read_clock(state.clock, packet, text);
-        }
-        if begins(packet) && is_unknown(&state) {
-            self.look(pid, packet, text);
-        }
-        let state = self.pids.get(pid);
-        if let Some(pictures) = self.videos.get_mut(state.video as usize) {
-            pictures.take(packet, text);
-        }
-        if state.carrier != NONE {
-            self.carry(&state, packet, text);
-        }
-        if self.number >= self.settle_at {
-            self.settle(Some(self.number), text);
-        }
-    }
-
     // A packet of a PID with Teletext came.
     fn carry(&mut self, state: &PidState, packet: &[u8; PACKET], text: &mut Text) {
         let number = self.number;
@@ -227,20 +198,34 @@ impl Multiplex {
         }
     }
 
-    // Tells the strange PCR of which all is known; without a number all, so that none waits.
-    fn settle(&mut self, number: Option<u64>, text: &mut Text)
-        ensures { IfNone number (self.new.settle_at ≡ 0xFFFF_FFFF_FFFF_FFFF) }
-    {
+    // Tells the strange PCR of which all is known at the packet with that number.
+    fn settle(&mut self, number: u64, text: &mut Text) {
         let mut waits = false;
         for carrier in self.carriers.iter_mut() {
-            carrier.settle(number, &self.pids, text);
+            carrier.settle(Some(number), &self.pids, text);
             waits = waits || carrier.waits();
         }
         self.settle_at = if waits {
-            self.number.saturating_add(1)
+            number.saturating_add(1)
         } else {
             u64::MAX
         };
+    }
+
+    // Tells all strange PCR, so that none waits.
+    fn settle_all(&mut self, text: &mut Text)
+        ensures words { AddsWords text.old (waiting_words self.old) text.new }
+        ensures carriers { map carrier_words self.new.carriers.items
+            ≡ map carrier_words self.old.carriers.items }
+        ensures same { self.new ≡ record self.old {
+          settle_at = 0xFFFF_FFFF_FFFF_FFFF;
+          carriers = self.new.carriers;
+        } }
+    {
+        for carrier in self.carriers.iter_mut() {
+            carrier.settle(None, &self.pids, text);
+        }
+        self.settle_at = u64::MAX;
     }
 
     // Looks at what begins in a PID of which nothing is known.
@@ -350,15 +335,6 @@ impl Multiplex {
         }
     }
 
-    /// So many bytes were skipped that packets of any PID may be missing.
-    pub fn note_hole(&mut self)
-        ensures { NoteHoles self.old.carriers.items self.new.carriers.items }
-    {
-        for carrier in self.carriers.iter_mut() {
-            carrier.note_hole();
-        }
-    }
-
     /// Tells what is not told yet, since nothing more is there for now.
     pub fn flush(&mut self, text: &mut Text) {
         for carrier in self.carriers.iter_mut() {
@@ -369,20 +345,86 @@ impl Multiplex {
     /// The recording is over: tells what is known of PID after PID, and of clocks and pictures. No
     /// strange PCR waits any more.
     pub fn end(&mut self, text: &mut Text)
-        ensures { self.new.settle_at ≡ 0xFFFF_FFFF_FFFF_FFFF }
+        ensures none { self.new.settle_at ≡ 0xFFFF_FFFF_FFFF_FFFF }
+        ensures told { AddsWords text.old (end_words self.old) text.new }
     {
-        self.settle(None, text);
+        self.settle_all(text);
+        self.end_pictures(text);
+        self.end_pids(text);
+        self.end_clocks(text);
+    }
+
+    fn end_pictures(&self, text: &mut Text)
+        ensures { AddsWords text.old (words_of pictures_words self.now.videos.items) text.new }
+    {
         for video in self.videos.iter() {
             video.end(text);
         }
+    }
+
+    // PID after PID, those that are followed.
+    fn end_pids(&self, text: &mut Text)
+        ensures { AddsWords text.old (pids_words self.now 0x1FFF 0) text.new }
+    {
         for pid in 0..NULL_PID {
-            let place = self.pids.get(pid).carrier;
-            if let Some(carrier) = self.carriers.get_mut(place as usize) {
-                carrier.end(text);
-            }
+            self.end_pid(pid, text);
         }
+    }
+
+    fn end_pid(&self, pid: u16, text: &mut Text)
+        ensures { AddsWords text.old (pid_words self.now pid) text.new }
+    {
+        let place = self.pids.get(pid).carrier;
+        if let Some(carrier) = self.carriers.get(place as usize) {
+            carrier.end(text);
+        }
+    }
+
+    fn end_clocks(&self, text: &mut Text)
+        ensures { AddsWords text.old (words_of clock_words self.now.clocks.items) text.new }
+    {
         for clock in self.clocks.iter() {
             clock.end(text);
+        }
+    }
+}
+
+impl TakesPackets for Multiplex {
+    /// A packet came, the one with that number.
+    fn take(&mut self, number: u64, packet: &[u8; PACKET], text: &mut Text) {
+        self.number = number;
+        let pid = pid_of(packet);
+        if pid == NULL_PID {
+            return;
+        }
+        let state = self.pids.count(pid, packet, number);
+        if state.table != NONE {
+            self.read_sections(state.table, packet, text);
+        }
+        if state.clock != NONE {
+            self.read_clock(state.clock, packet, text);
+        }
+        if begins(packet) && is_unknown(&state) {
+            self.look(pid, packet, text);
+        }
+        let state = self.pids.get(pid);
+        if let Some(pictures) = self.videos.get_mut(state.video as usize) {
+            pictures.take(packet, text);
+        }
+        if state.carrier != NONE {
+            self.carry(&state, packet, text);
+        }
+        if number >= self.settle_at {
+            self.settle(number, text);
+        }
+    }
+
+    /// So many bytes were skipped that packets of any PID may be missing.
+    fn note_hole(&mut self)
+        ensures { NoteHoles self.old.carriers.items self.new.carriers.items }
+    {
+        for carrier in self.carriers.iter_mut() {
+            carrier.note_hole();
         }
     }
 }

@@ -1,5 +1,7 @@
 //! What is told of the packets that a receiver of the page hears.
 ghost use Rattle.std.specs.Prelude.{◌≡◌, ◌≤◌, ◌<◌};
+ghost use Rattle.ts_survey.specs.Endings.{count_words, counts_words, subs_line};
+ghost use Rattle.ts_survey.specs.Lines.{AddsWords};
 
 use crate::character_set::CharacterSets;
 use crate::heard::Heard;
@@ -184,28 +186,32 @@ impl Notes {
     }
 
     /// Tells how many headers with the subtitle bit came, of each page.
-    pub fn tell_pages(&self, pid: u16, text: &mut Text) {
-        for magazine in 0..8u8 {
-            for page in 0..256u16 {
-                let place = magazine as usize * 256 + page as usize;
-                if let Some(count) = self.subtitles.get(place) {
-                    tell_count(pid, magazine, page as u8, *count, text);
-                }
-            }
+    pub fn tell_pages(&self, pid: u16, text: &mut Text)
+        ensures { AddsWords text.old (counts_words pid 0 self.now.subtitles.items) text.new }
+    {
+        let counts = self.subtitles.as_slice();
+        for place in 0..counts.len() {
+            tell_count(pid, place, counts[place], text);
         }
     }
 }
 
 // Tells how many headers with the subtitle bit came of a page, where any did.
-fn tell_count(pid: u16, magazine: u8, page: u8, count: u64, text: &mut Text)
-    requires { magazine < 8 }
+fn tell_count(pid: u16, place: usize, count: u64, text: &mut Text)
+    ensures { AddsWords text.old (count_words pid place count) text.new }
 {
     if count == 0 {
         return;
     }
+    tell_subs(pid, place, count, text);
+}
+
+fn tell_subs(pid: u16, place: usize, count: u64, text: &mut Text)
+    ensures { AddsWords text.old (subs_line pid place count) text.new }
+{
     text.put(b"subs");
-    text.number(u64::from(pid));
-    text.page(magazine, page);
+    text.number(pid as u64);
+    text.page((place / 256 % 8) as u8, (place % 256) as u8);
     text.number(count);
     text.put(b"\n");
 }

@@ -1,22 +1,43 @@
 //! The packets of a transport stream, found in bytes that come bit by bit; bytes that belong to
 //! none are skipped and counted.
-ghost use Rattle.std.specs.Prelude.{◌≡◌, ◌≤◌, length};
+ghost use Rattle.std.specs.Prelude.{◌≡◌, ◌≤◌, ◌<◌, ◌+◌, ◌-◌, List, [], ◌++◌, ℕ, Option, length};
+ghost use Rattle.std.specs.Prelude.{IfNone, IfSome, drop, false, replicate, take, true};
+ghost use Rattle.std.specs.Io.KnownBytes.{Appends, Keeps};
 ghost use Rattle.mpeg_ts.specs.PacketSize.{bytes_of};
+ghost use Rattle.mpeg_ts.specs.PacketsInStep.{Skipped, begins_packet, bytes_needed};
+ghost use Rattle.mpeg_ts.specs.PacketsInStep.{lead_size};
+ghost use Rattle.ts_survey.specs.InStep.{AreFound, behind, counted_on, items_from, untold};
 
-use crate::multiplex::Multiplex;
+use crate::distance::Distance;
 use crate::text::Text;
 use mpeg_ts::{PACKET, PacketSize, SYNC_BYTE};
 
 /// Packets as long as so many skipped bytes in a row may be missing of any PID.
 const HOLE: u64 = 15;
 
+/// Takes the packets of a transport stream, one after another.
+pub trait TakesPackets {
+    // Those that it took, each behind the one before, where it tells them.
+    ghost taken: { Self → Option (List ℕ) } = { untold };
+
+    /// Takes the packet with that number, and tells what there is to tell of it.
+    fn take(&mut self, number: u64, packet: &[u8; PACKET], text: &mut Text)
+        ensures { Appends (taken self.old) (taken self.new) packet.now };
+
+    /// So many bytes were skipped that packets of any PID may be missing.
+    fn note_hole(&mut self)
+        ensures { Keeps (taken self.old) (taken self.new) };
+}
+
 /// How far the packets were found.
 #[derive(Drop)]
 pub struct PacketsInStep {
-    distance: usize,
+    distance: Distance,
     // So many bytes are passed over before the next one that is looked at.
     lead: usize,
     in_step: bool,
+    // Packets so far.
+    number: u64,
     // Bytes that were skipped in a row, and in all.
     run: u64,
     skipped: u64,
@@ -33,7 +54,11 @@ enum Begins {
 
 // The packet at a place, where it is there whole.
 #[inline(always)]
-fn packet_at(bytes: &[u8], place: usize) -> Option<&[u8; PACKET]> {
+fn packet_at(bytes: &[u8], place: usize) -> Option<&[u8; PACKET]>
+    ensures some { IfSome result (λ packet. (place + 188 ≤ length bytes.now)
+        × (packet.now ≡ take 188 (drop place bytes.now))) }
+    ensures none { IfNone result (length bytes.now < place + 188) }
+{
     if bytes.len() < place.saturating_add(PACKET) {
         return None;
     }
@@ -45,18 +70,27 @@ impl PacketsInStep {
     /// At the start of a recording whose packets have that distance. So many bytes before it were
     /// skipped.
     pub fn new(size: PacketSize, skipped: u64) -> PacketsInStep
-        ensures { result.distance ≡ bytes_of size }
+        ensures distance { result.distance.bytes ≡ bytes_of size }
+        ensures lead { result.lead ≡ lead_size (bytes_of size) }
+        ensures in_step { result.in_step ≡ true }
+        ensures counted { (result.number ≡ 0) × (result.skipped ≡ skipped) }
     {
         PacketsInStep {
-            distance: size.bytes(),
+            distance: Distance::of(size),
             lead: match size {
                 PacketSize::TimeStamped => 4,
                 _ => 0,
             },
             in_step: true,
+            number: 0,
             run: 0,
             skipped,
         }
+    }
+
+    /// Packets so far.
+    pub fn number(&self) -> u64 {
+        self.number
     }
 
     /// Bytes that belong to no packet.
@@ -67,46 +101,56 @@ impl PacketsInStep {
     // Whether a packet begins at a place of bytes: in step, at a sync byte; else at one that has
     // another one at the distance behind it.
     #[inline(always)]
-    fn begins(&self, bytes: &[u8], place: usize, is_end: bool) -> Begins {
-        if bytes.get(place) != Some(&SYNC_BYTE) {
+    #[tactic(auto, using(crate::proofs::InStepLemmas::starts))]
+    fn begins(&self, bytes: &[u8], place: usize, is_end: bool) -> Begins
+        requires { place + 188 ≤ length bytes.now }
+        ensures yes { result ≡ Begins.Yes → (more : List ℕ)
+            → begins_packet self.now.distance.bytes self.now.in_step
+            (drop place (bytes.now ++ more)) ≡ true }
+        ensures no { result ≡ Begins.No → (more : List ℕ) → (is_end ≡ true → more ≡ [])
+            → begins_packet self.now.distance.bytes self.now.in_step
+            (drop place (bytes.now ++ more)) ≡ false }
+        ensures unknown { result ≡ Begins.Unknown → (is_end ≡ false) × (self.now.in_step ≡ false)
+            × (length bytes.now ≤ place + self.now.distance.bytes) }
+    {
+        if bytes[place] != SYNC_BYTE {
             return Begins::No;
         }
         if self.in_step {
             return Begins::Yes;
         }
-        match bytes.get(place.saturating_add(self.distance)) {
-            Some(byte) if *byte == SYNC_BYTE => Begins::Yes,
-            None if !is_end => Begins::Unknown,
-            _ => Begins::No,
+        let second = place + self.distance.bytes();
+        if second >= bytes.len() {
+            return if is_end { Begins::No } else { Begins::Unknown };
+        }
+        if bytes[second] == SYNC_BYTE {
+            Begins::Yes
+        } else {
+            Begins::No
         }
     }
 
     /// Takes the packets that the bytes have, and answers how many bytes are not needed any more.
-    pub fn take(
+    pub fn take<M: TakesPackets>(
         &mut self,
         bytes: &[u8],
         is_end: bool,
-        multiplex: &mut Multiplex,
+        to: &mut M,
         text: &mut Text,
     ) -> usize
-        ensures { result ≤ length bytes.now }
+        ensures within { result ≤ length bytes.now }
+        // What is taken are the packets that stand there, in order, each once; they and the bytes
+        // that are skipped are counted.
+        ensures found { AreFound self.old (M.taken to.old) bytes.now is_end
+            (result + self.new.lead) (behind is_end bytes.now (result + self.new.lead))
+            self.new (M.taken to.new) }
+        // Fewer bytes are left than tell what stands next; at the end no packet is left.
+        ensures left { length bytes.now
+            < result + self.new.lead + bytes_needed self.new.distance.bytes self.new.in_step }
+        ensures all { is_end ≡ true → items_from self.new.distance.bytes self.new.in_step
+            (drop (result + self.new.lead) bytes.now) ≡ [] }
     {
-        let mut at = self.lead;
-        for _ in 0..bytes.len() {
-            let Some(packet) = packet_at(bytes, at) else {
-                break;
-            };
-            match self.begins(bytes, at, is_end) {
-                Begins::Yes => {
-                    self.in_step = true;
-                    self.run = 0;
-                    multiplex.take(packet, text);
-                    at = at.saturating_add(self.distance);
-                }
-                Begins::No => at = self.skip(bytes, at, multiplex),
-                Begins::Unknown => break,
-            }
-        }
+        let at = self.find(bytes, is_end, to, text);
         self.lead = at.saturating_sub(bytes.len());
         let used = at.min(bytes.len());
         if is_end {
@@ -116,16 +160,78 @@ impl PacketsInStep {
         used
     }
 
+    // Takes the packets that the bytes have, and answers the place behind what stands there.
+    #[inline(always)]
+    fn find<M: TakesPackets>(
+        &mut self,
+        bytes: &[u8],
+        is_end: bool,
+        to: &mut M,
+        text: &mut Text,
+    ) -> usize
+        ensures found { AreFound self.old (M.taken to.old) bytes.now is_end result 0
+            self.new (M.taken to.new) }
+        ensures left { length bytes.now
+            < result + bytes_needed self.new.distance.bytes self.new.in_step }
+        ensures all { is_end ≡ true → items_from self.new.distance.bytes self.new.in_step
+            (drop result bytes.now) ≡ [] }
+    {
+        let mut at = self.lead;
+        for _ in 0..bytes.len() {
+            let Some(packet) = packet_at(bytes, at) else {
+                return at;
+            };
+            match self.begins(bytes, at, is_end) {
+                Begins::Yes => {
+                    self.take_packet(packet, to, text);
+                    at += self.distance.bytes();
+                }
+                Begins::No => at = self.skip(bytes, at, to),
+                Begins::Unknown => return at,
+            }
+        }
+        at
+    }
+
+    // Takes a packet.
+    #[inline(always)]
+    fn take_packet<M: TakesPackets>(&mut self, packet: &[u8; PACKET], to: &mut M, text: &mut Text)
+        ensures same { self.new ≡ record self.old {
+          in_step = true;
+          number = counted_on self.old.number 1;
+          run = 0;
+        } }
+        ensures taken { Appends (M.taken to.old) (M.taken to.new) packet.now }
+    {
+        self.in_step = true;
+        self.run = 0;
+        self.number = self.number.saturating_add(1);
+        to.take(self.number, packet, text);
+    }
+
     // Skips a byte, and those up to where the next packet may begin or none has room. Answers the
     // place behind them.
     #[inline(never)]
-    fn skip(&mut self, bytes: &[u8], place: usize, multiplex: &mut Multiplex) -> usize {
-        let next = next_start(bytes, place.saturating_add(1), self.distance);
-        let count = next.saturating_sub(place) as u64;
-        let hole = HOLE * self.distance.min(204) as u64;
+    fn skip<M: TakesPackets>(&mut self, bytes: &[u8], place: usize, to: &mut M) -> usize
+        requires { place + 188 ≤ length bytes.now }
+        ensures from { place + 1 ≤ result }
+        ensures skips { (more : List ℕ)
+            → items_from self.old.distance.bytes false (drop (place + 1) (bytes.now ++ more))
+            ≡ replicate (result - (place + 1)) Skipped
+            ++ items_from self.old.distance.bytes false (drop result (bytes.now ++ more)) }
+        ensures same { self.new ≡ record self.old {
+          in_step = false;
+          run = self.new.run;
+          skipped = counted_on self.old.skipped (result - place);
+        } }
+        ensures kept { Keeps (M.taken to.old) (M.taken to.new) }
+    {
+        let next = next_start(bytes, place + 1, self.distance.bytes());
+        let count = (next - place) as u64;
+        let hole = HOLE * self.distance.bytes() as u64;
         let run = self.run.saturating_add(count);
         if self.run < hole && hole <= run {
-            multiplex.note_hole();
+            to.note_hole();
         }
         self.run = run;
         self.skipped = self.skipped.saturating_add(count);
@@ -136,28 +242,42 @@ impl PacketsInStep {
 
 // The first place from one on at which a packet may begin out of step, as far as one has room; the
 // place itself where that is behind.
-fn next_start(bytes: &[u8], place: usize, distance: usize) -> usize {
+fn next_start(bytes: &[u8], place: usize, distance: usize) -> usize
+    requires near { 188 ≤ distance }
+    requires far { distance ≤ 204 }
+    requires within { place ≤ length bytes.now }
+    ensures from { place ≤ result }
+    ensures within { result ≤ length bytes.now }
+    ensures skips { (more : List ℕ) → items_from distance false (drop place (bytes.now ++ more))
+        ≡ replicate (result - place) Skipped
+        ++ items_from distance false (drop result (bytes.now ++ more)) }
+{
     let limit = bytes.len().saturating_sub(PACKET - 1);
     if place >= limit {
         return place;
     }
-    let (front, _) = bytes.split_at(limit);
-    let (_, ahead) = front.split_at(place);
-    for (count, byte) in ahead.iter().enumerate() {
-        if *byte == SYNC_BYTE {
-            let start = place.saturating_add(count);
-            if is_followed(bytes, start, distance) {
-                return start;
-            }
+    for start in place..limit {
+        if may_begin(bytes, start, distance) {
+            return start;
         }
     }
     limit
 }
 
-// Whether the byte that tells whether a packet begins at a place is a sync byte, or has not come.
-fn is_followed(bytes: &[u8], place: usize, distance: usize) -> bool {
-    match bytes.get(place.saturating_add(distance)) {
-        Some(byte) => *byte == SYNC_BYTE,
-        None => true,
+// Whether a packet may begin at a place out of step: at a sync byte that has another one at the
+// distance behind it, or behind which that byte has not come.
+#[inline(always)]
+#[tactic(auto, using(crate::proofs::InStepLemmas::starts))]
+fn may_begin(bytes: &[u8], place: usize, distance: usize) -> bool
+    requires near { 188 ≤ distance }
+    requires far { distance ≤ 204 }
+    requires within { place + 188 ≤ length bytes.now }
+    ensures { result ≡ false → (more : List ℕ)
+        → begins_packet distance false (drop place (bytes.now ++ more)) ≡ false }
+{
+    if bytes[place] != SYNC_BYTE {
+        return false;
     }
+    let second = place + distance;
+    second >= bytes.len() || bytes[second] == SYNC_BYTE
 }

@@ -69,7 +69,9 @@ impl Following {
     }
 
     /// What is told of what was heard.
-    pub fn notes(&self) -> &Notes {
+    pub fn notes(&self) -> &Notes
+        ensures { result.now ≡ self.now.notes }
+    {
         &self.notes
     }
 

@@ -1,5 +1,6 @@
 //! The lines of the PES packets of a PID: runs of them, marks, and what the page holds.
 ghost use Rattle.std.specs.Prelude.{◌≡◌, ◌++◌};
+ghost use Rattle.ts_survey.specs.Endings.{counts_words};
 ghost use Rattle.ts_survey.specs.Lines.{AddsWords, gap_line, run_line, run_words};
 
 use crate::adaptation::pts_said;
@@ -137,10 +138,7 @@ impl PesLines {
         ensures pid { self.new.pid ≡ self.old.pid }
         ensures count { self.new.count ≡ self.old.count }
     {
-        if self.run.count == 0 {
-            return;
-        }
-        tell_run(self.pid, &self.run, text);
+        self.tell_kept(text);
         self.run.count = 0;
     }
 
@@ -171,10 +169,34 @@ impl PesLines {
         self.marks = self.marks.saturating_add(1);
     }
 
-    /// They are over: the pages with subtitles are told.
-    pub fn end(&mut self, text: &mut Text) {
-        self.flush(text);
+    /// They are over: tells the run, where there is one, and the pages with subtitles.
+    pub fn end(&self, text: &mut Text)
+        ensures { AddsWords text.old (run_words self.now.pid self.now.run
+            ++ counts_words self.now.pid 0 self.now.page.notes.subtitles.items) text.new }
+    {
+        self.tell_kept(text);
         self.page.notes().tell_pages(self.pid, text);
+    }
+
+    /// They are over, and a mark is due: so many packets were lost and scrambled.
+    pub fn end_at_mark(&self, lost: u64, scrambled: u64, text: &mut Text)
+        ensures { AddsWords text.old (run_words self.now.pid self.now.run
+            ++ (gap_line self.now.pid self.now.count lost scrambled
+            ++ counts_words self.now.pid 0 self.now.page.notes.subtitles.items)) text.new }
+    {
+        self.tell_kept(text);
+        tell_gap(self.pid, self.count, lost, scrambled, text);
+        self.page.notes().tell_pages(self.pid, text);
+    }
+
+    // Tells the run, where there is one.
+    fn tell_kept(&self, text: &mut Text)
+        ensures { AddsWords text.old (run_words self.now.pid self.now.run) text.new }
+    {
+        if self.run.count == 0 {
+            return;
+        }
+        tell_run(self.pid, &self.run, text);
     }
 }
 

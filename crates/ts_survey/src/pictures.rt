@@ -1,4 +1,8 @@
 //! The first pictures of a video PID: from one that can be shown alone to the next such one.
+ghost use Rattle.std.specs.Prelude.{◌≡◌};
+ghost use Rattle.ts_survey.specs.Endings.{pictures_line, pictures_words};
+ghost use Rattle.ts_survey.specs.Lines.{AddsWords};
+
 use crate::adaptation::{begins_access, is_scrambled, payload_in, pts_said};
 use crate::clock::SECOND;
 use crate::text::{CLOCK, Text, forward};
@@ -137,16 +141,24 @@ impl Pictures {
     }
 
     /// The recording is over: what is not over is told.
-    pub fn end(&self, text: &mut Text) {
-        if self.reach == Reach::Over {
-            return;
+    pub fn end(&self, text: &mut Text)
+        ensures { AddsWords text.old (pictures_words self.now) text.new }
+    {
+        match self.reach {
+            Reach::Over => {}
+            Reach::Before => self.tell_end(b" 0\n", text),
+            Reach::Within => self.tell_end(b" 1\n", text),
         }
-        self.tell(text);
+    }
+
+    fn tell_end(&self, begun: &[u8], text: &mut Text)
+        ensures { AddsWords text.old (pictures_line self.now begun.now) text.new }
+    {
+        text.put(b"pictures");
+        text.number(self.pid as u64);
+        text.number(self.lost);
+        text.number(self.scrambled);
         text.number(self.passed);
-        text.put(if self.reach == Reach::Before {
-            b" 0\n"
-        } else {
-            b" 1\n"
-        });
+        text.put(begun);
     }
 }

@@ -2,6 +2,7 @@
 ghost use Rattle.std.specs.Prelude.{◌≡◌, ◌<◌, length};
 ghost use Rattle.std.specs.List.{list_any};
 ghost use Rattle.ts_survey.specs.Counters as specs;
+ghost use Rattle.ts_survey.specs.Endings.{carrier_place};
 ghost use Rattle.ts_survey.specs.Counters.{is_break_between, others_of, told_between};
 
 use mpeg_ts::{PACKET, announces_jump, counter_of, has_payload};
@@ -55,7 +56,9 @@ pub struct Pids {
 }
 
 // Nothing is known of a PID.
-fn unknown() -> PidState {
+fn unknown() -> PidState
+    ensures { result.carrier ≡ 0xFF }
+{
     PidState {
         counter: 0,
         first: 0,
@@ -93,7 +96,9 @@ impl Pids {
 
     /// What is known of a PID.
     #[inline(always)]
-    pub fn get(&self, pid: u16) -> PidState {
+    pub fn get(&self, pid: u16) -> PidState
+        ensures { result.carrier ≡ carrier_place self.now pid }
+    {
         match self.states.get(pid as usize) {
             Some(state) => *state,
             None => unknown(),

@@ -176,7 +176,7 @@ impl Recording {
             }
             Kind::Stream(packets, multiplex) => {
                 multiplex.end(text);
-                (packets.skipped(), multiplex.number())
+                (packets.skipped(), packets.number())
             }
             _ => (self.skipped, 0),
         };

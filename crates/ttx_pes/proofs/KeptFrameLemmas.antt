@@ -2,13 +2,13 @@
 -- known_anew, and of one whose data field is that of a packet before, known_again.
 use Rattle.std.proofs.lemmas.Bool.Decides.{nat_tests}
 use Rattle.std.proofs.Common.{◌≡◌, ℕ, ◌/◌, ◌<◌, List, ◌+◌, ◌%◌, ◌≤◌, ◌++◌, [], length, drop}
-use Rattle.std.proofs.Common.{true, false, take, Ok, Err, refl, sym, ap, subst, arith, length-drop}
+use Rattle.std.proofs.Common.{false, take, Ok, Err, refl, sym, ap, subst, arith, length-drop}
 use Rattle.std.proofs.Common.{◌∙◌}
 use Rattle.std.proofs.lemmas.List.{drop-drop, drop-take, length-take-le}
 use Rattle.sub_io.specs.Reading.{AreBytes}
 use Rattle.ttx_pes.specs.declared.fault.PesFault.{PesFault}
 use Rattle.ttx_pes.specs.PesPacket.{IsPesValue, PesValue}
-use Rattle.ttx_pes.specs.Reading.{is_format_fault, pts_at, units_at, value_at}
+use Rattle.ttx_pes.specs.Reading.{pts_at, units_at, value_at}
 use Rattle.ttx_pes.specs.SentUnits.{AreWithin, sent_units}
 use Rattle.ttx_pes.specs.Taking.{AreAllPlaces, KeepsPiece, KeptValue, RoomValue, IsInRoom}
 use Rattle.ttx_pes.specs.Taking.{field_in, room_frame, no_packet}
@@ -124,32 +124,6 @@ kept_in h room = record {
   data_field = field_in h.count room;
 }
 
--- The packet that was kept, sent again.
-pub same_field : (old new : RoomValue) (room body : List ℕ)
-    → drop 39 body ≡ field_in old.count room
-    → new.count ≡ old.count
-    → field_in new.count room ≡ drop 39 body
-same_field old new room body same count = ap (λ n. field_in n room) count ∙ sym same
-
-pub keeps_same : (old new : RoomValue) (room piece body : List ℕ)
-    → body ≡ drop 6 piece
-    → value_at body ≡ Ok (room_frame (drop 39 body) new)
-    → drop 39 body ≡ field_in old.count room
-    → new.count ≡ old.count
-    → sent_units (drop 39 body) new.places ≡ sent_units (field_in old.count room) old.places
-    → KeepsPiece (kept_in old room) piece (Ok true) (kept_in new room)
-keeps_same old new room piece body is value same count units =
-    let there = same_field old new room body same count in
-    record {
-      value = ap value_at (sym is) ∙ value ∙ ap (λ f. Ok (room_frame f new)) (sym there);
-      field = there ∙ ap (drop 39) is ∙ drop-drop 39 6 piece;
-      err = tt;
-      kind = tt;
-      same = λ _. there ∙ same;
-      units = λ _. ap (λ f. sent_units f new.places) there ∙ units;
-      other = λ no. absurd cc;
-    }
-
 -- Another, which was put in the room.
 pub other_field : (new : RoomValue) (room piece body : List ℕ)
     → body ≡ drop 6 piece
@@ -176,20 +150,4 @@ keeps_other old new before room piece body is value other there = record {
   same = λ no. absurd cc;
   units = λ no. absurd cc;
   other = λ _ e. other (sym there ∙ e);
-}
-
--- None.
-pub keeps_none : (old new : KeptValue) (piece body : List ℕ) (f : PesFault)
-    → body ≡ drop 6 piece
-    → value_at body ≡ Err f
-    → is_format_fault f ≡ true
-    → KeepsPiece old piece (Err f) new
-keeps_none old new piece body f is value kind = record {
-  value = tt;
-  field = tt;
-  err = ap value_at (sym is) ∙ value;
-  kind = kind;
-  same = λ no. absurd cc;
-  units = λ no. absurd cc;
-  other = λ no. absurd cc;
 }

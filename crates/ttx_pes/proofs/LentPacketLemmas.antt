@@ -41,16 +41,6 @@ lent-more held lent left rest room to least at k n whole gives below within fits
     Consumes-more (Some (held ++ lent)) (Some left) (Some rest) at k n room to within fits whole
     (gives (some_left held lent left room least at whole below within many))
 
--- While there are fewer bytes than the least number, the pull does not fail.
-pub lent-fails : (held lent left room : List ℕ) (least at : ℕ)
-    → held ++ lent ≡ take at room ++ left
-    → (left ≢ [] → ⊥)
-    → at < least
-    → at ≤ length room
-    → least ≤ length held + length lent
-    → ⊥
-lent-fails held lent left room least at h1 h2 h3 h4 h5 = grind (arith, nat_tests, some_left)
-
 -- ---- a packet that is lent
 
 pub lent_head : (lent : List ℕ) → holds_packet lent ≡ true → 6 ≤ length lent

@@ -5,24 +5,22 @@ use Rattle.std.proofs.Common.{sym, ap, ◌∙◌, subst, inl, inr, arith, append
 use Rattle.std.proofs.lemmas.Bool.{cases_lt, le-ltb, lt-ltb, true≢false}
 use Rattle.std.proofs.lemmas.Bool.Decides.{nat_tests}
 use Rattle.std.proofs.lemmas.List.{take_at, drop_at}
-use Rattle.std.proofs.KnownBytes.{Consumes-kept, Consumes-nil}
 use Rattle.std.specs.Prelude.{option_map}
 use Rattle.std.specs.Result.{result_ok}
 use Rattle.std.specs.Int.{bytes_high_first}
 use Rattle.std.specs.Io.KnownBytes.{Consumes, IsAtEnd, Keeps}
-use Rattle.sub_io.specs.Reading.{IfTold}
+use Rattle.sub_io.specs.Reading.{IfKnown}
 use Rattle.ttx_pes.specs.PesPacket.{packet_length, packet_start}
 use Rattle.ttx_pes.specs.PieceRange.{behind_pieces, count_pieces, first_pieces, if_whole, limited}
-use Rattle.ttx_pes.specs.PieceRange.{piece_size, told_piece}
+use Rattle.ttx_pes.specs.PieceRange.{piece_size, stated_piece}
 use Rattle.ttx_pes.specs.Pieces.{IsPiece}
-use Rattle.ttx_pes.specs.Reader.{FailsWithin}
 use Rattle.ttx_pes.specs.Reading.{size_at}
 use Rattle.ttx_pes.specs.declared.fault.PesFault.{PesFault}
 use Rattle.ttx_pes.proofs.PesHeaderLemmas.{head_complete, six_of}
 use Rattle.ttx_pes.proofs.PieceRangeLemmas.{behind_none, behind_one, count_none, count_one}
 use Rattle.ttx_pes.proofs.PieceRangeLemmas.{first_none, first_one, whole}
 use Rattle.ttx_pes.specs.Advancing.{Advances, HasPassed, IsRest, Passes, fault_of_size, is_over}
-use Rattle.ttx_pes.specs.Advancing.{left_after, limited_behind, limited_told, rest_fault}
+use Rattle.ttx_pes.specs.Advancing.{left_after, limited_behind, limited_known, rest_fault}
 use Rattle.ttx_pes.specs.declared.pieces.Came.{Came}
 use Rattle.ttx_pes.specs.declared.pieces.Came.TheVariants.{End, Piece, Rest}
 
@@ -32,7 +30,7 @@ Keeps-refl (Some x) = refl
 
 -- A piece tells its size, whatever follows it. (RangeLemmas has it, private.)
 pub piece_is : (p rest : List ℕ) → IsPiece p → piece_size (p ++ rest) ≡ Some (length p)
-unfolding told_piece
+unfolding stated_piece
 piece_is p rest h =
     let parts : p ≡ six_of h.n ++ h.body =
     h.bytes ∙ sym (append_assoc packet_start (bytes_high_first 2 (packet_length h.n)) h.body) in
@@ -43,7 +41,7 @@ piece_is p rest h =
     let size = length-append p rest in
     let head : take 6 (p ++ rest) ≡ six_of h.n =
     ap (take 6) all ∙ take_at (six_of h.n) (h.body ++ rest) 6 refl in
-    let told : told_piece (p ++ rest) ≡ Some (184 * h.n) =
+    let told : stated_piece (p ++ rest) ≡ Some (184 * h.n) =
     rw (
       le-ltb (length (p ++ rest)) 6 (omega (arith, size, long, lo)),
       head,
@@ -65,7 +63,7 @@ no_size count (Ok size) f e = grind (arith, nat_tests)
 no_size count (Err g) f e = refl
 
 pub rest_size : (b : List ℕ) (f : PesFault) → rest_fault b ≡ Some f → piece_size b ≡ None
-unfolding rest_fault piece_size told_piece
+unfolding rest_fault piece_size stated_piece
 rest_size b f e = elim (cases_lt (length b) 6) [
   | inl lt ↦ rw (lt-ltb (length b) 6 lt) refl
   | inr le ↦
@@ -75,7 +73,7 @@ rest_size b f e = elim (cases_lt (length b) 6) [
 
 -- Which is told of all that was to come.
 pub rest_told : (old behind : Option (List ℕ)) (f : PesFault) → IsRest old behind f
-    → IfTold old (λ all. rest_fault all ≡ Some f)
+    → IfKnown old (λ all. rest_fault all ≡ Some f)
 rest_told None behind f r all told = absurd cc
 rest_told (Some x) None f r all told = absurd r.consumed
 rest_told (Some x) (Some y) f r all told =
@@ -87,7 +85,7 @@ rest_limited : (n : ℕ) (b : List ℕ) → piece_size b ≡ None → limited (S
 rest_limited n b none = first_none (suc n) b (omega arith) none
 
 pub nil_size : piece_size [] ≡ None
-unfolding piece_size told_piece
+unfolding piece_size stated_piece
 nil_size = refl
 
 -- ---- by what is told
@@ -98,14 +96,6 @@ Keeps-map f None new k = tt
 Keeps-map f (Some x) None k = absurd k
 Keeps-map f (Some x) (Some y) k = ap f k
 
--- Nothing that was read is taken.
-none_within : (old new : Option (List ℕ)) → Keeps old new → FailsWithin old new
-none_within old new k = record {
-  bytes = [];
-  consumed = Consumes-kept old old new [] (Consumes-nil old) k;
-  begun = inl (omega arith);
-}
-
 -- No more may come.
 over_end : (told : Option (List ℕ)) → IsAtEnd (option_map (limited (Some 0)) told)
 unfolding first_pieces
@@ -115,7 +105,7 @@ over_end (Some x) = refl
 module _ {T A : Type 0} (E : Type 0) (is_take : T → List ℕ → A → T → Type 0) (taker : T) where
   pub over_limited : (left : Option ℕ) (told behind : Option (List ℕ))
       → is_over left ≡ true
-      → Advances (limited_told left told) (limited_told left told)
+      → Advances (limited_known left told) (limited_known left told)
       (limited_behind left told behind) is_take taker taker
       (let r : Result (Came A) E = Ok End in r)
   over_limited None told behind over = absurd (true≢false (sym over))
@@ -140,7 +130,7 @@ end_limited n (Some x) end = ap (limited (Some (suc n))) end ∙ rest_limited n 
 
 -- No piece began: all that follows was to come.
 rest_kept : (n : ℕ) (old new : Option (List ℕ)) (f : PesFault)
-    → IfTold old (λ all. rest_fault all ≡ Some f)
+    → IfKnown old (λ all. rest_fault all ≡ Some f)
     → Keeps old new
     → Keeps (option_map (limited (Some (suc n))) old) new
 rest_kept n None new f none k = tt
@@ -148,7 +138,7 @@ rest_kept n (Some x) None f none k = absurd k
 rest_kept n (Some x) (Some y) f none k = k ∙ sym (rest_limited n x (rest_size x f (none x refl)))
 
 rest_same : (n : ℕ) (old : Option (List ℕ)) (f : PesFault)
-    → IfTold old (λ all. rest_fault all ≡ Some f)
+    → IfKnown old (λ all. rest_fault all ≡ Some f)
     → option_map (limited (Some (suc n))) old ≡ old
 rest_same n None f none = refl
 rest_same n (Some x) f none =
@@ -160,7 +150,7 @@ module _ {T A : Type 0} (E : Type 0) (is_take : T → List ℕ → A → T → T
   where
     pub came_limited : (left : Option ℕ) (came : Came A) → is_over left ≡ false
         → Advances old new behind is_take before after (let r : Result (Came A) E = Ok came in r)
-        → Advances (limited_told left old) (limited_told (left_after left came) new)
+        → Advances (limited_known left old) (limited_known (left_after left came) new)
         (limited_behind (left_after left came) new behind) is_take before after
         (let r : Result (Came A) E = Ok came in r)
     came_limited None End some on = on
@@ -187,16 +177,6 @@ module _ {T A : Type 0} (E : Type 0) (is_take : T → List ℕ → A → T → T
       on.2,
     )
 
-    pub failed_limited : (left : Option ℕ) (e : E)
-        → Advances old new behind is_take before after (let r : Result (Came A) E = Err e in r)
-        → Advances (limited_told left old) (limited_told left new)
-        (limited_behind left new behind) is_take before after
-        (let r : Result (Came A) E = Err e in r)
-    failed_limited None e on = on
-    failed_limited (Some n) e on =
-        let kept = Keeps-map (limited (Some n)) old new on.0 in
-        (kept, none_within _ _ kept, on.2)
-
 -- ---- what is told
 
 front_of : (mid new : Option (List ℕ)) (b p : List ℕ) → mid ≡ Some b → Consumes mid new p
@@ -215,10 +195,6 @@ at_end None b end told = absurd cc
 at_end (Some x) b end told = cc
 
 -- ---- pieces that are passed over
-
-pub passed_none : (n : ℕ) (old : Option (List ℕ)) → HasPassed n 0 old old
-passed_none n old b told =
-    let all : n - 0 ≡ n = omega arith in (b, told, rw all refl, rw all (omega arith))
 
 pub passed_one : (n k : ℕ) (old mid new : Option (List ℕ)) (p : List ℕ) → k < n
     → HasPassed n k old mid
@@ -258,7 +234,7 @@ passed_kept n k old mid new so_far kept b told =
 passed_end : (n k : ℕ) (old mid new : Option (List ℕ))
     → HasPassed n k old mid
     → Keeps mid new
-    → IfTold mid (λ b. piece_size b ≡ None)
+    → IfKnown mid (λ b. piece_size b ≡ None)
     → Passes n old new k
 passed_end n k old mid new so_far kept none b told =
     let at = so_far b told in

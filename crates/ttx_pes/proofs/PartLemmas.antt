@@ -3,13 +3,13 @@
 use Rattle.std.proofs.Common.{◌≡◌, ℕ, zero, suc, ◌+◌, List, Option, Some, None}
 use Rattle.std.proofs.Common.{refl, ap, ◌∙◌, arith}
 use Rattle.std.specs.Prelude.{option_map}
-use Rattle.ttx_pes.specs.Advancing.{limited_told}
-use Rattle.ttx_pes.specs.PartOfPieces.{part_number, part_told}
+use Rattle.ttx_pes.specs.Advancing.{limited_known}
+use Rattle.ttx_pes.specs.PartOfPieces.{part_known, part_number}
 use Rattle.ttx_pes.specs.PieceRange.{AheadValue, PieceRangeValue, behind_pieces, count_pieces}
 use Rattle.ttx_pes.specs.PieceRange.{first_index, in_range, limited, most_of}
 
 part_of : (n : ℕ) (left : Option ℕ) (told : Option (List ℕ))
-    → part_told n left told ≡ limited_told left (option_map (behind_pieces n) told)
+    → part_known n left told ≡ limited_known left (option_map (behind_pieces n) told)
 unfolding behind_pieces
 part_of zero left None = refl
 part_of zero left (Some x) = refl
@@ -17,7 +17,7 @@ part_of (suc n) left told = refl
 
 -- The pieces of a range are those behind the ones before it, so many at most. For `new`.
 limited_behind_is : (m : Option ℕ) (n : ℕ) (told : Option (List ℕ))
-    → limited_told m (option_map (behind_pieces n) told)
+    → limited_known m (option_map (behind_pieces n) told)
     ≡ option_map (λ b. limited m (behind_pieces n b)) told
 limited_behind_is None n None = refl
 limited_behind_is None n (Some x) = refl
@@ -25,7 +25,7 @@ limited_behind_is (Some k) n None = refl
 limited_behind_is (Some k) n (Some x) = refl
 
 pub part_is : (r : PieceRangeValue) (told : Option (List ℕ))
-    → part_told r.first (most_of r) told ≡ option_map (in_range r) told
+    → part_known r.first (most_of r) told ≡ option_map (in_range r) told
 unfolding in_range
 part_is r told =
     part_of r.first (most_of r) told ∙ limited_behind_is (most_of r) r.first told

@@ -10,8 +10,8 @@ use Rattle.std.specs.Int.{bytes_high_first}
 use Rattle.sub_io.specs.Reading.{AreBytes}
 use Rattle.ttx_pes.specs.DataUnit.{UnitValue}
 use Rattle.ttx_pes.specs.PesPacket.{IsPesPacket, PesValue, packet_length, packet_start, pts_bytes}
-use Rattle.ttx_pes.specs.Reading.{is_start, pts_bits, pts_at, units_at, value_at, size_at}
-use Rattle.ttx_pes.specs.Reading.{told_size}
+use Rattle.ttx_pes.specs.Reading.{is_start, pts_at, pts_bits, size_at, stated_size, units_at}
+use Rattle.ttx_pes.specs.Reading.{value_at}
 use Rattle.ttx_pes.proofs.DataUnitLemmas.{AreBytes-drop, list_of_bytes, units_sound, units_complete}
 use Rattle.sub_io.proofs.ReadingLemmas.{step_gave, Ok-injective, given_as}
 
@@ -27,7 +27,7 @@ head_sound b size len fit e =
     let parts = list_of_bytes 6 0 b (omega arith) in
     let start : (get_or b 0 0 ≡ 0) × (get_or b 1 0 ≡ 0) × (get_or b 2 0 ≡ 1)
     × (get_or b 3 0 ≡ 189) = search rules in
-    let total : (told_size b % 184 ≡ 0) × (told_size b ≤ 1656) × (told_size b ≡ size) =
+    let total : (stated_size b % 184 ≡ 0) × (stated_size b ≤ 1656) × (stated_size b ≡ size) =
     grind (arith, nat_tests) in
     let is-high : get_or b 4 0 ≡ ((184 * (size / 184) - 6) / 256) % 256 = omega arith in
     let is-low : get_or b 5 0 ≡ (184 * (size / 184) - 6) % 256 = omega arith in

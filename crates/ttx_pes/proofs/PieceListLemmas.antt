@@ -19,7 +19,7 @@ use Rattle.ttx_pes.specs.Pieces.{FallInto, IsPiece, IsPieceOf, PiecesValue, Take
 use Rattle.ttx_pes.specs.Pieces.{answer_left, behind_piece, no_piece, piece_then, pieces_after}
 use Rattle.ttx_pes.specs.Pieces.{pieces_from, with_piece}
 use Rattle.ttx_pes.specs.Reading.{answer_at, most_packets, packet_at, pts_at, rest_after, size_at}
-use Rattle.ttx_pes.specs.Reading.{teletext_at, told_size, unit_at, units_at, value_at}
+use Rattle.ttx_pes.specs.Reading.{stated_size, teletext_at, unit_at, units_at, value_at}
 use Rattle.ttx_pes.proofs.DataUnitLemmas.{AreBytes-drop, AreBytes-take}
 use Rattle.ttx_pes.proofs.PesHeaderLemmas.{head_complete}
 use Rattle.ttx_pes.proofs.PieceLemmas.{sized_piece}
@@ -75,20 +75,20 @@ record Tells (p more : List ℕ) : Type 0 where
   pub sized : size_at (take 6 (p ++ more)) ≡ Ok (length p)
   pub some : 184 ≤ length p
 
-tells_size : (p more : List ℕ) → IsPiece p → Tells p more
-tells_size p more h1 = grind (arith, nat_tests, head_complete)
+states_size : (p more : List ℕ) → IsPiece p → Tells p more
+states_size p more h1 = grind (arith, nat_tests, head_complete)
 
 -- The size that is read is the one that is told.
 size_is : (b : List ℕ) (size : ℕ)
     → 6 ≤ length b
     → size_at (take 6 b) ≡ Ok size
-    → told_size b ≡ size
+    → stated_size b ≡ size
 unfolding size_at
 size_is b size long e = grind (arith, nat_tests, get_or-take)
 
 -- A piece stands in front of these bytes, and this is what is read of it.
 record StandsInFront (b : List ℕ) (size : ℕ) : Type 0 where
-  pub told : told_size b ≡ size
+  pub told : stated_size b ≡ size
   pub six : 6 ≤ length b
   pub le : size ≤ length b
   pub long : length (take size b) ≡ size
@@ -143,7 +143,7 @@ front_cases b fit = elim (cases_lt (length b) 6) [
       read = packet_short b short;
       kind = refl;
       none = λ p more h is.
-          let t = tells_size p more h in
+          let t = states_size p more h in
           let some = t.some in
           absurd (omega (arith, ap length is, length-append p more));
     },
@@ -155,7 +155,7 @@ front_cases b fit = elim (cases_lt (length b) 6) [
         read = packet_size b f six bad;
         kind = size_fault (take 6 b) f bad;
         none = λ p more h is.
-            let t = tells_size p more h in
+            let t = states_size p more h in
             let same = ap (λ (x : List ℕ). size_at (take 6 x)) is in
             absurd cc;
       },
@@ -167,7 +167,7 @@ front_cases b fit = elim (cases_lt (length b) 6) [
           read = packet_cut b size six sized cut;
           kind = refl;
           none = λ p more h is.
-              let t = tells_size p more h in
+              let t = states_size p more h in
               let same : size ≡ length p = Ok-injective size (length p)
               (sym sized ∙ ap (λ (x : List ℕ). size_at (take 6 x)) is ∙ t.sized) in
               absurd (omega (arith, ap length is, length-append p more));
@@ -252,7 +252,7 @@ falls_more given size bytes piece more_pieces below s is h = record {
     most [] more each within parts = omega arith
     most (p ∷ others) more each within parts =
         let at = parts ∙ append_assoc p (concat others) more in
-        let t = tells_size p (concat others ++ more) each.0 in
+        let t = states_size p (concat others ++ more) each.0 in
         let same : length p ≡ size = Ok-injective (length p) size
         (sym t.sized ∙ sym (ap (λ (x : List ℕ). size_at (take 6 x)) at) ∙ s.sized) in
         let rest = ap (drop size) at ∙ drop_at p (concat others ++ more) size same in
@@ -283,7 +283,7 @@ falls_from zero given (x ∷ b) fit e =
     (λ p more h below parts. absurd (omega arith))
 falls_from (suc room) given [] fit e =
     falls_none given [] None (omega arith) refl (λ p more h below parts.
-    let t = tells_size p more h in
+    let t = states_size p more h in
     let some = t.some in
     absurd (omega (arith, ap length parts, length-append p more)))
 falls_from (suc room) given (x ∷ b) fit e =
@@ -391,4 +391,4 @@ pub behind_taken : (old new : Option (List ℕ)) (bytes : List ℕ) (f : PesFaul
     → old ≡ Some bytes
     → new ≡ Some (behind_piece bytes)
 behind_taken old new bytes f h1 h2 =
-    grind (arith, nat_tests, left, tells_size, size_is, length-append, drop_at)
+    grind (arith, nat_tests, left, states_size, size_is, length-append, drop_at)

@@ -1,17 +1,18 @@
--- Pieces of a range, one by one: what begins bytes, piece_told; and what is passed over, counted and
--- cut off where a piece begins them or none does.
+-- Pieces of a range, one by one: what begins bytes, piece_stated; and what is passed over, counted
+-- and cut off where a piece begins them or none does.
 use Rattle.std.proofs.Common.{◌≡◌, ℕ, zero, suc, ◌<◌, ◌≤◌, List, ◌++◌, length, take, drop}
-use Rattle.std.proofs.Common.{Some, None, Result, Ok, Err, refl, sym, ap, ◌∙◌, cond, inl, inr, arith}
+use Rattle.std.proofs.Common.{Some, None, Result, Ok, Err, refl, sym, ap, ◌∙◌, cond, inl, inr}
+use Rattle.std.proofs.Common.{arith}
 use Rattle.std.proofs.lemmas.Bool.{cases_lt, le-leb, le-ltb, lt-ltb}
 use Rattle.std.proofs.lemmas.Bool.Decides.{nat_tests}
 use Rattle.std.specs.Result.{result_ok}
-use Rattle.ttx_pes.specs.PieceRange.{behind_pieces, count_pieces, first_pieces, if_whole, piece_size}
-use Rattle.ttx_pes.specs.PieceRange.{told_piece}
+use Rattle.ttx_pes.specs.PieceRange.{behind_pieces, count_pieces, first_pieces, if_whole}
+use Rattle.ttx_pes.specs.PieceRange.{piece_size, stated_piece}
 use Rattle.ttx_pes.specs.Reading.{size_at}
 use Rattle.ttx_pes.specs.declared.fault.PesFault.{PesFault}
 
 -- A piece that is whole begins the bytes that tell its size.
-pub whole : (b : List ℕ) (size : ℕ) → told_piece b ≡ Some size → size ≤ length b
+pub whole : (b : List ℕ) (size : ℕ) → stated_piece b ≡ Some size → size ≤ length b
     → piece_size b ≡ Some size
 unfolding piece_size
 whole b size e le = rw (e, le-leb size (length b) le) refl
@@ -22,22 +23,22 @@ unfolding size_at
 size_counts h size e = grind (arith, nat_tests)
 
 -- The size of a piece that is whole.
-whole_told : (count size : ℕ) (r : Result ℕ PesFault)
+whole_stated : (count size : ℕ) (r : Result ℕ PesFault)
     → if_whole count (result_ok r) ≡ Some size
     → (r ≡ Ok size) × (size ≤ count)
-whole_told count size (Err f) e = absurd cc
-whole_told count size (Ok told) e = grind (arith, nat_tests)
+whole_stated count size (Err f) e = absurd cc
+whole_stated count size (Ok told) e = grind (arith, nat_tests)
 
 -- What begins bytes is told by their first six, and is whole.
-pub piece_told : (b : List ℕ) (size : ℕ)
+pub piece_stated : (b : List ℕ) (size : ℕ)
     → piece_size b ≡ Some size
     → (6 ≤ size) × (size_at (take 6 b) ≡ Ok size) × (size ≤ length b)
-unfolding piece_size told_piece
-piece_told b size e = elim (cases_lt (length b) 6) [
+unfolding piece_size stated_piece
+piece_stated b size e = elim (cases_lt (length b) 6) [
   | inl lt ↦ let short = lt-ltb (length b) 6 lt in absurd cc
   | inr le ↦
       let long = le-ltb (length b) 6 le in
-      let told = whole_told (length b) size (size_at (take 6 b))
+      let told = whole_stated (length b) size (size_at (take 6 b))
       (ap (λ c. if_whole (length b) (cond c None (result_ok (size_at (take 6 b))))) (sym long) ∙ e)
       in
       (size_counts (take 6 b) size told.0, told.0, told.1)

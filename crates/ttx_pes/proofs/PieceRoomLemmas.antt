@@ -1,25 +1,25 @@
--- What was read for one piece of a source: whole, cut, none. Main lemmas: advances_piece,
--- advances_rest.
+-- What was read for one piece of a source: whole, cut, none. Main lemmas: read_whole,
+-- taken_whole.
 use Rattle.std.proofs.Common.{◌≡◌, ℕ, ◌%◌, ◌<◌, ◌≤◌, List, [], ◌∷◌, ◌++◌, length, take}
 use Rattle.std.proofs.Common.{Option, Some, None, Result, Ok, Err, refl, sym, ap, ◌∙◌, subst, arith}
 use Rattle.std.proofs.Common.{append_assoc, inl, inr, length-append, length-take, true}
-use Rattle.std.proofs.lemmas.Bool.{cases_lt, le-ltb, lt-ltb, true≢false}
+use Rattle.std.proofs.lemmas.Bool.{cases_lt, le-ltb, lt-ltb}
 use Rattle.std.proofs.lemmas.Bool.Decides.{nat_tests}
 use Rattle.std.proofs.lemmas.List.{append-nil, length-take-le, take-append-le, take-take}
 use Rattle.std.proofs.lemmas.List.{take_at}
 use Rattle.std.proofs.lemmas.Option.{same_Some}
 use Rattle.std.specs.Prelude.{IsSome}
 use Rattle.std.specs.Int.{bytes_high_first}
-use Rattle.std.specs.Io.KnownBytes.{Consumes, IsAtEnd, Keeps, prepend_known}
+use Rattle.std.specs.Io.KnownBytes.{Consumes, IsAtEnd, prepend_known}
 use Rattle.sub_io.specs.Reading.{AreBytes}
-use Rattle.ttx_pes.specs.Advancing.{AreRead, ReadsPiece, ShowRest, fault_of_size}
+use Rattle.ttx_pes.specs.Advancing.{AreRead, ReadsForPiece, ShowRest, fault_of_size}
 use Rattle.ttx_pes.specs.Advancing.{TakesPieceBy, held_then, lends_piece, rest_fault}
 use Rattle.ttx_pes.specs.declared.pieces.Came.{Came}
 use Rattle.ttx_pes.specs.declared.pieces.Came.TheVariants.{End, Piece, Rest}
 use Rattle.ttx_pes.specs.LentPacket.{holds_packet}
 use Rattle.ttx_pes.specs.PesPacket.{packet_length, packet_start}
 use Rattle.ttx_pes.specs.Pieces.{IsPiece}
-use Rattle.ttx_pes.specs.Reader.{FailsWithin, IsBegun}
+use Rattle.ttx_pes.specs.Reader.{IsBegun}
 use Rattle.ttx_pes.specs.Reading.{packet_at, size_at}
 use Rattle.ttx_pes.specs.declared.fault.PesFault.{PesFault}
 use Rattle.ttx_pes.specs.declared.fault.PesFault.TheVariants as fault
@@ -95,13 +95,6 @@ held_is [] None = refl
 held_is [] (Some x) = refl
 held_is (x ∷ held) told = refl
 
-pub held_kept : (old new : Option (List ℕ)) (held : List ℕ) → Consumes old new held
-    → Keeps old (held_then held new)
-held_kept None new held c = tt
-held_kept (Some x) None held c = absurd c
-held_kept (Some x) (Some y) [] c = sym c
-held_kept (Some x) (Some y) (z ∷ held) c = sym c
-
 -- What was read in two steps.
 pub read_on : (old mid new : Option (List ℕ)) (b more : List ℕ) → Consumes old mid b
     → Consumes (prepend_known b mid) new more
@@ -110,10 +103,6 @@ read_on None mid new b more c d = tt
 read_on (Some x) None new b more c d = absurd c
 read_on (Some x) (Some y) None b more c d = absurd d
 read_on (Some x) (Some y) (Some z) b more c d = c ∙ d
-
-pub failed_within : (old new : Option (List ℕ)) (b : List ℕ) → Consumes old new b → IsBegun b
-    → FailsWithin old new
-failed_within old new b c begun = record { bytes = b; consumed = c; begun = begun }
 
 -- ---- a piece
 
@@ -179,7 +168,7 @@ held_begun b (inr (size, sized, lt)) = elim (cases_lt (length b) 6) [
 ]
 
 module _ {E : Type 0} (old new : Option (List ℕ)) (b : List ℕ) (r : Result (Came (Unit {0})) E)
-    (reads : ReadsPiece old new b r)
+    (reads : ReadsForPiece old new b r)
   where
     pub held_at_end : (let e : Result (Came (Unit {0})) E = Ok End in r ≡ e)
         → IsSome (rest_fault b)
@@ -260,8 +249,3 @@ pub lends_is : (held lent : List ℕ) → held ≡ [] → holds_packet lent ≡ 
     → lends_piece held lent ≡ true
 lends_is [] lent none holds = holds
 lends_is (x ∷ held) lent none holds = absurd cc
-
-pub lends_holds : (held lent : List ℕ) → lends_piece held lent ≡ true
-    → (held ≡ []) × (holds_packet lent ≡ true)
-lends_holds [] lent e = (refl, e)
-lends_holds (x ∷ held) lent e = absurd (true≢false (sym e))

@@ -14,8 +14,8 @@ use Rattle.ttx_pes.specs.declared.fault.PesFault.TheVariants as fault
 use Rattle.ttx_pes.specs.DataUnit.{UnitValue, is_teletext}
 use Rattle.ttx_pes.specs.LineOrder.{last_place, line_order_place, stands_after}
 use Rattle.ttx_pes.specs.PesPacket.{PesValue}
-use Rattle.ttx_pes.specs.Reading.{flags_fault, is_start, packet_at, pts_at, size_at, teletext_at}
-use Rattle.ttx_pes.specs.Reading.{told_size, unit_at, units_at, value_at}
+use Rattle.ttx_pes.specs.Reading.{flags_fault, is_start, packet_at, pts_at, size_at, stated_size}
+use Rattle.ttx_pes.specs.Reading.{teletext_at, unit_at, units_at, value_at}
 use Rattle.ttx_pes.specs.Refusal.{told_fault, unit_faults}
 use Rattle.ttx_pes.proofs.LineOrderLemmas.{last_place-push}
 
@@ -109,19 +109,19 @@ body_tests b n =
     ∷ units_tests b n 0 0
 
 abbrev pub size_is_right : List ℕ → Bool
-size_is_right b = eqb (told_size b % 184) 0 && leb (told_size b) 1656
+size_is_right b = eqb (stated_size b % 184) 0 && leb (stated_size b) 1656
 
 abbrev pub tests : List ℕ → ℕ → List Bool
 tests b n =
     not (ltb (length b) 6)
     ∷ is_start b
     ∷ size_is_right b
-    ∷ not (ltb (length b) (told_size b))
+    ∷ not (ltb (length b) (stated_size b))
     ∷ body_tests b n
 
 -- The data units of the packet whose size is told.
-abbrev pub told_units : List ℕ → ℕ
-told_units b = told_size b / 46 - 1
+abbrev pub stated_units : List ℕ → ℕ
+stated_units b = stated_size b / 46 - 1
 
 -- The fault of an answer.
 abbrev pub refusal : {A : Type 0} → Result A PesFault → Option PesFault
@@ -191,7 +191,7 @@ body_asked n b y rest len same flags =
 
 -- A packet is read where its tests hold.
 pub packet_asked : (b : List ℕ)
-    → refusal (packet_at b) ≡ first_wrong b 0 (tests b (told_units b))
+    → refusal (packet_at b) ≡ first_wrong b 0 (tests b (stated_units b))
 unfolding packet_at size_at
 packet_asked b =
     simp (test_first, refusal-test, not-not)
@@ -200,17 +200,17 @@ packet_asked b =
     (rw (get_or-take 6 b 4 0 (omega arith), get_or-take 6 b 5 0 (omega arith))
     (elim (cases_Bool (size_is_right b)) [
       | inr wrong ↦ rw wrong refl
-      | inl told ↦ elim (cases_lt (length b) (told_size b)) [
-        | inl cut ↦ rw (told, lt-ltb (length b) (told_size b) cut) refl
+      | inl told ↦ elim (cases_lt (length b) (stated_size b)) [
+        | inl cut ↦ rw (told, lt-ltb (length b) (stated_size b) cut) refl
         | inr all ↦
-            let y = take (told_size b - 6) (drop 6 b) in
-            let whole : told_size b % 184 ≡ 0 = eqb-true _ _ (and_parts _ _ told).0 in
-            let len : length y ≡ 40 + 46 * (told_size b / 46 - 1) =
+            let y = take (stated_size b - 6) (drop 6 b) in
+            let whole : stated_size b % 184 ≡ 0 = eqb-true _ _ (and_parts _ _ told).0 in
+            let len : length y ≡ 40 + 46 * (stated_size b / 46 - 1) =
             rw (length-take, length-drop) (omega arith) in
-            let body = body_asked _ b y (drop (told_size b) b) len (λ i lt.
-            get_or-take (told_size b - 6) (drop 6 b) i 0 (omega arith)
+            let body = body_asked _ b y (drop (stated_size b) b) len (λ i lt.
+            get_or-take (stated_size b - 6) (drop 6 b) i 0 (omega arith)
             ∙ get_or-drop 6 b i 0)
             (ap (λ (n : ℕ). flags_fault (take n (drop 6 b))) (omega arith)) in
-            rw (told, le-ltb (length b) (told_size b) all, body) refl
+            rw (told, le-ltb (length b) (stated_size b) all, body) refl
       ]
     ]))))

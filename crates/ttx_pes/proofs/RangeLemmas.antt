@@ -13,20 +13,20 @@ use Rattle.sub_io.specs.Reading.{AreBytes}
 use Rattle.ttx_pes.specs.Laws.{LawOfRanges}
 use Rattle.ttx_pes.specs.PesPacket.{packet_length, packet_start}
 use Rattle.ttx_pes.specs.PieceRange.{BeginsNoPiece, behind_pieces, count_pieces, first_index}
-use Rattle.ttx_pes.specs.PieceRange.{first_pieces, in_range, piece_size, told_piece}
+use Rattle.ttx_pes.specs.PieceRange.{first_pieces, in_range, piece_size, stated_piece}
 use Rattle.ttx_pes.specs.Pieces.{IsPiece}
 use Rattle.ttx_pes.specs.Reading.{size_at}
 use Rattle.ttx_pes.proofs.DataUnitLemmas.{AreBytes-take}
 use Rattle.ttx_pes.proofs.PesHeaderLemmas.{head_complete, six_of}
 use Rattle.ttx_pes.proofs.PieceLemmas.{sized_piece}
 use Rattle.ttx_pes.proofs.PieceRangeLemmas.{behind_none, behind_one, count_none, count_one}
-use Rattle.ttx_pes.proofs.PieceRangeLemmas.{first_none, first_one, piece_told, whole}
+use Rattle.ttx_pes.proofs.PieceRangeLemmas.{first_none, first_one, piece_stated, whole}
 
 -- ---- one piece
 
 -- A piece tells its size, whatever follows it.
 piece_is : (p rest : List ℕ) → IsPiece p → piece_size (p ++ rest) ≡ Some (length p)
-unfolding told_piece
+unfolding stated_piece
 piece_is p rest h =
     let parts : p ≡ six_of h.n ++ h.body =
     h.bytes ∙ sym (append_assoc packet_start (bytes_high_first 2 (packet_length h.n)) h.body) in
@@ -37,7 +37,7 @@ piece_is p rest h =
     let size = length-append p rest in
     let head : take 6 (p ++ rest) ≡ six_of h.n =
     ap (take 6) all ∙ take_at (six_of h.n) (h.body ++ rest) 6 refl in
-    let told : told_piece (p ++ rest) ≡ Some (184 * h.n) =
+    let told : stated_piece (p ++ rest) ≡ Some (184 * h.n) =
     rw (
       le-ltb (length (p ++ rest)) 6 (omega (arith, size, long, lo)),
       head,
@@ -51,7 +51,7 @@ piece_of_size : (b : List ℕ) (size : ℕ)
     → piece_size b ≡ Some size
     → IsPiece (take size b)
 piece_of_size b size fit e =
-    let told = piece_told b size e in
+    let told = piece_stated b size e in
     let len = length-take-le size b told.2 in
     let head : take 6 (take size b) ≡ take 6 b = take-take 6 size b told.0 in
     sized_piece (take size b) (AreBytes-take size b fit) (omega (arith, len, told.0))

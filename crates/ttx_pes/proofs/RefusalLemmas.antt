@@ -16,12 +16,12 @@ use Rattle.sub_io.specs.Reading.{AreBytes}
 use Rattle.ttx_pes.specs.declared.fault.PesFault.{PesFault}
 use Rattle.ttx_pes.specs.Laws.{LawOfRefusal}
 use Rattle.ttx_pes.specs.PesPacket.{IsPesPacket, PesValue, packet_length, packet_start, pts_bytes}
-use Rattle.ttx_pes.specs.Reading.{packet_at, told_size}
+use Rattle.ttx_pes.specs.Reading.{packet_at, stated_size}
 use Rattle.ttx_pes.specs.Refusal.{AgreeBefore, FailFirst, asker, header_askers, told_fault}
 use Rattle.ttx_pes.specs.Refusal.{unit_askers}
 use Rattle.ttx_pes.proofs.QuestionLemmas.{HoldBelow, first_wrong, packet_asked, refusal}
-use Rattle.ttx_pes.proofs.QuestionLemmas.{size_is_right, tests, tests_cases, told_units, unit_byte}
-use Rattle.ttx_pes.proofs.QuestionLemmas.{unit_place, units_tests}
+use Rattle.ttx_pes.proofs.QuestionLemmas.{size_is_right, stated_units, tests, tests_cases}
+use Rattle.ttx_pes.proofs.QuestionLemmas.{unit_byte, unit_place, units_tests}
 use Rattle.ttx_pes.proofs.ReadingLemmas.{answer_cases, packet_is_read, read_is_packet}
 
 -- ---- what is tested
@@ -31,31 +31,31 @@ not_below : (m n : ℕ) → not (ltb m n) ≡ true → n ≤ m
 not_below m n h = grind (arith, nat_tests)
 
 -- The bytes tell the size of a packet.
-told_count : (b : List ℕ)
+stated_count : (b : List ℕ)
     → size_is_right b ≡ true
-    → (n : ℕ) × (1 ≤ n) × (n ≤ 9) × (told_size b ≡ 184 * n)
-told_count b h =
-    let parts : (told_size b % 184 ≡ 0) × (told_size b ≤ 1656) = grind (arith, nat_tests) in
-    (told_size b / 184, omega arith, omega arith, omega arith)
+    → (n : ℕ) × (1 ≤ n) × (n ≤ 9) × (stated_size b ≡ 184 * n)
+stated_count b h =
+    let parts : (stated_size b % 184 ≡ 0) × (stated_size b ≤ 1656) = grind (arith, nat_tests) in
+    (stated_size b / 184, omega arith, omega arith, omega arith)
 
 -- Bytes that are read hold all their tests, and those that hold them are read.
 held_if_read : (b : List ℕ) (r : PesValue × List ℕ)
     → packet_at b ≡ Ok r
-    → (j : ℕ) → get_or (tests b (told_units b)) j true ≡ true
+    → (j : ℕ) → get_or (tests b (stated_units b)) j true ≡ true
 held_if_read b r read =
-    let asked : first_wrong b 0 (tests b (told_units b)) ≡ None =
+    let asked : first_wrong b 0 (tests b (stated_units b)) ≡ None =
     sym (packet_asked b) ∙ ap refusal read in
-    elim (tests_cases b 0 (tests b (told_units b))) [
+    elim (tests_cases b 0 (tests b (stated_units b))) [
       | inl all ↦ all.0
       | inr found ↦ let told = found.told in absurd cc
     ]
 
 read_if_held : (b : List ℕ)
-    → ((j : ℕ) → get_or (tests b (told_units b)) j true ≡ true)
+    → ((j : ℕ) → get_or (tests b (stated_units b)) j true ≡ true)
     → (r : PesValue × List ℕ) × (packet_at b ≡ Ok r)
 read_if_held b all =
     let asked = packet_asked b in
-    elim (tests_cases b 0 (tests b (told_units b))) [
+    elim (tests_cases b 0 (tests b (stated_units b))) [
       | inr found ↦ let held = all found.at in let wrong = found.wrong in absurd cc
       | inl none ↦ let nothing = none.1 in grind (arith, nat_tests, answer_cases (packet_at b))
     ]
@@ -99,7 +99,7 @@ same_test : (j m n : ℕ) (b c : List ℕ)
     → AgreeBefore (suc j) b c
     → (2 < j → m ≡ n)
     → 46 + 46 * n ≤ length c
-    → told_size c ≤ length c
+    → stated_size c ≤ length c
     → get_or (tests b m) j true ≡ get_or (tests c n) j true
 same_test zero m n b c h count long all = grind (arith, nat_tests, le-ltb)
 same_test (suc zero) m n b c h count long all = grind (arith, nat_tests)
@@ -134,8 +134,8 @@ mixed n q b i = cond (ltb (asker i) q) (get_or b i 0) (blank n i) % 256
 
 -- Where the tests of these bytes before a question hold, and n payloads are told if that was asked.
 module _ (b : List ℕ) (fit : AreBytes b) (q n : ℕ) (lo : 1 ≤ n) (hi : n ≤ 9)
-    (told : 2 < q → told_size b ≡ 184 * n)
-    (held : HoldBelow (tests b (told_units b)) q) where
+    (told : 2 < q → stated_size b ≡ 184 * n)
+    (held : HoldBelow (tests b (stated_units b)) q) where
   -- The packet.
   abbrev made : List ℕ
   made = map (mixed n q b) (range_with_len 0 (184 * n))
@@ -164,14 +164,14 @@ module _ (b : List ℕ) (fit : AreBytes b) (q n : ℕ) (lo : 1 ≤ n) (hi : n �
       record {
         six = λ lt. not_below (length b) 6 (held 0 lt);
         all =
-            λ lt. let all = not_below (length b) (told_size b) (held 3 lt) in
+            λ lt. let all = not_below (length b) (stated_size b) (held 3 lt) in
             let size = told (omega arith) in
             omega arith;
         same = grind (arith, nat_tests, kept_byte, get_or_append_left);
       }
 
   -- It tells its size.
-  told-made : told_size made ≡ 184 * n
+  told-made : stated_size made ≡ 184 * n
   told-made = grind (arith, nat_tests, cases_lt, kept_byte, blank_byte)
 
   -- The tests of its data units from number k on hold where these are blank.
@@ -206,16 +206,16 @@ module _ (b : List ℕ) (fit : AreBytes b) (q n : ℕ) (lo : 1 ≤ n) (hi : n �
       blank_units (4 * n - 1) 0 0 j (omega arith) (omega arith)
 
   -- All hold.
-  made_held : (j : ℕ) → get_or (tests made (told_units made)) j true ≡ true
+  made_held : (j : ℕ) → get_or (tests made (stated_units made)) j true ≡ true
   made_held j =
       let size = told-made in
-      let count : told_units made ≡ 4 * n - 1 = omega arith in
+      let count : stated_units made ≡ 4 * n - 1 = omega arith in
       subst (λ (m : ℕ). get_or (tests made m) j true ≡ true) (sym count) (elim (cases_lt j q) [
         | inr le ↦ blank_tests j le
         | inl less ↦
             let agree = made_agrees made [] (sym (append-nil made)) in
             let len = length-made in
-            sym (same_test j (told_units b) (4 * n - 1) b made
+            sym (same_test j (stated_units b) (4 * n - 1) b made
             (agree_below _ _ b made (omega arith) agree)
             (λ more. let same = told (omega arith) in omega arith) (omega arith) (omega arith))
             ∙ held j less
@@ -230,16 +230,16 @@ module _ (b : List ℕ) (fit : AreBytes b) (q n : ℕ) (lo : 1 ≤ n) (hi : n �
 
 -- How many payloads such a packet has.
 payloads : (b : List ℕ) (q : ℕ)
-    → HoldBelow (tests b (told_units b)) q
-    → (n : ℕ) × (1 ≤ n) × (n ≤ 9) × (2 < q → told_size b ≡ 184 * n)
+    → HoldBelow (tests b (stated_units b)) q
+    → (n : ℕ) × (1 ≤ n) × (n ≤ 9) × (2 < q → stated_size b ≡ 184 * n)
 payloads b q held = elim (cases_lt 2 q) [
   | inr le ↦ (1, omega arith, omega arith, λ more. absurd (omega arith))
-  | inl more ↦ let t = told_count b (held 2 more) in (t.0, t.1, t.2, λ _. t.3)
+  | inl more ↦ let t = stated_count b (held 2 more) in (t.0, t.1, t.2, λ _. t.3)
 ]
 
 -- A packet that agrees with the bytes up to a test that fails: there is none.
 none_agrees : (b : List ℕ) (q : ℕ) (v : PesValue) (p : List ℕ)
-    → get_or (tests b (told_units b)) q true ≡ false
+    → get_or (tests b (stated_units b)) q true ≡ false
     → IsPesPacket v p
     → AgreeBefore (suc q) b p
     → ⊥
@@ -247,10 +247,10 @@ none_agrees b q v p wrong h agree =
     let read : packet_at p ≡ Ok (v, []) =
     ap packet_at (sym (append-nil p)) ∙ packet_is_read v p [] h in
     let all = held_if_read p (v, []) read in
-    let t = told_count p (all 2) in
-    let full = not_below (length p) (told_size p) (all 3) in
-    let count : 2 < q → told_units b ≡ told_units p = grind (arith, nat_tests) in
-    let alike = same_test q (told_units b) (told_units p) b p agree count (omega arith) full in
+    let t = stated_count p (all 2) in
+    let full = not_below (length p) (stated_size p) (all 3) in
+    let count : 2 < q → stated_units b ≡ stated_units p = grind (arith, nat_tests) in
+    let alike = same_test q (stated_units b) (stated_units p) b p agree count (omega arith) full in
     let yes = all q in
     absurd cc
 
@@ -260,9 +260,9 @@ refused_first : (b : List ℕ) (f : PesFault)
     → packet_at b ≡ Err f
     → (q : ℕ) × (told_fault b q ≡ f) × FailFirst q b
 refused_first b f fit e =
-    let asked : first_wrong b 0 (tests b (told_units b)) ≡ Some f =
+    let asked : first_wrong b 0 (tests b (stated_units b)) ≡ Some f =
     sym (packet_asked b) ∙ ap refusal e in
-    elim (tests_cases b 0 (tests b (told_units b))) [
+    elim (tests_cases b 0 (tests b (stated_units b))) [
       | inl all ↦ let none = all.1 in absurd cc
       | inr found ↦
           let n = payloads b found.at found.held in

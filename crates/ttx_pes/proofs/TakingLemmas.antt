@@ -14,7 +14,7 @@ use Rattle.ttx_pes.specs.declared.progress.Progress.TheVariants.{Reading}
 use Rattle.ttx_pes.specs.PesPacket.{PesValue, IsPesPacket}
 use Rattle.ttx_pes.specs.Reading.{most_packets, size_at, value_at, packet_at, answer_at, rest_after}
 use Rattle.ttx_pes.specs.Reading.{is_format_fault}
-use Rattle.ttx_pes.specs.Reader.{FailsWithin, TakesPesPacket, TakesRefused, TellsPacket}
+use Rattle.ttx_pes.specs.Reader.{TakesPesPacket, TakesRefused, TellsPacket}
 use Rattle.ttx_pes.specs.Comparing.{TakesDataField}
 use Rattle.ttx_pes.specs.Taking.{Settles}
 use Rattle.ttx_pes.proofs.ReadingLemmas.{answer_full, answer_packet}
@@ -142,12 +142,6 @@ pub tells_too_many : (given : ℕ) (old new : Option (List ℕ)) (taken : List �
     → given ≡ most_packets
     → TellsPacket (Reading given) old new (Err fault.TooMany)
 tells_too_many given old new taken h some full = grind (arith, nat_tests, too_many)
-
--- The source failed.
-pub tells_failed : (given : ℕ) (old new : Option (List ℕ))
-    → FailsWithin old new
-    → TellsPacket (Reading given) old new (Err fault.Read)
-tells_failed given old new h = grind (arith, nat_tests)
 
 -- What the bytes that were taken settle.
 pub tells_settled : (given : ℕ) (old new : Option (List ℕ)) (taken : List ℕ)

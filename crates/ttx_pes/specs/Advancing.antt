@@ -4,7 +4,7 @@ use Rattle.std.specs.Prelude.{◌≡◌, ℕ, zero, suc, ◌+◌, ◌-◌, ◌<�
 use Rattle.std.specs.Prelude.{Option, Some, None, Result, Ok, Err, length, take, if◌then◌else◌}
 use Rattle.std.specs.Prelude.{◌∷◌, ◌++◌, ◌≤◌, option_map}
 use Rattle.std.specs.Io.KnownBytes.{Consumes, IsAtEnd, Keeps, prepend_known}
-use Rattle.sub_io.specs.Reading.{AreBytes, IfTold}
+use Rattle.sub_io.specs.Reading.{AreBytes, IfKnown}
 use Rattle.ttx_pes.specs.declared.fault.PesFault.{PesFault}
 use Rattle.ttx_pes.specs.declared.fault.PesFault.TheVariants.{Truncated}
 use Rattle.ttx_pes.specs.PieceRange.{behind_pieces, count_pieces, limited}
@@ -65,6 +65,11 @@ Advances old new behind is_take before after (Ok (Rest f)) =
 Advances old new behind is_take before after (Err e) =
     Keeps old new × FailsWithin old behind × (after ≡ before)
 
+-- It was told that no piece begins what is left.
+abbrev pub tells_rest : {A E : Type 0} → Result (Came A) E → Bool
+tells_rest (Ok (Rest f)) = true
+tells_rest _ = false
+
 -- It is not known of any that it asks no device.
 abbrev pub never_ready : {P : Type 0} → P → Bool
 never_ready pieces = false
@@ -94,7 +99,7 @@ AreRead new bytes (Ok (Rest f)) = ShowRest new bytes f
 AreRead new bytes (Err e) = IsBegun bytes
 
 -- These bytes were read for one piece.
-pub record ReadsPiece
+pub record ReadsForPiece
     {E : Type 0} (old new : Option (List ℕ)) (bytes : List ℕ) (result : Result (Came (Unit {0})) E)
     : Type 0 where
   pub consumed : Consumes old new bytes
@@ -105,7 +110,7 @@ pub record ReadsPiece
 -- Of the first n pieces k were passed over: what is left to be passed over is what is left of all.
 abbrev pub HasPassed : ℕ → ℕ → Option (List ℕ) → Option (List ℕ) → Type 0
 HasPassed n k old new =
-    IfTold old (λ bytes. (rest : List ℕ)
+    IfKnown old (λ bytes. (rest : List ℕ)
     × (new ≡ Some rest)
     × (behind_pieces n bytes ≡ behind_pieces (n - k) rest)
     × (count_pieces n bytes ≡ k + count_pieces (n - k) rest))
@@ -113,7 +118,7 @@ HasPassed n k old new =
 -- The first n pieces were passed over, or all where there are fewer, and this is their number.
 abbrev pub Passes : ℕ → Option (List ℕ) → Option (List ℕ) → ℕ → Type 0
 Passes n old new passed =
-    IfTold old (λ bytes. (new ≡ Some (behind_pieces n bytes)) × (passed ≡ count_pieces n bytes))
+    IfKnown old (λ bytes. (new ≡ Some (behind_pieces n bytes)) × (passed ≡ count_pieces n bytes))
 
 -- ---- so many at most
 
@@ -136,11 +141,16 @@ left_after left (Piece answer) = one_less left
 left_after left (Rest f) = None
 
 -- The bytes that are still to come.
-abbrev pub limited_told : Option ℕ → Option (List ℕ) → Option (List ℕ)
-limited_told None told = told
-limited_told (Some n) told = option_map (limited (Some n)) told
+abbrev pub limited_known : Option ℕ → Option (List ℕ) → Option (List ℕ)
+limited_known None told = told
+limited_known (Some n) told = option_map (limited (Some n)) told
+
+-- It was told that no piece begins what is left: then no number holds.
+abbrev pub limited_rest : Option ℕ → Bool → Bool
+limited_rest None rest = rest
+limited_rest (Some n) rest = false
 
 -- The bytes that follow those that were read.
 abbrev pub limited_behind : Option ℕ → Option (List ℕ) → Option (List ℕ) → Option (List ℕ)
-limited_behind None told behind = behind
-limited_behind (Some n) told behind = option_map (limited (Some n)) told
+limited_behind None known behind = behind
+limited_behind (Some n) known behind = option_map (limited (Some n)) known

@@ -31,9 +31,10 @@ outcome_after given bytes =
 -- These PES packets were taken of a source. Where it failed, it failed within the next one; where
 -- the next one is refused for a fault of the format, bytes that were taken of it show that fault.
 abbrev pub ReadsPackets : Bool → Option (List ℕ) → PesOutcome → Option (List ℕ) → Type 0
-ReadsPackets failed told ends left = failed ≡ false
-ReadsPackets failed told (fails f) left =
-    (is_read f ≡ failed) × (failed ≡ true → FailsWithin told left)
-    × (is_format_fault f ≡ true → TakesRefused told left f)
-ReadsPackets failed told (gives v more) left =
-    (behind : Option (List ℕ)) × TakesPesPacket told behind v × ReadsPackets failed behind more left
+ReadsPackets failed known ends left = failed ≡ false
+ReadsPackets failed known (fails f) left =
+    (is_read f ≡ failed) × (failed ≡ true → FailsWithin known left)
+    × (is_format_fault f ≡ true → TakesRefused known left f)
+ReadsPackets failed known (gives v more) left =
+    (behind : Option (List ℕ)) × TakesPesPacket known behind v
+    × ReadsPackets failed behind more left

@@ -1,7 +1,8 @@
 -- Some of the pieces of a PES file, from one number to another, counted from 0: which bytes these
 -- are.
-use Rattle.std.specs.Prelude.{◌≡◌, ℕ, zero, suc, ◌+◌, ◌-◌, nat_le, nat_lt, if◌then◌else◌, ◌==◌, ◌||◌}
-use Rattle.std.specs.Prelude.{List, [], ◌++◌, length, take, drop, Option, Some, None, option_map}
+use Rattle.std.specs.Prelude.{◌≡◌, ◌==◌, ◌||◌, ℕ, zero, suc, ◌+◌, ◌-◌, nat_le, nat_lt}
+use Rattle.std.specs.Prelude.{if◌then◌else◌, List, [], ◌++◌, length, take, drop}
+use Rattle.std.specs.Prelude.{Option, Some, None, option_map}
 use Rattle.std.specs.List.{concat}
 use Rattle.std.specs.Result.{result_ok}
 use Rattle.ttx_pes.specs.Pieces.{IsPiece}
@@ -10,8 +11,8 @@ use Rattle.ttx_pes.specs.Reading.{size_at}
 -- ---- which bytes
 
 -- The size of the piece that these bytes would begin, by its first six.
-unfoldable pub told_piece : List ℕ → Option ℕ
-told_piece b = if nat_lt (length b) 6 then None else result_ok (size_at (take 6 b))
+unfoldable pub stated_piece : List ℕ → Option ℕ
+stated_piece b = if nat_lt (length b) 6 then None else result_ok (size_at (take 6 b))
 
 -- That size, where there are as many bytes.
 abbrev pub if_whole : ℕ → Option ℕ → Option ℕ
@@ -20,7 +21,7 @@ if_whole count (Some size) = if nat_le size count then Some size else None
 
 -- The size of the piece that begins these bytes, if one does.
 unfoldable pub piece_size : List ℕ → Option ℕ
-piece_size b = if_whole (length b) (told_piece b)
+piece_size b = if_whole (length b) (stated_piece b)
 
 -- By the size of the piece that begins bytes; or what there is where none does.
 abbrev pub by_piece : {A : Type 0} → Option ℕ → (ℕ → A) → A → A

@@ -11,7 +11,7 @@ use Rattle.ttx_pes.specs.declared.fault.PesFault.TheVariants.{TooMany}
 use Rattle.ttx_pes.specs.Fault.{is_of_piece}
 use Rattle.ttx_pes.specs.PesPacket.{PesValue, IsPesPacket, packet_length, packet_start}
 use Rattle.ttx_pes.specs.PesPacket.{payload_size}
-use Rattle.ttx_pes.specs.Reading.{answer_at, most_packets, packet_at, told_size}
+use Rattle.ttx_pes.specs.Reading.{answer_at, most_packets, packet_at, stated_size}
 
 -- A piece, n times 184 bytes:
 --
@@ -55,7 +55,7 @@ piece_then (Err f) more = if is_of_piece f then with_piece (Err f) more else no_
 
 -- The bytes after the piece that begins these bytes.
 abbrev pub behind_piece : List ℕ → List ℕ
-behind_piece bytes = drop (told_size bytes) bytes
+behind_piece bytes = drop (stated_size bytes) bytes
 
 -- What bytes give after `given` pieces, where `room` more may come.
 unfoldable pub pieces_from : ℕ → ℕ → List ℕ → PiecesValue

@@ -5,7 +5,7 @@ use Rattle.std.specs.Prelude.{length, take}
 use Rattle.std.specs.Io.KnownBytes.{Consumes}
 use Rattle.std.specs.List.{AllByRecursion, concat}
 use Rattle.sub_io.specs.Device.{failed}
-use Rattle.sub_io.specs.Reading.{IfTold}
+use Rattle.sub_io.specs.Reading.{IfKnown}
 use Rattle.ttx_pes.specs.declared.fault.PesFault.{PesFault}
 use Rattle.ttx_pes.specs.declared.fault.PesFault.TheVariants.{Ended, TooMany, Write}
 use Rattle.ttx_pes.specs.declared.progress.Progress.{Progress}
@@ -73,11 +73,11 @@ pub record TellsPacket
   pub exact :
       (given : ℕ)
       → before ≡ Reading given
-      → IfTold old (λ bytes. failed is_read answer ≡ false → answer_at given bytes ≡ answer)
+      → IfKnown old (λ bytes. failed is_read answer ≡ false → answer_at given bytes ≡ answer)
   pub left :
       (given : ℕ)
       → before ≡ Reading given
-      → IfTold old (λ bytes. OnOk answer (new ≡ Some (rest_after bytes)))
+      → IfKnown old (λ bytes. OnOk answer (new ≡ Some (rest_after bytes)))
   -- Bytes that were taken show a fault of the format, also where the source tells nothing.
   pub refused : IfErr answer (λ fault. is_format_fault fault ≡ true → TakesRefused old new fault)
   pub too_many : IfErr answer (λ fault. fault ≡ TooMany → before ≡ Reading most_packets)

@@ -106,16 +106,16 @@ is_start b =
     && (slice_index b 3 == 0xBD)
 
 -- The size of the packet whose length bytes 4 and 5 give.
-abbrev pub told_size : List ℕ → ℕ
-told_size b = 0x100 * slice_index b 4 + slice_index b 5 + 6
+abbrev pub stated_size : List ℕ → ℕ
+stated_size b = 0x100 * slice_index b 4 + slice_index b 5 + 6
 
 -- Bytes 0 to 5: the size of the packet, 1 to 9 times 184.
 unfoldable pub size_at : List ℕ → Result ℕ PesFault
 size_at b =
     if not (is_start b) then Err fault.Start
-    else if not ((told_size b % payload_size == 0) && nat_le (told_size b) longest_packet) then
+    else if not ((stated_size b % payload_size == 0) && nat_le (stated_size b) longest_packet) then
     Err fault.Length
-    else Ok (told_size b)
+    else Ok (stated_size b)
 
 -- A packet's value, and the bytes after the packet.
 unfoldable pub packet_at : List ℕ → Result (PesValue × List ℕ) PesFault

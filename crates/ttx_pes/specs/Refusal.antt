@@ -28,13 +28,13 @@ use Rattle.ttx_pes.specs.PesPacket.{PesValue, IsPesPacket, header_size, most_uni
 use Rattle.ttx_pes.specs.Reading.{flags_fault}
 
 -- The bytes of a packet from 6 on, as many as PES_packet_length says.
-abbrev pub told_body : List ℕ → List ℕ
-told_body b = take (0x100 * slice_index b 4 + slice_index b 5) (drop 6 b)
+abbrev pub stated_body : List ℕ → List ℕ
+stated_body b = take (0x100 * slice_index b 4 + slice_index b 5) (drop 6 b)
 
 -- The faults of the questions of a packet, and of those of a data unit.
 abbrev pub packet_faults : List ℕ → List PesFault
 packet_faults b =
-    fault.Truncated ∷ fault.Start ∷ fault.Length ∷ fault.Truncated ∷ flags_fault (told_body b)
+    fault.Truncated ∷ fault.Start ∷ fault.Length ∷ fault.Truncated ∷ flags_fault (stated_body b)
     ∷ fault.NoTime ∷ fault.HeaderLength ∷ fault.Time ∷ fault.DataId ∷ []
 
 -- What is refused of the fields of each data unit, in the order of the questions.

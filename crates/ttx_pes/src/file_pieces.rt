@@ -9,7 +9,7 @@ use crate::lent_packet::holds_packet;
 use crate::numbered_pieces::{FailedAt, NumberedPieces};
 use crate::pes_header::size_of;
 use crate::piece_room::{PieceRoom, front_of};
-use crate::pieces::{Came, Pieces, TakePiece};
+use crate::pieces::{Came, Pieces, REST_ROOM, TakePiece};
 use sub_io::{Failed, Source};
 
 /// Gives the pieces of a PES file. One that the source lends whole is taken where it stands.
@@ -83,6 +83,8 @@ impl<S: Source> Pieces for FilePieces<'_, S> {
 
     ghost failure_count = { λ f. S.failure_count f.source.now };
 
+    ghost is_rest = { λ f. true };
+
     ghost ready = { λ f. lends_piece f.begun (S.lent f.source.now) };
 
     ghost device = { λ f. Some f.source.ghost_name };
@@ -95,6 +97,14 @@ impl<S: Source> Pieces for FilePieces<'_, S> {
             }
         }
         self.begun.next(self.source, taker)
+    }
+
+    fn read_rest(&mut self, room: &mut [u8; REST_ROOM]) -> Result<usize, Failed> {
+        let held = self.begun.give(room);
+        if held > 0 {
+            return Ok(held);
+        }
+        self.source.pull(room)
     }
 
     fn is_ready(&self) -> bool {

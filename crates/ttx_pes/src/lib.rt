@@ -62,7 +62,7 @@ pub use passing::{MOST_PACKETS, pass_pieces};
 pub use pes_frame::{MOST_UNITS, PesFrame};
 pub use pes_header::size_of;
 pub use piece_range::PieceRange;
-pub use pieces::{Came, Pieces, TakePiece};
+pub use pieces::{Came, Pieces, REST_ROOM, TakePiece};
 pub use progress::Progress;
 pub use reader::PesReader;
 pub use repeated_packet::RepeatedPacket;

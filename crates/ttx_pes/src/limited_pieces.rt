@@ -2,11 +2,11 @@
 ghost use Rattle.std.specs.Prelude.{◌≡◌, ◌<◌, ◌≤◌, OnErr, OnOk, false, is_ok, true};
 ghost use Rattle.sub_io.specs.Device.{CanFail, CountsFailure};
 ghost use Rattle.ttx_pes.specs.Advancing.{Advances, HasPassed, Passes, is_over, limited_behind};
-ghost use Rattle.ttx_pes.specs.Advancing.{limited_told};
+ghost use Rattle.ttx_pes.specs.Advancing.{limited_known, limited_rest, tells_rest};
 ghost use Rattle.ttx_pes.specs.Advancing as specs;
 
 use crate::passing::pass_pieces;
-use crate::pieces::{Came, Pieces, TakePiece};
+use crate::pieces::{Came, Pieces, REST_ROOM, TakePiece};
 use sub_io::Failed;
 
 /// Gives so many pieces at most of those that another gives; then nothing is left.
@@ -53,11 +53,13 @@ impl<P: Pieces> LimitedPieces<P> {
 }
 
 impl<P: Pieces> Pieces for LimitedPieces<P> {
-    ghost remaining = { λ l. limited_told l.left (P.remaining l.inner) };
+    ghost remaining = { λ l. limited_known l.left (P.remaining l.inner) };
 
     ghost left = { λ l. limited_behind l.left (P.remaining l.inner) (P.left l.inner) };
 
     ghost failure_count = { λ l. P.failure_count l.inner };
+
+    ghost is_rest = { λ l. limited_rest l.left (P.is_rest l.inner) };
 
     ghost ready = { λ l. P.ready l.inner };
 
@@ -68,10 +70,12 @@ impl<P: Pieces> Pieces for LimitedPieces<P> {
         requires failures { CanFail (P.failure_count self.old.inner) }
         // Once so many have come nothing is read.
         ensures over { is_over self.old.left ≡ true → self.new ≡ self.old }
-        ensures came { Advances (limited_told self.old.left (P.remaining self.old.inner))
-            (limited_told self.new.left (P.remaining self.new.inner))
+        ensures came { Advances (limited_known self.old.left (P.remaining self.old.inner))
+            (limited_known self.new.left (P.remaining self.new.inner))
             (limited_behind self.new.left (P.remaining self.new.inner) (P.left self.new.inner))
             T.is_take taker.old taker.new result }
+        ensures rest { tells_rest result ≡ true
+            → limited_rest self.new.left (P.is_rest self.new.inner) ≡ true }
         ensures ready { P.ready self.old.inner ≡ true → is_ok result ≡ true }
         ensures same { P.device self.new.inner ≡ P.device self.old.inner }
         ensures count { CountsFailure (P.failure_count self.old.inner) result
@@ -83,6 +87,10 @@ impl<P: Pieces> Pieces for LimitedPieces<P> {
         let came = self.inner.next(taker)?;
         self.left = left_after(self.left, &came);
         Ok(came)
+    }
+
+    fn read_rest(&mut self, room: &mut [u8; REST_ROOM]) -> Result<usize, Failed> {
+        self.inner.read_rest(room)
     }
 
     fn is_ready(&self) -> bool {

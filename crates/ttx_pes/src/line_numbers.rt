@@ -1,6 +1,5 @@
 //! Packets that are sent as one frame, on the lines of EN 300 472.
 ghost use Rattle.std.specs.Prelude.{◌≡◌, ◌+◌, ◌^◌, ◌<◌, ◌≤◌, ◌==◌, false, length, IfErr};
-ghost use Rattle.std.specs.Prelude.{if◌then◌else◌};
 ghost use Rattle.sub_io.specs.Device.{CanFail, CountsIf, Writes, failed};
 ghost use Rattle.ttx_pes.specs.Fault.{is_write};
 ghost use Rattle.ttx_pes.specs.declared.fault.PesFault.TheVariants.{Write};

@@ -1,17 +1,16 @@
 //! Some of the pieces of a file or of a recording.
-ghost use Rattle.std.specs.Prelude.{◌≡◌, ◌≤◌, ℕ, IfErr, IfOk, OnErr, OnOk, Ok, Some, is_ok};
-ghost use Rattle.std.specs.Prelude.{option_map, true};
+ghost use Rattle.std.specs.Prelude.{◌≡◌, ◌≤◌, ℕ, IfErr, IfOk, OnErr, OnOk, Ok, Some};
+ghost use Rattle.std.specs.Prelude.{option_map};
 ghost use Rattle.std.specs.Io.KnownBytes.{Keeps};
 ghost use Rattle.sub_io.specs.Device.{CanFail, CountsFailure};
-ghost use Rattle.ttx_pes.specs.Advancing.{Advances};
-ghost use Rattle.ttx_pes.specs.PartOfPieces.{part_left, part_number, part_ready, part_told};
+ghost use Rattle.ttx_pes.specs.PartOfPieces.{part_known, part_left, part_number, part_ready};
+ghost use Rattle.ttx_pes.specs.PartOfPieces.{part_rest};
 ghost use Rattle.ttx_pes.specs.PieceRange.{first_index, in_range};
 
 use crate::limited_pieces::LimitedPieces;
 use crate::numbered_pieces::{FailedAt, NumberedPieces};
-use crate::passing::pass_pieces;
 use crate::piece_range::PieceRange;
-use crate::pieces::{Came, Pieces, TakePiece};
+use crate::pieces::{Came, Pieces, REST_ROOM, TakePiece};
 use crate::pieces_ahead::PiecesAhead;
 use sub_io::Failed;
 
@@ -26,7 +25,7 @@ pub struct PartOfPieces<P> {
 impl<P: Pieces> PartOfPieces<P> {
     /// Those of a range.
     pub fn new(inner: P, range: PieceRange) -> Self
-        ensures told { part_told result.ahead.to_pass result.inner.left
+        ensures told { part_known result.ahead.to_pass result.inner.left
             (P.remaining result.inner.inner) ≡ option_map (in_range range) (P.remaining inner) }
         ensures number { part_number result.ahead (P.remaining result.inner.inner)
             ≡ option_map (first_index range) (P.remaining inner) }
@@ -50,9 +49,9 @@ impl<P: Pieces> PartOfPieces<P> {
     fn pass_others(&mut self) -> Result<u64, FailedAt>
         requires failures { CanFail (P.failure_count self.old.inner.inner) }
         ensures kept { Keeps
-            (part_told self.old.ahead.to_pass self.old.inner.left
+            (part_known self.old.ahead.to_pass self.old.inner.left
             (P.remaining self.old.inner.inner))
-            (part_told self.new.ahead.to_pass self.new.inner.left
+            (part_known self.new.ahead.to_pass self.new.inner.left
             (P.remaining self.new.inner.inner)) }
         ensures first { (n : ℕ)
             → part_number self.old.ahead (P.remaining self.old.inner.inner) ≡ Some n
@@ -67,7 +66,7 @@ impl<P: Pieces> PartOfPieces<P> {
             part_number self.new.ahead (P.remaining self.new.inner.inner) ≡ Some n) }
         ensures found { OnOk result (self.new.ahead.to_pass ≡ 0) }
         ensures unread { OnErr result (Keeps
-            (part_told self.old.ahead.to_pass self.old.inner.left
+            (part_known self.old.ahead.to_pass self.old.inner.left
             (P.remaining self.old.inner.inner))
             (part_left self.new.ahead.to_pass self.new.inner.left
             (P.remaining self.new.inner.inner) (P.left self.new.inner.inner))) }
@@ -96,12 +95,14 @@ impl<P: Pieces> PartOfPieces<P> {
 
 impl<P: Pieces> Pieces for PartOfPieces<P> {
     ghost remaining = { λ p.
-        part_told p.ahead.to_pass p.inner.left (P.remaining p.inner.inner) };
+        part_known p.ahead.to_pass p.inner.left (P.remaining p.inner.inner) };
 
     ghost left = { λ p. part_left p.ahead.to_pass p.inner.left
         (P.remaining p.inner.inner) (P.left p.inner.inner) };
 
     ghost failure_count = { λ p. P.failure_count p.inner.inner };
+
+    ghost is_rest = { λ p. part_rest p.ahead.to_pass p.inner.left (P.is_rest p.inner.inner) };
 
     ghost ready = { λ p. part_ready p.ahead.to_pass (P.ready p.inner.inner) };
 
@@ -113,6 +114,10 @@ impl<P: Pieces> Pieces for PartOfPieces<P> {
             return Err(Failed);
         }
         self.inner.next(taker)
+    }
+
+    fn read_rest(&mut self, room: &mut [u8; REST_ROOM]) -> Result<usize, Failed> {
+        self.inner.read_rest(room)
     }
 
     fn is_ready(&self) -> bool {

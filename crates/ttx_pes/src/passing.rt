@@ -1,6 +1,6 @@
 //! Pieces that are passed over.
 ghost use Rattle.std.specs.Prelude.{◌≡◌, ◌<◌, ◌≤◌, ⊤, Err, IfErr, None, Ok, OnErr, OnOk, false};
-ghost use Rattle.std.specs.Prelude.{is_ok, true};
+ghost use Rattle.std.specs.Prelude.{true};
 ghost use Rattle.sub_io.specs.Device.{CanFail, CountsFailure, CountsIf, failed};
 ghost use Rattle.ttx_pes.specs.Advancing.{HasPassed, Passes};
 ghost use Rattle.ttx_pes.specs.Fault.{is_of_piece, is_read};

@@ -60,7 +60,8 @@ pub(crate) fn length_of(head: &[u8; 6]) -> u16
 }
 
 // The PTS, of the packet's bytes from byte 6 on. The fields are tested in the order in which they
-// stand.
+// stand. (Inlined: a call, with its answer in memory, is a third of what it takes.)
+#[inline(always)]
 #[tactic(auto, unfolding(crate::specs::Reading::pts_at))]
 pub(crate) fn pts_of(body: &[u8]) -> Result<u64, PesFault>
     requires { 40 ≤ length body.now }

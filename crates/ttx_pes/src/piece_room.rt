@@ -4,13 +4,13 @@ ghost use Rattle.std.specs.Prelude.{take, true};
 ghost use Rattle.std.specs.Io.KnownBytes.{Consumes, IsAtEnd, prepend_known};
 ghost use Rattle.sub_io.specs.Device.{CanFail, CountsFailure, RisesIf};
 ghost use Rattle.sub_io.specs.Reading.{AreBytes};
-ghost use Rattle.ttx_pes.specs.Advancing.{Advances, ReadsPiece, held_then, rest_fault};
+ghost use Rattle.ttx_pes.specs.Advancing.{Advances, ReadsForPiece, held_then, rest_fault};
 ghost use Rattle.ttx_pes.specs.LentPacket.{holds_packet};
 ghost use Rattle.ttx_pes.specs.PesPacket.{longest_packet};
 
 use crate::fault::PesFault;
 use crate::pes_header::{LONGEST_PACKET, PAYLOAD, size_of};
-use crate::pieces::{Came, TakePiece};
+use crate::pieces::{Came, REST_ROOM, TakePiece};
 use std::marker::Model;
 use sub_io::{Failed, Source};
 
@@ -91,7 +91,7 @@ fn read_piece<S: Source>(
     requires held { held ≤ longest_packet }
     requires begun { IsSome (rest_fault (take held room.old)) }
     ensures most { result.0 ≤ longest_packet }
-    ensures reads { ReadsPiece (prepend_known (take held room.old) (S.remaining source.old))
+    ensures reads { ReadsForPiece (prepend_known (take held room.old) (S.remaining source.old))
         (S.remaining source.new) (take result.0 room.new) result.1 }
     ensures lent { held ≡ 0 → holds_packet (S.lent source.old) ≡ true → is_ok result.1 ≡ true }
     ensures count { CountsFailure (S.failure_count source.old) result.1
@@ -150,6 +150,20 @@ impl PieceRoom {
         ensures { result ≡ true → self.now ≡ [] }
     {
         self.len == 0
+    }
+
+    // Gives them, and keeps none.
+    #[tactic(auto, unfolding(crate::specs::Advancing::rest_fault))]
+    pub(crate) fn give(&mut self, to: &mut [u8; REST_ROOM]) -> usize
+        ensures bound { result ≤ length to.new }
+        ensures bytes { take result to.new ≡ self.old }
+        ensures none { self.new ≡ [] }
+    {
+        let held = self.len;
+        let front = front_of(&self.room, held);
+        to[..held].copy_from_slice(front);
+        self.len = 0;
+        held
     }
 
     // Reads the piece that begins with them, and has a taker take it. Few pieces are not lent

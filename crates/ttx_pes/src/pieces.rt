@@ -1,12 +1,16 @@
 //! Who gives PES packets, and such byte strings as are as long as their length field says: pieces.
 ghost use Rattle.std.specs.Borrow.{GName};
 ghost use Rattle.std.specs.Prelude.{◌≡◌, ℕ, Bool, List, Option, is_ok, true};
-ghost use Rattle.sub_io.specs.Device.{CanFail, CountsFailure};
-ghost use Rattle.ttx_pes.specs.Advancing.{Advances, lends_none, never_ready};
+ghost use Rattle.std.specs.Io.{ReadsAtMost};
+ghost use Rattle.sub_io.specs.Device.{CanFail, CountsFailure, Pulls};
+ghost use Rattle.ttx_pes.specs.Advancing.{Advances, lends_none, never_ready, tells_rest};
 ghost use Rattle.ttx_pes.specs.Pieces.{IsPiece};
 
 use crate::fault::PesFault;
 use sub_io::Failed;
+
+/// Room for bytes that no piece begins, as many as are ever read of them before that is told.
+pub const REST_ROOM: usize = 2048;
 
 /// What comes next, with what was answered to it where it is a piece.
 #[derive(Clone, Copy, Debug, PartialEq, Eq)]
@@ -47,6 +51,9 @@ pub trait Pieces {
     // How many calls of its device have failed.
     ghost failure_count: { Self → ℕ };
 
+    // It was told that no piece begins what is left.
+    ghost is_rest: { Self → Bool };
+
     // The next call asks no device.
     ghost ready: { Self → Bool } = { never_ready };
 
@@ -63,7 +70,23 @@ pub trait Pieces {
         requires failures { CanFail (failure_count self.old) }
         ensures came { Advances (remaining self.old) (remaining self.new) (left self.new)
             T.is_take taker.old taker.new result }
+        ensures rest { tells_rest result ≡ true → is_rest self.new ≡ true }
         ensures ready { ready self.old ≡ true → is_ok result ≡ true }
+        ensures same { device self.new ≡ device self.old }
+        ensures count { CountsFailure (failure_count self.old) result (failure_count self.new) };
+
+    /// Takes bytes of what is left, once it was told that no piece begins it, and answers how many
+    /// stand in front of the room then: first those that were read to tell that. 0 at the end.
+    ///
+    /// # Errors
+    ///
+    /// Where the device failed: no byte was taken.
+    fn read_rest(&mut self, room: &mut [u8; REST_ROOM]) -> Result<usize, Failed>
+        requires rest { is_rest self.old ≡ true }
+        requires failures { CanFail (failure_count self.old) }
+        ensures bound { ReadsAtMost result room.new }
+        ensures bytes { Pulls (remaining self.old) (remaining self.new) room.new result }
+        ensures rest { is_rest self.new ≡ true }
         ensures same { device self.new ≡ device self.old }
         ensures count { CountsFailure (failure_count self.old) result (failure_count self.new) };
 

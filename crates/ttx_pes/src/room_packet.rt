@@ -3,8 +3,8 @@
 ghost use Rattle.std.specs.Prelude.{◌≡◌, ◌+◌, ◌/◌, ◌%◌, ◌≤◌, ◌↔◌, true, Ok, Err, OnOk, IfOk, IfErr};
 ghost use Rattle.std.specs.Prelude.{IfSome, length, drop, take, []};
 ghost use Rattle.ttx_pes.specs.DataUnit.{data_unit_size};
-ghost use Rattle.ttx_pes.specs.PesPacket.{IsPesValue, longest_packet, payload_size};
-ghost use Rattle.ttx_pes.specs.Reading.{size_at, units_at, value_at, is_format_fault};
+ghost use Rattle.ttx_pes.specs.PesPacket.{longest_packet, payload_size};
+ghost use Rattle.ttx_pes.specs.Reading.{units_at, value_at, is_format_fault};
 ghost use Rattle.ttx_pes.specs.SentUnits.{AreWithin, sent_units};
 ghost use Rattle.ttx_pes.specs.Taking.{AreAllPlaces, HasUnits, IsFieldSize, IsInRoom, IsSentAgain};
 ghost use Rattle.ttx_pes.specs.Taking.{field_in, room_frame, no_packet};

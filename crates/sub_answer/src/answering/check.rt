@@ -1,7 +1,7 @@
 //! `check STL PES`: checks a PES file against a subtitle file.
 ghost use Rattle.std.specs.Prelude.{◌≡◌, ◌+◌, ℕ, Err, IsFalse, false, true};
 ghost use Rattle.sub_io.specs.Device.{CountsIf, failed};
-ghost use Rattle.sub_io.specs.Reading.{IfTold};
+ghost use Rattle.sub_io.specs.Reading.{IfKnown};
 ghost use Rattle.ttx_pes.specs.Reader.{FailsAtPacket};
 ghost use Rattle.stl_rows.specs.Layout.{drawing_within};
 ghost use Rattle.stl_rows.specs.Fault.{is_load_read};
@@ -10,7 +10,8 @@ ghost use Rattle.stl_rows.specs.declared.fault.LoadFault.{LoadFault};
 ghost use Rattle.sub_check.specs.CheckedFiles.{AreChecked, IsChecked, IsCheckedBy};
 ghost use Rattle.sub_rules.specs.Fault.{is_pes_read, is_stl_read, is_subtitle_fault};
 ghost use Rattle.sub_answer.specs.Answering.{AnswersCheck, verdict};
-ghost use Rattle.sub_listing.specs.DeviceCall.{CanFail, CountsFault, read_call, sink_call, source_call};
+ghost use Rattle.sub_listing.specs.DeviceCall.{CanFail, CountsFault, read_call, sink_call};
+ghost use Rattle.sub_listing.specs.DeviceCall.{source_call};
 ghost use Rattle.sub_answer.specs.FaultListing.{accepted_line};
 ghost use Rattle.sub_listing.specs.FirstPacket.{StartsAt, first_number};
 ghost use Rattle.sub_listing.specs.Listing.{PrintsOrFails, done};
@@ -79,7 +80,7 @@ fn check_files<S: Source, P: NumberedPieces>(
 ) -> Answer
     requires stl { CanFail (S.failure_count stl.old) }
     requires pes { CanFail (P.failure_count pes.old) }
-    ensures checked { IfTold (S.remaining stl.old) (λ file.
+    ensures checked { IfKnown (S.remaining stl.old) (λ file.
         AreChecked (drawing_within national layout scope) options.now file (P.remaining pes.old)
         result.result) }
     ensures starts { failed is_subtitle_fault result.result ≡ false
@@ -114,9 +115,9 @@ fn check_files<S: Source, P: NumberedPieces>(
 fn check_from<P: NumberedPieces>(programme: &Programme, pes: &mut P, options: &Options) -> Answer
     requires { CanFail (P.failure_count pes.old) }
     ensures checked { IsFalse options.now.keeps → options.now.within ≡ 0
-        → IfTold (P.remaining pes.old) (λ bytes.
+        → IfKnown (P.remaining pes.old) (λ bytes.
         IsChecked programme.now options.now bytes result.result) }
-    ensures checked_by { IfTold (P.remaining pes.old) (λ bytes.
+    ensures checked_by { IfKnown (P.remaining pes.old) (λ bytes.
         IsCheckedBy programme.now options.now bytes result.result) }
     ensures starts { StartsAt (first_number P.first P.passed pes.old pes.new)
         (read_call P.remaining P.left P.failure_count pes.old pes.new) result.first }

@@ -3,7 +3,8 @@ ghost use Rattle.std.specs.Prelude.{◌≡◌, ◌<◌, ◌≤◌, IfErr, OnOk, 
 ghost use Rattle.sub_io.specs.Device.{CountsIf, failed};
 ghost use Rattle.sub_io.specs.HandingOn.{HoldsWhileWaiting, KeepsTold};
 ghost use Rattle.sub_rules.specs.Fault.{is_pes_read};
-ghost use Rattle.sub_listing.specs.DeviceCall.{CanFail, CountsFault, read_call, sink_call, source_call};
+ghost use Rattle.sub_listing.specs.DeviceCall.{CanFail, CountsFault, read_call, sink_call};
+ghost use Rattle.sub_listing.specs.DeviceCall.{source_call};
 ghost use Rattle.sub_answer.specs.EveryFault.{AnswersAll, TellsBoth, TellsPes};
 ghost use Rattle.sub_listing.specs.EventLines.{most_counted};
 ghost use Rattle.sub_answer.specs.FaultListing.{faults_listing, last_listing};

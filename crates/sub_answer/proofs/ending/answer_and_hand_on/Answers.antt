@@ -1,6 +1,6 @@
 use Rattle.std.proofs.Common.{refl}
 use Rattle.sub_answer.specs.Ending.{lines_in}
-use Rattle.sub_answer.proofs.EndingLemmas.{written_before}
+use Rattle.sub_answer.proofs.EndingLemmas.{followed_before, written_before}
 use Rattle.sub_answer.proofs.ending.answer_and_hand_on.Goals as goal
 
 pub returns-clause-ends : goal.returns-clause-ends
@@ -17,11 +17,15 @@ returns-clause-ends g c = record {
     held_is = c.close.ensures.call.held;
     written =
         written_before c.args.request.now _ c.args.file.now.held c.answer_over-status.new.file.held
-        c.requires.file.1 c.answer_over-status.ensures.written;
+        c.requires.file.1 c.answer_over-status.ensures.answers.written;
   };
   status = c.answer_over-status.result;
   printed = lines_in g.O.Sink.contents g.O.HandOn.held_back g.O.Sink.failure_count
       c.answer_over-status.new.out;
-  answers = c.answer_over-status.ensures.answers;
+  answers = c.answer_over-status.ensures.answers.answers;
+  followed =
+      followed_before g.O.Sink.contents g.O.HandOn.held_back g.O.Flush.held g.O.Sink.failure_count
+      g.O.Sink.is_push c.args.out.now c.answer_over-status.new.out g.met.O.HandOn.held_is
+      c.args.request.now _ _ c.answer_over-status.ensures.answers.followed;
   handed_on = c.hand_on.ensures.lines;
 }

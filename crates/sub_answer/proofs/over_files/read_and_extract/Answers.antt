@@ -16,7 +16,7 @@ returns g c = record {
     (c.let_go_output.new.self, c.let_go_output.ensures, refl),
   );
   ends =
-      ends_weaker _ _ _ _ _ _ _ _ _ _ _ _ c.answer_recording-status.ensures.ends
+      ends_weaker _ _ _ _ _ _ _ _ _ _ _ _ c.answer_part-status.ensures.ends
       (λ input is. record {
         room = _;
         new = _;
@@ -30,6 +30,7 @@ returns g c = record {
         left_is = c.into_inner-2.ensures;
         closed = rw (c.new-file.ensures, c.into_file-2.ensures) at is;
         whole = λ done.
-            rw (c.new-file.ensures, c.into_file-2.ensures) at (c.answer_recording-status.ensures.done done);
+            rw (c.new-file.ensures, c.into_file-2.ensures) at
+            (c.answer_part-status.ensures.done done);
       });
 }

@@ -36,6 +36,7 @@ returns g c = record {
         left_is = c.into_inner-2.ensures;
         closed = rw (c.new-file.ensures, c.into_file-2.ensures) at is;
         whole = λ done.
-            rw (c.new-file.ensures, c.into_file-2.ensures) at (c.answer_source-status.ensures.done done).0;
+            rw (c.new-file.ensures, c.into_file-2.ensures)
+            at (c.answer_source-status.ensures.done done).0;
       });
 }

@@ -1,9 +1,9 @@
 -- What is told of the file as one value, and what `check` answers: AnsweredLemmas.
 use Rattle.std.proofs.Common.{drop, sym, take}
 use Rattle.std.proofs.lemmas.List.{take-append-drop}
-use Rattle.stl_rows.specs.Judged.{is_beside}
+use Rattle.stl_rows.specs.Judged.{has_refused}
 use Rattle.sub_plan.specs.FrameTime.{clock_of}
-use Rattle.sub_rules.specs.FrameRules.{is_undecided_beside, task_beside}
+use Rattle.sub_rules.specs.FrameRules.{criteria_of_judged, is_due_undecided}
 use Rattle.sub_rules.specs.Pieces.{piece_file_of}
 use Rattle.sub_checker.proofs.PieceWaysLemmas.{front_of}
 use Rattle.sub_check.proofs.AnsweredLemmas.{answers_at_once, answers_by, checked_first}
@@ -37,23 +37,25 @@ returns-clause-first_by g c = λ programme is bytes told.
 
 pub returns-clause-trusted : goal.returns-clause-trusted
 returns-clause-trusted g c = λ none at_once bytes told from to there.
-    law_of_trusted c.args.judging.now.programme c.args.options.now _ (is_beside c.args.judging.now)
-    (is_undecided_beside c.args.judging.now) _ from to none at_once there
+    law_of_trusted c.args.judging.now.programme c.args.options.now _
+    (has_refused c.args.judging.now)
+    (is_due_undecided c.args.judging.now) _ from to none at_once there
 
 pub returns-clause-trusted_by : goal.returns-clause-trusted_by
 returns-clause-trusted_by g c = λ bytes told from to there.
     law_of_trusted_repeats c.args.judging.now.programme c.args.options.now _
-    (is_beside c.args.judging.now) (is_undecided_beside c.args.judging.now) _ from to
+    (has_refused c.args.judging.now) (is_due_undecided c.args.judging.now) _ from to
     c.tell_pieces.ensures.programme there
 
 pub returns-clause-known : goal.returns-clause-known
 returns-clause-known g c = λ bytes told from to there frame first within near.
     let file = piece_file_of (clock_of c.args.options.now) bytes in
-    law_of_trusted_known (task_beside c.args.judging.now c.args.options.now file.unread) file.pieces
+    law_of_trusted_known (criteria_of_judged c.args.judging.now c.args.options.now file.unread)
+    file.pieces
     from to there frame first within near
 
 pub returns-clause-begins : goal.returns-clause-begins
 returns-clause-begins g c = λ bytes told n.
     let file = piece_file_of (clock_of c.args.options.now) bytes in
-    front_of (task_beside c.args.judging.now c.args.options.now file.unread) file.pieces
+    front_of (criteria_of_judged c.args.judging.now c.args.options.now file.unread) file.pieces
     (take n file.pieces) (drop n file.pieces) (sym (take-append-drop n file.pieces))

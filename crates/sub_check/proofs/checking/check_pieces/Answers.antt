@@ -4,7 +4,7 @@ use Rattle.ttx_pes.specs.declared.fault.PesFault.TheVariants.{Read}
 use Rattle.sub_plan.specs.FrameTime.{clock_of}
 use Rattle.sub_check.proofs.FirstFaultLemmas.{fails_at_packet, fault_kept, nothing_kept}
 use Rattle.sub_check.proofs.FirstFaultLemmas.{read_failed}
-use Rattle.sub_checker.specs.declared.telling.Accepted.{Accepted}
+use Rattle.sub_checker.specs.declared.accepted.Accepted.{Accepted}
 use Rattle.sub_rules.specs.Pieces.{piece_file_of}
 use Rattle.sub_rules.specs.declared.fault.CheckFault.{CheckFault}
 use Rattle.sub_rules.specs.declared.fault.CheckFault.TheVariants as fault

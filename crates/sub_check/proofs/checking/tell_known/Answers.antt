@@ -1,4 +1,4 @@
--- The task is that of the programme: `tells_known`.
+-- The criteria are those of the programme: `tells_known`.
 use Rattle.sub_check.proofs.AnsweredLemmas.{programme_known, tells_known}
 use Rattle.sub_check.proofs.checking.tell_known.Goals as goal
 

@@ -6,4 +6,5 @@ use Rattle.sub_check.proofs.checking_file.check.Goals as goal
 pub returns-clause-read : goal.returns-clause-read
 returns-clause-read g c = λ pes is.
     fails_at_packet _ _ _ _ _ c.new-pieces.ensures.none
-    (ap g.S.Source.remaining c.new-pieces.ensures.now) (search rules) pes (c.check_pieces.ensures.read pes is)
+    (ap g.S.Source.remaining c.new-pieces.ensures.now) (search rules) pes
+    (c.check_pieces.ensures.read pes is)

@@ -3,15 +3,15 @@ use Rattle.std.proofs.Common.{◌∙◌, sym, arith}
 use Rattle.sub_checker.proofs.UndecidedLemmas.{known_last, known_never, known_none, known_not}
 use Rattle.sub_checker.proofs.undecided.known_from.Goals as goal
 
-pub returns-then-not-beside : goal.returns-then-not-beside
-returns-then-not-beside c edge tells =
+pub returns-then-not-any_refused : goal.returns-then-not-any_refused
+returns-then-not-any_refused c edge tells =
     known_none c.args.judging.now c.args.first c.args.within c.args.frame edge tells
-    (sym c.requires ∙ c.if-not-beside.true)
+    (sym c.requires ∙ c.if-not-any_refused.true)
 
 pub returns-then-is_undecided : goal.returns-then-is_undecided
 returns-then-is_undecided c edge tells =
     known_not c.args.judging.now c.args.first c.args.within c.args.frame edge tells
-    (sym c.requires ∙ c.if-not-beside.false) 18446744073709551615 (omega arith)
+    (sym c.requires ∙ c.if-not-any_refused.false) 18446744073709551615 (omega arith)
     (sym c.is_undecided.ensures ∙ c.if-is_undecided.true)
 
 pub returns-in-Some : goal.returns-in-Some
@@ -19,12 +19,12 @@ returns-in-Some c edge tells =
     let last = c.in-Some.ensures in
     rw (c.from.ensures, c.from-in-Some.ensures)
     (known_last c.args.judging.now c.args.first c.args.within c.args.frame edge tells
-    (sym c.requires ∙ c.if-not-beside.false) c.in-Some.last
+    (sym c.requires ∙ c.if-not-any_refused.false) c.in-Some.last
     (omega (arith, c.earliest-least.ensures.first, last.0)) last.1 last.2 last.3)
 
 pub returns-in-None : goal.returns-in-None
 returns-in-None c edge tells =
     known_never c.args.judging.now c.args.first c.args.within c.args.frame edge tells
-    (sym c.requires ∙ c.if-not-beside.false) c.earliest-least.result
+    (sym c.requires ∙ c.if-not-any_refused.false) c.earliest-least.result
     c.earliest-least.ensures.least (sym c.is_undecided.ensures ∙ c.if-is_undecided.false)
     c.in-None.ensures

@@ -1,15 +1,15 @@
 -- The pieces so far and one more: no_pieces, next_copied; and how it ended: pieces_given,
--- none_given, rest_refused, rest_cut, cut_behind, cut_in_rest, part_copied, too_many.
+-- none_given, rest_refused, cut_behind, cut_in_rest, part_copied, too_many.
 use Rattle.std.proofs.Common.{arith, rules}
 use Rattle.sub_listing.proofs.ExtractingLemmas.{cut_behind, cut_in_rest, next_copied, no_pieces}
-use Rattle.sub_listing.proofs.ExtractingLemmas.{none_given, part_copied, pieces_given, rest_cut}
-use Rattle.sub_listing.proofs.ExtractingLemmas.{rest_refused}
-use Rattle.sub_listing.proofs.ExtractingLemmas.{too_many}
+use Rattle.sub_listing.proofs.ExtractingLemmas.{none_given, part_copied, pieces_given}
+use Rattle.sub_listing.proofs.ExtractingLemmas.{rest_refused, too_many}
 use Rattle.sub_listing.proofs.extract.copy_pieces.Goals as goal
 
 pub pieces-init : goal.pieces-init
 pieces-init g c = record {
-  source = search rules;
+  device = search rules;
+  pieces = search rules;
   file = search rules;
   held = λ none. none;
   handed_on = λ some. absurd (omega (arith, some));
@@ -35,24 +35,24 @@ pub returns-in-Ok-clause-extracts : goal.returns-in-Ok-clause-extracts
 returns-in-Ok-clause-extracts g c = λ bytes told.
     let so_far = c.pieces.invariant.copied bytes told in
     let here = rw c.in-Ok-Rest.field-0-is at (c.in-Ok-Rest.ensures.told _ so_far.left_is) in
-    rest_refused bytes _ _ _ _ _ _ _ _ here.0 _ so_far here.1 here.2
-    (c.in-Ok.ensures.told _ here.2.left_is)
+    rest_refused bytes _ _ _ _ _ _ _ so_far here.0
+    (rw here.2 at (c.in-Ok.ensures.told _ here.1))
 
 pub returns-in-Err-Read-copy_rest-clause-extracts :
     goal.returns-in-Err-Read-copy_rest-clause-extracts
 returns-in-Err-Read-copy_rest-clause-extracts g c = λ bytes told.
     let so_far = c.pieces.invariant.copied bytes told in
     let here = rw c.in-Ok-Rest.field-0-is at (c.in-Ok-Rest.ensures.told _ so_far.left_is) in
-    cut_in_rest bytes _ _ _ _ _ _ _ _ here.0 _ so_far here.1 here.2
-    (c.in-Err-Read-copy_rest.ensures.told _ here.2.left_is)
+    cut_in_rest bytes _ _ _ _ _ _ _ so_far here.0
+    (rw here.2 at (c.in-Err-Read-copy_rest.ensures.told _ here.1))
 
 pub returns-in-Err-Write-copy_rest-clause-extracts :
     goal.returns-in-Err-Write-copy_rest-clause-extracts
 returns-in-Err-Write-copy_rest-clause-extracts g c = λ bytes told.
     let so_far = c.pieces.invariant.copied bytes told in
     let here = rw c.in-Ok-Rest.field-0-is at (c.in-Ok-Rest.ensures.told _ so_far.left_is) in
-    rest_cut bytes _ _ _ _ _ _ _ _ here.0 so_far here.2
-    (c.in-Err-Write-copy_rest.ensures.told _ here.2.left_is)
+    part_copied bytes _ _ _ _ _ _ so_far
+    (rw here.2 at (c.in-Err-Write-copy_rest.ensures.told _ here.1))
 
 pub returns-in-Err-Read-clause-extracts : goal.returns-in-Err-Read-clause-extracts
 returns-in-Err-Read-clause-extracts g c = λ bytes told.
@@ -68,7 +68,8 @@ returns-in-Err-Write-clause-extracts g c = λ bytes told.
 
 pub pieces-preserved : goal.pieces-preserved
 pieces-preserved g c = record {
-  source = search rules;
+  device = search rules;
+  pieces = search rules;
   file = search rules;
   held = search rules;
   handed_on = λ some. search rules;

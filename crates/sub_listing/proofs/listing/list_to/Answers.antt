@@ -55,7 +55,7 @@ returns-then-printer-clause-listing g c =
     let risen =
     (stays.risen (λ same. true≢false (sym c.if-printer.true ∙ same ∙ before.goes_on))).1 in
     front-stopped (g.L.Lister.lists c.args.lister.now) (g.L.Lister.lists c.pieces.lister)
-    (read_call g.L.Lister.told g.L.Lister.left g.L.Lister.failure_count c.args.input.now
+    (read_call g.L.Lister.known g.L.Lister.left g.L.Lister.failure_count c.args.input.now
     c.next-end.new.input)
     (sink_call g.K.Sink.contents g.K.Sink.failure_count c.args.printer.now.out.now
     c.next-end.new.printer.out.now)
@@ -84,7 +84,7 @@ returns-in-Err-clause-listing g c =
     let put = c.in-Err.ensures.count in
     front-cut (g.L.Lister.lists c.args.lister.now) (g.L.Lister.lists c.pieces.lister)
     (g.L.Lister.lists c.next-end.new.self)
-    (read_call g.L.Lister.told g.L.Lister.left g.L.Lister.failure_count c.args.input.now
+    (read_call g.L.Lister.known g.L.Lister.left g.L.Lister.failure_count c.args.input.now
     c.next-end.new.input)
     (sink_call g.K.Sink.contents g.K.Sink.failure_count c.args.printer.now.out.now
     c.put.new.self.out.now)
@@ -137,7 +137,7 @@ returns-in-Some-clause-listing g c =
     let status = c.in-Some.status in
     front-end (g.L.Lister.lists c.args.lister.now) (g.L.Lister.lists c.pieces.lister)
     (g.L.Lister.lists c.next-end.new.self)
-    (read_call g.L.Lister.told g.L.Lister.left g.L.Lister.failure_count c.args.input.now
+    (read_call g.L.Lister.known g.L.Lister.left g.L.Lister.failure_count c.args.input.now
     c.next-end.new.input)
     (sink_call g.K.Sink.contents g.K.Sink.failure_count c.args.printer.now.out.now
     c.put.new.self.out.now)

@@ -17,7 +17,7 @@ invariant-pieces g l = record {
   out : g.K.Sink.failure_count l.printer.out.now ≡ g.K.Sink.failure_count l.fn.printer.out.now;
   front : IsFront
       (g.L.Lister.lists l.fn.lister) (g.L.Lister.lists l.lister)
-      (g.L.Lister.told l.fn.input) (g.L.Lister.told l.input)
+      (g.L.Lister.known l.fn.input) (g.L.Lister.known l.input)
       (g.K.Sink.contents l.fn.printer.out.now) (g.K.Sink.contents l.printer.out.now);
 }
 

@@ -10,6 +10,6 @@ invariant_of-self-in-Whole c =
       last = omega (arith, c.add.ensures.len);
       room = λ e. absurd cc;
       waits =
-          subst (λ (l : List ℕ). IsPiece (take size l) × (size ≤ length l)) c.as_slice.ensures
+          subst (λ (l : List ℕ). IsPiece (take size l) × (size ≤ length l)) c.as_slice.ensures.bytes
           (c.find_packet.ensures.packet size c.in-Whole.is);
     }

@@ -1,7 +1,9 @@
--- What came, and that no byte was asked for behind those that give some: rest_came, piece_came.
-use Rattle.std.proofs.Common.{refl}
+-- What came, that the bytes which were taken give it, and that no byte was asked for behind those
+-- that give some: rest_came, piece_came, next_gives.
+use Rattle.std.proofs.Common.{[], refl}
 use Rattle.std.proofs.lemmas.Result.{err_from_is_err_and}
 use Rattle.mpeg_ts.specs.Stream.{still_given}
+use Rattle.mpeg_ts.proofs.GivenLemmas.{next_gives}
 use Rattle.mpeg_ts.proofs.RecordingLemmas.{piece_came, rest_came}
 use Rattle.mpeg_ts.proofs.recording_pieces.RecordingPiecesPieces.next.Goals as goal
 
@@ -59,3 +61,31 @@ returns-in-Rest-clause-asks g c =
 pub returns-in_default-clause-asks : goal.returns-in_default-clause-asks
 returns-in_default-clause-asks g c =
     rw (← c.self.view_is) (c.read_on.new.self, c.in_ok-read_on.ensures.asks)
+
+pub returns-in-Nothing-clause-gives : goal.returns-in-Nothing-clause-gives
+returns-in-Nothing-clause-gives g c =
+    rw (← c.self.view_is)
+    (next_gives (g.S.Source.remaining c.self.inside.inner)
+    (g.S.Source.remaining c.read_on.new.source) c.self.inside.stream c.read_on.new.self
+    c.take_next-next.new.self c.take_next-next.result c.in_ok-read_on.ensures.takes
+    c.take_next-next.ensures.next c.take_next-next.ensures.same)
+
+pub returns-in-Rest-clause-gives : goal.returns-in-Rest-clause-gives
+returns-in-Rest-clause-gives g c =
+    rw (← c.self.view_is)
+    (next_gives (g.S.Source.remaining c.self.inside.inner)
+    (g.S.Source.remaining c.read_on.new.source) c.self.inside.stream c.read_on.new.self
+    c.take_next-next.new.self c.take_next-next.result c.in_ok-read_on.ensures.takes
+    c.take_next-next.ensures.next c.take_next-next.ensures.same)
+
+pub returns-in_default-clause-gives : goal.returns-in_default-clause-gives
+returns-in_default-clause-gives g c =
+    rw (← c.self.view_is)
+    (next_gives (g.S.Source.remaining c.self.inside.inner)
+    (g.S.Source.remaining c.read_on.new.source) c.self.inside.stream c.read_on.new.self
+    c.take_next-next.new.self c.take_next-next.result c.in_ok-read_on.ensures.takes
+    c.take_next-next.ensures.next c.take_next-next.ensures.same)
+
+pub returns-in_err-read_on-clause-gives : goal.returns-in_err-read_on-clause-gives
+returns-in_err-read_on-clause-gives g c =
+    rw (← c.self.view_is) (record { given = []; takes = c.in_err-read_on.ensures.takes })

@@ -4,7 +4,7 @@ use Rattle.std.proofs.Common.{◌≡◌, ◌≤◌, ◌+◌, ◌∙◌, [], ap, 
 use Rattle.mpeg_ts.specs.PacketsInStep.{bytes_needed}
 use Rattle.mpeg_ts.specs.Stream.{StreamValue}
 use Rattle.mpeg_ts.specs.contracts.stream.Stream.{the_view}
-use Rattle.mpeg_ts.proofs.StreamLemmas.{need_asks, needs_packet}
+use Rattle.mpeg_ts.proofs.StreamLemmas.{cut_gives, given_takes, need_asks, needs_packet}
 use Rattle.mpeg_ts.proofs.stream.Stream.need.Goals as goal
 
 pub returns-clause-packet : goal.returns-clause-packet
@@ -14,6 +14,24 @@ returns-clause-packet g c = λ ok.
     omega (arith, c.self.invariant.near, ap (λ (s : StreamValue). s.distance) c.self.view_is) in
     omega
     (arith, c.fill_to.ensures.there ok, c.needed.ensures, needs_packet v.distance v.in_step near)
+
+pub returns-clause-takes : goal.returns-clause-takes
+returns-clause-takes g c =
+    rw (← c.self.view_is)
+    (given_takes (g.S.Source.remaining c.args.source.now)
+    (g.S.Source.remaining c.fill_to.new.source) (the_view c.self.inside) c.fill_to.new.self
+    c.fill_to.ensures.takes)
+
+pub returns-clause-cut : goal.returns-clause-cut
+returns-clause-cut g c = λ failed.
+    let i = c.self.inside in
+    let idle : i.joining.pending ≡ [] =
+    ap (λ (s : StreamValue). s.joining.pending) c.self.view_is ∙ c.requires.idle in
+    let count : c.needed.result ≡ bytes_needed i.distance i.in_step =
+    c.needed.ensures ∙ ap (λ (s : StreamValue). bytes_needed s.distance s.in_step)
+    (sym c.self.view_is) in
+    cut_gives (record (the_view i) { window = c.fill_to.new.self }) c.self.invariant.near idle
+    (omega (arith, c.fill_to.ensures.cut failed, count))
 
 pub returns-clause-asks : goal.returns-clause-asks
 returns-clause-asks g c =

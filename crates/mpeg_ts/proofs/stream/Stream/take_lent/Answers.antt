@@ -33,7 +33,8 @@ returns-then-not-begins_unit-clause-kept g c =
     (λ bytes. others_given v w _ bytes place (length-take-le place lent fits) none
     (omega (arith, fits, within)) step (c.self.invariant.no_run step)
     (λ rest. c.place_behind_others-place.ensures.gives rest i.joining going idle)
-    (ap (λ (u : WindowValue). record v { window = u; lead = 0 }) c.pass-then-not-begins_unit.ensures)))
+    (ap (λ (u : WindowValue). record v { window = u; lead = 0 })
+    c.pass-then-not-begins_unit.ensures)))
 
 pub returns-clause-kept : goal.returns-clause-kept
 returns-clause-kept g c =

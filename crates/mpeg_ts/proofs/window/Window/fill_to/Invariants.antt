@@ -1,14 +1,15 @@
 -- What was taken and what may be are what they were together, and no pull has failed.
 use Rattle.std.proofs.Common.{length, true, ◌+◌, ◌-◌, ◌≡◌, ◌≤◌}
-use Rattle.std.specs.Io.KnownBytes.{Keeps}
-use Rattle.mpeg_ts.specs.Window.{AsksUpTo, to_come}
+use Rattle.mpeg_ts.specs.TakenBytes.{TakesFront}
+use Rattle.mpeg_ts.specs.Window.{AsksUpTo, held_and_left}
 use Rattle.mpeg_ts.proofs.window.Window.fill_to.Given as goal
 
 abbrev pub invariant-loop-have : goal.invariant-loop-have
 invariant-loop-have g l = record {
   have : l.have ≡ length l.self.held;
-  keeps : Keeps (to_come l.initial.self (g.S.Source.remaining l.initial.source))
-      (to_come l.self (g.S.Source.remaining l.source));
+  takes :
+      TakesFront (held_and_left l.initial.self) (held_and_left l.self)
+      (g.S.Source.remaining l.initial.source) (g.S.Source.remaining l.source);
   sum :
       length l.self.held + l.self.left
       ≡ length l.initial.self.held + l.initial.self.left;

@@ -3,7 +3,7 @@ use Rattle.std.proofs.Common.{◌≡◌, ◌∙◌, refl, sym, arith, ℕ, ◌+�
 use Rattle.std.proofs.lemmas.Bool.{true≢false}
 use Rattle.ttx_pes.specs.declared.fault.PesFault.TheVariants.{Read}
 use Rattle.sub_rules.specs.declared.fault.CheckFault.TheVariants as fault
-use Rattle.sub_listing.proofs.FirstPacketLemmas.{fails_first_piece, fails_piece_kept, told_kept}
+use Rattle.sub_listing.proofs.FirstPacketLemmas.{fails_first_piece, fails_piece_kept, known_kept}
 use Rattle.sub_rules.specs.declared.event.Event.{Event}
 use Rattle.sub_listing.specs.DeviceCall.{read_call}
 use Rattle.sub_listing.specs.FirstPacket.{first_number}
@@ -54,12 +54,12 @@ returns-in-Ok-clause-told g c =
     (λ k is. inl (found.first k is))
     c.check_all_pieces.result _ (has_stopped _ _)
     (λ holds quiet. still_goes _ _ _ c.requires.out holds quiet)
-    e.some (λ bytes told. e.told bytes (told_kept _ _ bytes found.kept told))
+    e.some (λ bytes told. e.told bytes (known_kept _ _ bytes found.kept told))
     (all_answers c.args.judging.now _ _ c.check_all_pieces.result
     (λ programme is bytes told.
-    e.first_by programme is bytes (told_kept _ _ bytes found.kept told))
+    e.first_by programme is bytes (known_kept _ _ bytes found.kept told))
     (λ programme is none zero bytes told.
-    e.first programme is none zero bytes (told_kept _ _ bytes found.kept told)))
+    e.first programme is none zero bytes (known_kept _ _ bytes found.kept told)))
     e.stopped e.goes_on e.only (rw same at e.count)
     (λ index is. fails_piece_kept index _ _ _ found.kept (e.read index is)))
 
@@ -79,8 +79,10 @@ returns-in-Err-clause-told g c =
     (after_pes (IsToldEvent g.K.Sink.contents g.K.Sink.failure_count g.K.Flush.held)
     (value_of g.K.Sink.contents g.K.Sink.failure_count) (λ s t x h. h.1)
     c.args.judging.now c.args.options.now
-    (read_call g.P.Pieces.remaining g.P.Pieces.left g.P.Pieces.failure_count c.args.pes.now c.find_first.new.self)
-    (first_number g.P.NumberedPieces.first g.P.NumberedPieces.passed c.args.pes.now c.find_first.new.self)
+    (read_call g.P.Pieces.remaining g.P.Pieces.left g.P.Pieces.failure_count
+    c.args.pes.now c.find_first.new.self)
+    (first_number g.P.NumberedPieces.first g.P.NumberedPieces.passed
+    c.args.pes.now c.find_first.new.self)
     start start c.requires.goes_on c.requires.few
     (λ k is. inr (found.before k is, found.failed, found.left k is, (risen, found.unread)))
     (Err (fault.Pes 0 Read)) false

@@ -11,7 +11,8 @@ pub returns-in-Ok-clause-exact : goal.returns-in-Ok-clause-exact
 returns-in-Ok-clause-exact g c = record {
   exact = λ frames unread bytes told reads same. (
     listing_of c.args.first c.asks_complete.result
-        (display (g.R.Receiver.state c.listen_pieces.new.receiver) c.listen_pieces.new.screen) (Ok tt),
+        (display (g.R.Receiver.state c.listen_pieces.new.receiver) c.listen_pieces.new.screen)
+        (Ok tt),
     listens_from _ c.args.listening.now c.args.first frames unread _ _ _ _ _ (Ok tt)
         c.old_page.result c.asks_complete.result c.asks_complete.ensures.value
         (c.tune-receiver.ensures.tuned ∙ c.page.ensures.value)

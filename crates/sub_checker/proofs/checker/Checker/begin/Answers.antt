@@ -1,15 +1,15 @@
 -- The first frame, in time or too late.
 use Rattle.std.proofs.Common.{sym, subst}
-use Rattle.sub_checker.specs.Following.{Arrives, Follows}
-use Rattle.sub_checker.proofs.FollowingLemmas.{arrives_first, first_reaching}
-use Rattle.sub_checker.proofs.StageLemmas.{relays_told}
+use Rattle.sub_checker.specs.CheckedFrames.{AfterEnd, BeforePackets}
+use Rattle.sub_checker.proofs.CheckedFramesLemmas.{arrives_first, first_reaching}
+use Rattle.sub_checker.proofs.ReporterLemmas.{relays_told}
 use Rattle.sub_checker.proofs.checker.Checker.begin.Goals as goal
 
 pub returns-clause-told : goal.returns-clause-told
-returns-clause-told g c = λ task frames last follows is.
-    let here = subst (Follows task frames 0 last) (sym c.self.view_is) follows in (
-      relays_told (first_reaching task frames c.args.frame last _ _ _ here is
+returns-clause-told g c = λ criteria frames last follows is.
+    let here = subst (AfterEnd criteria frames 0 last) (sym c.self.view_is) follows in (
+      relays_told (first_reaching criteria frames c.args.frame last _ _ _ here is
           c.first_in.ensures.value c.is_early-is_told.ensures) c.tell_if.ensures,
-      subst (Arrives task frames 0 last) (sym c.start.ensures)
-          (arrives_first task frames c.args.frame last _ follows is),
+      subst (BeforePackets criteria frames 0 last) (sym c.start.ensures)
+          (arrives_first criteria frames c.args.frame last _ follows is),
     )

@@ -1,6 +1,6 @@
 -- What stands broken has ended, and then the last fault.
-use Rattle.sub_checker.proofs.ClosingLemmas.{closing_parts}
-use Rattle.sub_checker.proofs.TellingLemmas.{told_two}
+use Rattle.sub_checker.proofs.LastEventsLemmas.{closing_parts}
+use Rattle.sub_checker.proofs.EventPartsLemmas.{told_two}
 use Rattle.sub_checker.proofs.checker.Checker.close.Goals as goal
 
 pub returns : goal.returns

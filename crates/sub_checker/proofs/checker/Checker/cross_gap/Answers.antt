@@ -1,12 +1,12 @@
 -- One end after another.
 use Rattle.std.proofs.Common.{◌+◌, ◌-◌, ◌<◌, ◌∙◌, ap, sym, subst, arith, refl}
 use Rattle.sub_rules.specs.Events.{latest}
-use Rattle.sub_rules.specs.PieceEvents.{marks_of_gap}
-use Rattle.sub_checker.specs.Following.{Follows, Waits}
+use Rattle.sub_rules.specs.PieceEvents.{steps_of_gap}
+use Rattle.sub_checker.specs.CheckedFrames.{AfterEnd, BeforeEnd}
 use Rattle.sub_rules.specs.FrameRules.{packets_before}
-use Rattle.sub_checker.proofs.FollowingLemmas.{follows_waits, gap_ended, gap_knows, gap_marks}
-use Rattle.sub_checker.proofs.FollowingLemmas.{gap_more, gap_start, gap_waits}
-use Rattle.sub_checker.proofs.StageLemmas.{relays_nothing, relays_same, relays_two}
+use Rattle.sub_checker.proofs.CheckedFramesLemmas.{follows_waits, gap_ended, gap_knows, gap_more}
+use Rattle.sub_checker.proofs.CheckedFramesLemmas.{gap_start, gap_steps, gap_waits}
+use Rattle.sub_checker.proofs.ReporterLemmas.{relays_nothing, relays_same, relays_two}
 use Rattle.sub_rules.proofs.EndLemmas.{gap_length-is}
 use Rattle.sub_checker.proofs.checker.Checker.cross_gap.Goals as goal
 
@@ -16,11 +16,11 @@ loop-f-init g c = record {
   latest_is = grind arith;
   later = grind arith;
   upto = grind arith;
-  told = λ task frames n last follows some is.
-      let here = subst (Follows task frames n last) (sym c.self.view_is) follows in (
-        relays_nothing (gap_start task frames n _ (here.latest_is some)),
-        subst (Waits task frames n _ last) c.self.view_is
-            (follows_waits task frames n _ last _ here some (omega arith)),
+  told = λ criteria frames n last follows some is.
+      let here = subst (AfterEnd criteria frames n last) (sym c.self.view_is) follows in (
+        relays_nothing (gap_start criteria frames n _ (here.latest_is some)),
+        subst (BeforeEnd criteria frames n _ last) c.self.view_is
+            (follows_waits criteria frames n _ last _ here some (omega arith)),
       );
 }
 
@@ -32,36 +32,37 @@ loop-f-preserved g c =
       latest_is = grind arith;
       later = let l = i.later in omega arith;
       upto = λ l. let t = c.loop-f-test.true in omega arith;
-      told = λ task frames n last follows some is.
-          let before = i.told task frames n last follows some is in
+      told = λ criteria frames n last follows some is.
+          let before = i.told criteria frames n last follows some is in
           let later = i.later in
           let past : latest frames n < c.loop-f.f =
           let latest_is = follows.latest_is some in omega arith in
           let due = c.end_of_frame.ensures.due in
           let knows =
-          gap_knows task frames n c.loop-f.f last _ _ before.1 some past c.move_to.ensures
+          gap_knows criteria frames n c.loop-f.f last _ _ before.1 some past c.move_to.ensures
           (i.latest_is ∙ follows.latest_is some) due in
           let told = c.end_of_frame.ensures.told (packets_before frames n) knows in
-          let marks =
-          gap_marks task frames n c.loop-f.f last _ _ before.1 some past c.move_to.ensures
+          let steps =
+          gap_steps criteria frames n c.loop-f.f last _ _ before.1 some past c.move_to.ensures
           (i.latest_is ∙ follows.latest_is some) due in (
-            relays_two (gap_more task frames n c.loop-f.f _ past refl) before.0
-                (relays_same (sym marks) told),
-            subst (Waits task frames n _ last)
+            relays_two (gap_more criteria frames n c.loop-f.f _ past refl) before.0
+                (relays_same (sym steps) told),
+            subst (BeforeEnd criteria frames n _ last)
                 (sym (c.end_of_frame.ensures.ended (packets_before frames n) knows))
-                (gap_waits task frames n c.loop-f.f last _ _ before.1 some past c.move_to.ensures
+                (gap_waits criteria frames n c.loop-f.f last _ _ before.1 some past
+                c.move_to.ensures
                 (i.latest_is ∙ follows.latest_is some) due _ refl),
           );
     }
 
 pub returns-clause-told : goal.returns-clause-told
-returns-clause-told g c = λ task frames n last follows some is.
+returns-clause-told g c = λ criteria frames n last follows some is.
     let i = c.loop-f.invariant in
-    let before = i.told task frames n last follows some is in
+    let before = i.told criteria frames n last follows some is in
     let size = gap_length-is frames n some ∙ ap (λ f. f - (latest frames n + 1)) is in
     let ended =
-    gap_ended task frames n c.loop-f.f c.args.to c.args.self.now.latest last _ before.1 some
+    gap_ended criteria frames n c.loop-f.f c.args.to c.args.self.now.latest last _ before.1 some
     (follows.latest_is some) i.later c.loop-f-test.false i.upto in (
-      relays_same (ap (marks_of_gap task frames n) (size ∙ ended.0)) before.0,
+      relays_same (ap (steps_of_gap criteria frames n) (size ∙ ended.0)) before.0,
       ended.1,
     )

@@ -1,10 +1,10 @@
 -- What came at the ends so far, and what is kept there.
 use Rattle.std.proofs.Common.{◌≡◌, ℕ, ◌+◌, ◌-◌, ◌<◌, ◌≤◌, List}
 use Rattle.sub_rules.specs.Events.{latest}
-use Rattle.sub_rules.specs.PieceEvents.{marks_of_gap}
-use Rattle.sub_checker.specs.Following.{Follows, Waits}
-use Rattle.sub_checker.specs.Relay.{StageRelays}
-use Rattle.sub_rules.specs.FrameRules.{Task, frame_at}
+use Rattle.sub_rules.specs.PieceEvents.{steps_of_gap}
+use Rattle.sub_checker.specs.CheckedFrames.{AfterEnd, BeforeEnd}
+use Rattle.sub_checker.specs.Relay.{ReporterRelays}
+use Rattle.sub_rules.specs.FrameRules.{Criteria, frame_at}
 use Rattle.sub_rules.specs.Transmission.{Transmission}
 use Rattle.sub_checker.proofs.checker.Checker.cross_gap.Given as goal
 
@@ -15,11 +15,11 @@ invariant-loop-f g l = record {
   later : l.fn.self.latest < l.f;
   upto : l.fn.self.latest + 1 < l.f → l.f ≤ l.to;
   told :
-      (task : Task) (frames : Transmission) (n : ℕ) (last : List (List ℕ))
-      → Follows task frames n last l.fn.self
+      (criteria : Criteria) (frames : Transmission) (n : ℕ) (last : List (List ℕ))
+      → AfterEnd criteria frames n last l.fn.self
       → 0 < n
       → frame_at frames n ≡ l.to
-      → StageRelays g.A.Audience.is_told l.fn.stage
-      (marks_of_gap task frames n (l.f - (latest frames n + 1))) l.stage
-      × Waits task frames n l.f last l.self;
+      → ReporterRelays g.A.Audience.is_told l.fn.reporter
+      (steps_of_gap criteria frames n (l.f - (latest frames n + 1))) l.reporter
+      × BeforeEnd criteria frames n l.f last l.self;
 }

@@ -1,25 +1,25 @@
 -- The end, after which none is still to come: by TakingLemmas.
 use Rattle.std.proofs.Common.{◌-◌, ◌<◌, ◌∙◌, length, arith, ap, false}
 use Rattle.sub_checker.specs.Checker.{CheckerValue}
-use Rattle.sub_checker.proofs.HearingLemmas.{header_more}
-use Rattle.sub_checker.proofs.TakingLemmas.{follows_all, heard_shut, waiting_some}
-use Rattle.sub_checker.proofs.StageLemmas.{relays_same}
+use Rattle.sub_checker.proofs.AfterPacketsLemmas.{header_more}
+use Rattle.sub_checker.proofs.BetweenPiecesLemmas.{follows_all, heard_shut, waiting_some}
+use Rattle.sub_checker.proofs.ReporterLemmas.{relays_same}
 use Rattle.sub_checker.proofs.checker.Checker.end_open.Goals as goal
 
 pub returns-clause-told : goal.returns-clause-told
-returns-clause-told g c = λ task sent last keeps.
+returns-clause-told g c = λ criteria sent last keeps.
     let opened = c.requires.opened in
     let opens = keeps.opens opened in
     let some = keeps.some opened in
     let shut =
-    heard_shut task sent (length sent - 1) last c.args.self.now _
+    heard_shut criteria sent (length sent - 1) last c.args.self.now _
     (ap (λ (v : CheckerValue). record v { counts = record v.counts { is_open = false } })
     c.self.view_is) opens.heard in
     let there : length sent - 1 < length sent = omega (arith, some) in
     let end =
-    c.end_sent.ensures.told task sent (length sent - 1) last shut there
-    (header_more task sent (length sent - 1) last _ shut _ there
+    c.end_sent.ensures.told criteria sent (length sent - 1) last shut there
+    (header_more criteria sent (length sent - 1) last _ shut _ there
     (ap (λ (v : CheckerValue). v.counts.headers_before) c.self.view_is ∙ opens.before)) in (
-      relays_same (waiting_some task sent last c.args.self.now keeps opened) end.0,
-      follows_all task sent last _ some end.1,
+      relays_same (waiting_some criteria sent last c.args.self.now keeps opened) end.0,
+      follows_all criteria sent last _ some end.1,
     )

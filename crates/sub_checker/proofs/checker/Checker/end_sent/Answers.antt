@@ -1,34 +1,34 @@
 -- Whether the first frame has a header of the page, and what stands broken: by HearingLemmas.
 use Rattle.std.proofs.Common.{◌∙◌, suc, ap, map, refl, sym, subst}
 use Rattle.sub_rules.specs.FrameRules.{packets_before}
-use Rattle.sub_rules.specs.Trusted.{Mark}
-use Rattle.sub_rules.specs.Trusted.Mark.{Says}
+use Rattle.sub_rules.specs.Trusted.{CheckStep}
+use Rattle.sub_rules.specs.Trusted.CheckStep.{Says}
 use Rattle.sub_checker.specs.Checker.{CheckerValue}
-use Rattle.sub_checker.specs.Following.{Follows, Heard}
-use Rattle.sub_checker.specs.Relay.{at_mark}
-use Rattle.sub_checker.proofs.HearingLemmas.{end_mark, ending_marks, first_told, follows_then}
-use Rattle.sub_checker.proofs.StageLemmas.{relays_mark, relays_same, relays_told, relays_two}
+use Rattle.sub_checker.specs.CheckedFrames.{AfterEnd, AfterPackets}
+use Rattle.sub_checker.specs.Relay.{at_step}
+use Rattle.sub_checker.proofs.AfterPacketsLemmas.{end_step, ending_steps, first_told, follows_then}
+use Rattle.sub_checker.proofs.ReporterLemmas.{relays_same, relays_step, relays_told, relays_two}
 use Rattle.sub_checker.proofs.checker.Checker.end_sent.Goals as goal
 
 pub returns-clause-told : goal.returns-clause-told
-returns-clause-told g c = λ task frames n last heard there has.
-    let here = subst (Heard task frames n last) (sym c.self.view_is) heard in
-    let first = first_told task frames n last _ here _ _ has c.lacks_first-is_told.ensures in
+returns-clause-told g c = λ criteria frames n last heard there has.
+    let here = subst (AfterPackets criteria frames n last) (sym c.self.view_is) heard in
+    let first = first_told criteria frames n last _ here _ _ has c.lacks_first-is_told.ensures in
     let due = c.end_of_frame.ensures.due in
-    let marks = ending_marks task frames n last _ heard due in
+    let steps = ending_steps criteria frames n last _ heard due in
     let knows = heard.known.knows.knows in
     let told = c.end_of_frame.ensures.told (packets_before frames (suc n)) knows in
     let ended = c.end_of_frame.ensures.ended (packets_before frames (suc n)) knows in
-    let mark =
-    end_mark task frames n last _ heard due _ _ _ _ (c.self-2.view_is ∙ ended) refl
+    let step =
+    end_step criteria frames n last _ heard due _ _ _ _ (c.self-2.view_is ∙ ended) refl
     (ap (λ (v : CheckerValue). v.listener.begun) (c.self-2.view_is ∙ ended) ∙ heard.begins)
     c.has_none.ensures.none in (
       relays_two refl
           (relays_two refl (relays_told (ap (map Says) first) c.tell_if.ensures)
-          (relays_same (sym marks) told))
-          (relays_mark refl
-          (c.end_frame.ensures ∙ ap (λ (m : Mark). at_mark m c.end_of_frame.new.stage) mark)
+          (relays_same (sym steps) told))
+          (relays_step refl
+          (c.end_frame.ensures ∙ ap (λ (m : CheckStep). at_step m c.end_of_frame.new.reporter) step)
           refl),
-      subst (Follows task frames (suc n) last) (sym ended)
-          (follows_then task frames n last _ heard due),
+      subst (AfterEnd criteria frames (suc n) last) (sym ended)
+          (follows_then criteria frames n last _ heard due),
     )

@@ -1,14 +1,14 @@
 -- Its end, where that is still to come: by TakingLemmas.
 use Rattle.std.proofs.Common.{◌∙◌, ap, sym}
 use Rattle.sub_checker.specs.Checker.{CheckerValue}
-use Rattle.sub_checker.proofs.TakingLemmas.{waiting_none}
-use Rattle.sub_checker.proofs.StageLemmas.{relays_nothing}
+use Rattle.sub_checker.proofs.BetweenPiecesLemmas.{waiting_none}
+use Rattle.sub_checker.proofs.ReporterLemmas.{relays_nothing}
 use Rattle.sub_checker.proofs.checker.Checker.end_waiting.Goals as goal
 
 pub returns-then-not-self-clause-told : goal.returns-then-not-self-clause-told
-returns-then-not-self-clause-told g c = λ task sent last keeps.
+returns-then-not-self-clause-told g c = λ criteria sent last keeps.
     let shut =
     sym (ap (λ (v : CheckerValue). v.counts.is_open) c.self.view_is) ∙ c.if-not-self.true in (
-      relays_nothing (waiting_none task sent last c.args.self.now keeps shut),
+      relays_nothing (waiting_none criteria sent last c.args.self.now keeps shut),
       keeps.closed shut,
     )

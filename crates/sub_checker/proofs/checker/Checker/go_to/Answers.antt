@@ -1,19 +1,19 @@
 -- Order, and the ends of the frames before.
 use Rattle.std.proofs.Common.{◌∙◌, ap, map, refl, sym, subst}
-use Rattle.sub_rules.specs.Trusted.Mark.{Says}
-use Rattle.sub_checker.specs.Following.{Arrives, Follows}
-use Rattle.sub_checker.proofs.FollowingLemmas.{arrives_next, order_are}
-use Rattle.sub_checker.proofs.StageLemmas.{relays_told, relays_two}
+use Rattle.sub_rules.specs.Trusted.CheckStep.{Says}
+use Rattle.sub_checker.specs.CheckedFrames.{AfterEnd, BeforePackets}
+use Rattle.sub_checker.proofs.CheckedFramesLemmas.{arrives_next, order_are}
+use Rattle.sub_checker.proofs.ReporterLemmas.{relays_told, relays_two}
 use Rattle.sub_checker.proofs.checker.Checker.go_to.Goals as goal
 
 pub returns-clause-told : goal.returns-clause-told
-returns-clause-told g c = λ task frames n last follows some is.
-    let here = subst (Follows task frames n last) (sym c.self.view_is) follows in
+returns-clause-told g c = λ criteria frames n last follows some is.
+    let here = subst (AfterEnd criteria frames n last) (sym c.self.view_is) follows in
     let order =
-    order_are task frames n c.args.frame _ _ _ some is (here.last_is some) here.number refl in
-    let gap = c.cross_gap.ensures.told task frames n last follows some is in (
+    order_are criteria frames n c.args.frame _ _ _ some is (here.last_is some) here.number refl in
+    let gap = c.cross_gap.ensures.told criteria frames n last follows some is in (
       relays_two refl (relays_told (ap (map Says) order) c.tell_if.ensures) gap.0,
-      subst (Arrives task frames n last) (sym c.arrive.ensures)
-          (arrives_next task frames n c.args.frame last _ gap.1 is
+      subst (BeforePackets criteria frames n last) (sym c.arrive.ensures)
+          (arrives_next criteria frames n c.args.frame last _ gap.1 is
           (c.cross_gap.ensures.latest ∙ follows.latest_is some)),
     )

@@ -3,9 +3,9 @@ use Rattle.std.proofs.Common.{◌∙◌, length, map, ap, sym, subst}
 use Rattle.sub_packets.specs.Listener.{KnowsLast, begins_frame}
 use Rattle.sub_rules.specs.Events.{packets_told}
 use Rattle.sub_rules.specs.PacketRules.{header_count, packets_of_units}
-use Rattle.sub_rules.specs.Trusted.Mark.{Says}
+use Rattle.sub_rules.specs.Trusted.CheckStep.{Says}
 use Rattle.sub_checker.specs.Checker.{CheckerValue, after_headers}
-use Rattle.sub_checker.proofs.StageLemmas.{relays_told}
+use Rattle.sub_checker.proofs.ReporterLemmas.{relays_told}
 use Rattle.sub_checker.proofs.checker.Checker.hear.Goals as goal
 
 pub returns-clause-told : goal.returns-clause-told

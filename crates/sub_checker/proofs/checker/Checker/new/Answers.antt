@@ -1,8 +1,9 @@
 -- Nothing is heard yet.
 use Rattle.std.proofs.Common.{refl, arith}
-use Rattle.sub_checker.proofs.FollowingLemmas.{Keeps-none}
+use Rattle.sub_checker.proofs.CheckedFramesLemmas.{BetweenPieces-none}
 use Rattle.sub_checker.proofs.checker.Checker.new.Goals as goal
 
 pub returns-clause-keeps : goal.returns-clause-keeps
 returns-clause-keeps c = λ last unread.
-    Keeps-none _ last _ (grind arith) (c.new.ensures.knows _) c.new-2.ensures refl c.none.ensures
+    BetweenPieces-none _ last _ (grind arith) (c.new.ensures.knows _) c.new-2.ensures refl
+    c.none.ensures

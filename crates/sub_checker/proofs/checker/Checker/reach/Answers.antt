@@ -1,7 +1,7 @@
 -- The first PES packet, or another one.
 use Rattle.std.proofs.Common.{◌≡◌, ◌∙◌, ◌<◌, ℕ, ap, arith, sym, subst}
-use Rattle.sub_checker.specs.Following.{Arrives, Follows, reaching_marks}
-use Rattle.sub_checker.specs.Relay.{StageRelays}
+use Rattle.sub_checker.specs.CheckedFrames.{AfterEnd, BeforePackets, reaching_steps}
+use Rattle.sub_checker.specs.Relay.{ReporterRelays}
 use Rattle.sub_rules.specs.FrameRules.{frame_at}
 use Rattle.sub_checker.proofs.checker.Checker.reach.Goals as goal
 
@@ -10,18 +10,18 @@ some : {n m : ℕ} → m ≡ n → (m ≡ 0 → ⊥) → 0 < n
 some same h = omega (arith, same, h)
 
 pub returns-then-self-eq0-clause-told : goal.returns-then-self-eq0-clause-told
-returns-then-self-eq0-clause-told g c = λ task frames n last follows is.
-    let here = subst (Follows task frames n last) (sym c.self.view_is) follows in
+returns-then-self-eq0-clause-told g c = λ criteria frames n last follows is.
+    let here = subst (AfterEnd criteria frames n last) (sym c.self.view_is) follows in
     let none : n ≡ 0 = sym here.number ∙ c.if-self-eq0.true in
     subst (λ (k : ℕ).
-    StageRelays g.A.Audience.is_told c.args.stage.now (reaching_marks task frames k)
-    c.begin.new.stage
-    × Arrives task frames k last c.begin.new.self) (sym none)
-    (c.begin.ensures.told task frames last
-    (subst (λ (k : ℕ). Follows task frames k last c.args.self.now) none follows)
+    ReporterRelays g.A.Audience.is_told c.args.reporter.now (reaching_steps criteria frames k)
+    c.begin.new.reporter
+    × BeforePackets criteria frames k last c.begin.new.self) (sym none)
+    (c.begin.ensures.told criteria frames last
+    (subst (λ (k : ℕ). AfterEnd criteria frames k last c.args.self.now) none follows)
     (ap (frame_at frames) (sym none) ∙ is))
 
 pub returns-else-self-eq0-clause-told : goal.returns-else-self-eq0-clause-told
-returns-else-self-eq0-clause-told g c = λ task frames n last follows is.
-    let here = subst (Follows task frames n last) (sym c.self.view_is) follows in
-    c.go_to.ensures.told task frames n last follows (some here.number c.if-self-eq0.false) is
+returns-else-self-eq0-clause-told g c = λ criteria frames n last follows is.
+    let here = subst (AfterEnd criteria frames n last) (sym c.self.view_is) follows in
+    c.go_to.ensures.told criteria frames n last follows (some here.number c.if-self-eq0.false) is

@@ -4,15 +4,15 @@ use Rattle.std.proofs.lemmas.List.{length-map}
 use Rattle.sub_rules.specs.Events.{packets_told}
 use Rattle.sub_rules.specs.FrameRules.{packets_before}
 use Rattle.sub_rules.specs.PacketRules.{packets_of_units}
-use Rattle.sub_rules.specs.Trusted.Mark.{Says}
+use Rattle.sub_rules.specs.Trusted.CheckStep.{Says}
 use Rattle.sub_checker.specs.Checker.{CheckerValue, HasHeard}
-use Rattle.sub_checker.proofs.MoreLemmas.{more_are}
-use Rattle.sub_checker.proofs.StageLemmas.{relays_same}
-use Rattle.sub_checker.proofs.TakingLemmas.{more_keeps}
+use Rattle.sub_checker.proofs.MorePacketsLemmas.{more_are}
+use Rattle.sub_checker.proofs.ReporterLemmas.{relays_same}
+use Rattle.sub_checker.proofs.BetweenPiecesLemmas.{more_keeps}
 use Rattle.sub_checker.proofs.checker.Checker.take_more.Goals as goal
 
 pub returns-clause-told : goal.returns-clause-told
-returns-clause-told g c = λ task sent last keeps again.
+returns-clause-told g c = λ criteria sent last keeps again.
     let opened = c.requires.opened in
     let some = keeps.some opened in
     let opens = keeps.opens opened in
@@ -21,13 +21,13 @@ returns-clause-told g c = λ task sent last keeps again.
     let heard =
     c.hear.ensures.told (packets_before sent (suc (length sent - 1))) last
     opens.heard.known.knows again in
-    let marks = more_are task sent (length sent - 1) last ps c.args.self.now opens all in
+    let steps = more_are criteria sent (length sent - 1) last ps c.args.self.now opens all in
     let from = ap (λ (v : CheckerValue). v.counts.packets) c.self.view_is in (
       relays_same
-          (marks ∙ ap (λ (k : ℕ). map Says (packets_told c.args.self.now.listener.watched
+          (steps ∙ ap (λ (k : ℕ). map Says (packets_told c.args.self.now.listener.watched
           c.args.self.now.frame k (packets_before sent (suc (length sent - 1))) ps (length ps)))
           (sym from)) heard.0,
-      more_keeps task sent last ps c.args.self.now c.hear.new.self _ _ keeps opened
+      more_keeps criteria sent last ps c.args.self.now c.hear.new.self _ _ keeps opened
           (subst (λ (k : ℕ). HasHeard k (packets_before sent (suc (length sent - 1))) ps
           c.args.self.now c.hear.new.self) from heard.1)
           (ap (λ (v : CheckerValue). record v {

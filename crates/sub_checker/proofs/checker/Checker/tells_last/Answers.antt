@@ -3,7 +3,7 @@ use Rattle.std.proofs.lemmas.Bool.Decides.{nat_tests}
 use Rattle.std.proofs.Common.{◌≡◌, ◌∙◌, ◌||◌, Bool, ap, arith, false, is_some, not, true}
 use Rattle.sub_rules.specs.Trusted.{stands_none}
 use Rattle.sub_checker.specs.Checker.{CheckerValue}
-use Rattle.sub_checker.proofs.ClosingLemmas.{tells_closing}
+use Rattle.sub_checker.proofs.LastEventsLemmas.{tells_closing}
 use Rattle.sub_checker.proofs.checker.Checker.tells_last.Goals as goal
 
 first : (x l s n : Bool) → x ≡ l → x ≡ true → (l || s) ≡ n → x ≡ n

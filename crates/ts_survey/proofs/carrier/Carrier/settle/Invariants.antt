@@ -6,7 +6,7 @@ use Rattle.ts_survey.proofs.carrier.Carrier.settle.Given as goal
 
 abbrev pub invariant-loop : goal.invariant-loop
 invariant-loop l = record {
-  pid : l.self.pid ≡ l.fn.self.pid;
+  same : l.self ≡ record l.fn.self { pending = l.self.pending };
   left : l.self.pending ≡ drop l.counter l.fn.self.pending ++ replicate l.counter None;
   tells : (text : Text)
       → AddsWords l.text (pending_words l.fn.self.pid l.pids l.self.pending) text

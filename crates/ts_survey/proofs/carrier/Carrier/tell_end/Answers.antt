@@ -6,8 +6,8 @@ pub returns : goal.returns
 returns c =
     adds-word c.put.ensures
     (adds-word c.number.ensures
-    (adds-word (rw (c.count.ensures, c.lines.ensures) at c.number-2.ensures)
-    (adds-word (rw (c.marks.ensures, c.lines-2.ensures) at c.number-3.ensures)
+    (adds-word (rw c.count.ensures at c.number-2.ensures)
+    (adds-word (rw c.marks.ensures at c.number-3.ensures)
     (adds-word c.number-4.ensures
     (adds-word c.number-5.ensures
     (adds-word (rw c.refusal.ensures at c.number-6.ensures)

@@ -1,7 +1,7 @@
 -- What comes, so many pieces at most: by LimitedLemmas.
 use Rattle.std.proofs.Common.{◌∙◌, ℕ, Option, Result, Ok, subst, sym}
 use Rattle.sub_io.specs.declared.source.Failed.{Failed}
-use Rattle.ttx_pes.specs.Advancing.{Advances, limited_behind, limited_told}
+use Rattle.ttx_pes.specs.Advancing.{Advances, limited_behind, limited_known}
 use Rattle.ttx_pes.specs.declared.pieces.Came.{Came}
 use Rattle.ttx_pes.proofs.LimitedLemmas.{came_limited, over_limited}
 use Rattle.ttx_pes.proofs.limited_pieces.LimitedPiecesPieces.next.Goals as goal
@@ -19,7 +19,7 @@ returns-clause-came g c =
     let new = g.P.Pieces.remaining c.next.new.self in
     let behind = g.P.Pieces.left c.next.new.self in
     subst (λ (l : Option ℕ).
-    Advances (limited_told left old) (limited_told l new) (limited_behind l new behind)
+    Advances (limited_known left old) (limited_known l new) (limited_behind l new behind)
     g.T.TakePiece.is_take c.args.taker.now c.next.new.taker
     (let r : Result (Came _) Failed = Ok c.in_ok-came.came in r))
     (sym c.left_after-self.ensures)

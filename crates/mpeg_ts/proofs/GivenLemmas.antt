@@ -1,0 +1,168 @@
+-- What was given of a recording is what the bytes carry that were taken of it; main lemmas:
+-- gives_then, failed_read, next_gives.
+use Rattle.std.proofs.Common.{◌≡◌, ℕ, List, [], ◌++◌, take, Option, Some, None, sym, ap, ◌∙◌}
+use Rattle.std.proofs.Common.{append_assoc, subst}
+use Rattle.std.proofs.lemmas.List.{append-nil, append_cancel_right}
+use Rattle.std.proofs.KnownBytes.{Consumes-trans}
+use Rattle.std.specs.List.{concat}
+use Rattle.ttx_pes.specs.Reader.{FailsAtPacket, FailsWithin, TakesPackets}
+use Rattle.mpeg_ts.specs.Carried.{carried, mark}
+use Rattle.mpeg_ts.specs.Joining.{JoiningValue, TakesNext}
+use Rattle.mpeg_ts.specs.Stream.{StreamValue, given_of, start_of_stream}
+use Rattle.mpeg_ts.specs.TakenBytes.{GivesOn, IsCutOff, TakesFront, takes_bytes}
+use Rattle.mpeg_ts.specs.declared.waiting.Next.{Next}
+use Rattle.mpeg_ts.specs.declared.waiting.Next.TheVariants as next
+use Rattle.mpeg_ts.proofs.CarriedLemmas.{carried_given}
+use Rattle.mpeg_ts.proofs.StreamLemmas.{given_front}
+use Rattle.mpeg_ts.proofs.TakenBytesLemmas.{takes_on}
+
+-- Some were given, and then others.
+pub gives_then : (u v w : StreamValue) (before mid after : Option (List ℕ))
+    → GivesOn u v before mid
+    → GivesOn v w mid after
+    → GivesOn u w before after
+gives_then u v w before mid after first then = record {
+  given = first.given ++ then.given;
+  takes = both first.given then.given first.takes then.takes;
+}
+  where
+    both : (ys zs : List ℕ)
+        → TakesFront (given_of u) (λ more. ys ++ given_of v more) before mid
+        → TakesFront (given_of v) (λ more. zs ++ given_of w more) mid after
+        → TakesFront (given_of u) (λ more. (ys ++ zs) ++ given_of w more) before after
+    both ys zs (takes_bytes _ _ _ _ xs consumed same) (takes_bytes _ _ _ _ bytes left alike) =
+        takes_bytes _ _ before after (xs ++ bytes)
+        (Consumes-trans before mid after xs bytes consumed left)
+        (λ more.
+        ap (given_of u) (append_assoc xs bytes more)
+        ∙ same (bytes ++ more)
+        ∙ ap (λ (l : List ℕ). ys ++ l) (alike more)
+        ∙ sym (append_assoc ys zs (given_of w more)))
+
+-- What was given from the start of a recording is what the bytes carry that were taken, where these
+-- give no more.
+carried_taken : (number distance : ℕ) (v : StreamValue) (bytes given : List ℕ)
+    → ((more : List ℕ)
+    → given_of (start_of_stream number distance) (bytes ++ more) ≡ given ++ given_of v more)
+    → given_of v [] ≡ []
+    → carried number distance bytes ≡ given
+carried_taken number distance v bytes given same none =
+    sym (carried_given number distance bytes)
+    ∙ ap (given_of (start_of_stream number distance)) (sym (append-nil bytes))
+    ∙ same []
+    ∙ ap (λ (l : List ℕ). given ++ l) none
+    ∙ append-nil given
+
+-- So the recording carries that, and then what is left.
+carried_left : (number distance : ℕ) (v : StreamValue) (all taken rest given : List ℕ)
+    → all ≡ taken ++ rest
+    → ((more : List ℕ)
+    → given_of (start_of_stream number distance) (taken ++ more) ≡ given ++ given_of v more)
+    → given_of v [] ≡ []
+    → carried number distance all ≡ carried number distance taken ++ given_of v rest
+carried_left number distance v all taken rest given is same none =
+    sym (carried_given number distance all)
+    ∙ ap (given_of (start_of_stream number distance)) is
+    ∙ same rest
+    ∙ ap (λ (l : List ℕ). l ++ given_of v rest)
+    (sym (carried_taken number distance v taken given same none))
+
+-- A read failed within that PES packet of bytes, of which these are left: it did of those before
+-- them.
+failed_before : (index : ℕ) (all front left : List ℕ)
+    → all ≡ front ++ left
+    → FailsAtPacket index (Some all) (Some left)
+    → FailsAtPacket index (Some front) (Some [])
+failed_before index all front left is failed =
+    at failed.behind failed.before failed.within
+  where
+    at : (behind : Option (List ℕ))
+        → TakesPackets index (Some all) behind
+        → FailsWithin behind (Some left)
+        → FailsAtPacket index (Some front) (Some [])
+    at None before within = absurd before.consumed
+    at (Some bytes) before within = record {
+      behind = Some within.bytes;
+      before = record {
+        packets = before.packets;
+        number = before.number;
+        each = before.each;
+        consumed = append_cancel_right front (concat before.packets ++ within.bytes) left
+            (sym is
+            ∙ before.consumed
+            ∙ ap (λ (l : List ℕ). concat before.packets ++ l) within.consumed
+            ∙ sym (append_assoc (concat before.packets) within.bytes left));
+      };
+      within = record {
+        bytes = within.bytes;
+        consumed = sym (append-nil within.bytes);
+        begun = within.begun;
+      };
+    }
+
+-- That is told by the bytes that were taken. For `law_of_failed_read`.
+pub failed_read : (number distance : ℕ) (v : StreamValue) (recording rest : List ℕ)
+    → GivesOn (start_of_stream number distance) v (Some recording) (Some rest)
+    → given_of v [] ≡ []
+    → IsCutOff number distance v recording rest
+failed_read number distance v recording rest on none = told on.given on.takes
+  where
+    told : (given : List ℕ)
+        → TakesFront (given_of (start_of_stream number distance))
+        (λ more. given ++ given_of v more) (Some recording) (Some rest)
+        → IsCutOff number distance v recording rest
+    told given (takes_bytes _ _ _ _ taken consumed same) =
+        let all = carried_left number distance v recording taken rest given consumed same none in
+        record {
+          taken = taken;
+          front = consumed;
+          carries = all;
+          place = λ index failed.
+              failed_before index (carried number distance recording)
+              (carried number distance taken) (given_of v rest) all failed;
+        }
+
+-- ---- one call
+
+-- What was ready first was given.
+front_gives : (before told : Option (List ℕ)) (u v w : StreamValue) (piece : List ℕ)
+    → TakesFront (given_of u) (given_of v) before told
+    → v.joining.pending ≡ piece ++ w.joining.pending
+    → w.joining ≡ record v.joining { pending = w.joining.pending }
+    → w ≡ record v { joining = w.joining }
+    → GivesOn u w before told
+front_gives before told u v w piece takes front same only = record {
+  given = piece;
+  takes = takes_on (given_of u) (given_of v) (λ more. piece ++ given_of w more) before told takes
+      (λ more. sym (given_front v w.joining.pending piece more front
+      ∙ ap (λ (s : StreamValue). piece ++ given_of s more) (sym whole)));
+}
+  where
+    whole : w ≡ record v { joining = record v.joining { pending = w.joining.pending } }
+    whole = only ∙ ap (λ (j : JoiningValue). record v { joining = j }) same
+
+-- Nothing was.
+nothing_gives : (before told : Option (List ℕ)) (u v w : StreamValue)
+    → TakesFront (given_of u) (given_of v) before told
+    → w.joining ≡ v.joining
+    → w ≡ record v { joining = w.joining }
+    → GivesOn u w before told
+nothing_gives before told u v w takes same only =
+    subst (λ (s : StreamValue). GivesOn u s before told)
+    (sym (only ∙ ap (λ (j : JoiningValue). record v { joining = j }) same))
+    (record { given = []; takes = takes })
+
+-- What was taken first of what is ready was given, after reading on. For `next`.
+pub next_gives : (before told : Option (List ℕ)) (u v w : StreamValue) (n : Next)
+    → TakesFront (given_of u) (given_of v) before told
+    → TakesNext v.joining n w.joining
+    → w ≡ record v { joining = w.joining }
+    → GivesOn u w before told
+next_gives before told u v w next.Nothing takes taken only =
+    nothing_gives before told u v w takes taken.1 only
+next_gives before told u v w (next.Rest fault) takes taken only =
+    nothing_gives before told u v w takes taken.3 only
+next_gives before told u v w next.Mark takes taken only =
+    front_gives before told u v w mark takes taken.0 taken.1 only
+next_gives before told u v w (next.Packet size) takes taken only =
+    front_gives before told u v w (take size v.joining.bytes) takes taken.2 taken.3 only

@@ -1,0 +1,50 @@
+-- Bytes that were taken of a source, whatever follows them; main lemmas: takes_then, takes_kept.
+use Rattle.std.proofs.Common.{◌≡◌, ℕ, List, [], ◌++◌, Option, Some, None, refl, sym, ap, ◌∙◌}
+use Rattle.std.proofs.Common.{append_assoc}
+use Rattle.std.proofs.KnownBytes.{Consumes-kept, Consumes-nil, Consumes-trans}
+use Rattle.std.specs.Prelude.{option_map}
+use Rattle.std.specs.Io.KnownBytes.{Keeps}
+use Rattle.mpeg_ts.specs.TakenBytes.{TakesFront, takes_bytes}
+
+-- None.
+pub takes_none : (old : List ℕ → List ℕ) (told : Option (List ℕ)) → TakesFront old old told told
+takes_none old told = takes_bytes old old told told [] (Consumes-nil told) (λ more. refl)
+
+-- A call that failed.
+pub takes_failed : (old : List ℕ → List ℕ) (before after : Option (List ℕ))
+    → Keeps before after
+    → TakesFront old old before after
+takes_failed old before after keeps =
+    takes_bytes old old before after []
+    (Consumes-kept before before after [] (Consumes-nil before) keeps) (λ more. refl)
+
+-- Some, and then others.
+pub takes_then : (old between new : List ℕ → List ℕ) (before mid after : Option (List ℕ))
+    → TakesFront old between before mid
+    → TakesFront between new mid after
+    → TakesFront old new before after
+takes_then old between new before mid after
+    (takes_bytes _ _ _ _ first consumed same) (takes_bytes _ _ _ _ then left alike) =
+    takes_bytes old new before after (first ++ then)
+    (Consumes-trans before mid after first then consumed left)
+    (λ more.
+    ap old (append_assoc first then more)
+    ∙ same (then ++ more)
+    ∙ alike more)
+
+-- The same is to be given after something else was done.
+pub takes_on : (old between new : List ℕ → List ℕ) (before after : Option (List ℕ))
+    → TakesFront old between before after
+    → ((more : List ℕ) → new more ≡ between more)
+    → TakesFront old new before after
+takes_on old between new before after (takes_bytes _ _ _ _ bytes consumed same) alike =
+    takes_bytes old new before after bytes consumed (λ more. same more ∙ sym (alike more))
+
+-- What a source that tells its bytes has to give gives the same.
+pub takes_kept : (old new : List ℕ → List ℕ) (before after : Option (List ℕ))
+    → TakesFront old new before after
+    → Keeps (option_map old before) (option_map new after)
+takes_kept old new None after takes = tt
+takes_kept old new (Some xs) None (takes_bytes _ _ _ _ bytes consumed same) = absurd consumed
+takes_kept old new (Some xs) (Some ys) (takes_bytes _ _ _ _ bytes consumed same) =
+    sym (same ys) ∙ ap old (sym consumed)

@@ -1,0 +1,227 @@
+-- What is kept after the packets of a frame of the list: `heard_here`; and at its end:
+-- `ending_steps`, `follows_then`.
+use Rattle.std.proofs.lemmas.Bool.Decides.{nat_tests}
+use Rattle.std.proofs.Common.{◌≡◌, ℕ, zero, suc, ◌+◌, ◌<◌, Bool, ◌&&◌, ◌||◌, not, nat_le, nat_lt}
+use Rattle.std.proofs.Common.{cond, List, [], ◌∷◌, ◌++◌, length, map, take, refl, sym, ap, ◌∙◌}
+use Rattle.std.proofs.Common.{arith, ◌==◌}
+use Rattle.std.proofs.lemmas.List.{get_or-map}
+use Rattle.std.proofs.lemmas.List.Folds.{list_any_more}
+use Rattle.std.specs.List.{list_any}
+use Rattle.sub_plan.specs.Schedule.{due_in}
+use Rattle.ttx_page.specs.PacketKind.{kind}
+use Rattle.ttx_page.specs.Span.{holds_beginning, holds_header}
+use Rattle.sub_checker.specs.Checker.{CheckerValue, HasHeard, after_end, after_headers, end_steps}
+use Rattle.sub_checker.specs.Checker.{later_by, stands}
+use Rattle.sub_checker.specs.CheckedFrames.{AfterEnd, AfterPackets, BeforePackets, Remembers}
+use Rattle.sub_rules.specs.Events.{covers, first_header_events, is_gap, packets_told}
+use Rattle.sub_rules.specs.Events.{since_frames, standing_at}
+use Rattle.sub_rules.specs.FrameRules.{Criteria, frame_at, packets_before, packets_of_frame}
+use Rattle.sub_rules.specs.PacketRules.{header_count}
+use Rattle.sub_rules.specs.PieceEvents.{steps_at_end, steps_of_packets}
+use Rattle.sub_rules.specs.Transmission.{SentFrame, Transmission}
+use Rattle.sub_rules.specs.declared.packet_rule.Watched.{Watched}
+use Rattle.sub_rules.specs.Trusted.{stands_none}
+use Rattle.sub_rules.specs.Trusted.CheckStep.{Ends, Says}
+use Rattle.sub_rules.specs.declared.event.Event.TheVariants.{Told}
+use Rattle.sub_rules.specs.declared.fault.CheckFault.TheVariants as fault
+use Rattle.sub_rules.proofs.FrameLists.{joined_more}
+use Rattle.sub_rules.proofs.PacketLists.{header_count-append, holds-count}
+use Rattle.sub_checker.proofs.FrameEndLemmas.{frame_on, since_are, since_last, stands_are}
+use Rattle.sub_checker.proofs.FrameEndLemmas.{steps_are}
+
+-- ---- the packets of a frame
+
+-- What comes of them, by what is kept. For `take_next`.
+pub packets_are :
+    (g : Criteria) (frames : Transmission) (n : ℕ) (last ps : List (List ℕ)) (c : CheckerValue)
+    → BeforePackets g frames n last c
+    → packets_of_frame frames n ≡ ps
+    → steps_of_packets g frames n
+    ≡ map Says (packets_told c.listener.watched c.frame 0 (packets_before frames n) ps (length ps))
+packets_are g frames n last ps c arrives are =
+    let watched = ap (λ (t : Criteria). t.watched) arrives.waits.known.criteria_are in
+    rw (sym watched, arrives.frame_is, sym are) refl
+
+-- From when on a header is too long ago, with those of more packets.
+pub late_core : (due before has : Bool) (late frame every f : ℕ)
+    → (due && not before) ≡ nat_le late (f + 1)
+    → (due && not (before || (has && nat_lt f (frame + every))))
+    ≡ nat_le (later_by has frame every late) (f + 1)
+late_core due before has late frame every f is = grind (arith, nat_tests)
+
+module _ (g : Criteria) (frames : Transmission) (n : ℕ) (last ps : List (List ℕ))
+    (c d : CheckerValue)
+    (arrives : BeforePackets g frames n last c) (there : n < length frames)
+    (are : packets_of_frame frames n ≡ ps)
+    (hears : HasHeard 0 (packets_before frames n) ps c d)
+  where
+    -- The packets up to there.
+    joined : packets_before frames n ++ ps ≡ packets_before frames (suc n)
+    joined =
+        let next : n + 1 ≡ suc n = omega arith in
+        ap (λ (l : List (List ℕ)). packets_before frames n ++ l) (sym are)
+        ∙ sym (joined_more frames n there)
+        ∙ ap (packets_before frames) next
+
+    -- The headers among them.
+    has_header : holds_header (kind g.watched.page) ps ≡ nat_lt 0 hears.headers
+    has_header =
+        let watched = ap (λ (t : Criteria). t.watched) arrives.waits.known.criteria_are in
+        let count = hears.count in
+        grind (arith, holds-count)
+
+    abbrev here : CheckerValue
+    here = after_headers hears.headers (record c { listener = hears.listener })
+
+    known_then : Remembers g frames (suc n) ps here
+    known_then =
+        let known = arrives.waits.known in
+        let knows = hears.knows in
+        let count = hears.count in
+        let watched = hears.watched in
+        grind (arith, nat_tests, joined, header_count-append)
+
+    any_is : (f : ℕ)
+        → list_any (covers g f) (take (suc n) frames)
+        ≡ (list_any (covers g f) (take n frames)
+        || (nat_lt 0 hears.headers && nat_lt f (c.frame + c.every)))
+    any_is f =
+        let none : SentFrame = record { frame = 0; packets = [] } in
+        let next : suc n ≡ n + 1 = omega arith in
+        let number = get_or-map (λ (x : SentFrame). x.frame) frames n none 0 there in
+        let packets = get_or-map (λ (x : SentFrame). x.packets) frames n none [] there in
+        let at = arrives.frame_is in
+        let every = ap (λ (t : Criteria). t.every) arrives.waits.known.criteria_are in
+        ap (λ (k : ℕ). list_any (covers g f) (take k frames)) next
+        ∙ list_any_more (covers g f) frames n none there
+        ∙ ap (λ (b : Bool). list_any (covers g f) (take n frames) || b)
+        (grind (arith, nat_tests, has_header))
+
+    late_then : (f : ℕ) → is_gap g frames (suc n) f ≡ nat_le here.late_at (f + 1)
+    unfolding is_gap
+    late_then f =
+        rw (any_is f)
+        (late_core (nat_le (frame_at frames 0 + g.every) (f + 1))
+        (list_any (covers g f) (take n frames)) (nat_lt 0 hears.headers) c.late_at c.frame c.every f
+        (arrives.waits.begun.late_is f))
+
+    -- What is kept then. For `take_next`.
+    pub heard_here : (e : CheckerValue) → e ≡ record here {
+      counts = record here.counts { frames = suc n };
+    } → AfterPackets g frames n ps e
+    heard_here e is =
+        rw is (record {
+          known = record {
+            criteria_are = known_then.criteria_are;
+            knows = known_then.knows;
+            count = known_then.count;
+          };
+          begun = record { first_is = arrives.waits.begun.first_is; late_is = late_then };
+          standing_is = arrives.waits.standing_is;
+          last_is = arrives.waits.last_is;
+          since_is = arrives.waits.since_is;
+          number = refl;
+          frame_is = arrives.frame_is;
+          latest_is = arrives.latest_is;
+          begins =
+              hears.begins
+              ∙ ap (λ (w : Watched). holds_beginning w.keeps (kind w.page) ps)
+              (sym (ap (λ (t : Criteria). t.watched) arrives.waits.known.criteria_are))
+              ∙ ap (holds_beginning g.watched.keeps (kind g.watched.page)) (sym are);
+        })
+
+-- ---- the end of a frame
+
+module _ (g : Criteria) (frames : Transmission) (n : ℕ) (last : List (List ℕ)) (c : CheckerValue)
+    (is : AfterPackets g frames n last c)
+  where
+    -- A frame has a header of the page where their count has risen.
+    pub header_more : (before : ℕ) → n < length frames
+        → before ≡ header_count g.watched.page (packets_before frames n)
+        → nat_lt before c.counts.headers
+        ≡ holds_header (kind g.watched.page) (packets_of_frame frames n)
+    header_more before there at =
+        let next : suc n ≡ n + 1 = omega arith in
+        let more : packets_before frames (suc n)
+        ≡ packets_before frames n ++ packets_of_frame frames n =
+        ap (packets_before frames) next ∙ joined_more frames n there in
+        let count = is.known.count in
+        grind (arith, nat_tests, header_count-append, holds-count)
+
+    -- What is told of the first frame's. For `end_sent`.
+    pub first_told : (has lacks : Bool)
+        → has ≡ holds_header (kind g.watched.page) (packets_of_frame frames n)
+        → lacks ≡ ((c.counts.frames == 1) && not has)
+        → first_header_events g frames n
+        ≡ cond lacks (Told (fault.NoFirstHeader c.frame) ∷ []) []
+    unfolding first_header_events
+    first_told has lacks holds e =
+        let number = is.number in
+        let at = is.frame_is in
+        go n number at holds
+      where
+        go : (k : ℕ) → c.counts.frames ≡ suc k → c.frame ≡ frame_at frames k
+            → has ≡ holds_header (kind g.watched.page) (packets_of_frame frames k)
+            → first_header_events g frames k
+            ≡ cond lacks (Told (fault.NoFirstHeader c.frame) ∷ []) []
+        go zero number at holds = grind (arith, nat_tests)
+        go (suc k) number at holds = grind (arith, nat_tests)
+
+    module _ (due : c.listener.comparison.due ≡ due_in c.programme c.frame) where
+      abbrev heard : List (List ℕ)
+      heard = packets_before frames (suc n)
+
+      -- What comes at the end. For `end_sent`.
+      pub ending_steps : end_steps heard c ≡ steps_at_end g frames n (suc n) (frame_at frames n)
+      ending_steps =
+          steps_are g frames n (suc n) (frame_at frames n) last c is.known is.begun is.frame_is due
+          is.standing_is is.last_is is.since_is (frame_on g frames n) (omega arith)
+          is.latest_is
+
+      stands_then : (stands heard c)
+          ≡ standing_at g frames (suc n) (frame_at frames n)
+      stands_then =
+          stands_are g frames n (suc n) (frame_at frames n) last c is.known is.begun is.frame_is due
+          is.standing_is is.last_is is.since_is (frame_on g frames n) (omega arith)
+          is.latest_is
+
+      -- The step there. For `end_sent`.
+      pub end_step : (f : ℕ) (begins none : Bool) (d : CheckerValue)
+          → d ≡ after_end heard c
+          → f ≡ d.frame
+          → begins
+          ≡ holds_beginning g.watched.keeps (kind g.watched.page) (packets_of_frame frames n)
+          → none ≡ stands_none d.standing
+          → Ends f begins none
+          ≡ Ends (frame_at frames n)
+          (holds_beginning g.watched.keeps (kind g.watched.page) (packets_of_frame frames n))
+          (stands_none (standing_at g frames (suc n) (frame_at frames n)))
+      end_step f begins none d end at holds stand =
+          let stood = ap (λ (v : CheckerValue). stands_none v.standing) end
+          ∙ ap stands_none stands_then in
+          rw (at ∙ ap (λ (v : CheckerValue). v.frame) end ∙ is.frame_is, holds, stand ∙ stood) refl
+
+      since_then : 0 < g.within → (after_end heard c).since ≡ since_frames g frames (suc n)
+      since_then l =
+          since_are g frames n (suc n) (frame_at frames n) last c is.known is.begun is.frame_is due
+          is.standing_is is.last_is is.since_is (frame_on g frames n) (omega arith)
+          is.latest_is l
+          ∙ since_last g frames n
+
+      -- What is kept there. For `end_sent`.
+      pub follows_then : AfterEnd g frames (suc n) last (after_end heard c)
+      follows_then = record {
+        known = record {
+          criteria_are = is.known.criteria_are;
+          knows = is.known.knows;
+          count = is.known.count;
+        };
+        none = λ e. absurd (omega (arith, e));
+        begun = λ l. record { first_is = is.begun.first_is; late_is = is.begun.late_is };
+        latest_is = λ l. is.latest_is;
+        standing_is = λ l. stands_then ∙ ap (λ (k : ℕ). standing_at g frames (suc n)
+            (frame_at frames k)) (omega arith);
+        last_is = λ l. is.frame_is ∙ ap (frame_at frames) (omega arith);
+        since_is = since_then;
+        number = is.number;
+      }

@@ -1,0 +1,306 @@
+-- What is kept on the way to a frame of the list, and what comes on it: before the first one,
+-- `arrives_first`; the frames of the day before another one, `gap_steps`, `gap_waits`, `gap_ended`;
+-- and there, `arrives_next`. More frames of the list change nothing: `AfterEnd-prefix`.
+use Rattle.std.proofs.lemmas.Bool.Decides.{nat_tests}
+use Rattle.std.proofs.Common.{◌≡◌, ℕ, zero, suc, ◌+◌, ◌-◌, ◌<◌, ◌≤◌, Bool, false, nat_le, cond}
+use Rattle.std.proofs.Common.{List, [], ◌∷◌, ◌++◌, length, map, Option, None, refl, sym, ap, ◌∙◌}
+use Rattle.std.proofs.Common.{subst, arith, ◌⊎◌, inl, inr}
+use Rattle.std.proofs.lemmas.Bool.{cases_lt, true≢false}
+use Rattle.std.proofs.lemmas.List.{append-nil}
+use Rattle.stl_rows.specs.Programme.{first_in}
+use Rattle.sub_plan.specs.Schedule.{due_in}
+use Rattle.sub_checker.specs.Checker.{CheckerValue, after_end, at_first, at_frame, at_next}
+use Rattle.sub_checker.specs.Checker.{end_steps, nothing_counted, stands}
+use Rattle.sub_checker.specs.declared.counts.Counts.{Counts}
+use Rattle.sub_checker.specs.CheckedFrames.{AfterEnd, BeforeEnd, BeforePackets, BetweenPieces}
+use Rattle.sub_checker.specs.CheckedFrames.{HasBegun, Remembers, criteria_kept, reaching_steps}
+use Rattle.sub_packets.specs.Listener.{Knows, KnowsLast}
+use Rattle.sub_rules.specs.Events.{end_before, gap_length, is_early, is_gap, latest}
+use Rattle.sub_rules.specs.Events.{nothing_stands, order_events, since_before, since_frames}
+use Rattle.sub_rules.specs.Events.{standing_at, standing_before, unfinished_since}
+use Rattle.sub_rules.specs.FrameRules.{Criteria, frame_at, packets_before}
+use Rattle.sub_rules.specs.PieceEvents.{steps_at_end, steps_of_gap}
+use Rattle.sub_rules.specs.Transmission.{Transmission}
+use Rattle.sub_rules.specs.Trusted.CheckStep.{Says}
+use Rattle.sub_rules.specs.declared.event.Event.TheVariants.{Told}
+use Rattle.sub_rules.specs.declared.fault.CheckFault.TheVariants as fault
+use Rattle.sub_rules.proofs.EndLemmas.{standing_before_is}
+use Rattle.sub_rules.proofs.PrefixEventLemmas.{frame_at-prefix, latest-prefix}
+use Rattle.sub_rules.proofs.PrefixEventLemmas.{packets_before-prefix, standing_at-prefix}
+use Rattle.sub_rules.proofs.PrefixEventLemmas.{unfinished_since-prefix}
+use Rattle.sub_checker.proofs.FrameEndLemmas.{end_before_high, end_before_low, gap_on, since_are}
+use Rattle.sub_checker.proofs.FrameEndLemmas.{since_high, since_last, since_low, stands_are}
+use Rattle.sub_checker.proofs.FrameEndLemmas.{steps_are}
+
+-- ---- before the first frame
+
+-- Nothing is kept. For `new`.
+pub AfterEnd-none :
+    (g : Criteria) (frames : Transmission) (last : List (List ℕ)) (c : CheckerValue)
+    → g ≡ criteria_kept c g.unread
+    → KnowsLast [] last c.listener
+    → c.counts.headers ≡ 0
+    → c.counts.frames ≡ 0
+    → c.since ≡ None
+    → c.standing ≡ nothing_stands
+    → AfterEnd g frames 0 last c
+unfolding since_frames
+AfterEnd-none g frames last c criteria knows none sent since stood = grind (arith, nat_tests)
+
+pub BetweenPieces-none :
+    (g : Criteria) (last : List (List ℕ)) (c : CheckerValue)
+    → g ≡ criteria_kept c g.unread
+    → KnowsLast [] last c.listener
+    → c.counts ≡ nothing_counted
+    → c.since ≡ None
+    → c.standing ≡ nothing_stands
+    → BetweenPieces g [] last c
+BetweenPieces-none g last c criteria knows counts since stood =
+    let shut : c.counts.is_open ≡ false = ap (λ (n : Counts). n.is_open) counts in
+    record {
+      closed = λ _.
+          AfterEnd-none g [] last c criteria knows (ap (λ (n : Counts). n.headers) counts)
+          (ap (λ (n : Counts). n.frames) counts) since stood;
+      none = λ _ _. refl;
+      some = λ e. absurd (true≢false (sym e ∙ shut));
+      within = λ e. absurd (true≢false (sym e ∙ shut));
+      opens = λ e. absurd (true≢false (sym e ∙ shut));
+    }
+
+-- Another page is due: the rest stays.
+remembers_at : (g : Criteria) (frames : Transmission) (n f : ℕ) (last : List (List ℕ))
+    (c : CheckerValue)
+    → Remembers g frames n last c → Remembers g frames n last (at_frame f c)
+remembers_at g frames n f last c known = grind arith
+
+-- The first frame is reached. For `begin`.
+pub arrives_first :
+    (g : Criteria) (frames : Transmission) (f : ℕ) (last : List (List ℕ)) (c : CheckerValue)
+    → AfterEnd g frames 0 last c
+    → frame_at frames 0 ≡ f
+    → BeforePackets g frames 0 last (at_first f c)
+unfolding is_gap latest standing_before since_before since_frames
+arrives_first g frames f last c follows is = grind (arith, nat_tests, remembers_at)
+
+-- What comes before it. For `begin`.
+pub first_reaching :
+    (g : Criteria) (frames : Transmission) (f : ℕ) (last : List (List ℕ)) (c : CheckerValue)
+    (out : Option ℕ) (told : Bool)
+    → AfterEnd g frames 0 last c
+    → frame_at frames 0 ≡ f
+    → out ≡ first_in c.programme.records
+    → told ≡ is_early out f
+    → reaching_steps g frames 0 ≡ map Says (cond told (Told (fault.Early f) ∷ []) [])
+unfolding order_events steps_of_gap gap_length
+first_reaching g frames f last c out told follows is from e = grind (arith, nat_tests, append-nil)
+
+-- ---- the frames of the day before another one
+
+-- The next end, where no frame of the day lies between.
+pub follows_waits :
+    (g : Criteria) (frames : Transmission) (n f : ℕ) (last : List (List ℕ)) (c : CheckerValue)
+    → AfterEnd g frames n last c
+    → 0 < n
+    → f ≤ c.latest + 1
+    → BeforeEnd g frames n f last c
+follows_waits g frames n f last c follows some l =
+    grind (arith, nat_tests, end_before_low, standing_before_is, since_low)
+
+-- It may be any of these.
+waits_lower :
+    (g : Criteria) (frames : Transmission) (n f e : ℕ) (last : List (List ℕ)) (c : CheckerValue)
+    → BeforeEnd g frames n f last c
+    → 0 < n
+    → f ≤ latest frames n + 1
+    → e ≤ latest frames n + 1
+    → BeforeEnd g frames n e last c
+waits_lower g frames n f e last c waits some l m =
+    grind (arith, nat_tests, end_before_low, standing_before_is, since_low)
+
+-- One end more. For `cross_gap`.
+module _ (g : Criteria) (frames : Transmission) (n f : ℕ) (last : List (List ℕ))
+    (v b : CheckerValue)
+    (waits : BeforeEnd g frames n f last v) (some : 0 < n) (later : latest frames n < f)
+    (moved : b ≡ at_frame f v) (known : v.latest ≡ latest frames n)
+    (due : b.listener.comparison.due ≡ due_in b.programme b.frame)
+  where
+    known_there : Remembers g frames n last b
+    known_there =
+        subst (Remembers g frames n last) (sym moved)
+        (remembers_at g frames n f last v waits.known)
+
+    at_there : b.frame ≡ f
+    at_there = ap (λ (c : CheckerValue). c.frame) moved
+
+    latest_there : b.latest ≡ latest frames n
+    latest_there = ap (λ (c : CheckerValue). c.latest) moved ∙ known
+
+    begun_there : HasBegun g frames n b
+    begun_there = grind (arith, nat_tests)
+
+    stood_there : b.standing ≡ standing_before g frames n f
+    stood_there = ap (λ (c : CheckerValue). c.standing) moved ∙ waits.standing_is
+
+    before_there : 0 < n → b.last ≡ end_before frames n f
+    before_there l = ap (λ (c : CheckerValue). c.last) moved ∙ waits.last_is l
+
+    since_there : 0 < g.within → b.since ≡ since_before g frames n f
+    since_there l = ap (λ (c : CheckerValue). c.since) moved ∙ waits.since_is l
+
+    pub gap_steps : end_steps (packets_before frames n) b ≡ steps_at_end g frames n n f
+    gap_steps =
+        steps_are g frames n n f last b known_there begun_there at_there due stood_there
+        before_there since_there (gap_on g frames n f some later) some latest_there
+
+    stands_there : (stands (packets_before frames n) b) ≡ standing_at g frames n f
+    stands_there =
+        stands_are g frames n n f last b known_there begun_there at_there due stood_there
+        before_there since_there (gap_on g frames n f some later) some latest_there
+
+    since_then : 0 < g.within
+        → (after_end (packets_before frames n) b).since ≡ unfinished_since g frames n f
+    since_then =
+        since_are g frames n n f last b known_there begun_there at_there due stood_there
+        before_there since_there (gap_on g frames n f some later) some latest_there
+
+    pub gap_knows : Knows (packets_before frames n) b.listener
+    gap_knows = known_there.knows.knows
+
+    number_there : b.counts.frames ≡ n
+    number_there = ap (λ (c : CheckerValue). c.counts.frames) moved ∙ waits.number
+
+    pub gap_waits : (e : ℕ) → e ≡ f + 1
+        → BeforeEnd g frames n e last (after_end (packets_before frames n) b)
+    gap_waits e is = record {
+      known = record {
+        criteria_are = known_there.criteria_are;
+        knows = known_there.knows;
+        count = known_there.count;
+      };
+      begun = record { first_is = begun_there.first_is; late_is = begun_there.late_is };
+      standing_is = grind (arith, nat_tests, stands_there, end_before_high, standing_before_is);
+      last_is = λ l. grind (arith, nat_tests, end_before_high, at_there);
+      since_is = λ l. since_then l ∙ sym (since_high g frames n f e some is);
+      number = number_there;
+    }
+
+-- What comes at the ends so far, one end more.
+pub gap_more :
+    (g : Criteria) (frames : Transmission) (n f e : ℕ)
+    → latest frames n < f
+    → e ≡ f + 1
+    → steps_of_gap g frames n (e - (latest frames n + 1))
+    ≡ steps_of_gap g frames n (f - (latest frames n + 1)) ++ steps_at_end g frames n n f
+unfolding steps_of_gap
+gap_more g frames n f e later is = grind (arith, nat_tests)
+
+-- Before the first of them nothing does.
+pub gap_start : (g : Criteria) (frames : Transmission) (n latest_is : ℕ)
+    → latest_is ≡ latest frames n
+    → steps_of_gap g frames n (latest_is + 1 - (latest frames n + 1)) ≡ []
+unfolding steps_of_gap
+gap_start g frames n latest_is is =
+    let none : latest_is + 1 - (latest frames n + 1) ≡ 0 = omega (arith, is) in rw none refl
+
+-- After the last of them. For `cross_gap`.
+pub gap_ended :
+    (g : Criteria) (frames : Transmission) (n f to known : ℕ) (last : List (List ℕ))
+    (c : CheckerValue)
+    → BeforeEnd g frames n f last c
+    → 0 < n
+    → known ≡ latest frames n
+    → known < f
+    → to ≤ f
+    → (known + 1 < f → f ≤ to)
+    → (to - (latest frames n + 1) ≡ f - (latest frames n + 1)) × BeforeEnd g frames n to last c
+gap_ended g frames n f to known last c waits some is later done upto =
+    by (cases_lt (known + 1) f)
+  where
+    by : (known + 1 < f) ⊎ (f ≤ known + 1)
+        → (to - (latest frames n + 1) ≡ f - (latest frames n + 1)) × BeforeEnd g frames n to last c
+    by (inl l) =
+        let same : f ≡ to = omega (arith, upto l, done) in (
+          ap (λ (k : ℕ). k - (latest frames n + 1)) (sym same),
+          subst (λ (k : ℕ). BeforeEnd g frames n k last c) same waits,
+        )
+    by (inr l) = (
+      omega (arith, is, l, done),
+      waits_lower g frames n f to last c waits some (omega (arith, is, l))
+          (omega (arith, is, l, done)),
+    )
+
+-- The frame is reached. For `go_to`.
+pub arrives_next :
+    (g : Criteria) (frames : Transmission) (n f : ℕ) (last : List (List ℕ)) (c : CheckerValue)
+    → BeforeEnd g frames n f last c
+    → frame_at frames n ≡ f
+    → c.latest ≡ latest frames n
+    → BeforePackets g frames n last (at_next f c)
+unfolding latest
+arrives_next g frames n f last c waits is latest_is = grind (arith, nat_tests, remembers_at)
+
+-- What is told of its order. For `go_to`.
+pub order_are :
+    (g : Criteria) (frames : Transmission) (n f last pes : ℕ) (told : Bool)
+    → 0 < n
+    → frame_at frames n ≡ f
+    → last ≡ frame_at frames (n - 1)
+    → pes ≡ n
+    → told ≡ nat_le f last
+    → order_events g frames n ≡ cond told (Told (fault.Order pes) ∷ []) []
+unfolding order_events
+order_are g frames zero f last pes told some is at number late = absurd (omega arith)
+order_are g frames (suc n) f last pes told some is at number late = grind (arith, nat_tests)
+
+-- ---- more frames of the list
+
+gap_prefix : (g : Criteria) (done more : Transmission) (f : ℕ) → 0 < length done
+    → is_gap g (done ++ more) (length done) f ≡ is_gap g done (length done) f
+unfolding is_gap standing_at
+gap_prefix g done more f some =
+    ap (λ s. s.gap) (standing_at-prefix g g.unread done more (length done) f some (omega arith))
+
+since_prefix : (g : Criteria) (done more : Transmission) (n : ℕ) → n ≤ length done
+    → since_frames g (done ++ more) n ≡ since_frames g done n
+unfolding since_frames
+since_prefix g done more zero l = refl
+since_prefix g done more (suc i) l =
+    sym (since_last g (done ++ more) i)
+    ∙ ap (unfinished_since g (done ++ more) (suc i))
+    (frame_at-prefix g g.unread done more i (omega arith))
+    ∙ unfinished_since-prefix g g.unread done more (suc i) (frame_at done i) l
+    ∙ since_last g done i
+
+-- What is kept after some frames is so where more are sent.
+pub AfterEnd-prefix : (g : Criteria) (done more : Transmission) (last : List (List ℕ))
+    (c : CheckerValue)
+    → AfterEnd g done (length done) last c
+    → AfterEnd g (done ++ more) (length done) last c
+AfterEnd-prefix g done more last c follows =
+    let n = length done in
+    let packets = packets_before-prefix g g.unread done more n (omega arith) in
+    record {
+      known = record {
+        criteria_are = follows.known.criteria_are;
+        knows = rw packets follows.known.knows;
+        count = rw packets follows.known.count;
+      };
+      none = follows.none;
+      begun = λ l.
+          let begun = follows.begun l in
+          record {
+            first_is = begun.first_is ∙ sym (frame_at-prefix g g.unread done more 0 l);
+            late_is = λ f. gap_prefix g done more f l ∙ begun.late_is f;
+          };
+      latest_is = λ l.
+          follows.latest_is l ∙ sym (latest-prefix g g.unread done more n (omega arith));
+      standing_is = λ l.
+          follows.standing_is l
+          ∙ sym (standing_at-prefix g g.unread done more n _ l (omega arith)
+          ∙ ap (standing_at g done n)
+          (frame_at-prefix g g.unread done more (n - 1) (omega arith)));
+      last_is = λ l.
+          follows.last_is l ∙ sym (frame_at-prefix g g.unread done more (n - 1) (omega arith));
+      since_is = λ l. follows.since_is l ∙ sym (since_prefix g done more n (omega arith));
+      number = follows.number;
+    }

@@ -1,0 +1,327 @@
+-- What stands at the end of a frame, and what comes there, by what is kept: `steps_are`,
+-- `stands_are`, `since_are`; since which frame the page is not whole, `gap_on`, `frame_on`; and
+-- where nothing stands, `quiet_steps`, `quiet_after`.
+use Rattle.std.proofs.lemmas.Bool.Decides.{nat_tests}
+use Rattle.std.proofs.Common.{◌≡◌, ℕ, zero, suc, ◌+◌, ◌-◌, ◌<◌, ◌≤◌, Bool, false, ◌&&◌, ◌||◌}
+use Rattle.std.proofs.Common.{cond, List, [], ◌∷◌, ◌++◌, map, Option, Some, None, refl, sym}
+use Rattle.std.proofs.Common.{ap, ap₂, ◌∙◌, arith, ◌==◌}
+use Rattle.std.proofs.lemmas.List.{append-nil}
+use Rattle.ttx_page.specs.Page.{Rows}
+use Rattle.ttx_page.specs.PacketKind.{kind}
+use Rattle.ttx_page.specs.Span.{is_open_after}
+use Rattle.sub_plan.specs.Schedule.{due_in}
+use Rattle.sub_checker.specs.Checker.{CheckerValue, after_end, back_steps, differs_now, end_steps}
+use Rattle.sub_checker.specs.Checker.{is_overdue_at, is_undecided_by, is_unfinished_now, late_now}
+use Rattle.sub_checker.specs.Checker.{quiet_end, since_now, stands, undecided_now, undue_now}
+use Rattle.sub_checker.specs.CheckedFrames.{HasBegun, Remembers}
+use Rattle.sub_rules.specs.Events.{end_before, end_events, end_rules, events_at_end, is_silent}
+use Rattle.sub_rules.specs.Events.{gap_length, nothing_stands, silent_for, is_incomplete, is_late}
+use Rattle.sub_rules.specs.Events.{is_overdue, is_unfinished, latest, since_before, since_frames}
+use Rattle.sub_rules.specs.Events.{since_in_gap, standing_at, standing_before, undecided_within}
+use Rattle.sub_rules.specs.Events.{undue_cell, unfinished_from, unfinished_since, wrong_after}
+use Rattle.sub_rules.specs.Events.{wrong_cell}
+use Rattle.sub_rules.specs.FrameRules.{Criteria, frame_at, packets_before}
+use Rattle.sub_rules.specs.PieceEvents.{steps_at_end, steps_before}
+use Rattle.sub_rules.specs.Transmission.{Transmission}
+use Rattle.sub_rules.specs.Trusted.{CheckStep}
+use Rattle.sub_rules.specs.Trusted.CheckStep.{AtEnd, Says}
+use Rattle.sub_rules.specs.declared.event.Event.{Event}
+use Rattle.sub_rules.proofs.EndRuleLemmas.{end_from_none}
+use Rattle.sub_rules.specs.declared.standing.Standing.{Standing}
+
+-- ---- since which frame the page is not whole
+
+-- At the end of a frame of the day after the latest one.
+pub gap_on :
+    (g : Criteria) (frames : Transmission) (n f : ℕ)
+    → 0 < n
+    → latest frames n < f
+    → unfinished_since g frames n f
+    ≡ unfinished_from (since_before g frames n f) (is_unfinished g frames n f) f
+unfolding unfinished_since since_before since_in_gap
+gap_on g frames n f some later = grind (arith, nat_tests)
+
+-- At the end of the last of the first frames.
+pub since_last : (g : Criteria) (frames : Transmission) (n : ℕ)
+    → unfinished_since g frames (suc n) (frame_at frames n) ≡ since_frames g frames (suc n)
+unfolding unfinished_since since_in_gap latest
+since_last g frames n =
+    let none : frame_at frames n - latest frames (suc n) ≡ 0 = grind (arith, nat_tests) in
+    ap (since_in_gap g frames (suc n) (since_frames g frames (suc n))) none
+
+-- Up to the end before it.
+before_last : (g : Criteria) (frames : Transmission) (n : ℕ)
+    → since_in_gap g frames n (since_frames g frames n) (gap_length frames n)
+    ≡ since_before g frames n (frame_at frames n)
+unfolding since_before unfinished_since since_in_gap since_frames gap_length
+before_last g frames zero = refl
+before_last g frames (suc n) =
+    ap (since_in_gap g frames (suc n) (since_frames g frames (suc n))) (omega arith)
+
+pub frame_on : (g : Criteria) (frames : Transmission) (n : ℕ)
+    → unfinished_since g frames (suc n) (frame_at frames n)
+    ≡ unfinished_from (since_before g frames n (frame_at frames n))
+    (is_unfinished g frames (suc n) (frame_at frames n)) (frame_at frames n)
+unfolding since_frames
+frame_on g frames n = grind (arith, nat_tests, since_last, before_last)
+
+-- The end before, where no frame of the day lies between.
+pub since_low : (g : Criteria) (frames : Transmission) (n f : ℕ)
+    → f ≤ latest frames n + 1
+    → since_before g frames n f ≡ since_frames g frames n
+unfolding since_before unfinished_since since_in_gap since_frames
+since_low g frames n f low = grind (arith, nat_tests)
+
+-- And where one does.
+pub since_high : (g : Criteria) (frames : Transmission) (n f e : ℕ)
+    → 0 < n
+    → e ≡ f + 1
+    → since_before g frames n e ≡ unfinished_since g frames n f
+unfolding since_before
+since_high g frames zero f e some is = absurd (omega arith)
+since_high g frames (suc n) f e some is =
+    ap (unfinished_since g frames (suc n)) (omega (arith, is))
+
+-- ---- the end before
+
+-- The end before, where the frame is not after the one after the latest.
+pub end_before_low : (frames : Transmission) (n f : ℕ) → f ≤ latest frames n + 1
+    → end_before frames n f ≡ frame_at frames (n - 1)
+end_before_low frames n f l = grind (arith, nat_tests)
+
+-- And where it is.
+pub end_before_high : (frames : Transmission) (n f : ℕ) → latest frames n < f
+    → end_before frames n (f + 1) ≡ f
+end_before_high frames n f l = grind (arith, nat_tests)
+
+-- ---- an end
+
+-- What is told at the end of a frame, by what is kept.
+ends_are :
+    (g : Criteria) (frames : Transmission) (i n f : ℕ) (old new : Standing) (last : ℕ)
+    → old ≡ standing_before g frames i f
+    → (0 < i → last ≡ end_before frames i f)
+    → new ≡ standing_at g frames n f
+    → end_events old last new f ≡ events_at_end g frames i n f
+unfolding standing_before
+ends_are g frames zero n f old new last is at now = rw (is, now) (end_from_none _ _ _ _)
+ends_are g frames (suc i) n f old new last is at now = rw (is, now, at (omega arith)) refl
+
+-- Where there is a PES packet, whether one is too long ago goes by the latest of them.
+silent_at : (g : Criteria) (frames : Transmission) (n f : ℕ) → 0 < n
+    → is_silent g frames n f ≡ silent_for g.pace (latest frames n) f
+unfolding is_silent
+silent_at g frames zero f some = absurd (omega arith)
+silent_at g frames (suc n) f some = refl
+
+-- Whether the page had to be whole, by what is kept.
+pub overdue_is : (g : Criteria) (c : CheckerValue) (first : ℕ) (since : Option ℕ) (f : ℕ)
+    (last : List (List ℕ)) (frames : Transmission) (n : ℕ)
+    → Remembers g frames n last c
+    → is_overdue g first since f ≡ is_overdue_at c.programme c.within first since f
+overdue_is g c first None f last frames n known = refl
+overdue_is g c first (Some s) f last frames n known =
+    ap (λ (t : Criteria). is_overdue t first (Some s) f) known.criteria_are
+
+-- Since which frame the page is not whole, as it is told before a frame.
+pub back_are :
+    (g : Criteria) (frames : Transmission) (i n f : ℕ) (last : List (List ℕ)) (c : CheckerValue)
+    → Remembers g frames n last c
+    → (0 < g.within → c.since ≡ since_before g frames i f)
+    → back_steps c ≡ steps_before g (since_before g frames i f)
+back_are g frames i n f last c known since = grind (arith, nat_tests)
+
+-- Where the page has to be whole at each end, it is not told.
+pub back_none : (c : CheckerValue) → c.within ≡ 0 → back_steps c ≡ []
+back_none c each = grind (arith, nat_tests)
+
+-- By whether a number is 0: what is so for 0, and what follows where it is not.
+late_by : (w : ℕ) (a b : Bool) → (0 < w → a ≡ b) → (w == 0 || a) ≡ (w == 0 || b)
+late_by w a b same = grind (arith, nat_tests)
+
+module _ (g : Criteria) (frames : Transmission) (i n f : ℕ) (last : List (List ℕ))
+    (c : CheckerValue)
+    (known : Remembers g frames n last c) (begun : HasBegun g frames n c) (at : c.frame ≡ f)
+    (due : c.listener.comparison.due ≡ due_in c.programme c.frame)
+    (stood : c.standing ≡ standing_before g frames i f)
+    (before : 0 < i → c.last ≡ end_before frames i f)
+    (since : 0 < g.within → c.since ≡ since_before g frames i f)
+    (on : unfinished_since g frames n f
+    ≡ unfinished_from (since_before g frames i f) (is_unfinished g frames n f) f)
+    (some : 0 < n) (latest_is : c.latest ≡ latest frames n)
+  where
+    -- What was heard up to it.
+    abbrev so_far : List (List ℕ)
+    so_far = packets_before frames n
+
+    within_is : g.within ≡ c.within
+    within_is = ap (λ (t : Criteria). t.within) known.criteria_are
+
+    wrong_is : differs_now so_far c ≡ wrong_cell g frames n f
+    wrong_is =
+        ap (λ (d : Rows). cond (is_undecided_by c c.frame) None
+        (wrong_after c.listener.watched.keeps c.listener.watched.page so_far d)) due
+        ∙ ap (λ (k : ℕ). cond (is_undecided_by c k) None
+        (wrong_after c.listener.watched.keeps c.listener.watched.page so_far
+        (due_in c.programme k))) at
+        ∙ ap (λ (t : Criteria). wrong_cell t frames n f) (sym known.criteria_are)
+
+    incomplete_is :
+        (c.listener.watched.complete && is_open_after (kind c.listener.watched.page) so_far)
+        ≡ is_incomplete g frames n
+    unfolding is_incomplete
+    incomplete_is = ap (λ (t : Criteria). is_incomplete t frames n) (sym known.criteria_are)
+
+    unfinished_is : is_unfinished_now so_far c ≡ is_unfinished g frames n f
+    unfinished_is = rw (wrong_is, incomplete_is) refl
+
+    -- Since which frame the page is not whole.
+    since_is : 0 < g.within → since_now so_far c ≡ unfinished_since g frames n f
+    since_is l = rw (since l, unfinished_is, at) (sym on)
+
+    late_is : late_now so_far c ≡ is_late g frames n f
+    unfolding is_late
+    late_is =
+        late_by c.within _ _
+        (λ l.
+        ap (λ (s : Option ℕ). is_overdue_at c.programme c.within c.first s c.frame)
+        (since_is (rw within_is l))
+        ∙ rw (begun.first_is, at) (sym (overdue_is g c (frame_at frames 0)
+        (unfinished_since g frames n f) f last frames n known)))
+        ∙ ap (λ (w : ℕ). w == 0
+        || is_overdue g (frame_at frames 0) (unfinished_since g frames n f) f) (sym within_is)
+
+    undecided_is : undecided_now c ≡ undecided_within g frames f
+    undecided_is =
+        rw (begun.first_is, at)
+        (ap (λ (t : Criteria). undecided_within t frames f) (sym known.criteria_are))
+
+    undue_is : undue_now so_far c ≡ undue_cell g frames n f
+    undue_is =
+        rw (begun.first_is, at)
+        (ap (λ (t : Criteria). undue_cell t frames n f) (sym known.criteria_are))
+
+    silent_is : silent_for c.pace c.latest c.frame ≡ is_silent g frames n f
+    silent_is =
+        rw (latest_is, at)
+        (ap (λ (t : Criteria). silent_for t.pace (latest frames n) f) (sym known.criteria_are)
+        ∙ sym (silent_at g frames n f some))
+
+    -- What stands broken.
+    pub stands_are : (stands so_far c) ≡ standing_at g frames n f
+    unfolding standing_at
+    stands_are =
+        rw (
+          silent_is,
+          late_is,
+          wrong_is,
+          undue_is,
+          undecided_is,
+          incomplete_is,
+          begun.late_is f,
+          at,
+        ) refl
+
+    -- What comes there.
+    pub steps_are : end_steps so_far c ≡ steps_at_end g frames i n f
+    steps_are =
+        ap₂ (λ (back ms : List CheckStep). back ++ ms ++ map Says (end_events c.standing c.last
+        ((stands so_far c)) c.frame)) (back_are g frames i n f last c known since) firsts
+        ∙ ap (λ (es : List Event). steps_before g (since_before g frames i f)
+        ++ (cond (g.within == 0) []
+        (AtEnd f (unfinished_since g frames n f) (is_late g frames n f) ∷ [])) ++ map Says es)
+        (ap (end_events c.standing c.last ((stands so_far c))) at
+        ∙ ends_are g frames i n f c.standing ((stands so_far c)) c.last
+        stood before stands_are)
+      where
+        by : (w : ℕ) → (0 < w → since_now so_far c ≡ unfinished_since g frames n f)
+            → cond (w == 0) [] (AtEnd c.frame (since_now so_far c) (late_now so_far c) ∷ [])
+            ≡ cond (w == 0) []
+            (AtEnd f (unfinished_since g frames n f) (is_late g frames n f) ∷ [])
+        by zero same = refl
+        by (suc w) same = rw (late_is, same (omega arith), at) refl
+
+        firsts : cond (c.within == 0) []
+            (AtEnd c.frame (since_now so_far c) (late_now so_far c) ∷ [])
+            ≡ cond (g.within == 0) []
+            (AtEnd f (unfinished_since g frames n f) (is_late g frames n f) ∷ [])
+        firsts =
+            by c.within (λ l. since_is (rw within_is l))
+            ∙ ap (λ (w : ℕ). cond (w == 0) []
+            (AtEnd f (unfinished_since g frames n f) (is_late g frames n f) ∷ [])) (sym within_is)
+
+    -- Since which frame the page is not whole, as it is kept then.
+    pub since_are : 0 < g.within → (after_end so_far c).since ≡ unfinished_since g frames n f
+    since_are l = by c.within (rw (sym within_is) l)
+      where
+        by : (w : ℕ) → 0 < w
+            → cond (w == 0) c.since (since_now so_far c) ≡ unfinished_since g frames n f
+        by zero m = absurd (omega arith)
+        by (suc w) m =
+            let not_each : (suc w == 0) ≡ false = grind (arith, nat_tests) in
+            rw not_each (since_is l)
+
+-- ---- an end, by what is found there
+
+-- Where the page has to be whole at the end of each frame.
+pub once_steps : (heard : List (List ℕ)) (d c : CheckerValue) (s : Standing)
+    → d ≡ c
+    → c.within ≡ 0
+    → s ≡ stands heard c
+    → end_steps heard c
+    ≡ map Says (end_events d.standing d.last s d.frame)
+once_steps heard d c s same each is = grind (arith, nat_tests, back_none)
+
+pub once_after : (heard : List (List ℕ)) (d c : CheckerValue) (s : Standing)
+    → d ≡ c
+    → c.within ≡ 0
+    → s ≡ stands heard c
+    → record d { standing = s; last = d.frame } ≡ after_end heard c
+once_after heard d c s same each is = rw (same, is, each) refl
+
+-- Where it need not.
+pub within_steps : (heard : List (List ℕ)) (d c : CheckerValue) (s : Standing)
+    (since : Option ℕ) (late : Bool)
+    → d ≡ c
+    → 0 < c.within
+    → s ≡ stands heard c
+    → since ≡ since_now heard c
+    → late ≡ late_now heard c
+    → end_steps heard c
+    ≡ (back_steps d ++ AtEnd d.frame since late ∷ [])
+    ++ map Says (end_events d.standing d.last s d.frame)
+within_steps heard d c s since late same some is since_is late_is = grind (arith, nat_tests)
+
+pub within_after : (heard : List (List ℕ)) (d c : CheckerValue) (s : Standing)
+    (since : Option ℕ)
+    → d ≡ c
+    → 0 < c.within
+    → s ≡ stands heard c
+    → since ≡ since_now heard c
+    → record d { standing = s; since = since; last = d.frame } ≡ after_end heard c
+within_after heard d c s since same some is since_is =
+    let not_each : (c.within == 0) ≡ false = grind (arith, nat_tests) in
+    rw (same, is, since_is, not_each) refl
+
+-- Where nothing stands broken, and nothing did.
+none_told : (old new : Standing) (before f : ℕ)
+    → old ≡ nothing_stands
+    → new ≡ nothing_stands
+    → end_events old before new f ≡ []
+unfolding end_events end_rules
+none_told old new before f none none_now = rw (none, none_now) refl
+
+pub quiet_steps : (heard : List (List ℕ)) (c : CheckerValue)
+    → c.standing ≡ nothing_stands
+    → stands heard c ≡ nothing_stands
+    → since_now heard c ≡ None
+    → end_steps heard c
+    ≡ back_steps c ++ cond (c.within == 0) [] (AtEnd c.frame None false ∷ [])
+quiet_steps heard c stood stand since = grind (arith, nat_tests, none_told, append-nil)
+
+pub quiet_after : (heard : List (List ℕ)) (c : CheckerValue)
+    → c.standing ≡ nothing_stands
+    → stands heard c ≡ nothing_stands
+    → since_now heard c ≡ None
+    → quiet_end c ≡ after_end heard c
+quiet_after heard c stood stand since = rw (stand, since, sym stood) refl

@@ -1,0 +1,106 @@
+-- What a reporter relays, in parts: `relays_two`; nothing, `relays_nothing`; steps with which
+-- nothing is told, `relays_step` and its kin; events that it was told, `relays_told`.
+use Rattle.std.proofs.Common.{◌≡◌, ◌<◌, ◌==◌, List, [], ◌∷◌, ◌++◌, Bool, true, false, cond, map}
+use Rattle.std.proofs.lemmas.Bool.Decides.{nat_tests}
+use Rattle.std.proofs.Common.{◌&&◌, arith, not, None, refl, sym, subst}
+use Rattle.sub_io.specs.Telling.{Tells}
+use Rattle.sub_rules.specs.Trusted.{CheckStep}
+use Rattle.sub_rules.specs.Trusted.CheckStep.{AtEnd, Begins, GoesBack, Says}
+use Rattle.sub_rules.specs.declared.event.Event.{Event}
+use Rattle.sub_checker.specs.Checker.{CheckerValue, back_steps, goes_back_now}
+use Rattle.sub_checker.specs.CheckedFrames.{back_reporter, quiet_reporter}
+use Rattle.sub_checker.specs.Relay.{IsRelayed, ReporterRelays, at_step}
+use Rattle.sub_checker.specs.declared.reporter.Reporter.{Reporter}
+use Rattle.sub_checker.proofs.RelayLemmas.{may_tell, relays-none, relays-trans, relays_all, silent}
+use Rattle.sub_checker.proofs.RelayLemmas.{silent_with}
+
+module _ {D : Type 0} {g : _} {IsTold : D → Event → D → Type 0} where
+  -- The same by another name.
+  pub relays_same : {s t : Reporter D g} {xs zs : List CheckStep}
+      → zs ≡ xs
+      → ReporterRelays IsTold s xs t
+      → ReporterRelays IsTold s zs t
+  relays_same is on = rw is on
+
+  -- None.
+  pub relays_nothing : {s : Reporter D g} {zs : List CheckStep} → zs ≡ []
+      → ReporterRelays IsTold s zs s
+  relays_nothing {s} is = rw is (relays-none IsTold s)
+
+  -- The one part, and then the other.
+  pub relays_two : {a b c : Reporter D g} {xs ys zs : List CheckStep}
+      → zs ≡ xs ++ ys
+      → ReporterRelays IsTold a xs b
+      → ReporterRelays IsTold b ys c
+      → ReporterRelays IsTold a zs c
+  relays_two {a} {b} {c} {xs} {ys} is first second =
+      rw is (relays-trans IsTold a b c xs ys first second)
+
+  -- Events that it was told.
+  pub relays_told : {s t : Reporter D g} {es : List Event} {zs : List CheckStep}
+      → zs ≡ map Says es
+      → Tells (IsRelayed IsTold) s t es
+      → ReporterRelays IsTold s zs t
+  relays_told {s} {t} {es} is told = rw is (relays_all IsTold s t es told)
+
+  -- A step with which nothing is told; and after an end at which nothing stands broken.
+  pub relays_step : {s t : Reporter D g} {m : CheckStep} {zs : List CheckStep}
+      → zs ≡ m ∷ []
+      → t ≡ at_step m s
+      → may_tell m ≡ false
+      → ReporterRelays IsTold s zs t
+  relays_step {s} {t} {m} is at none =
+      rw is (silent IsTold s t m at (silent_with m s.relay.tracker none))
+
+  -- Since which frame the page is not whole, where that is told.
+  pub relays_back : (s t : Reporter D g) (c : CheckerValue) {zs : List CheckStep}
+      → zs ≡ back_steps c
+      → t ≡ back_reporter c s
+      → ReporterRelays IsTold s zs t
+  unfolding back_reporter
+  relays_back s t c is at = rw is (by (goes_back_now c) at)
+    where
+      by : (b : Bool) → t ≡ cond b (at_step (GoesBack c.since) s) s
+          → ReporterRelays IsTold s (cond b (GoesBack c.since ∷ []) []) t
+      by true at = relays_step refl at refl
+      by false at = subst (ReporterRelays IsTold s []) (sym at) (relays_nothing refl)
+
+  -- The step of a frame before it.
+  pub relays_begun : (s t : Reporter D g) (c : CheckerValue)
+      → t ≡ back_reporter c (at_step (Begins c.frame) s)
+      → ReporterRelays IsTold s (Begins c.frame ∷ back_steps c) t
+  relays_begun s t c at =
+      relays_two {xs = Begins c.frame ∷ []} refl
+      (relays_step {s = s} {t = at_step (Begins c.frame) s} refl refl refl)
+      (relays_back (at_step (Begins c.frame) s) t c refl at)
+
+  pub relays_quiet : (s t : Reporter D g) (c : CheckerValue) {zs : List CheckStep}
+      → zs ≡ back_steps c ++ cond (c.within == 0) [] (AtEnd c.frame None false ∷ [])
+      → t ≡ quiet_reporter c s
+      → ReporterRelays IsTold s zs t
+  unfolding back_reporter
+  relays_quiet s t c is at = rw is (by c.any_refused (c.within == 0) at)
+    where
+      by : (b z : Bool)
+          → t ≡ cond z s (at_step (AtEnd c.frame None false)
+          (cond (b && not z) (at_step (GoesBack c.since) s) s))
+          → ReporterRelays IsTold s
+          (cond (b && not z) (GoesBack c.since ∷ []) []
+          ++ cond z [] (AtEnd c.frame None false ∷ [])) t
+      by true true at = subst (ReporterRelays IsTold s []) (sym at) (relays_nothing refl)
+      by false true at = subst (ReporterRelays IsTold s []) (sym at) (relays_nothing refl)
+      by true false at =
+          relays_two {xs = GoesBack c.since ∷ []} refl
+          (relays_step {s = s} {t = at_step (GoesBack c.since) s} refl refl refl)
+          (relays_step refl at refl)
+      by false false at = relays_step refl at refl
+
+-- After an end at which nothing stands broken, within frames.
+pub quiet_is : {D : Type 0} {g : _} (s b t : Reporter D g) (v c : CheckerValue)
+    → v ≡ c
+    → 0 < v.within
+    → b ≡ back_reporter (record v { last = v.frame }) s
+    → t ≡ at_step (AtEnd v.frame None false) b
+    → t ≡ quiet_reporter c s
+unfolding back_reporter
+quiet_is s b t v c same some back at = grind (arith, nat_tests)

@@ -1,0 +1,10 @@
+-- The end of the file: by RelayLemmas.
+use Rattle.sub_rules.specs.Trusted.CheckStep.{Closes}
+use Rattle.sub_checker.proofs.RelayLemmas.{relay_one}
+use Rattle.sub_checker.proofs.reporter.Reporter.close.Goals as goal
+
+pub returns : goal.returns
+returns g c =
+    relay_one g.A.Audience.is_told c.args.self.now _ (Closes c.args.are_left c.args.tells_more) _
+    c.close-last.ensures.told c.close-last.ensures.kept c.announce_some.ensures.told
+    c.announce_some.ensures.kept

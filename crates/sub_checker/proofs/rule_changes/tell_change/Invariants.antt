@@ -1,0 +1,19 @@
+-- What is left to be told of the rules that are left is told of all.
+use Rattle.std.proofs.Common.{List, drop, flat_map}
+use Rattle.sub_io.specs.Telling.{Tells}
+use Rattle.sub_rules.specs.Events.{broken_at, end_rules, rule_events}
+use Rattle.sub_rules.specs.declared.end_rule.EndRule.{EndRule}
+use Rattle.sub_rules.specs.declared.event.Event.{Event}
+use Rattle.sub_checker.proofs.rule_changes.tell_change.Given as goal
+
+abbrev pub invariant-loop-rule : goal.invariant-loop-rule
+invariant-loop-rule g l =
+    let tell : EndRule → List Event =
+    λ rule. rule_events rule (broken_at rule l.fn.old) l.fn.before (broken_at rule l.fn.new)
+    l.fn.frame in
+    record {
+      told :
+          (new : g.row.A.Denot)
+          → Tells g.A.Taker.is_told l.taker new (flat_map tell (drop l.rule-index end_rules))
+          → Tells g.A.Taker.is_told l.fn.taker new (flat_map tell end_rules);
+    }

@@ -1,0 +1,141 @@
+-- The parts of the check of one frame of the list, and what is kept after the first n frames.
+-- Private functions alone cite this.
+use Rattle.std.specs.Prelude.{◌≡◌, ℕ, suc, ◌+◌, ◌-◌, ◌<◌, ◌==◌, List, [], ◌++◌, length, map}
+use Rattle.std.specs.Prelude.{nat_le, false, true, Option, None, if◌then◌else◌}
+use Rattle.ttx_page.specs.PacketKind.{kind}
+use Rattle.ttx_page.specs.Span.{holds_beginning}
+use Rattle.sub_rules.specs.Transmission.{Transmission}
+use Rattle.sub_checker.specs.Checker.{CheckerValue, goes_back_now, is_undecided_by}
+use Rattle.sub_rules.specs.Events.{end_before, gap_length, is_gap, latest, nothing_stands}
+use Rattle.sub_rules.specs.Events.{order_events, since_before, since_frames, standing_at}
+use Rattle.sub_rules.specs.Events.{standing_before}
+use Rattle.sub_packets.specs.Listener.{KnowsLast}
+use Rattle.sub_rules.specs.FrameRules.{Criteria, Unread, criteria_with, frame_at, packets_before}
+use Rattle.sub_rules.specs.FrameRules.{packets_of_frame}
+use Rattle.sub_rules.specs.PacketRules.{header_count}
+use Rattle.sub_rules.specs.PieceEvents.{steps_of_arrival, steps_of_closing, steps_of_ending}
+use Rattle.sub_rules.specs.PieceEvents.{steps_of_gap, steps_of_packets, steps_of_waiting}
+use Rattle.sub_rules.specs.Trusted.{CheckStep}
+use Rattle.sub_rules.specs.Trusted.CheckStep.{AtEnd, GoesBack, Says}
+use Rattle.sub_checker.specs.Relay.{at_step}
+use Rattle.sub_checker.specs.declared.reporter.Reporter.{Reporter}
+
+-- ---- what is kept
+
+-- The criteria that are kept, with this end of reading.
+abbrev pub criteria_kept : CheckerValue → Option Unread → Criteria
+criteria_kept c unread =
+    record (criteria_with c.programme c.listener.watched c.every c.within c.pace unread) {
+      any_refused = c.any_refused;
+      undecided = is_undecided_by c;
+    }
+
+-- What is kept of the packets is what the first n frames of the list say, and of the PES packet
+-- that was heard last what its packets do.
+pub record Remembers
+    (g : Criteria) (frames : Transmission) (n : ℕ) (last : List (List ℕ)) (c : CheckerValue)
+    : Type 0 where
+  pub criteria_are : g ≡ criteria_kept c g.unread
+  pub knows : KnowsLast (packets_before frames n) last c.listener
+  pub count : c.counts.headers ≡ header_count g.watched.page (packets_before frames n)
+
+-- What is kept from the first PES packet on: its frame, and from when on a header of the page is
+-- too long ago.
+pub record HasBegun (g : Criteria) (frames : Transmission) (n : ℕ) (c : CheckerValue) : Type 0 where
+  pub first_is : c.first ≡ frame_at frames 0
+  pub late_is : (f : ℕ) → is_gap g frames n f ≡ nat_le c.late_at (f + 1)
+
+-- What is kept after the first n frames of the list, at the end of the last of them.
+pub record AfterEnd
+    (g : Criteria) (frames : Transmission) (n : ℕ) (last : List (List ℕ)) (c : CheckerValue)
+    : Type 0 where
+  pub known : Remembers g frames n last c
+  pub none : n ≡ 0 → c.standing ≡ nothing_stands
+  pub begun : 0 < n → HasBegun g frames n c
+  pub latest_is : 0 < n → c.latest ≡ latest frames n
+  pub standing_is :
+      0 < n → c.standing ≡ standing_at g frames n (frame_at frames (n - 1))
+  pub last_is : 0 < n → c.last ≡ frame_at frames (n - 1)
+  pub since_is : 0 < g.within → c.since ≡ since_frames g frames n
+  pub number : c.counts.frames ≡ n
+
+-- What is kept after the first n frames of the list, where the next end is that of frame f.
+pub record BeforeEnd
+    (g : Criteria) (frames : Transmission) (n f : ℕ) (last : List (List ℕ)) (c : CheckerValue)
+    : Type 0 where
+  pub known : Remembers g frames n last c
+  pub begun : HasBegun g frames n c
+  pub standing_is : c.standing ≡ standing_before g frames n f
+  pub last_is : 0 < n → c.last ≡ end_before frames n f
+  pub since_is : 0 < g.within → c.since ≡ since_before g frames n f
+  pub number : c.counts.frames ≡ n
+
+-- That, at frame n of the list, before its packets.
+pub record BeforePackets
+    (g : Criteria) (frames : Transmission) (n : ℕ) (last : List (List ℕ)) (c : CheckerValue)
+    : Type 0 where
+  pub waits : BeforeEnd g frames n (frame_at frames n) last c
+  pub frame_is : c.frame ≡ frame_at frames n
+  pub latest_is : c.latest ≡ latest frames (suc n)
+
+-- That, after its packets, where its end is still to come.
+pub record AfterPackets
+    (g : Criteria) (frames : Transmission) (n : ℕ) (last : List (List ℕ)) (c : CheckerValue)
+    : Type 0 where
+  pub known : Remembers g frames (suc n) last c
+  pub begun : HasBegun g frames (suc n) c
+  pub standing_is : c.standing ≡ standing_before g frames n (frame_at frames n)
+  pub last_is : 0 < n → c.last ≡ end_before frames n (frame_at frames n)
+  pub since_is : 0 < g.within → c.since ≡ since_before g frames n (frame_at frames n)
+  pub number : c.counts.frames ≡ suc n
+  pub frame_is : c.frame ≡ frame_at frames n
+  pub latest_is : c.latest ≡ latest frames (suc n)
+  pub begins :
+      c.listener.begun
+      ≡ holds_beginning g.watched.keeps (kind g.watched.page) (packets_of_frame frames n)
+
+-- And more of its packets may come.
+pub record StaysOpen
+    (g : Criteria) (frames : Transmission) (n : ℕ) (last : List (List ℕ)) (c : CheckerValue)
+    : Type 0 where
+  pub heard : AfterPackets g frames n last c
+  pub before : c.counts.headers_before ≡ header_count g.watched.page (packets_before frames n)
+  pub packets : c.counts.packets ≡ length (packets_of_frame frames n)
+
+-- What is kept between two PES packets, where these frames were sent: after the end of the last
+-- one, or within frames before it.
+pub record BetweenPieces (g : Criteria) (sent : Transmission) (last : List (List ℕ))
+    (c : CheckerValue) : Type 0
+  where
+    pub closed : c.counts.is_open ≡ false → AfterEnd g sent (length sent) last c
+    pub none : c.counts.is_open ≡ false → 0 < g.within → sent ≡ []
+    pub some : c.counts.is_open ≡ true → 0 < length sent
+    pub within : c.counts.is_open ≡ true → 0 < g.within
+    pub opens : c.counts.is_open ≡ true → StaysOpen g sent (length sent - 1) last c
+
+-- ---- what comes
+
+-- What comes before frame i of the list begins.
+abbrev pub reaching_steps : Criteria → Transmission → ℕ → List CheckStep
+reaching_steps g frames i =
+    map Says (order_events g frames i) ++ steps_of_gap g frames i (gap_length frames i)
+
+-- What comes of frame i of the list, without its end where that comes later.
+abbrev pub next_steps : Criteria → Transmission → ℕ → List CheckStep
+next_steps g frames i =
+    steps_of_arrival g frames i
+    ++ steps_of_packets g frames i
+    ++ (if g.within == 0 then steps_of_ending g frames i else [])
+
+-- What comes after the last one of `pes` pieces.
+abbrev pub last_steps : Criteria → Transmission → ℕ → List CheckStep
+last_steps g list pes = steps_of_waiting g list ++ steps_of_closing g list pes (length list)
+
+-- Before a frame, or its end: since which one the page is not whole, where that is told.
+unfoldable pub back_reporter : {D : Type 0} {g : _} → CheckerValue → Reporter D g → Reporter D g
+back_reporter c s = if goes_back_now c then at_step (GoesBack c.since) s else s
+
+-- After an end at which nothing stands broken, and nothing did at the one before.
+abbrev pub quiet_reporter : {D : Type 0} {g : _} → CheckerValue → Reporter D g → Reporter D g
+quiet_reporter c s =
+    if c.within == 0 then s else at_step (AtEnd c.frame None false) (back_reporter c s)

@@ -1,0 +1,36 @@
+-- What the checker tells of a PES file, and counts of it.
+use Rattle.std.specs.Prelude.{◌≡◌, ℕ, ◌+◌, ◌<◌, List, ◌++◌, length, All}
+use Rattle.std.specs.List.{AllByRecursion, AllZip, concat}
+use Rattle.ttx_packet.specs.PageId.{PageIdValue}
+use Rattle.ttx_pes.specs.PesPacket.{IsPesPacket, PesValue}
+use Rattle.sub_plan.specs.FrameTime.{Clock}
+use Rattle.sub_rules.specs.Events.{latest}
+use Rattle.sub_rules.specs.FrameRules.{frame_at, packets_before}
+use Rattle.sub_rules.specs.PacketRules.{header_count}
+use Rattle.sub_rules.specs.PesFrames.{IsReadAs}
+use Rattle.sub_rules.specs.Transmission.{SentFrame, Transmission}
+use Rattle.sub_checker.specs.declared.accepted.Accepted.{Accepted}
+
+-- What is counted of the frames that were sent: the frames of the day from the first one's to the
+-- latest one's, and the headers of the page.
+pub record CountsRead (page : PageIdValue) (frames : Transmission) (a : Accepted) : Type 0 where
+  pub none : length frames ≡ 0 → a.frames ≡ 0
+  pub frames_are :
+      0 < length frames → a.frames + frame_at frames 0 ≡ latest frames (length frames) + 1
+  pub transmissions_are :
+      a.transmissions ≡ header_count page (packets_before frames (length frames))
+
+-- Each packet has 42 bytes.
+abbrev pub AreWhole : Transmission → Type 0
+AreWhole frames =
+    AllByRecursion (λ (s : SentFrame). All (λ packet. length packet ≡ 42) s.packets) frames
+
+-- The bytes are PES packets that are read as these frames by a clock, joined, and then the rest.
+pub record AreTaken
+    (clock : Clock) (bytes : List ℕ) (frames : Transmission) (rest : List ℕ)
+    : Type 0 where
+  pub values : List PesValue
+  pub packets : List (List ℕ)
+  pub each : AllZip IsPesPacket values packets
+  pub read : AllZip (IsReadAs clock) values frames
+  pub joined : bytes ≡ concat packets ++ rest

@@ -1,0 +1,344 @@
+//! The end of a frame: what stands broken there, and what is told of it.
+ghost use Rattle.std.specs.Prelude.{◌≡◌, ◌==◌, ◌&&◌, ℕ, suc, ◌+◌, ◌<◌, List, IsTrue, None};
+ghost use Rattle.std.specs.Prelude.{false, is_err, length, nat_le, not, true};
+ghost use Rattle.stl_file.specs.TimeCode.{day};
+ghost use Rattle.sub_checker.specs.Checker.{AreFew, after_end, differs_now, end_steps};
+ghost use Rattle.sub_checker.specs.Checker.{is_overdue_at, is_undecided_by, late_now, quiet_end};
+ghost use Rattle.sub_checker.specs.Checker.{since_now, stands, undecided_now, undue_now};
+ghost use Rattle.sub_checker.specs.CheckedFrames.{AfterEnd, AfterPackets, BetweenPieces};
+ghost use Rattle.sub_checker.specs.CheckedFrames.{quiet_reporter};
+ghost use Rattle.sub_checker.specs.Relay.{ReporterRelays};
+ghost use Rattle.sub_packets.specs.Listener.{Knows};
+ghost use Rattle.sub_rules.specs.Events.{nothing_stands, silent_for};
+ghost use Rattle.sub_rules.specs.FrameRules.{Criteria, packets_of_frame};
+ghost use Rattle.sub_rules.specs.PieceEvents.{steps_of_ending, steps_of_waiting};
+ghost use Rattle.sub_rules.specs.Transmission.{Transmission};
+ghost use Rattle.sub_plan.specs.Schedule.{due_in};
+ghost use Rattle.ttx_page.specs.PacketKind.{kind};
+ghost use Rattle.ttx_page.specs.Span.{holds_header};
+
+use crate::checker::Checker;
+use crate::late_end::{is_overdue, unfinished_from};
+use crate::reporter::Reporter;
+use crate::rule_changes::tell_change;
+use sub_io::Audience;
+use sub_packets::tell_if;
+use sub_rules::{CheckFault, Event, Standing};
+
+/// What is found at an end, where the page need not be whole at each.
+#[derive(Drop)]
+pub(crate) struct EndWithin {
+    /// What stands broken.
+    pub standing: Standing,
+    /// The first of the frames up to this end at whose ends the page is not whole.
+    pub since: Option<u32>,
+    /// The page had to be whole by now.
+    pub is_late: bool,
+}
+
+impl<'a> Checker<'a> {
+    // Whether it is known by a few comparisons that nothing stood broken at the last end, and that
+    // nothing does at the frame that was reached: so it is most often.
+    #[inline(always)]
+    #[tactic(auto, using(crate::proofs::WholeLemmas::quiet_stands))]
+    fn is_quiet(&self) -> bool
+        ensures { (heard : List (List ℕ)) → Knows heard self.now.listener → IsTrue result
+            → (self.now.standing ≡ nothing_stands) × (stands heard self.now ≡ nothing_stands)
+            × (since_now heard self.now ≡ None) }
+    {
+        if !self.standing.has_none() {
+            return false;
+        }
+        if !self.listener.is_known_right() {
+            return false;
+        }
+        self.frame + 1 < self.late_at
+            && !self.is_undecided()
+            && !self.listener.is_incomplete()
+            && !self.is_silent()
+    }
+
+    // What stands broken at the frame that was reached, where the page has to be whole at the end
+    // of each.
+    fn standing_now(&self) -> Standing
+        requires each { self.now.within ≡ 0 }
+        ensures { (heard : List (List ℕ)) → Knows heard self.now.listener
+            → result ≡ stands heard self.now }
+    {
+        let undecided = self.is_undecided();
+        let content = self.first_wrong(undecided);
+        let gap = self.has_gap();
+        let incomplete = self.listener.is_incomplete();
+        let silent = self.is_silent();
+        Standing {
+            content,
+            gap,
+            incomplete,
+            undecided,
+            silent,
+        }
+    }
+
+    // Whether it is not known at the end of the frame that was reached what is due, or what was
+    // within the frames that count.
+    #[inline(always)]
+    fn is_undecided(&self) -> bool
+        ensures { result ≡ undecided_now self.now }
+    {
+        u64::from(self.frame) < self.known_from
+    }
+
+    // Whether it is not known what is due at that frame.
+    fn is_undecided_here(&self) -> bool
+        ensures { result ≡ is_undecided_by self.now self.now.frame }
+    {
+        self.has_refused && self.judging.is_undecided(self.frame)
+    }
+
+    // The first cell that is not right, where it is known what is due.
+    fn first_wrong(&self, is_undecided: bool) -> Option<(u8, u8)>
+        requires { is_undecided ≡ is_undecided_by self.now self.now.frame }
+        ensures { (heard : List (List ℕ)) → Knows heard self.now.listener
+            → result ≡ differs_now heard self.now }
+    {
+        if is_undecided {
+            return None;
+        }
+        self.listener.first_wrong()
+    }
+
+    // Whether a header of the page is too long ago at the end of the frame that was reached.
+    #[inline(always)]
+    fn has_gap(&self) -> bool
+        ensures { result ≡ nat_le self.now.late_at (self.now.frame + 1) }
+    {
+        self.late_at <= self.frame + 1
+    }
+
+    // Whether a PES packet is too long ago there, whatever is in it.
+    #[inline(always)]
+    fn is_silent(&self) -> bool
+        ensures { result ≡ silent_for self.now.pace self.now.latest self.now.frame }
+    {
+        match self.pace {
+            Some(pace) => u64::from(self.latest) + u64::from(pace) <= u64::from(self.frame),
+            None => false,
+        }
+    }
+
+    // What is found at the end of the frame that was reached, where the page need not be whole at
+    // each: in a cell may be kept what was due within these frames, until it is late.
+    fn end_now(&self) -> EndWithin
+        requires within { 0 < self.now.within }
+        ensures standing { (heard : List (List ℕ)) → Knows heard self.now.listener
+            → result.standing ≡ stands heard self.now }
+        ensures since { (heard : List (List ℕ)) → Knows heard self.now.listener
+            → result.since ≡ since_now heard self.now }
+        ensures late { (heard : List (List ℕ)) → Knows heard self.now.listener
+            → result.is_late ≡ late_now heard self.now }
+    {
+        let differing = self.first_wrong(self.is_undecided_here());
+        let is_open = self.listener.is_incomplete();
+        let since = unfinished_from(self.since, differing.is_some() || is_open, self.frame);
+        let is_late = self.is_overdue(since, self.frame);
+        let content = if is_late {
+            differing
+        } else {
+            self.first_undue(differing)
+        };
+        let gap = self.has_gap();
+        let undecided = self.is_undecided();
+        let silent = self.is_silent();
+        let standing = Standing {
+            content,
+            gap,
+            incomplete: is_late && is_open,
+            undecided,
+            silent,
+        };
+        EndWithin {
+            standing,
+            since,
+            is_late,
+        }
+    }
+
+    // The first cell in which is kept a code that was not due within these frames, where it is
+    // known what was, by the first one that is not right now: where there is none, nor is there one
+    // of the former.
+    fn first_undue(&self, differing: Option<(u8, u8)>) -> Option<(u8, u8)>
+        ensures { (heard : List (List ℕ)) → Knows heard self.now.listener
+            → differing ≡ differs_now heard self.now → result ≡ undue_now heard self.now }
+    {
+        let frame = self.frame;
+        if differing.is_none() {
+            return None;
+        }
+        if self.is_undecided() {
+            return None;
+        }
+        self.listener
+            .first_undue(self.programme, self.first, frame, self.within)
+    }
+
+    /// Whether the page had to be whole by the end of a frame, where it is not since another one.
+    pub fn is_overdue(&self, since: Option<u32>, frame: u32) -> bool
+        requires day { frame < day }
+        ensures { result
+            ≡ is_overdue_at self.now.programme self.now.within self.now.first since frame }
+    {
+        is_overdue(self.programme, self.within, self.first, since, frame)
+    }
+
+    // The end of the frame that was reached, where nothing stood broken and nothing does.
+    #[inline(always)]
+    fn end_quietly<A: Audience<Event>>(&mut self, reporter: &mut Reporter<'_, A>)
+        ensures kept { self.new ≡ quiet_end self.old }
+        ensures reporter { reporter.new ≡ quiet_reporter self.old reporter.old }
+    {
+        self.last = self.frame;
+        if self.within > 0 {
+            self.go_back(reporter);
+            self.since = None;
+            reporter.at_end(self.frame, None, false);
+        }
+    }
+
+    // The end of the frame that was reached, where the page has to be whole at the end of each:
+    // what changes of what stands broken is told.
+    #[inline(always)]
+    fn end_at_once<A: Audience<Event>>(&mut self, reporter: &mut Reporter<'_, A>)
+        requires each { self.old.within ≡ 0 }
+        ensures counts { self.new.counts ≡ self.old.counts }
+        ensures latest { self.new.latest ≡ self.old.latest }
+        ensures told { (heard : List (List ℕ)) → Knows heard self.old.listener
+            → ReporterRelays A.is_told reporter.old (end_steps heard self.old) reporter.new }
+        ensures ended { (heard : List (List ℕ)) → Knows heard self.old.listener
+            → self.new ≡ after_end heard self.old }
+    {
+        let frame = self.frame;
+        let standing = self.standing_now();
+        tell_change(&self.standing, self.last, &standing, frame, reporter);
+        self.standing = standing;
+        self.last = frame;
+    }
+
+    // The same, where it need not be whole at each.
+    #[inline(never)]
+    fn end_within<A: Audience<Event>>(&mut self, reporter: &mut Reporter<'_, A>)
+        requires within { 0 < self.old.within }
+        ensures counts { self.new.counts ≡ self.old.counts }
+        ensures latest { self.new.latest ≡ self.old.latest }
+        ensures told { (heard : List (List ℕ)) → Knows heard self.old.listener
+            → ReporterRelays A.is_told reporter.old (end_steps heard self.old) reporter.new }
+        ensures ended { (heard : List (List ℕ)) → Knows heard self.old.listener
+            → self.new ≡ after_end heard self.old }
+    {
+        let frame = self.frame;
+        let end = self.end_now();
+        self.go_back(reporter);
+        reporter.at_end(frame, end.since, end.is_late);
+        tell_change(&self.standing, self.last, &end.standing, frame, reporter);
+        self.standing = end.standing;
+        self.since = end.since;
+        self.last = frame;
+    }
+
+    /// The end of the frame that was reached: what changes of what stands broken is told.
+    #[inline(always)]
+    pub fn end_of_frame<A: Audience<Event>>(&mut self, reporter: &mut Reporter<'_, A>)
+        ensures counts { self.new.counts ≡ self.old.counts }
+        ensures latest { self.new.latest ≡ self.old.latest }
+        ensures due { self.old.listener.comparison.due ≡ due_in self.old.programme self.old.frame }
+        ensures told { (heard : List (List ℕ)) → Knows heard self.old.listener
+            → ReporterRelays A.is_told reporter.old (end_steps heard self.old) reporter.new }
+        ensures ended { (heard : List (List ℕ)) → Knows heard self.old.listener
+            → self.new ≡ after_end heard self.old }
+    {
+        // Most ends are quiet: what else is asked within frames would cost each of them something.
+        if self.within == 0 && self.is_quiet() {
+            self.end_quietly(reporter);
+            return;
+        }
+        self.end_otherwise(reporter);
+    }
+
+    // The end of a frame at which something changes or stands broken, or any end within frames.
+    // Apart from `end_of_frame`, which stands in each loop over frames.
+    #[inline(never)]
+    fn end_otherwise<A: Audience<Event>>(&mut self, reporter: &mut Reporter<'_, A>)
+        ensures counts { self.new.counts ≡ self.old.counts }
+        ensures latest { self.new.latest ≡ self.old.latest }
+        ensures told { (heard : List (List ℕ)) → Knows heard self.old.listener
+            → ReporterRelays A.is_told reporter.old (end_steps heard self.old) reporter.new }
+        ensures ended { (heard : List (List ℕ)) → Knows heard self.old.listener
+            → self.new ≡ after_end heard self.old }
+    {
+        if self.is_quiet() {
+            self.end_quietly(reporter);
+            return;
+        }
+        if self.within == 0 {
+            self.end_at_once(reporter);
+        } else {
+            self.end_within(reporter);
+        }
+    }
+
+    /// The end of the frame of the PES packets that were heard last, among which there is a header
+    /// of the page or none: that the first one has one, and what stands broken.
+    #[inline(always)]
+    pub fn end_sent<A: Audience<Event>>(&mut self, has_header: bool, reporter: &mut Reporter<'_, A>)
+        ensures counts { self.new.counts ≡ self.old.counts }
+        ensures told { (g : Criteria) (frames : Transmission) (n : ℕ) (last : List (List ℕ))
+            → AfterPackets g frames n last self.old → n < length frames
+            → has_header ≡ holds_header (kind g.watched.page) (packets_of_frame frames n)
+            → ReporterRelays A.is_told reporter.old (steps_of_ending g frames n) reporter.new
+            × AfterEnd g frames (suc n) last self.new }
+    {
+        let is_told = lacks_first(self.counts.frames, has_header);
+        let fault = CheckFault::NoFirstHeader { frame: self.frame };
+        tell_if(is_told, Event::Told(fault), reporter);
+        self.end_of_frame(reporter);
+        reporter.end_frame(self.frame, self.listener.begun, self.standing.has_none());
+    }
+
+    /// The end of the last frame, where it is still to come.
+    #[inline(always)]
+    pub fn end_waiting<A: Audience<Event>>(&mut self, reporter: &mut Reporter<'_, A>)
+        ensures closed { self.new.counts.is_open ≡ false }
+        ensures few { (pes : ℕ) → AreFew pes self.old.counts → AreFew pes self.new.counts }
+        ensures told { (g : Criteria) (sent : Transmission) (last : List (List ℕ))
+            → BetweenPieces g sent last self.old
+            → ReporterRelays A.is_told reporter.old (steps_of_waiting g sent) reporter.new
+            × AfterEnd g sent (length sent) last self.new }
+    {
+        if !self.counts.is_open {
+            return;
+        }
+        self.end_open(reporter);
+    }
+
+    // The end of the last frame, where it is still to come.
+    #[inline(never)]
+    fn end_open<A: Audience<Event>>(&mut self, reporter: &mut Reporter<'_, A>)
+        requires opened { self.old.counts.is_open ≡ true }
+        ensures closed { self.new.counts.is_open ≡ false }
+        ensures few { (pes : ℕ) → AreFew pes self.old.counts → AreFew pes self.new.counts }
+        ensures told { (g : Criteria) (sent : Transmission) (last : List (List ℕ))
+            → BetweenPieces g sent last self.old
+            → ReporterRelays A.is_told reporter.old (steps_of_waiting g sent) reporter.new
+            × AfterEnd g sent (length sent) last self.new }
+    {
+        self.counts.is_open = false;
+        let has_header = self.counts.headers_before < self.counts.headers;
+        self.end_sent(has_header, reporter);
+    }
+}
+
+// The first frame has no header of the page.
+fn lacks_first(frames: u32, has_header: bool) -> bool
+    ensures { result ≡ (frames == 1 && not has_header) }
+{
+    frames == 1 && !has_header
+}

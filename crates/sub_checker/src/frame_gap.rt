@@ -1,0 +1,95 @@
+//! The way to the frame of a PES packet: its order, and the frames of the day before it.
+ghost use Rattle.std.specs.Prelude.{◌≡◌, ℕ, ◌<◌, List};
+ghost use Rattle.stl_file.specs.TimeCode.{day};
+ghost use Rattle.sub_rules.specs.Events.{gap_length, is_early};
+ghost use Rattle.sub_rules.specs.FrameRules.{Criteria, frame_at};
+ghost use Rattle.sub_rules.specs.PieceEvents.{steps_of_gap};
+ghost use Rattle.sub_rules.specs.Transmission.{Transmission};
+ghost use Rattle.sub_checker.specs.CheckedFrames.{AfterEnd, BeforeEnd, BeforePackets};
+ghost use Rattle.sub_checker.specs.CheckedFrames.{reaching_steps};
+ghost use Rattle.sub_checker.specs.Relay.{ReporterRelays};
+
+use crate::checker::Checker;
+use crate::reporter::Reporter;
+use sub_io::Audience;
+use sub_packets::tell_if;
+use sub_rules::{CheckFault, Event};
+
+impl<'a> Checker<'a> {
+    /// Goes to the frame of a PES packet that is not of the frame of the one before it.
+    pub fn reach<A: Audience<Event>>(&mut self, frame: u32, reporter: &mut Reporter<'_, A>)
+        requires day { frame < day }
+        ensures counts { self.new.counts ≡ self.old.counts }
+        ensures frame { self.new.frame ≡ frame }
+        ensures told { (g : Criteria) (frames : Transmission) (n : ℕ) (last : List (List ℕ))
+            → AfterEnd g frames n last self.old → frame_at frames n ≡ frame
+            → ReporterRelays A.is_told reporter.old (reaching_steps g frames n) reporter.new
+            × BeforePackets g frames n last self.new }
+    {
+        if self.counts.frames == 0 {
+            self.begin(frame, reporter);
+        } else {
+            self.go_to(frame, reporter);
+        }
+    }
+
+    // Goes to the frame of the first PES packet.
+    fn begin<A: Audience<Event>>(&mut self, frame: u32, reporter: &mut Reporter<'_, A>)
+        requires day { frame < day }
+        ensures counts { self.new.counts ≡ self.old.counts }
+        ensures frame { self.new.frame ≡ frame }
+        ensures told { (g : Criteria) (frames : Transmission) (last : List (List ℕ))
+            → AfterEnd g frames 0 last self.old → frame_at frames 0 ≡ frame
+            → ReporterRelays A.is_told reporter.old (reaching_steps g frames 0) reporter.new
+            × BeforePackets g frames 0 last self.new }
+    {
+        let is_told = is_early(self.programme.first_in(), frame);
+        tell_if(is_told, Event::Told(CheckFault::Early { frame }), reporter);
+        self.start(frame);
+    }
+
+    // Goes to the frame of another PES packet.
+    fn go_to<A: Audience<Event>>(&mut self, frame: u32, reporter: &mut Reporter<'_, A>)
+        requires day { frame < day }
+        ensures counts { self.new.counts ≡ self.old.counts }
+        ensures frame { self.new.frame ≡ frame }
+        ensures told { (g : Criteria) (frames : Transmission) (n : ℕ) (last : List (List ℕ))
+            → AfterEnd g frames n last self.old → 0 < n → frame_at frames n ≡ frame
+            → ReporterRelays A.is_told reporter.old (reaching_steps g frames n) reporter.new
+            × BeforePackets g frames n last self.new }
+    {
+        let pes = self.counts.frames;
+        let is_told = frame <= self.last;
+        tell_if(is_told, Event::Told(CheckFault::Order { pes }), reporter);
+        self.cross_gap(frame, reporter);
+        self.arrive(frame);
+    }
+
+    // The ends of the frames of the day before that of a PES packet, from the one after the latest
+    // on.
+    fn cross_gap<A: Audience<Event>>(&mut self, to: u32, reporter: &mut Reporter<'_, A>)
+        requires day { to < day }
+        ensures counts { self.new.counts ≡ self.old.counts }
+        ensures latest { self.new.latest ≡ self.old.latest }
+        ensures told { (g : Criteria) (frames : Transmission) (n : ℕ) (last : List (List ℕ))
+            → AfterEnd g frames n last self.old → 0 < n → frame_at frames n ≡ to
+            → ReporterRelays A.is_told reporter.old (steps_of_gap g frames n (gap_length frames n))
+            reporter.new
+            × BeforeEnd g frames n to last self.new }
+    {
+        for f in self.latest + 1..to {
+            self.move_to(f);
+            self.end_of_frame(reporter);
+        }
+    }
+}
+
+// Whether a subtitle is due before the frame.
+fn is_early(first_in: Option<u32>, frame: u32) -> bool
+    ensures { result ≡ is_early first_in frame }
+{
+    match first_in {
+        Some(first) => first < frame,
+        None => false,
+    }
+}

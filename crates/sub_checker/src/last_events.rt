@@ -1,0 +1,82 @@
+//! What is told after the last frame.
+ghost use Rattle.std.specs.Prelude.{◌≡◌, not};
+ghost use Rattle.sub_io.specs.Telling.{Tells};
+ghost use Rattle.sub_rules.specs.Events.{is_short};
+ghost use Rattle.sub_rules.specs.Trusted.{tells_none};
+ghost use Rattle.sub_checker.specs.Checker.{is_pending_now};
+ghost use Rattle.sub_checker.specs.LastEvents.{closing_now, fault_events, last_fault};
+
+use crate::checker::Checker;
+use crate::rule_changes::tell_change;
+use sub_packets::Taker;
+use sub_rules::{CheckFault, Event, Standing};
+
+impl<'a> Checker<'a> {
+    /// What is told after the end of the last frame and so many pieces, where this fault ended
+    /// reading, if one did: what stands broken has ended, and then the last fault.
+    pub fn close<A: Taker>(&self, pes: u32, fault: Option<CheckFault>, taker: &mut A)
+        ensures { Tells A.is_told taker.old taker.new
+            (closing_now pes fault self.now) }
+    {
+        let none = Standing::none();
+        tell_change(&self.standing, self.last, &none, self.last, taker);
+        tell_fault(self.last_fault(pes, fault), taker);
+    }
+
+    /// Whether anything is told then.
+    pub fn tells_last(&self, pes: u32, fault: Option<CheckFault>) -> bool
+        ensures { result ≡ not (tells_none (closing_now pes fault self.now)) }
+    {
+        let is_told = self.last_fault(pes, fault).is_some();
+        is_told || !self.standing.has_none()
+    }
+
+    // The fault that is told last, after so many pieces, where this one ended reading, if one did.
+    fn last_fault(&self, pes: u32, fault: Option<CheckFault>) -> Option<CheckFault>
+        ensures { result ≡ last_fault pes fault self.now }
+    {
+        if fault.is_some() {
+            return fault;
+        }
+        if self.counts.frames == 0 {
+            if pes > 0 {
+                return None;
+            }
+            return Some(CheckFault::Empty);
+        }
+        if is_short(self.programme.last_out(), self.last) || self.is_pending() {
+            Some(CheckFault::Late { frame: self.last })
+        } else {
+            None
+        }
+    }
+
+    // The page is not whole at the last end, and that is not late: it may be whole in a frame that
+    // does not come.
+    fn is_pending(&self) -> bool
+        ensures { result ≡ is_pending_now self.now }
+    {
+        self.within > 0 && self.since.is_some() && !self.is_overdue(self.since, self.last)
+    }
+}
+
+// Tells a fault, if there is one.
+#[tactic(auto, using(sub_io::proofs::TellingLemmas::tellings))]
+fn tell_fault<A: Taker>(fault: Option<CheckFault>, taker: &mut A)
+    ensures { Tells A.is_told taker.old taker.new
+        (fault_events fault) }
+{
+    if let Some(fault) = fault {
+        taker.tell(Event::Told(fault));
+    }
+}
+
+// The last TCO is after the frame.
+fn is_short(last_out: Option<u32>, frame: u32) -> bool
+    ensures { result ≡ is_short last_out frame }
+{
+    match last_out {
+        Some(last) => frame < last,
+        None => false,
+    }
+}

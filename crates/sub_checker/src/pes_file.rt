@@ -1,0 +1,175 @@
+//! What is told of a PES file that is read on behind the pieces that are passed over.
+ghost use Rattle.std.specs.Prelude.{◌≡◌, ℕ, ◌+◌, ◌<◌, ◌≤◌, [], ◌∷◌, Err, IfErr, IfOk, List};
+ghost use Rattle.std.specs.Prelude.{Option, false, is_err, is_none, length, take, true};
+ghost use Rattle.sub_io.specs.Device.{CanFail, CountsIf, failed};
+ghost use Rattle.sub_io.specs.Reading.{IfKnown};
+ghost use Rattle.sub_io.specs.Telling.{TellsSome};
+ghost use Rattle.stl_file.specs.TimeCode.{day};
+ghost use Rattle.ttx_pes.specs.PesPacket.{IsPesValue};
+ghost use Rattle.ttx_pes.specs.Reader.{FailsAtPacket};
+ghost use Rattle.ttx_pes.specs.Reading.{most_packets};
+ghost use Rattle.stl_rows.specs.Programme.{IsProgramme};
+ghost use Rattle.sub_plan.specs.FrameTime.{clock_of};
+ghost use Rattle.sub_plan.specs.Options.{IsOptions};
+ghost use Rattle.sub_rules.specs.Fault.{is_pes_read};
+ghost use Rattle.sub_rules.specs.FrameRules.{Criteria, Unread, criteria_of_judged};
+ghost use Rattle.sub_rules.specs.PacketRules.{packets_of_units};
+ghost use Rattle.sub_rules.specs.Pieces.{FailsAtPiece, Piece, ReadsPieces, frames_of};
+ghost use Rattle.sub_rules.specs.Transmission.{Transmission};
+ghost use Rattle.sub_rules.specs.Trusted.CheckStep.{AtPes, Says};
+ghost use Rattle.sub_checker.specs.Checker.{AreFew};
+ghost use Rattle.sub_checker.specs.CheckedFrames.{BetweenPieces};
+ghost use Rattle.sub_checker.specs.NextPieces.{IsAgain, is_passed, last_with, sent_with};
+ghost use Rattle.sub_checker.specs.NextPieces.{steps_of_read};
+ghost use Rattle.sub_checker.specs.Relay.{ReporterRelays};
+ghost use Rattle.sub_checker.specs.PesFileEvents.{TellsPieces};
+
+use crate::accepted::{Accepted, is_source_failure};
+use crate::awaited_piece::next_followed;
+use crate::checker::Checker;
+use crate::file_end::finish;
+use crate::latch::Latch;
+use crate::reporter::{Relay, Reporter};
+use stl_rows::Judging;
+use sub_io::{Audience, LiveAudience};
+use sub_plan::Options;
+use sub_rules::{CheckFault, Event, NextPiece, Sending, units_of};
+use ttx_pes::{ComparingReader, PesFault, Pieces};
+
+/// Tells all that is broken of a PES file to a device of the caller's, piece by piece, until it
+/// says stop, and counts what was read; `None` where it said stop. Reading goes on behind a piece
+/// that is passed over. Where subtitles of the file are refused that is told beside them.
+///
+/// `check_all` of `sub_check` calls it, and says what its events and counts mean.
+///
+/// # Errors
+///
+/// `Pes` with `Read` where the source failed: then the events are those of the pieces before.
+pub fn tell_pieces<P: Pieces, A: LiveAudience<Event>>(
+    judging: &Judging<'_>,
+    source: &mut P,
+    options: &Options,
+    audience: &mut A,
+) -> Result<Option<Accepted>, CheckFault>
+    requires failures { CanFail (P.failure_count source.old) }
+    requires goes_on { A.has_stopped audience.old ≡ false }
+    requires still { A.is_waiting audience.old ≡ false }
+    ensures exact { (pieces : List Piece) (unread : Option Unread)
+        → IfKnown (P.remaining source.old) (λ bytes.
+        ReadsPieces (clock_of options.now) 0 bytes pieces unread
+        → TellsPieces (criteria_of_judged judging.now options.now unread) (clock_of options.now)
+        bytes
+        pieces A.is_told audience.old audience.new result) }
+    ensures stopped { IfOk result (λ counts. A.has_stopped audience.new ≡ is_none counts) }
+    ensures some { TellsSome A.is_told audience.old audience.new }
+    ensures goes_on { IfErr result (λ _. A.has_stopped audience.new ≡ false) }
+    ensures read { (pes : ℕ) → result ≡ Err (CheckFault.Pes pes PesFault.Read)
+        → FailsAtPiece pes (P.remaining source.old) (P.left source.new) }
+    // Where none was passed over before, those that were taken are PES packets of the grammar.
+    ensures sent { (pes : ℕ) (pieces : List Piece) (unread : Option Unread)
+        → result ≡ Err (CheckFault.Pes pes PesFault.Read)
+        → IfKnown (P.remaining source.old) (λ bytes.
+        ReadsPieces (clock_of options.now) 0 bytes pieces unread
+        → length (frames_of (take pes pieces)) ≡ pes
+        → FailsAtPacket pes (P.remaining source.old) (P.left source.new)) }
+    ensures only { IfErr result (λ f. is_pes_read f ≡ true) }
+    ensures options { IsOptions options.now }
+    ensures programme { IsProgramme judging.now.programme.drawing judging.now.programme.records }
+    // Where the source failed, as each of its calls may, nothing that was told is held back.
+    ensures asked { A.held audience.old ≡ 0 → IfErr result (λ _. A.held audience.new ≡ 0) }
+    ensures device { P.device source.new ≡ P.device source.old }
+    ensures count { CountsIf P.failure_count source.old (failed is_pes_read result) source.new }
+{
+    let mut reader = ComparingReader::new();
+    let mut checker = Checker::new(judging, options);
+    let mut reporter = Reporter {
+        latch: Latch {
+            device: audience,
+            stopped: false,
+        },
+        relay: Relay::new(),
+    };
+    let mut passed = false;
+    let mut pes = 0;
+    'pieces: loop {
+        let Some(read) = next_followed(&mut reader, source, &mut reporter.latch, options, pes)
+        else {
+            return Ok(None);
+        };
+        let next = match read {
+            Err(fault) => {
+                if is_source_failure(&fault) {
+                    return Err(fault);
+                }
+                return Ok(finish(&mut checker, pes, Some(fault), &mut reporter));
+            }
+            Ok(next) => next,
+        };
+        let Some(piece) = next else {
+            return Ok(finish(&mut checker, pes, None, &mut reporter));
+        };
+        passed = tell_piece(piece, pes, passed, &reader, &mut checker, &mut reporter);
+        if reporter.latch.stopped {
+            return Ok(None);
+        }
+        pes += 1;
+    }
+}
+
+// Tells a piece that was read, and says whether it is passed over. `passed` says whether the one
+// before it was.
+fn tell_piece<A: Audience<Event>>(
+    piece: NextPiece,
+    pes: u32,
+    passed: bool,
+    reader: &ComparingReader,
+    checker: &mut Checker<'_>,
+    reporter: &mut Reporter<'_, A>,
+) -> bool
+    requires day { (sending : Sending) → piece ≡ NextPiece.Sent sending → sending.frame < day }
+    requires fewer { pes ≤ most_packets }
+    requires room { AreFew pes checker.old.counts }
+    ensures passed { result ≡ is_passed piece }
+    ensures frame { (sending : Sending) → piece ≡ NextPiece.Sent sending
+        → IsPesValue reader.now.frame }
+    ensures room { AreFew (pes + 1) checker.new.counts }
+    ensures told { (g : Criteria) (sent : Transmission) (last : List (List ℕ))
+        → BetweenPieces g sent last checker.old
+        → (passed ≡ false → IsAgain piece → last ≡ packets_of_units reader.now.frame.units)
+        → ReporterRelays A.is_told reporter.old
+        (steps_of_read g sent pes piece (packets_of_units reader.now.frame.units)) reporter.new
+        × BetweenPieces g (sent_with g sent piece (packets_of_units reader.now.frame.units))
+        (last_with last piece (packets_of_units reader.now.frame.units)) checker.new }
+{
+    match piece {
+        NextPiece::Passed(fault) => {
+            tell_passed(pes, fault, reporter);
+            true
+        }
+        NextPiece::Sent(sending) => {
+            let units = units_of(reader);
+            checker.go_on(pes, after_piece(passed, sending), &units, reporter);
+            false
+        }
+    }
+}
+
+// A sending after a piece: after one that was passed over it is not the one before, sent again.
+fn after_piece(passed: bool, sending: Sending) -> Sending
+    ensures frame { result.frame ≡ sending.frame }
+    ensures again { result.again ≡ true → (sending.again ≡ true) × (passed ≡ false) }
+{
+    Sending {
+        frame: sending.frame,
+        again: sending.again && !passed,
+    }
+}
+
+// Tells the fault of a piece that is passed over.
+fn tell_passed<A: Audience<Event>>(pes: u32, fault: CheckFault, reporter: &mut Reporter<'_, A>)
+    ensures { ReporterRelays A.is_told reporter.old (AtPes pes ∷ Says (Event.Told fault) ∷ [])
+        reporter.new }
+{
+    reporter.go_to(pes);
+    reporter.relay(Event::Told(fault));
+}

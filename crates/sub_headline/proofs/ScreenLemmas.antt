@@ -1,0 +1,112 @@
+-- What is seen of a page in English: law_of_english_characters; where the headline is kept, on the
+-- screen of every receiver: screens_of.
+use Rattle.std.proofs.lemmas.Bool.Decides.{nat_tests}
+use Rattle.std.proofs.Common.{arith}
+use Rattle.std.proofs.Common.{◌≡◌, ◌⊎◌, ◌∙◌, ℕ, Bool, List, Some, None, ap, inl, inr}
+use Rattle.std.proofs.Common.{refl, true, false, if◌then◌else◌, ◌==◌, subst}
+use Rattle.ttx_page.specs.Page.{space}
+use Rattle.stl_rows.specs.TextCode.{is_common}
+use Rattle.sub_headline.specs.EnglishPage.{english_cell}
+use Rattle.sub_headline.specs.EnglishScreen.{LawOfEnglishCharacters, Screens, blank_character}
+use Rattle.sub_headline.specs.EnglishScreen.{english_character, text_character}
+use Rattle.sub_headline.specs.PlainHeadline.{Headline}
+
+-- A byte that gives the cell of its own number stands at no place of the sub-set.
+elsewhere : (place byte : ℕ)
+    → is_common place ≡ false
+    → is_common byte ≡ true
+    → (place == byte) ≡ false
+elsewhere place byte is common = grind (arith, nat_tests)
+
+-- The cell of its own number shows a byte's character.
+common_shows : (byte : ℕ) → is_common byte ≡ true → english_character byte ≡ text_character byte
+unfolding is_common english_character text_character
+common_shows byte is =
+    rw (
+      elsewhere 0x23 byte refl is,
+      elsewhere 0x5B byte refl is,
+      elsewhere 0x5C byte refl is,
+      elsewhere 0x5D byte refl is,
+      elsewhere 0x5E byte refl is,
+      elsewhere 0x5F byte refl is,
+      elsewhere 0x60 byte refl is,
+      elsewhere 0x7B byte refl is,
+      elsewhere 0x7C byte refl is,
+      elsewhere 0x7D byte refl is,
+      elsewhere 0x7E byte refl is,
+      elsewhere 0x7F byte refl is,
+      elsewhere 0xA4 byte refl is,
+    ) refl
+
+-- The places of the sub-set that a text reaches.
+pound : english_character 0x23 ≡ text_character 0xA3
+unfolding english_character text_character
+pound = refl
+
+dollar : english_character 0x24 ≡ text_character 0x24
+unfolding english_character text_character
+dollar = refl
+
+other_dollar : english_character 0x24 ≡ text_character 0xA4
+unfolding english_character text_character
+other_dollar = refl
+
+at_sign : english_character 0x40 ≡ text_character 0x40
+unfolding english_character text_character
+at_sign = refl
+
+hash : english_character 0x5F ≡ text_character 0x23
+unfolding english_character text_character
+hash = refl
+
+others_show : (byte code : ℕ)
+    → (if 0xA3 == byte then Some 0x23
+    else (if 0x24 == byte then Some 0x24
+    else (if 0xA4 == byte then Some 0x24
+    else (if 0x40 == byte then Some 0x40
+    else (if 0x23 == byte then Some 0x5F
+    else None))))) ≡ Some code
+    → english_character code ≡ text_character byte
+others_show byte code is = grind (arith, nat_tests, pound, dollar, other_dollar, at_sign, hash)
+
+shows_by : (is_so : Bool) (byte code : ℕ)
+    → is_common byte ≡ is_so
+    → (if is_so then Some byte
+    else (if 0xA3 == byte then Some 0x23
+    else (if 0x24 == byte then Some 0x24
+    else (if 0xA4 == byte then Some 0x24
+    else (if 0x40 == byte then Some 0x40
+    else (if 0x23 == byte then Some 0x5F
+    else None)))))) ≡ Some code
+    → english_character code ≡ text_character byte
+shows_by true byte code so is =
+    let same : byte ≡ code = cc in
+    subst (λ (c : ℕ). english_character c ≡ text_character byte) same (common_shows byte so)
+shows_by false byte code so is = others_show byte code is
+
+pub law_of_english_characters : LawOfEnglishCharacters
+unfolding english_cell
+law_of_english_characters byte code is = shows_by (is_common byte) byte code refl is
+
+space_is : english_character space ≡ blank_character
+unfolding english_character
+space_is = refl
+
+-- What a cell shows that has the code that is due, or an excused space.
+seen_so : (is due : ℕ) (IsExcused : Type 0)
+    → (is ≡ due) ⊎ ((is ≡ space) × IsExcused)
+    → (english_character is ≡ english_character due)
+    ⊎ ((english_character is ≡ blank_character) × IsExcused)
+seen_so is due IsExcused (inl same) = inl (ap english_character same)
+seen_so is due IsExcused (inr (none, excused)) = inr (ap english_character none ∙ space_is, excused)
+
+-- The screens of receivers that get what the headline says.
+pub screens_of : (stl pes : List ℕ) → Headline stl pes → Screens stl pes
+screens_of stl pes is = record {
+  subtitles = is.subtitles;
+  transmission = is.transmission;
+  files = is.files;
+  screens = λ class g j f arrived got old new is_got hears header row column is_cell.
+      seen_so _ _ _
+      ((is.receivers class g j f arrived got old new is_got hears).cells header row column is_cell);
+}

@@ -1,0 +1,82 @@
+-- What a viewer sees of a page in English: characters, by their numbers in ISO/IEC 10646 (Unicode).
+use Rattle.std.specs.Prelude.{◌≡◌, ◌⊎◌, ℕ, Bool, IsTrue, List, Some, ◌==◌, nat_lt}
+use Rattle.std.specs.Prelude.{if◌then◌else◌}
+use Rattle.ttx_page.specs.DroppedRows.{ExcusedBy}
+use Rattle.ttx_page.specs.LostRows.{IsHitOrLost, arrivals_of}
+use Rattle.ttx_page.specs.Page.{IsCell, Rows, cell}
+use Rattle.ttx_page.specs.PacketKind.{kind}
+use Rattle.ttx_page.specs.Receiver.{HearsBy, ReceiverClass, State}
+use Rattle.ttx_page.specs.Span.{holds_header}
+use Rattle.stl_file.specs.Subtitle.{SubtitleValue}
+use Rattle.sub_plan.specs.Examples.{page_888}
+use Rattle.sub_rules.specs.Transmission.{Transmission, first_frame, last_frame, on_air}
+use Rattle.sub_laws.specs.LostRows.{IsGot}
+use Rattle.sub_headline.specs.EnglishPage.{english_cell, english_due}
+use Rattle.sub_headline.specs.PlainHeadline.{AreFilesOf}
+
+-- A space.
+abbrev pub blank_character : ℕ
+blank_character = 0x20
+
+-- The character that a cell of this code shows (EN 300 706, Latin G0 primary set, Table 35, with
+-- the English one of the Latin national option sub-sets, Table 36): a letter, figure or sign by its
+-- own number, but at the places of the sub-set; a space for a spacing attribute.
+unfoldable pub english_character : ℕ → ℕ
+english_character code =
+    if nat_lt code 0x20 then blank_character
+    else (if 0x23 == code then 0xA3  -- £
+    else (if 0x5B == code then 0x2190  -- ←
+    else (if 0x5C == code then 0xBD  -- ½
+    else (if 0x5D == code then 0x2192  -- →
+    else (if 0x5E == code then 0x2191  -- ↑
+    else (if 0x5F == code then 0x23  -- #
+    else (if 0x60 == code then 0x2014  -- —
+    else (if 0x7B == code then 0xBC  -- ¼
+    else (if 0x7C == code then 0x2016  -- ‖
+    else (if 0x7D == code then 0xBE  -- ¾
+    else (if 0x7E == code then 0xF7  -- ÷
+    else (if 0x7F == code then 0x25A0  -- ■
+    else code))))))))))))
+
+-- The character of a byte of a text (EBU Tech 3264, code table 00): its own number, which A3, the
+-- pound sign, has too; A4 is a dollar, as 24 is; a space for a control code.
+unfoldable pub text_character : ℕ → ℕ
+text_character byte =
+    if nat_lt byte 0x20 then blank_character else (if 0xA4 == byte then 0x24 else byte)
+
+-- The cell of a byte shows its character.
+-- So who looks at the page that is due reads the text of the subtitle file.
+abbrev pub LawOfEnglishCharacters : Type 0
+LawOfEnglishCharacters =
+    (byte code : ℕ)
+    → english_cell byte ≡ Some code
+    → english_character code ≡ text_character byte
+
+-- What is seen in a cell of a page, where a decoder shows that cell: inside a box.
+abbrev pub seen : Rows → ℕ → ℕ → ℕ
+seen page row column = english_character (cell page row column)
+
+-- On the screen of every receiver, at the end of frame f, in each cell: the character of the page
+-- that is due, or a space where that is excused. It is one of those of `EachReceiverGets`, once
+-- a header of page 888 was sent since it was switched on in frame g.
+abbrev pub EachScreenShows : List SubtitleValue → Transmission → Type 0
+EachScreenShows subtitles transmission =
+    (class : ReceiverClass) (g j f : ℕ) (arrived : List Bool) (got : List (List ℕ))
+    (old new : State)
+    → IsGot transmission (first_frame transmission) (last_frame transmission) g j f arrived got
+    → HearsBy class page_888 old got new
+    → IsTrue (holds_header (kind page_888) (on_air transmission g j f))
+    → (row column : ℕ)
+    → IsCell row column
+    → (seen new.page row column ≡ seen (english_due subtitles f) row column)
+    ⊎ ((seen new.page row column ≡ blank_character)
+    × ExcusedBy class
+    (IsHitOrLost page_888 (on_air transmission g j f) (arrivals_of arrived got))
+    row column)
+
+-- The bytes of both files are those of some subtitles and of a transmission that shows these.
+pub record Screens (stl pes : List ℕ) : Type 0 where
+  pub subtitles : List SubtitleValue
+  pub transmission : Transmission
+  pub files : AreFilesOf stl pes subtitles transmission
+  pub screens : EachScreenShows subtitles transmission

@@ -1,0 +1,23 @@
+-- One more has it: mapped-next.
+use Rattle.std.proofs.Common.{◌≡◌, ◌<◌, length, rules, slice_index_or}
+use Rattle.mpeg_ts.specs.GoodPackets.{Hole}
+use Rattle.mpeg_ts.specs.Joining.{after_note}
+use Rattle.ts_survey.specs.Missing.{joining_of}
+use Rattle.ts_survey.proofs.CarrierLemmas.{mapped-next}
+use Rattle.ts_survey.proofs.multiplex.MultiplexTakesPackets.note_hole.Goals as goal
+
+pub loop-carrier-preserved : goal.loop-carrier-preserved
+loop-carrier-preserved c =
+    let below : c.loop-carrier.carrier-index < length c.args.self.now.carriers.items =
+    search rules in
+    let here :
+    joining_of c.note_hole.new.self
+    ≡ after_note
+    (joining_of
+    (slice_index_or c.loop-carrier.carrier-items c.loop-carrier.carrier-index
+    c.carrier-item.result))
+    Hole =
+    search rules in
+    mapped-next joining_of (λ j. after_note j Hole) _ c.loop-carrier.carrier-items
+    c.loop-carrier.carrier-index c.note_hole.new.self c.carrier-item.result below
+    c.loop-carrier.invariant here

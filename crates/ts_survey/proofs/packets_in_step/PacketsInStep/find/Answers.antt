@@ -1,0 +1,54 @@
+-- Nothing at first, then one item after another: found_none, found_packet and found_skips.
+use Rattle.std.proofs.Common.{◌≡◌, ◌≤◌, ◌∙◌, ap, arith, drop, length-drop, rules}
+use Rattle.ts_survey.proofs.InStepLemmas.{found_none, found_packet, found_skips, front_end}
+use Rattle.ts_survey.proofs.packets_in_step.PacketsInStep.find.Goals.{in-Yes, in-No}
+use Rattle.ts_survey.proofs.packets_in_step.PacketsInStep.find.Goals as goal
+
+pub loop-init : goal.loop-init
+loop-init g c = record {
+  found =
+      found_none c.args.self.now _ c.args.bytes.now c.args.is_end (search rules) (search rules);
+  far = omega arith;
+}
+
+pub returns-in_default-clause-all : goal.returns-in_default-clause-all
+returns-in_default-clause-all g c is_end =
+    front_end _ _ (drop c.loop.at c.args.bytes.now) (search (rules, length-drop))
+
+pub loop-preserved : goal.loop-preserved
+loop-preserved g c =
+    let there = c.in-Some.ensures.some.0 in
+    elim c.match-begins.branch [
+      | in-Yes w ↦
+          let same = w.take_packet.ensures.same in
+          let bytes : w.bytes-at.result ≡ c.loop.self.distance.bytes =
+          w.bytes-at.ensures.is ∙ ap (λ s. s.distance.bytes) same in
+          let near : 188 ≤ c.loop.self.distance.bytes =
+          omega (arith, bytes, w.bytes-at.ensures.near) in
+          record {
+            found =
+                rw (w.self-is, w.to-is, w.at-is, bytes)
+                (found_packet c.args.self.now c.loop.self w.take_packet.new.self _ _ _
+                c.args.bytes.now c.in-Some.packet.now c.args.is_end c.loop.at c.loop.invariant.found
+                there near (search rules) c.in-Some.ensures.some.1
+                (c.begins.ensures.yes w.in-Yes.is) same w.take_packet.ensures.taken);
+            far = omega (arith, w.at-is, bytes, near, c.loop.invariant.far);
+          }
+      | in-No w ↦
+          record {
+            found =
+                rw (w.self-is, w.to-is, w.at-is)
+                (found_skips c.args.self.now c.loop.self w.skip-at.new.self _ _ _ c.args.bytes.now
+                c.args.is_end c.loop.at w.skip-at.result c.loop.invariant.found there (search rules)
+                (search rules) (c.begins.ensures.no w.in-No.is) w.skip-at.ensures.from
+                w.skip-at.ensures.skips w.skip-at.ensures.same w.skip-at.ensures.kept);
+            far = omega (arith, w.at-is, w.skip-at.ensures.from, c.loop.invariant.far);
+          }
+    ]
+
+pub returns-clause-all : goal.returns-clause-all
+returns-clause-all g c is_end =
+    front_end _ _ (drop c.loop.at c.args.bytes.now)
+    (let size = length-drop c.loop.at c.args.bytes.now in
+    let far = c.loop.invariant.far in
+    omega (arith, size, far, c.loop-test.false))

@@ -1,0 +1,12 @@
+-- What was found so far; each time at least a byte more.
+use Rattle.std.proofs.Common.{◌≤◌}
+use Rattle.ts_survey.specs.InStep.{AreFound}
+use Rattle.ts_survey.proofs.packets_in_step.PacketsInStep.find.Given as goal
+
+abbrev pub invariant-loop : goal.invariant-loop
+invariant-loop g l = record {
+  found :
+      AreFound l.fn.self (g.M.TakesPackets.taken l.fn.to) l.bytes l.is_end l.at 0
+      l.self (g.M.TakesPackets.taken l.to);
+  far : l.counter ≤ l.at;
+}
