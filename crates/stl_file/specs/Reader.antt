@@ -8,7 +8,7 @@ use Rattle.stl_file.specs.declared.fault.StlFault.{StlFault}
 use Rattle.stl_file.specs.declared.fault.StlFault.TheVariants as fault
 use Rattle.stl_file.specs.declared.progress.Progress.{Progress}
 use Rattle.stl_file.specs.declared.progress.Progress.TheVariants.{Reading, AtEnd, Broken}
-use Rattle.stl_file.specs.Fault.{is_cut}
+use Rattle.stl_file.specs.Fault.{is_cut, is_file_read, is_format}
 use Rattle.stl_file.specs.Gsi.{gsi_size, gsi_at}
 use Rattle.stl_file.specs.Scope.{whole}
 use Rattle.stl_file.specs.declared.scope.Scope.{Scope}
@@ -155,6 +155,18 @@ pub record FailsReading
   pub consumed : Consumes old new bytes
   pub block : to ≡ from + length bytes / 128 + 1
   pub none : (more : List ℕ) → FindsFrom to (findings_from scope from refused (bytes ++ more))
+
+-- What a call takes, by its answer: the blocks of a subtitle, with the passed blocks before and
+-- inside them, or passed blocks alone, where no subtitle is left. A refusal is that of no file, and
+-- a source that failed failed at the block `to`. `from` blocks were read before, and the next one
+-- begins a subtitle.
+abbrev pub TakesByAnswer :
+    ℕ → ℕ → Option (List ℕ) → Option (List ℕ) → Result (Option SubtitleValue) StlFault → Type 0
+TakesByAnswer from to old new (Ok (Some s)) = TakesSubtitle from to old new s
+TakesByAnswer from to old new (Ok None) = TakesPassed from to old new
+TakesByAnswer from to old new (Err f) =
+    (is_format f ≡ true → Refuses from to old new f)
+    × (is_file_read f ≡ true → FailsReading whole from to None old new)
 
 -- How far a reader has come after an answer.
 abbrev pub progress_after_answer : Progress → Result (Option SubtitleValue) StlFault → Progress

@@ -72,13 +72,11 @@ pub record AreOutside (scope : Scope) (bs : List (List ℕ)) : Type 0 where
 -- The blocks of a file from a place on where a subtitle may begin, `most` at most: where the
 -- passed blocks are taken out, groups of blocks are left, one subtitle after the other. Those that
 -- are outside are taken out too, and the others are those of these subtitles.
-pub record AreSubtitleBlocks
-    (scope : Scope) (most : ℕ) (bs : List (List ℕ)) (ts : List SubtitleValue)
-    : Type 0
-  where
-    pub each : AllByRecursion IsBlock bs
-    pub few : length bs ≤ most
-    pub groups : List (List (List ℕ))
-    pub kept : filter is_kept bs ≡ flat_map (λ group. group) groups
-    pub outside : AllByRecursion (AreOutside scope) (filter (is_outside scope) groups)
-    pub are_of : AllZip AreBlocksOf ts (filter (is_inside scope) groups)
+pub record AreSubtitleBlocks (scope : Scope) (most : ℕ) (bs : List (List ℕ))
+    (ts : List SubtitleValue) : Type 0 where
+  pub each : AllByRecursion IsBlock bs
+  pub few : length bs ≤ most
+  pub groups : List (List (List ℕ))
+  pub kept : filter is_kept bs ≡ flat_map (λ group. group) groups
+  pub outside : AllByRecursion (AreOutside scope) (filter (is_outside scope) groups)
+  pub are_of : AllZip AreBlocksOf ts (filter (is_inside scope) groups)

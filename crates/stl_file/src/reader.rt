@@ -12,7 +12,7 @@ ghost use Rattle.stl_file.specs.Fault.{is_format, is_file_read};
 ghost use Rattle.stl_file.specs.Gsi.{IsGsi, IsGsiFor};
 ghost use Rattle.stl_file.specs.Reader.{block_after, block_by, gsi_of, opened_at, FailsReading};
 ghost use Rattle.stl_file.specs.Reader.{HasPlace, GivesNextSubtitle, Refuses, RefusesOpening};
-ghost use Rattle.stl_file.specs.Reader.{RefusesOpeningFor, TakesPassed};
+ghost use Rattle.stl_file.specs.Reader.{RefusesOpeningFor, TakesByAnswer, TakesPassed};
 ghost use Rattle.stl_file.specs.Reader.{TakesSubtitle, given_subtitle, progress_after_answer};
 ghost use Rattle.stl_file.specs.Reading.{begun_in, passed_by};
 ghost use Rattle.stl_file.specs.Resuming.{LeadsOn, found_of};
@@ -199,23 +199,11 @@ impl StlReader {
             GivesNextSubtitle self.old bytes self.new (S.remaining source.new)
             (given_subtitle result subtitle.new)) }
 
-        // A subtitle is that of the blocks that were taken, with the passed blocks before and
-        // inside them.
-        ensures subtitle { self.old.progress ≡ Reading → result ≡ Ok true
-            → TakesSubtitle self.old.block self.new.block
-            (S.remaining source.old) (S.remaining source.new) subtitle.new }
-        // `false` comes where passed blocks alone are left.
-        ensures none { self.old.progress ≡ Reading → result ≡ Ok false
-            → TakesPassed self.old.block self.new.block
-            (S.remaining source.old) (S.remaining source.new) }
-        // A refusal is that of no file.
-        ensures refused { self.old.progress ≡ Reading → IfErr result (λ fault.
-            is_format fault ≡ true → Refuses self.old.block self.new.block
-            (S.remaining source.old) (S.remaining source.new) fault) }
-        // A source that failed failed at this block.
-        ensures failed { self.old.progress ≡ Reading → failed is_file_read result ≡ true →
-            FailsReading whole self.old.block self.new.block None
-            (S.remaining source.old) (S.remaining source.new) }
+        // A subtitle is that of the blocks that were taken, and `false` comes where passed blocks
+        // alone are left. A refusal is that of no file; a source that failed failed at this block.
+        ensures taken { self.old.progress ≡ Reading → TakesByAnswer self.old.block self.new.block
+            (S.remaining source.old) (S.remaining source.new)
+            (given_subtitle result subtitle.new) }
 
         ensures progress { self.new.progress ≡ progress_after_answer self.old.progress
             (given_subtitle result subtitle.new) }

@@ -36,12 +36,11 @@ impl Scope {
     }
 
     // Whether a subtitle with this first block is outside.
-    #[tactic(auto, unfolding(crate::specs::Scope::begins_outside, crate::specs::TimeCode::is_time, crate::specs::TimeCode::frame_in))]
+    #[tactic(auto, unfolding(crate::specs::Scope::begins_outside))]
     pub(crate) fn is_outside(self, first: &Tti) -> bool
         ensures { result ≡ begins_outside self first.now }
     {
-        let [hours, minutes, seconds, frames] = first.tci();
-        match TimeCode::new(hours, minutes, seconds, frames) {
+        match TimeCode::of_bytes(first.tci()) {
             Some(tci) => tci.frame() < self.from || tci.frame() >= self.to,
             None => false,
         }

@@ -233,15 +233,12 @@ impl Subtitle {
 }
 
 // The time code of the four bytes of TCI or TCO.
-#[tactic(auto, unfolding(crate::specs::TimeCode::is_time, crate::specs::TimeCode::frame_in))]
 fn time_of(bytes: [u8; 4]) -> Result<TimeCode, StlFault>
     ensures is_one { is_time bytes ≡ is_ok result }
     ensures value { IfOk result (λ time. frame_in bytes ≡ time) }
     ensures fault { IfErr result (λ fault. fault ≡ Time) }
 {
-    let [hours, minutes, seconds, frames] = bytes;
-    let time = TimeCode::new(hours, minutes, seconds, frames);
-    time.ok_or(StlFault::Time)
+    TimeCode::of_bytes(bytes).ok_or(StlFault::Time)
 }
 
 // Whether a text has no unused space.

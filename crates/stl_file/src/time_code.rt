@@ -1,7 +1,8 @@
 //! Time codes of a day at 25 frames a second (EBU Tech 3264, TTI block, fields TCI and TCO).
 
 ghost use Rattle.std.specs.Prelude.{◌≡◌, ◌<◌, None, Some, if◌then◌else◌};
-ghost use Rattle.stl_file.specs.TimeCode.{day, frame_of, is_time_code, time_bytes};
+ghost use Rattle.stl_file.specs.TimeCode.{day, frame_in, frame_of, is_time, is_time_code};
+ghost use Rattle.stl_file.specs.TimeCode.{time_bytes};
 
 use std::marker::Model;
 
@@ -39,6 +40,15 @@ impl TimeCode {
         } else {
             None
         }
+    }
+
+    // The time code of the four bytes of TCI or TCO, if they are one.
+    #[tactic(auto, unfolding(crate::specs::TimeCode::is_time, crate::specs::TimeCode::frame_in))]
+    pub(crate) fn of_bytes(bytes: [u8; 4]) -> Option<TimeCode>
+        ensures { (if is_time bytes then Some (frame_in bytes) else None) ≡ result }
+    {
+        let [hours, minutes, seconds, frames] = bytes;
+        TimeCode::new(hours, minutes, seconds, frames)
     }
 
     /// The frame of the day, 0 to 2,159,999.

@@ -1,10 +1,11 @@
 -- Every fault of a subtitle file, one after another, and what a device is told of them.
 use Rattle.std.specs.Prelude.{◌≡◌, ℕ, ◌<◌, ◌≤◌, ◌&&◌, nat_lt, not, Bool, true, false, List, []}
-use Rattle.std.specs.Prelude.{◌∷◌, ◌++◌, length, map, take, Option, Some, None, ◌⊎◌}
+use Rattle.std.specs.Prelude.{◌∷◌, ◌++◌, length, map, take, Option, Some, None, Result, Ok, Err}
+use Rattle.std.specs.Prelude.{◌⊎◌}
 use Rattle.std.specs.List.{filter, list_all}
 use Rattle.std.specs.Io.KnownBytes.{Consumes}
 use Rattle.sub_io.specs.Reading.{IfKnown}
-use Rattle.sub_io.specs.Telling.{Tells}
+use Rattle.sub_io.specs.Telling.{Tells, TellsSome}
 use Rattle.stl_file.specs.declared.fault.StlFault.TheVariants.{Ended, Read, Unfinished}
 use Rattle.stl_file.specs.Reader.{block_of_byte, findings_for}
 use Rattle.stl_file.specs.Reading.{Findings, breaks, finds, no_more, refuses}
@@ -59,6 +60,15 @@ pub record TellsAnyOfFile
   pub faults : List LoadFault
   pub of_file : list_all (λ (f : LoadFault). is_of_file f.kind) faults ≡ true
   pub told : Tells IsTold old new faults
+
+-- What a device was told before an answer, whatever the source tells: faults of the file, or
+-- nothing, where there is something to judge by; faults of the file where there is not; and some
+-- faults, or nothing, where the source failed or memory was refused.
+abbrev pub TellsByAnswer : {D A : Type 0}
+    → (D → LoadFault → D → Type 0) → D → D → Result (Option A) LoadFault → Type 0
+TellsByAnswer IsTold old new (Ok (Some found)) = TellsAnyOfFile IsTold old new
+TellsByAnswer IsTold old new (Ok None) = TellsOfFile IsTold old new
+TellsByAnswer IsTold old new (Err f) = TellsSome IsTold old new
 
 -- The device said stop at one of these: it was told those up to there.
 abbrev pub StopsWithin : {D : Type 0}

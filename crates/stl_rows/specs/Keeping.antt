@@ -1,10 +1,16 @@
 -- What is kept of the subtitles of a file while it is read: those that can be relied on, by all
 -- that was read up to there.
 use Rattle.std.specs.Prelude.{ℕ, ◌-◌, Bool, true, false, not, ◌&&◌, ◌||◌, if◌then◌else◌, List, []}
-use Rattle.std.specs.Prelude.{◌∷◌, ◌++◌, length, take, replicate}
+use Rattle.std.specs.Prelude.{◌∷◌, ◌++◌, length, take, replicate, ◌≡◌, ◌⊎◌, Option, Some, None}
+use Rattle.std.specs.Prelude.{Result, Ok, Err}
+use Rattle.sub_io.specs.Telling.{Tells}
 use Rattle.stl_file.specs.Subtitle.{SubtitleValue}
 use Rattle.stl_rows.specs.declared.layout.Drawing.{Drawing}
-use Rattle.stl_rows.specs.Judged.{JudgedSubtitle, JudgedValue, are_in_order, are_some, with_bits}
+use Rattle.stl_rows.specs.declared.fault.LoadFault.{LoadFault}
+use Rattle.stl_rows.specs.declared.fault.LoadFaultKind.TheVariants.{Memory}
+use Rattle.stl_rows.specs.EveryFault.{TellsFaults, WantsMemory, faults}
+use Rattle.stl_rows.specs.Judged.{JudgedSubtitle, JudgedValue, JudgesBy, are_in_order, are_some}
+use Rattle.stl_rows.specs.Judged.{judges, with_bits}
 
 -- The subtitles that are kept; behind which of them another one of the file stands, false where
 -- bits are missing; whether another one stands behind the last; and whether the last is the one
@@ -85,3 +91,19 @@ is_whole k = are_none k.behind_other && not k.is_before_other
 -- A transmission is judged by it.
 abbrev pub is_enough : KeptRecords → Bool
 is_enough k = is_whole k || (are_some (all_kept k) && are_in_order (all_kept k))
+
+-- ---- what loading all of a file answers
+
+-- What is kept of a file, and what a device was told of it, by the answer: all its faults, and what
+-- a transmission is judged by; its faults, or those up to where the device said stop, where none is
+-- judged by what can be relied on; the faults before the subtitle for which memory was refused.
+abbrev pub LoadsAll : {D : Type 0}
+    → Drawing → List ℕ → (D → LoadFault → D → Type 0) → D → D → Bool
+    → Result (Option KeptRecords) LoadFault → Type 0
+LoadsAll drawing file IsTold old new has_stopped (Ok (Some kept)) =
+    JudgesBy drawing file (judged_with drawing kept) × Tells IsTold old new (faults drawing file)
+LoadsAll drawing file IsTold old new has_stopped (Ok None) =
+    TellsFaults IsTold old new has_stopped (faults drawing file)
+    × ((has_stopped ≡ true) ⊎ (judges drawing file ≡ false))
+LoadsAll drawing file IsTold old new has_stopped (Err f) =
+    f.kind ≡ Memory → WantsMemory drawing file IsTold old new f.block

@@ -9,10 +9,11 @@ ghost use Rattle.stl_file.specs.declared.fault.StlFault.TheVariants.{Read};
 ghost use Rattle.stl_file.specs.Fault as stl;
 ghost use Rattle.stl_file.specs.Subtitle.{IsSubtitle};
 ghost use Rattle.stl_rows.specs.EveryFault.{FailsTelling, StopsWithin, TellsAnyOfFile, TellsFaults};
-ghost use Rattle.stl_rows.specs.EveryFault.{TellsOfFile, WantsMemory, faults, load_fault};
+ghost use Rattle.stl_rows.specs.EveryFault.{TellsByAnswer, TellsOfFile, WantsMemory, faults};
+ghost use Rattle.stl_rows.specs.EveryFault.{load_fault};
 ghost use Rattle.stl_rows.specs.Fault.{is_load_read};
 ghost use Rattle.stl_rows.specs.Judged.{JudgesBy, judges};
-ghost use Rattle.stl_rows.specs.Keeping.{judged_with};
+ghost use Rattle.stl_rows.specs.Keeping.{LoadsAll};
 ghost use Rattle.stl_rows.specs.Programme.{IsProgramme, follow_faults, row_faults};
 ghost use Rattle.stl_rows.specs.DrawnPage.{drawn};
 ghost use Rattle.stl_rows.specs.Layout.{drawing_within};
@@ -119,26 +120,13 @@ pub fn load_all_in<A: Allocator + Copy, S: Source, D: Audience<LoadFault>>(
 ) -> Result<Option<Kept<A>>, LoadFault>
     requires count { CanFail (S.failure_count source.old) }
     requires listens { D.has_stopped audience.old ≡ false }
-    ensures exact { IfKnown (S.remaining source.old) (λ bytes. IfOk result (λ found.
-        IfSome found (λ kept. JudgesBy drawing bytes (judged_with drawing kept)))) }
-    ensures told_all { IfKnown (S.remaining source.old) (λ bytes. IfOk result (λ found.
-        IfSome found (λ _. Tells D.is_told audience.old audience.new (faults drawing bytes)))) }
-    ensures told { IfKnown (S.remaining source.old) (λ bytes. result ≡ Ok None →
-        TellsFaults D.is_told audience.old audience.new (D.has_stopped audience.new)
-        (faults drawing bytes)) }
-    ensures not_judged { IfKnown (S.remaining source.old) (λ bytes. result ≡ Ok None →
-        (D.has_stopped audience.new ≡ true) ⊎ (judges drawing bytes ≡ false)) }
-    ensures memory { IfKnown (S.remaining source.old) (λ bytes. IfErr result (λ f.
-        f.kind ≡ Memory
-        → WantsMemory drawing bytes D.is_told audience.old audience.new f.block)) }
+    // Where the source tells its bytes, they decide what is judged by and what was told.
+    ensures exact { IfKnown (S.remaining source.old) (λ bytes. LoadsAll drawing bytes
+        D.is_told audience.old audience.new (D.has_stopped audience.new) result) }
     ensures programme { IfOk result (λ found.
         IfSome found (λ kept. IsProgramme drawing kept.records)) }
-    ensures some { result ≡ Ok None →
-        TellsOfFile D.is_told audience.old audience.new }
-    ensures any { IfOk result (λ found. IfSome found (λ _.
-        TellsAnyOfFile D.is_told audience.old audience.new)) }
+    ensures told { TellsByAnswer D.is_told audience.old audience.new result }
     ensures stopped { D.has_stopped audience.new ≡ true → result ≡ Ok None }
-    ensures some_before { IfErr result (λ _. TellsSome D.is_told audience.old audience.new) }
     ensures read { IfErr result (λ f. is_load_read f ≡ true → FailsTelling drawing
         (S.remaining source.old) (S.remaining source.new)
         D.is_told audience.old audience.new f.block) }

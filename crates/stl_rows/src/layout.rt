@@ -40,9 +40,9 @@ pub(crate) enum Attribute {
     DoubleHeight = 13,
 }
 
+#[tactic(auto, unfolding(crate::specs::Layout::attribute_of, crate::specs::Layout::attribute_code))]
 impl Attribute {
     // The attribute with a code.
-    #[tactic(auto, unfolding(crate::specs::Layout::attribute_of, crate::specs::Layout::attribute_code))]
     pub(crate) fn of(code: u8) -> Option<Attribute>
         ensures { result ≡ attribute_of code }
     {
@@ -65,7 +65,6 @@ impl Attribute {
     }
 
     // Its code.
-    #[tactic(auto, unfolding(crate::specs::Layout::attribute_code))]
     pub(crate) fn code(self) -> u8
         ensures { result ≡ attribute_code self }
     {

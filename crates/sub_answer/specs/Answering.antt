@@ -1,12 +1,13 @@
 -- What is said of the answer to a request, command by command.
-use Rattle.std.specs.Prelude.{◌≡◌, ◌≢◌, ◌<◌, ⊤, ℕ, Bool, true, false, List, Option, Result, Err}
-use Rattle.std.specs.Prelude.{Ok, Some, codes, if◌then◌else◌}
+use Rattle.std.specs.Prelude.{◌≡◌, ◌≢◌, ◌+◌, ◌<◌, ⊤, ℕ, Bool, true, false, not, ◌&&◌, ◌||◌}
+use Rattle.std.specs.Prelude.{List, Option, Some, Result, Ok, Err, codes, if◌then◌else◌}
 use Rattle.sub_io.specs.Device.{failed}
 use Rattle.sub_io.specs.Reading.{IfKnown}
 use Rattle.ttx_pes.specs.Reader.{FailsAtPacket}
 use Rattle.stl_rows.specs.Loading.{FailsLoading}
 use Rattle.stl_rows.specs.declared.layout.Drawing.{Drawing}
-use Rattle.stl_rows.specs.Layout.{drawing_within}
+use Rattle.stl_rows.specs.Layout.{default_layout, drawing_by, drawing_within}
+use Rattle.stl_rows.specs.declared.national.National.TheVariants.{English}
 use Rattle.sub_plan.specs.FrameTime.{clock_of}
 use Rattle.sub_plan.specs.Options.{OptionsValue}
 use Rattle.sub_check.specs.CheckedFiles.{AreChecked}
@@ -20,7 +21,7 @@ use Rattle.sub_checker.specs.declared.accepted.Accepted.{Accepted}
 use Rattle.sub_rules.specs.declared.fault.CheckFault.{CheckFault}
 use Rattle.sub_request.specs.declared.listening.Listening.{Listening}
 use Rattle.sub_listen.specs.declared.listening.ListenFault.{ListenFault}
-use Rattle.sub_listing.specs.DeviceCall.{SinkCall, SourceCall, read_call, source_call}
+use Rattle.sub_listing.specs.DeviceCall.{Counts, SinkCall, SourceCall, read_call, source_call}
 use Rattle.sub_listing.specs.Extracting.{EndsExtract}
 use Rattle.sub_listing.specs.FirstPacket.{FirstNumber, PrintsFrom, StartsAt, first_number}
 use Rattle.sub_answer.specs.BothFiles.{TellsSources, TellsStatus}
@@ -36,9 +37,11 @@ use Rattle.sub_answer.specs.SurveyListing.{PrintsSurvey}
 use Rattle.sub_listing.specs.FaultLine.{counted_from}
 use Rattle.sub_listing.specs.ShowListing.{ListsSubtitles}
 use Rattle.sub_listing.specs.Writing.{EndsWork, Normalizes, PrintsMemory, Schedules}
+use Rattle.sub_request.specs.Files.{files_of, reads_one, reads_two, writes_one}
 use Rattle.sub_request.specs.declared.request.Request.{Request}
 use Rattle.sub_request.specs.declared.request.Request.TheVariants as ask
 use Rattle.sub_listing.specs.declared.status.Status.{Status}
+use Rattle.sub_listing.specs.declared.status.Status.TheVariants.{Done, Fault}
 
 -- Whether the answer takes memory: a programme or a whole file is kept in it, or what is known of a
 -- recording.
@@ -48,6 +51,14 @@ takes_memory (ask.Schedule stl pes options serial national layout scope) = true
 takes_memory (ask.Check stl pes options national layout scope all) = true
 takes_memory (ask.Survey recording options) = true
 takes_memory _ = false
+
+-- How the texts of a subtitle file are drawn: as the request says, or else by default.
+abbrev pub drawing_of : Request → Drawing
+drawing_of (ask.Schedule stl pes options serial national layout scope) =
+    drawing_within national layout scope
+drawing_of (ask.Check stl pes options national layout scope all) =
+    drawing_within national layout scope
+drawing_of _ = drawing_by English default_layout
 
 -- ---- what each command answers
 
@@ -162,6 +173,14 @@ reads_pieces (ask.Listen pes listening) = true
 reads_pieces (ask.Extract recording pes stream) = true
 reads_pieces _ = false
 
+-- The first input of the request is a source, and does not give pieces.
+abbrev pub reads_source : Request → Bool
+reads_source request = reads_one (files_of request) && not (reads_pieces request)
+
+-- An input of the request gives pieces: the first, or the second as in a check.
+abbrev pub reads_some_pieces : Request → Bool
+reads_some_pieces request = reads_pieces request || reads_two (files_of request)
+
 -- The first input of the request, of a source and of one that gives pieces.
 abbrev pub first_input : Request → InputCall → InputCall → InputCall
 first_input request source pieces = if reads_pieces request then pieces else source
@@ -198,6 +217,26 @@ Answers (ask.Extract recording pes stream) first second Untouched file out statu
     EndsExtract first.call file out status
 Answers (ask.Survey recording options) first second Untouched file out status =
     PrintsSurvey out status
+
+-- Each device of an answer fails once at most, and not where the status is another than `Fault`.
+-- That of a command that takes no memory is `Fault` only where a device failed.
+pub record CountsFaults
+    (request : Request) (first second : SourceCall) (file out : SinkCall) (status : Status)
+    : Type 0 where
+  pub first_count : Counts first.old_count status first.new_count
+  pub second_count : Counts second.old_count status second.new_count
+  pub file_count : Counts file.old_count status file.new_count
+  pub out_count : Counts out.old_count status out.new_count
+  pub fault :
+      takes_memory request ≡ false
+      → status ≡ Fault
+      → first.old_count + second.old_count + file.old_count + out.old_count
+      < first.new_count + second.new_count + file.new_count + out.new_count
+
+-- Where the status is `Done`, a file that is named for writing holds no byte back.
+abbrev pub HandsOnWritten : Request → Status → ℕ → Type 0
+HandsOnWritten request status held =
+    writes_one (files_of request) ≡ true → status ≡ Done → held ≡ 0
 
 -- A request whose answer is followed while its PES file or recording is sent: where the source of
 -- that failed, this is so. It is the first source of `packets` and `survey`, and the second of

@@ -8,10 +8,13 @@ mod check_all;
 mod listen;
 mod survey;
 
-ghost use Rattle.std.specs.Prelude.{◌≡◌, ◌+◌, ◌<◌, false, true};
-ghost use Rattle.sub_answer.specs.Answering.{Answers, AnswersOver, HandsOnBefore, WritesBefore};
-ghost use Rattle.sub_answer.specs.Answering.{pieces_call, reads_pieces, takes_memory, whole_call};
-ghost use Rattle.sub_listing.specs.DeviceCall.{CanFail, CountsFault, sink_call};
+ghost use Rattle.std.specs.Prelude.{◌≡◌, ◌<◌, false};
+ghost use Rattle.sub_answer.specs.Answering.{Answers, AnswersOver, CountsFaults, HandsOnBefore};
+ghost use Rattle.sub_answer.specs.Answering.{HandsOnWritten, WritesBefore, drawing_of, pieces_call};
+ghost use Rattle.sub_answer.specs.Answering.{reads_pieces, reads_some_pieces, reads_source};
+ghost use Rattle.sub_answer.specs.Answering.{whole_call};
+ghost use Rattle.sub_listing.specs.DeviceCall.{CanFail, CountsFault, read_call, sink_call};
+ghost use Rattle.sub_listing.specs.DeviceCall.{source_call};
 ghost use Rattle.sub_listing.specs.Faults.{usage_line};
 ghost use Rattle.sub_request.specs.Files.{files_of, reads_one, reads_two, writes_one};
 ghost use Rattle.sub_listing.specs.LastLine.{HoldsLastLine};
@@ -21,7 +24,8 @@ use check::print_verdict;
 use check_all::print_every_fault;
 use listen::print_listening;
 use std::alloc::Global;
-use stl_rows::Drawing;
+use stl_file::Scope;
+use stl_rows::{Drawing, Layout, National};
 use sub_io::{Flush, MemSource, Sink, Source};
 use sub_listing::{
     Status, extract_packets, line_of_usage, list_packets, list_subtitles, print_fault_line,
@@ -63,16 +67,16 @@ pub fn answer<S: Source, T: Source, F: Flush, K: Flush>(
     ensures second { reads_two (files_of request.now) ≡ false → second.new ≡ second.old }
     ensures file { writes_one (files_of request.now) ≡ false → file.new ≡ file.old }
 
-    // Each device fails once at most, and not where the status is another than `Fault`.
-    ensures first_count { CountsFault S.failure_count first.old result first.new }
-    ensures second_count { CountsFault T.failure_count second.old result second.new }
-    ensures file_count { CountsFault F.failure_count file.old result file.new }
-    ensures out_count { CountsFault K.failure_count out.old result out.new }
+    // Each device fails once at most, and not where the status is another than `Fault`. That of a
+    // command that takes no memory is `Fault` only where a device failed.
+    ensures fault { CountsFaults request.now
+        (source_call S.remaining S.failure_count first.old first.new)
+        (source_call T.remaining T.failure_count second.old second.new)
+        (sink_call F.contents F.failure_count file.old file.new)
+        (sink_call K.contents K.failure_count out.old out.new) result }
 
     // Where the status is `Done`, a file that is named holds no byte back.
-    ensures held { writes_one (files_of request.now) ≡ true
-        → result ≡ Status.Done
-        → F.held file.new ≡ 0 }
+    ensures held { HandsOnWritten request.now result (F.held file.new) }
 
     // Where the source of the PES file or recording may have to ask its device, all that was told
     // before is with the device of `out`: each such call may fail, and where one did the line of
@@ -86,14 +90,6 @@ pub fn answer<S: Source, T: Source, F: Flush, K: Flush>(
     // with the device of `file`.
     ensures written { F.held file.old ≡ 0 → WritesBefore request.now
         (S.failure_count first.old < S.failure_count first.new) (F.held file.new ≡ 0) }
-
-    // The status of a command that takes no memory is `Fault` only where a device failed.
-    ensures fault { takes_memory request.now ≡ false
-        → result ≡ Status.Fault
-        → S.failure_count first.old + T.failure_count second.old + F.failure_count file.old
-        + K.failure_count out.old
-        < S.failure_count first.new + T.failure_count second.new + F.failure_count file.new
-        + K.failure_count out.new }
 {
     if reads_pieces(request) {
         let mut nothing = MemSource::new(&[]);
@@ -134,8 +130,7 @@ pub fn answer_over<S: Source, P: NumberedPieces, F: Flush, K: Flush>(
     requires file { CanFail (F.failure_count file.old) }
     requires out { CanFail (K.failure_count out.old) }
 
-    // What is printed and written of what the devices tell, command by command; and that it is
-    // handed on before a source may have to ask its device for more.
+    // What is printed and written, command by command, and handed on before a source has to wait.
     ensures answers { AnswersOver request.now
         (whole_call S.remaining S.failure_count first.old first.new)
         (pieces_call P.remaining P.left P.failure_count P.first P.passed pes.old pes.new)
@@ -146,32 +141,22 @@ pub fn answer_over<S: Source, P: NumberedPieces, F: Flush, K: Flush>(
         (K.held out.old ≡ 0 → HoldsLastLine K.contents K.held K.is_push out.new) result }
 
     // Devices that are not named stay as they are.
-    ensures first { reads_pieces request.now ≡ true → first.new ≡ first.old }
-    ensures one { reads_one (files_of request.now) ≡ false → first.new ≡ first.old }
-    ensures pes { reads_pieces request.now ≡ false → reads_two (files_of request.now) ≡ false
-        → pes.new ≡ pes.old }
+    ensures first { reads_source request.now ≡ false → first.new ≡ first.old }
+    ensures pes { reads_some_pieces request.now ≡ false → pes.new ≡ pes.old }
+    ensures device { P.device pes.new ≡ P.device pes.old }
     ensures file { writes_one (files_of request.now) ≡ false → file.new ≡ file.old }
 
-    // Each device fails once at most, and not where the status is another than `Fault`.
-    ensures first_count { CountsFault S.failure_count first.old result first.new }
-    ensures pes_count { CountsFault P.failure_count pes.old result pes.new }
-    ensures device { P.device pes.new ≡ P.device pes.old }
-    ensures file_count { CountsFault F.failure_count file.old result file.new }
-    ensures out_count { CountsFault K.failure_count out.old result out.new }
+    // How often each device fails, by the status.
+    ensures fault { CountsFaults request.now
+        (source_call S.remaining S.failure_count first.old first.new)
+        (read_call P.remaining P.left P.failure_count pes.old pes.new)
+        (sink_call F.contents F.failure_count file.old file.new)
+        (sink_call K.contents K.failure_count out.old out.new) result }
 
     // Where the status is `Done`, a file that is named holds no byte back.
-    ensures held { writes_one (files_of request.now) ≡ true
-        → result ≡ Status.Done
-        → F.held file.new ≡ 0 }
-
-    // The status of a command that takes no memory is `Fault` only where a device failed.
-    ensures fault { takes_memory request.now ≡ false
-        → result ≡ Status.Fault
-        → S.failure_count first.old + P.failure_count pes.old + F.failure_count file.old
-        + K.failure_count out.old
-        < S.failure_count first.new + P.failure_count pes.new + F.failure_count file.new
-        + K.failure_count out.new }
+    ensures held { HandsOnWritten request.now result (F.held file.new) }
 {
+    let drawing = drawing_of(request);
     match request {
         Request::Help => print_help(out),
         Request::Packet { bytes } => show_packet(bytes, out),
@@ -180,33 +165,37 @@ pub fn answer_over<S: Source, P: NumberedPieces, F: Flush, K: Flush>(
         Request::Schedule {
             options,
             serial,
-            national,
-            layout,
-            scope,
             ..
-        } => {
-            let drawing = Drawing::new(*national, *layout, *scope);
-            write_schedule(alloc, drawing, options, *serial, first, file, out)
-        }
+        } => write_schedule(alloc, drawing, options, *serial, first, file, out),
         Request::Normal { .. } => write_normal(alloc, first, file, out),
-        Request::Check {
-            options,
-            national,
-            layout,
-            scope,
-            all,
-            ..
-        } => {
-            let drawing = Drawing::new(*national, *layout, *scope);
-            if *all {
-                print_every_fault(alloc, first, pes, drawing, options, out)
-            } else {
-                print_verdict(alloc, first, pes, drawing, options, out)
-            }
+        Request::Check { options, all, .. } if *all => {
+            print_every_fault(alloc, first, pes, drawing, options, out)
         }
+        Request::Check { options, .. } => print_verdict(alloc, first, pes, drawing, options, out),
         Request::Listen { listening, .. } => print_listening(pes, listening, out),
         Request::Extract { .. } => extract_packets(pes, file, out),
         Request::Survey { options, .. } => print_survey(alloc, *options, first, out),
+    }
+}
+
+// How the texts of a subtitle file are drawn: as the request says, or else by default.
+fn drawing_of(request: &Request<'_>) -> Drawing
+    ensures { result ≡ drawing_of request.now }
+{
+    match request {
+        Request::Schedule {
+            national,
+            layout,
+            scope,
+            ..
+        } => Drawing::new(*national, *layout, *scope),
+        Request::Check {
+            national,
+            layout,
+            scope,
+            ..
+        } => Drawing::new(*national, *layout, *scope),
+        _ => Drawing::new(National::English, Layout::default(), Scope::whole()),
     }
 }
 

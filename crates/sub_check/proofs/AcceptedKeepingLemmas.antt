@@ -46,22 +46,7 @@ module _ (keeps may : Bool) (programme : ProgrammeValue) (t : Transmission)
   good-keeps :
       GoodBy keeps programme t options → GoodBy keeps programme t (by_keeps may options)
   good-keeps good = record {
-    rules = record {
-      not_empty = good.rules.not_empty;
-      rising = good.rules.rising;
-      whole = good.rules.whole;
-      starts = good.rules.starts;
-      lasts = good.rules.lasts;
-      exact = good.rules.exact;
-      serial = good.rules.serial;
-      control = good.rules.control;
-      erases = good.rules.erases;
-      keeping = good.rules.keeping;
-      spans = good.rules.spans;
-      opens = good.rules.opens;
-      repeats = good.rules.repeats;
-      paced = good.rules.paced;
-    };
+    rules = assumption good.rules;
     codes = good.codes;
     again = λ start low high. some_finished-keeps _ _ (good.again start low high);
     subtitles = λ k d within. some_finished-keeps _ _ (good.subtitles k d within);

@@ -12,12 +12,11 @@ use Rattle.sub_plan.specs.FrameTime.{clock_of}
 use Rattle.sub_plan.specs.Options.{OptionsValue, IsOptions}
 use Rattle.sub_rules.specs.Events.{first_told}
 use Rattle.sub_rules.specs.Fault.{is_pes_read}
-use Rattle.sub_rules.specs.FrameRules.{Unread, criteria_of, criteria_of_judged}
-use Rattle.sub_rules.specs.Pieces.{Piece, ReadsPieces}
+use Rattle.sub_rules.specs.FrameRules.{criteria_of, criteria_of_judged}
 use Rattle.sub_rules.specs.Pieces.{piece_file_of}
 use Rattle.sub_rules.specs.declared.event.Event.{Event}
 use Rattle.sub_rules.specs.declared.fault.CheckFault.{CheckFault}
-use Rattle.sub_checker.specs.PesFileEvents.{TellsPieces}
+use Rattle.sub_checker.specs.PesFileEvents.{TellsFile}
 use Rattle.sub_checker.specs.declared.accepted.Accepted.{Accepted}
 use Rattle.sub_check.specs.CheckedFiles.{IsChecked, IsCheckedBy, TellsEvents, all_events_of}
 use Rattle.sub_check.specs.CheckedFiles.{answer_by, first_answer}
@@ -91,11 +90,7 @@ pub checked_first :
     (r : Result (Option Accepted) CheckFault)
     → IsOptions options
     → IsProgramme programme.drawing programme.records
-    → ((pieces : List Piece) (unread : Option Unread)
-    → ReadsPieces (clock_of options) 0 bytes pieces unread
-    → TellsPieces (criteria_of programme options unread) (clock_of options) bytes pieces IsTold old
-    new
-    r)
+    → TellsFile (criteria_of programme options) (clock_of options) bytes IsTold old new r
     → IfOk r (λ counts. IfSome counts (λ a. IsAnswered programme options bytes
     (first_answer (all_events_of programme options bytes) a)))
 checked_first programme options bytes IsTold old new (Ok (Some a)) fine p told =
@@ -132,11 +127,7 @@ pub tells_events :
     (judged : JudgedValue) (options : OptionsValue) (bytes : List ℕ)
     {D : Type 0} (IsTold : D → Event → D → Type 0) (old new : D)
     (r : Result (Option Accepted) CheckFault)
-    → ((pieces : List Piece) (unread : Option Unread)
-    → ReadsPieces (clock_of options) 0 bytes pieces unread
-    → TellsPieces (criteria_of_judged judged options unread) (clock_of options) bytes pieces IsTold
-    old new
-    r)
+    → TellsFile (criteria_of_judged judged options) (clock_of options) bytes IsTold old new r
     → TellsEvents judged options bytes IsTold old new r
 tells_events judged options bytes IsTold old new (Ok (Some a)) told =
     let file = piece_file_of (clock_of options) bytes in
@@ -153,20 +144,11 @@ pub tells_known :
     (bytes : List ℕ) {D : Type 0} (IsTold : D → Event → D → Type 0) (old new : D)
     (r : Result (Option Accepted) CheckFault)
     → judged ≡ known programme
-    → ((pieces : List Piece) (unread : Option Unread)
-    → ReadsPieces (clock_of options) 0 bytes pieces unread
-    → TellsPieces (criteria_of_judged judged options unread) (clock_of options) bytes pieces IsTold
-    old new
-    r)
-    → (pieces : List Piece) (unread : Option Unread)
-    → ReadsPieces (clock_of options) 0 bytes pieces unread
-    → TellsPieces (criteria_of programme options unread) (clock_of options) bytes pieces IsTold old
-    new
-    r
-tells_known judged programme options bytes IsTold old new r is told pieces unread reads =
-    subst (λ (j : JudgedValue). TellsPieces (criteria_of_judged j options unread) (clock_of options)
-    bytes
-    pieces IsTold old new r) is (told pieces unread reads)
+    → TellsFile (criteria_of_judged judged options) (clock_of options) bytes IsTold old new r
+    → TellsFile (criteria_of programme options) (clock_of options) bytes IsTold old new r
+tells_known judged programme options bytes IsTold old new r is told =
+    subst (λ (j : JudgedValue). TellsFile (criteria_of_judged j options) (clock_of options) bytes
+    IsTold old new r) is told
 
 -- Such a programme is one that `check` takes.
 pub programme_known : (judged : JudgedValue) (programme : ProgrammeValue)

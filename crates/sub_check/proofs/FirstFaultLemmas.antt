@@ -18,10 +18,10 @@ use Rattle.sub_plan.specs.FrameTime.{clock_of}
 use Rattle.sub_plan.specs.Options.{OptionsValue, IsOptions}
 use Rattle.sub_check.specs.CheckedFiles.{all_events_of, events_of_first_pieces}
 use Rattle.sub_check.specs.FirstTold.{KeepsFirstFault}
-use Rattle.sub_checker.specs.PesFileEvents.{TellsPieces}
+use Rattle.sub_checker.specs.PesFileEvents.{FailsReadingOn, TellsFile}
 use Rattle.sub_rules.specs.Events.{first_told}
-use Rattle.sub_rules.specs.FrameRules.{Unread, criteria_of}
-use Rattle.sub_rules.specs.Pieces.{FailsAtPiece, Piece, ReadsPieces, frames_of, piece_file_of}
+use Rattle.sub_rules.specs.FrameRules.{criteria_of}
+use Rattle.sub_rules.specs.Pieces.{piece_file_of}
 use Rattle.sub_checker.specs.declared.accepted.Accepted.{Accepted}
 use Rattle.sub_rules.specs.declared.fault.CheckFault.{CheckFault}
 use Rattle.sub_check.proofs.FirstToldLemmas.{kept_is}
@@ -36,11 +36,7 @@ use Rattle.sub_check.proofs.AnsweredLemmas.{IsAnswered, accepted_none, answered,
 abbrev TellsFirst : ProgrammeValue → OptionsValue → List ℕ → Option CheckFault → Option CheckFault
     → Result (Option Accepted) CheckFault → Type 0
 TellsFirst programme options bytes empty kept r =
-    (pieces : List Piece) (unread : Option Unread)
-    → ReadsPieces (clock_of options) 0 bytes pieces unread
-    → TellsPieces (criteria_of programme options unread) (clock_of options) bytes pieces
-    KeepsFirstFault
-    empty kept r
+    TellsFile (criteria_of programme options) (clock_of options) bytes KeepsFirstFault empty kept r
 
 module _ (programme : ProgrammeValue) (options : OptionsValue) (bytes : List ℕ) where
   -- The source failed, and the device had kept nothing: no refusal is told of the pieces before.
@@ -146,15 +142,15 @@ pub fails_at_packet : (programme : ProgrammeValue) (options : OptionsValue)
     → empty ≡ None
     → is_some kept ≡ false
     → f ≡ fault.Pes pes Pes.Read
-    → FailsAtPiece pes old new
+    → FailsReadingOn (clock_of options) pes old new
     → IfKnown old (λ bytes. TellsFirst programme options bytes empty kept (Err f))
-    → IfKnown old (λ bytes.
-    length (frames_of (take pes (piece_file_of (clock_of options) bytes).pieces)) ≡ pes
-    → FailsAtPacket pes old new)
     → FailsAtPacket pes old new
-fails_at_packet programme options empty kept f pes None new e quiet is at told sent =
+fails_at_packet programme options empty kept f pes None new e quiet is at told =
+    let piece = at.0 in
     grind (arith, nat_tests, length-replicate pes (canonical_packet empty_value), any_packets pes)
-fails_at_packet programme options empty kept f pes (Some bytes) new e quiet is at told sent =
+fails_at_packet programme options empty kept f pes (Some bytes) new e quiet is at told =
+    let file = piece_file_of (clock_of options) bytes in
     let before =
     none_before programme options bytes empty kept f pes e quiet (told bytes refl) is in
-    sent bytes refl (all_are_sent programme options bytes pes before.0 before.1)
+    at.1 file.pieces file.unread bytes refl refl
+    (all_are_sent programme options bytes pes before.0 before.1)

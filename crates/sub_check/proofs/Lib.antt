@@ -1,7 +1,6 @@
 pub mod AcceptedKeepingLemmas
 pub mod AcceptedWithinLemmas
 pub mod AnsweredLemmas
-pub mod FileLemmas
 pub mod FilesLemmas
 pub mod FirstFaultLemmas
 pub mod FirstToldLemmas

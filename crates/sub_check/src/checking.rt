@@ -1,6 +1,6 @@
 //! The exact checker: the pieces of a PES file against a programme.
-ghost use Rattle.std.specs.Prelude.{◌≡◌, ℕ, Err, IfErr, IfOk, IfSome, IsFalse, List, Option};
-ghost use Rattle.std.specs.Prelude.{false, is_none, length, take, true};
+ghost use Rattle.std.specs.Prelude.{◌≡◌, ℕ, Err, IfErr, IfOk, IfSome, IsFalse, false, is_none};
+ghost use Rattle.std.specs.Prelude.{true};
 ghost use Rattle.sub_io.specs.Device.{CanFail, CountsIf, failed};
 ghost use Rattle.sub_io.specs.Reading.{IfKnown};
 ghost use Rattle.sub_io.specs.Telling.{TellsSome};
@@ -10,9 +10,9 @@ ghost use Rattle.stl_rows.specs.Programme.{IsProgramme, ProgrammeValue};
 ghost use Rattle.sub_plan.specs.FrameTime.{clock_of};
 ghost use Rattle.sub_plan.specs.Options.{IsOptions};
 ghost use Rattle.sub_rules.specs.Fault.{is_pes_read, is_pes_write, is_subtitle_fault};
-ghost use Rattle.sub_rules.specs.FrameRules.{Unread, criteria_of};
-ghost use Rattle.sub_rules.specs.Pieces.{FailsAtPiece, Piece, ReadsPieces, frames_of};
-ghost use Rattle.sub_checker.specs.PesFileEvents.{TellsPieces};
+ghost use Rattle.sub_rules.specs.FrameRules.{criteria_of};
+ghost use Rattle.sub_rules.specs.Pieces.{FailsAtPiece};
+ghost use Rattle.sub_checker.specs.PesFileEvents.{FailsReadingOn, TellsFile};
 ghost use Rattle.sub_check.specs.CheckedFiles.{BeginsWhatIsTold, IsChecked, IsCheckedBy};
 ghost use Rattle.sub_check.specs.CheckedFiles.{TellsEvents, TellsWhatIsKnown, TellsWhatMayStay};
 ghost use Rattle.sub_check.specs.CheckedFiles.{TellsWhatMayStayBy};
@@ -77,21 +77,13 @@ fn tell_known<P: Pieces, A: LiveAudience<Event>>(
     requires failures { CanFail (P.failure_count source.old) }
     requires goes_on { A.has_stopped audience.old ≡ false }
     requires still { A.is_waiting audience.old ≡ false }
-    ensures exact { (pieces : List Piece) (unread : Option Unread)
-        → IfKnown (P.remaining source.old) (λ bytes.
-        ReadsPieces (clock_of options.now) 0 bytes pieces unread
-        → TellsPieces (criteria_of programme.now options.now unread) (clock_of options.now) bytes
-        pieces A.is_told audience.old audience.new result) }
+    ensures exact { IfKnown (P.remaining source.old) (λ bytes.
+        TellsFile (criteria_of programme.now options.now) (clock_of options.now) bytes
+        A.is_told audience.old audience.new result) }
     ensures stopped { IfOk result (λ counts. A.has_stopped audience.new ≡ is_none counts) }
     ensures goes_on { IfErr result (λ _. A.has_stopped audience.new ≡ false) }
     ensures read { (pes : ℕ) → result ≡ Err (CheckFault.Pes pes PesFault.Read)
-        → FailsAtPiece pes (P.remaining source.old) (P.left source.new) }
-    ensures sent { (pes : ℕ) (pieces : List Piece) (unread : Option Unread)
-        → result ≡ Err (CheckFault.Pes pes PesFault.Read)
-        → IfKnown (P.remaining source.old) (λ bytes.
-        ReadsPieces (clock_of options.now) 0 bytes pieces unread
-        → length (frames_of (take pes pieces)) ≡ pes
-        → FailsAtPacket pes (P.remaining source.old) (P.left source.new)) }
+        → FailsReadingOn (clock_of options.now) pes (P.remaining source.old) (P.left source.new) }
     ensures only { IfErr result (λ f. is_pes_read f ≡ true) }
     ensures options { IsOptions options.now }
     ensures programme { IsProgramme programme.now.drawing programme.now.records }

@@ -111,11 +111,7 @@ module _ (g : Criteria) (frames : Transmission) (n : ℕ) (last ps : List (List 
     } → AfterPackets g frames n ps e
     heard_here e is =
         rw is (record {
-          known = record {
-            criteria_are = known_then.criteria_are;
-            knows = known_then.knows;
-            count = known_then.count;
-          };
+          known = assumption known_then;
           begun = record { first_is = arrives.waits.begun.first_is; late_is = late_then };
           standing_is = arrives.waits.standing_is;
           last_is = arrives.waits.last_is;
@@ -211,11 +207,7 @@ module _ (g : Criteria) (frames : Transmission) (n : ℕ) (last : List (List ℕ
       -- What is kept there. For `end_sent`.
       pub follows_then : AfterEnd g frames (suc n) last (after_end heard c)
       follows_then = record {
-        known = record {
-          criteria_are = is.known.criteria_are;
-          knows = is.known.knows;
-          count = is.known.count;
-        };
+        known = assumption is.known;
         none = λ e. absurd (omega (arith, e));
         begun = λ l. record { first_is = is.begun.first_is; late_is = is.begun.late_is };
         latest_is = λ l. is.latest_is;

@@ -172,11 +172,7 @@ module _ (g : Criteria) (frames : Transmission) (n f : ℕ) (last : List (List �
     pub gap_waits : (e : ℕ) → e ≡ f + 1
         → BeforeEnd g frames n e last (after_end (packets_before frames n) b)
     gap_waits e is = record {
-      known = record {
-        criteria_are = known_there.criteria_are;
-        knows = known_there.knows;
-        count = known_there.count;
-      };
+      known = assumption known_there;
       begun = record { first_is = begun_there.first_is; late_is = begun_there.late_is };
       standing_is = grind (arith, nat_tests, stands_there, end_before_high, standing_before_is);
       last_is = λ l. grind (arith, nat_tests, end_before_high, at_there);

@@ -159,11 +159,7 @@ module _ (g : Criteria) (sent : Transmission) (n : ℕ) (last ps : List (List �
         → AfterPackets g longer n ps e
     heard_more e k e_is packets =
         rw e_is (record {
-          known = record {
-            criteria_are = known_then.criteria_are;
-            knows = known_then.knows;
-            count = known_then.count;
-          };
+          known = assumption known_then;
           begun = record { first_is = is.begun.first_is ∙ sym (at 0); late_is = late_then };
           standing_is =
               is.standing_is

@@ -15,7 +15,7 @@ use Rattle.sub_rules.specs.declared.fault.CheckFault.{CheckFault}
 use Rattle.sub_rules.proofs.JoinedLemmas.{frames_of-append}
 use Rattle.sub_checker.specs.ReadCounts.{AreTaken, AreWhole}
 use Rattle.std.proofs.lemmas.List.Elements.{All-from_recursion}
-use Rattle.std.proofs.lemmas.Slice.Zip.{AllZip-long}
+use Rattle.std.proofs.lemmas.Slice.Zip.{AllZip-long, all_zipped_more}
 use Rattle.std.specs.List.{AllByRecursion, AllZip}
 use Rattle.ttx_pes.specs.declared.fault.PesFault.TheVariants.{Read}
 use Rattle.sub_rules.specs.declared.fault.CheckFault.TheVariants as fault
@@ -37,17 +37,6 @@ pub whole_units :
     → AllByRecursion (λ packet. length packet ≡ 42) (packets_of_units units)
 whole_units [] h = tt
 whole_units (u ∷ units) h = (h.0.packet.size, whole_units units h.1)
-
--- Two lists that agree place by place, and one item more of each.
-pub zip_push :
-    {A B : Type 0} (R : A → B → Type 0) (xs : List A) (ys : List B) (x : A) (y : B)
-    → AllZip R xs ys
-    → R x y
-    → AllZip R (xs ++ x ∷ []) (ys ++ y ∷ [])
-zip_push R [] [] x y h r = (r, tt)
-zip_push R [] (b ∷ ys) x y h r = elim h [ ]
-zip_push R (a ∷ xs) [] x y h r = elim h [ ]
-zip_push R (a ∷ xs) (b ∷ ys) x y h r = (h.0, zip_push R xs ys x y h.1 r)
 
 -- ---- pieces that are read
 
@@ -108,9 +97,9 @@ taken_sent clock bytes rest frames v frame old new taken was is takes of =
     record {
       values = taken.values ++ v ∷ [];
       packets = taken.packets ++ takes.bytes ∷ [];
-      each = zip_push IsPesPacket taken.values taken.packets v takes.bytes taken.each
+      each = all_zipped_more IsPesPacket taken.values taken.packets v takes.bytes taken.each
           takes.is_packet;
-      read = zip_push (IsReadAs clock) taken.values frames v _ taken.read (record {
+      read = all_zipped_more (IsReadAs clock) taken.values frames v _ taken.read (record {
         frame = of;
         packets = refl;
       });

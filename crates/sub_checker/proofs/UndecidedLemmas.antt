@@ -53,6 +53,11 @@ undecided_same j f g le none =
     from_same j.programme.records j.behind_other j.is_before_other 0 f g le
     (λ low. absurd (omega (arith, low))) none
 
+-- What comes before a frame before the next edge does too.
+earlier : (e f : ℕ) (edge : Option ℕ) → e ≤ f → is_before f edge ≡ true → is_before e edge ≡ true
+earlier e f None le before = refl
+earlier e f (Some next) le before = grind (arith, nat_tests)
+
 -- From a frame up to before the next edge.
 until_edge : (j : JudgedValue) (frame f : ℕ) (edge : Option ℕ)
     → TellsNextEdge j.programme.records frame edge
@@ -158,12 +163,8 @@ module _ (j : JudgedValue) (first within frame : ℕ) (edge : Option ℕ)
             go : (e < frame) ⊎ (frame ≤ e) → is_undecided_in j e ≡ false
             go (inl l) = none e after (omega arith)
             go (inr l) =
-                until_edge j frame e edge tells l (earlier edge before)
+                until_edge j frame e edge tells l (earlier e f edge until before)
                 ∙ none frame less (omega arith)
-              where
-                earlier : (o : Option ℕ) → is_before f o ≡ true → is_before e o ≡ true
-                earlier None b = refl
-                earlier (Some next) b = grind (arith, nat_tests)
 
         by : (last + within < f) ⊎ (f ≤ last + within)
             → nat_lt f (last + within + 1) ≡ was_undecided (is_due_undecided j) first f within
@@ -189,11 +190,9 @@ module _ (j : JudgedValue) (first within frame : ℕ) (edge : Option ℕ)
       where
         at : (e : ℕ) → frame ≤ e → e ≤ f → is_due_undecided j e ≡ false
         at e l until =
-            any_refused_is e ∙ until_edge j frame e edge tells l (earlier edge before) ∙ here
-          where
-            earlier : (o : Option ℕ) → is_before f o ≡ true → is_before e o ≡ true
-            earlier None b = refl
-            earlier (Some next) b = grind (arith, nat_tests)
+            any_refused_is e
+            ∙ until_edge j frame e edge tells l (earlier e f edge until before)
+            ∙ here
 
         each : (e : ℕ) → first ≤ e → f ≤ e + within → e ≤ f → is_due_undecided j e ≡ false
         each e m reach until = go (cases_lt e frame)

@@ -1,13 +1,15 @@
 -- What the checker tells of a PES file that is read on behind the pieces that are passed over.
 use Rattle.std.specs.Prelude.{◌≡◌, ℕ, ◌≤◌, List, [], ◌++◌, length, take, Option, Some, None}
 use Rattle.std.specs.Prelude.{Result, Ok, Err}
+use Rattle.sub_io.specs.Reading.{IfKnown}
 use Rattle.sub_io.specs.Telling.{Tells, TellsPrefix}
+use Rattle.ttx_pes.specs.Reader.{FailsAtPacket}
 use Rattle.ttx_pes.specs.Reading.{most_packets}
 use Rattle.ttx_pes.specs.declared.fault.PesFault.TheVariants.{Read}
 use Rattle.sub_plan.specs.FrameTime.{Clock}
-use Rattle.sub_rules.specs.FrameRules.{Criteria}
+use Rattle.sub_rules.specs.FrameRules.{Criteria, Unread}
 use Rattle.sub_rules.specs.PieceEvents.{all_of_pieces, ended_run, events_of_pieces, sent_by_pieces}
-use Rattle.sub_rules.specs.Pieces.{Piece, frames_of}
+use Rattle.sub_rules.specs.Pieces.{FailsAtPiece, Piece, ReadsPieces, frames_of}
 use Rattle.sub_rules.specs.Trusted.{CheckStep}
 use Rattle.sub_rules.specs.declared.event.Event.{Event}
 use Rattle.sub_rules.specs.declared.fault.CheckFault.{CheckFault}
@@ -44,6 +46,26 @@ TellsPieces g clock bytes pieces IsTold old new (Err f) =
     × (n ≤ length pieces)
     × (f ≡ fault.Pes n Read)
     × Tells IsTold old new (events_of_pieces g (take n pieces))
+
+-- What a device was told of these bytes, by the pieces that they are read as, and by the criteria
+-- that belong to what is left unread.
+abbrev pub TellsFile : {D : Type 0} → (Option Unread → Criteria) → Clock → List ℕ
+    → (D → Event → D → Type 0) → D → D → Result (Option Accepted) CheckFault → Type 0
+TellsFile criteria clock bytes IsTold old new result =
+    (pieces : List Piece) (unread : Option Unread)
+    → ReadsPieces clock 0 bytes pieces unread
+    → TellsPieces (criteria unread) clock bytes pieces IsTold old new result
+
+-- The source failed within this piece: those before it were taken. Where none of them was passed
+-- over they are PES packets of the grammar.
+abbrev pub FailsReadingOn : Clock → ℕ → Option (List ℕ) → Option (List ℕ) → Type 0
+FailsReadingOn clock pes known left =
+    FailsAtPiece pes known left
+    × ((pieces : List Piece) (unread : Option Unread)
+    → IfKnown known (λ bytes.
+    ReadsPieces clock 0 bytes pieces unread
+    → length (frames_of (take pes pieces)) ≡ pes
+    → FailsAtPacket pes known left))
 
 -- What is told with steps, and then up to which piece a run goes. Private functions alone cite it.
 abbrev pub finished : Relay → List CheckStep → List Event

@@ -1,20 +1,18 @@
 //! What is told of a PES file that is read on behind the pieces that are passed over.
 ghost use Rattle.std.specs.Prelude.{◌≡◌, ℕ, ◌+◌, ◌<◌, ◌≤◌, [], ◌∷◌, Err, IfErr, IfOk, List};
-ghost use Rattle.std.specs.Prelude.{Option, false, is_err, is_none, length, take, true};
+ghost use Rattle.std.specs.Prelude.{false, is_none, true};
 ghost use Rattle.sub_io.specs.Device.{CanFail, CountsIf, failed};
 ghost use Rattle.sub_io.specs.Reading.{IfKnown};
 ghost use Rattle.sub_io.specs.Telling.{TellsSome};
 ghost use Rattle.stl_file.specs.TimeCode.{day};
 ghost use Rattle.ttx_pes.specs.PesPacket.{IsPesValue};
-ghost use Rattle.ttx_pes.specs.Reader.{FailsAtPacket};
 ghost use Rattle.ttx_pes.specs.Reading.{most_packets};
 ghost use Rattle.stl_rows.specs.Programme.{IsProgramme};
 ghost use Rattle.sub_plan.specs.FrameTime.{clock_of};
 ghost use Rattle.sub_plan.specs.Options.{IsOptions};
 ghost use Rattle.sub_rules.specs.Fault.{is_pes_read};
-ghost use Rattle.sub_rules.specs.FrameRules.{Criteria, Unread, criteria_of_judged};
+ghost use Rattle.sub_rules.specs.FrameRules.{Criteria, criteria_of_judged};
 ghost use Rattle.sub_rules.specs.PacketRules.{packets_of_units};
-ghost use Rattle.sub_rules.specs.Pieces.{FailsAtPiece, Piece, ReadsPieces, frames_of};
 ghost use Rattle.sub_rules.specs.Transmission.{Transmission};
 ghost use Rattle.sub_rules.specs.Trusted.CheckStep.{AtPes, Says};
 ghost use Rattle.sub_checker.specs.Checker.{AreFew};
@@ -22,7 +20,7 @@ ghost use Rattle.sub_checker.specs.CheckedFrames.{BetweenPieces};
 ghost use Rattle.sub_checker.specs.NextPieces.{IsAgain, is_passed, last_with, sent_with};
 ghost use Rattle.sub_checker.specs.NextPieces.{steps_of_read};
 ghost use Rattle.sub_checker.specs.Relay.{ReporterRelays};
-ghost use Rattle.sub_checker.specs.PesFileEvents.{TellsPieces};
+ghost use Rattle.sub_checker.specs.PesFileEvents.{FailsReadingOn, TellsFile};
 
 use crate::accepted::{Accepted, is_source_failure};
 use crate::awaited_piece::next_followed;
@@ -54,24 +52,14 @@ pub fn tell_pieces<P: Pieces, A: LiveAudience<Event>>(
     requires failures { CanFail (P.failure_count source.old) }
     requires goes_on { A.has_stopped audience.old ≡ false }
     requires still { A.is_waiting audience.old ≡ false }
-    ensures exact { (pieces : List Piece) (unread : Option Unread)
-        → IfKnown (P.remaining source.old) (λ bytes.
-        ReadsPieces (clock_of options.now) 0 bytes pieces unread
-        → TellsPieces (criteria_of_judged judging.now options.now unread) (clock_of options.now)
-        bytes
-        pieces A.is_told audience.old audience.new result) }
+    ensures exact { IfKnown (P.remaining source.old) (λ bytes.
+        TellsFile (criteria_of_judged judging.now options.now) (clock_of options.now) bytes
+        A.is_told audience.old audience.new result) }
     ensures stopped { IfOk result (λ counts. A.has_stopped audience.new ≡ is_none counts) }
     ensures some { TellsSome A.is_told audience.old audience.new }
     ensures goes_on { IfErr result (λ _. A.has_stopped audience.new ≡ false) }
     ensures read { (pes : ℕ) → result ≡ Err (CheckFault.Pes pes PesFault.Read)
-        → FailsAtPiece pes (P.remaining source.old) (P.left source.new) }
-    // Where none was passed over before, those that were taken are PES packets of the grammar.
-    ensures sent { (pes : ℕ) (pieces : List Piece) (unread : Option Unread)
-        → result ≡ Err (CheckFault.Pes pes PesFault.Read)
-        → IfKnown (P.remaining source.old) (λ bytes.
-        ReadsPieces (clock_of options.now) 0 bytes pieces unread
-        → length (frames_of (take pes pieces)) ≡ pes
-        → FailsAtPacket pes (P.remaining source.old) (P.left source.new)) }
+        → FailsReadingOn (clock_of options.now) pes (P.remaining source.old) (P.left source.new) }
     ensures only { IfErr result (λ f. is_pes_read f ≡ true) }
     ensures options { IsOptions options.now }
     ensures programme { IsProgramme judging.now.programme.drawing judging.now.programme.records }

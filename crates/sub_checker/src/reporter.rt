@@ -1,7 +1,7 @@
 //! What the checker tells, relayed to a device: with the frames that may stay on air as they are,
 //! and of PES packets that are passed over one directly after the other the first, and up to which
 //! one they go.
-ghost use Rattle.std.specs.Prelude.{◌≡◌, [], ◌∷◌};
+ghost use Rattle.std.specs.Prelude.{◌≡◌, [], ◌∷◌, ◌++◌};
 ghost use Rattle.sub_io.specs.Telling.{Tells, first_alone};
 ghost use Rattle.sub_rules.specs.PieceEvents.{all_announced, announced, passed_after};
 ghost use Rattle.sub_rules.specs.PieceEvents.{passed_after_all};
@@ -118,7 +118,11 @@ impl<A: Audience<Event>> Taker for Reporter<'_, A> {
 }
 
 // Tells one, if there is one.
-#[tactic(auto, unfolding(sub_rules::specs::PieceEvents::all_announced, sub_rules::specs::PieceEvents::passed_after_all))]
+#[rattlefmt::skip]
+#[tactic(auto, unfolding(
+    sub_rules::specs::PieceEvents::all_announced,
+    sub_rules::specs::PieceEvents::passed_after_all
+))]
 fn announce_some<T: Taker>(event: Option<Event>, run: &mut PassedPieces, taker: &mut T)
     ensures told { Tells T.is_told taker.old taker.new
         (all_announced (as_run run.old) (first_alone event)) }
@@ -130,7 +134,7 @@ fn announce_some<T: Taker>(event: Option<Event>, run: &mut PassedPieces, taker: 
 }
 
 // Tells an event after a run of PES packets that were passed over, unless it goes on with it.
-#[tactic(auto, using(sub_io::proofs::TellingLemmas::tellings), unfolding(sub_rules::specs::PieceEvents::announced))]
+#[tactic(auto, unfolding(sub_rules::specs::PieceEvents::announced))]
 fn announce<T: Taker>(event: Event, run: &mut PassedPieces, taker: &mut T)
     ensures told { Tells T.is_told taker.old taker.new (announced (as_run run.old) event) }
     ensures kept { run.new ≡ kept_run (passed_after (as_run run.old) event) }
@@ -140,7 +144,15 @@ fn announce<T: Taker>(event: Event, run: &mut PassedPieces, taker: &mut T)
     if before.joins(&event) {
         return;
     }
-    tell_some(before.ended(), taker);
+    tell_behind(before.ended(), event, taker);
+}
+
+// Tells an event after another, if there is one.
+#[tactic(auto, using(sub_io::proofs::TellingLemmas::tellings))]
+fn tell_behind<T: Taker>(first: Option<Event>, event: Event, taker: &mut T)
+    ensures { Tells T.is_told taker.old taker.new (first_alone first ++ event ∷ []) }
+{
+    tell_some(first, taker);
     taker.tell(event);
 }
 

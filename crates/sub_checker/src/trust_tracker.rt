@@ -164,13 +164,21 @@ impl TrustTracker {
     /// The end of the file: what is trusted of the last run, where anything was told or will be.
     /// The last frame is not trusted where bytes are left after it, nor are those at whose ends the
     /// page is not whole up to the last one.
-    #[tactic(auto, unfolding(crate::specs::TrustTracker::after_step, crate::specs::TrustTracker::told_with))]
+    #[tactic(auto, unfolding(crate::specs::TrustTracker::after_step))]
     pub fn close(&mut self, are_left: bool, tells_more: bool) -> Option<Event>
         ensures told { first_alone result ≡ told_with (Closes are_left tells_more) self.old }
         ensures kept { self.new ≡ after_step (Closes are_left tells_more) self.old }
     {
-        let run = self.run;
+        let last = self.trusted_last(are_left, tells_more);
         self.run = None;
+        last
+    }
+
+    // What is trusted of the last run at the end of the file.
+    #[tactic(auto, unfolding(crate::specs::TrustTracker::told_with))]
+    fn trusted_last(&self, are_left: bool, tells_more: bool) -> Option<Event>
+        ensures { first_alone result ≡ told_with (Closes are_left tells_more) self.now }
+    {
         let end = if are_left {
             u64::from(self.back.unwrap_or(self.last))
         } else {
@@ -181,7 +189,7 @@ impl TrustTracker {
             None => end,
         };
         if self.told || tells_more {
-            trusted(run, self.whole, end)
+            trusted(self.run, self.whole, end)
         } else {
             None
         }

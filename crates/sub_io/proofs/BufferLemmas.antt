@@ -1,5 +1,5 @@
 -- Bytes that a buffer holds before those of the device inside; main lemmas: held-split,
--- held-moved. Bytes that are lent, NAME_begin, and passed over, NAME_passed.
+-- held-parts, held-moved. Bytes that are lent, NAME_begin, and passed over, NAME_passed.
 use Rattle.std.proofs.Common.{◌≡◌, ℕ, ◌+◌, ◌-◌, ◌≤◌, List, [], ◌++◌, length, take, drop}
 use Rattle.std.proofs.Common.{slice_range, ◌<◌, append_assoc, length-take-le, take-append-drop}
 use Rattle.std.proofs.Common.{Option, Some, None, Result, sym, ap, ◌∙◌, arith, drop-drop}
@@ -66,6 +66,17 @@ held-rest room n len some within =
     (sym (take-paste room 0 (drop n room) left (omega arith) fits)
     ∙ ap (λ k. take k (paste room 0 (drop n room) left)) same)
 
+-- The bytes that were held back are the first n of them and those that still are.
+pub held-parts : (old room moved : List ℕ) (n len : ℕ)
+    → n ≤ len
+    → len ≤ length room
+    → old ≡ take len room
+    → moved ≡ paste room 0 (drop n room) (len - n)
+    → old ≡ take n room ++ take (len - n) moved
+held-parts old room moved n len some within was now =
+    was ∙ held-rest room n len some within
+    ∙ ap (λ l. take n room ++ take (len - n) l) (sym now)
+
 -- The sink inside took the first n of the bytes that were held back, and the rest still is.
 pub held-moved : (x y : Option (List ℕ)) (old room moved : List ℕ) (n len : ℕ)
     → n ≤ len
@@ -76,8 +87,7 @@ pub held-moved : (x y : Option (List ℕ)) (old room moved : List ℕ) (n len : 
     → Keeps (append_known x old) (append_known y (take (len - n) moved))
 held-moved x y old room moved n len some within was now p =
     append_known-moved x y (take n room) (take (len - n) moved) old p
-    (was ∙ held-rest room n len some within
-    ∙ ap (λ l. take n room ++ take (len - n) l) (sym now))
+    (held-parts old room moved n len some within was now)
 
 -- ---- bytes that are lent and passed over
 

@@ -1,8 +1,8 @@
 -- Which calls of a device a function makes: what each is lent, and what it answers. A device says
 -- which of its calls go so, `is_pull` and `is_push`; one that says nothing has `any_call`.
 use Rattle.std.specs.Prelude.{◌≡◌, ◌≢◌, ℕ, ◌-◌, ◌<◌, ◌≤◌, ◌⊎◌, Bool, true, false, min}
-use Rattle.std.specs.Prelude.{List, [], ◌∷◌, length, drop, Option, Some, None, option_map}
-use Rattle.std.specs.Prelude.{Result, Ok, Err}
+use Rattle.std.specs.Prelude.{List, [], ◌∷◌, ◌++◌, length, take, drop}
+use Rattle.std.specs.Prelude.{Option, Some, None, option_map, Result, Ok, Err}
 use Rattle.sub_io.specs.Buffered.{HeldBack, ReadAhead}
 use Rattle.sub_io.specs.Countdown.{CountingDown, fails_next, countdown_after}
 
@@ -99,8 +99,18 @@ pub record ReadsAhead
       × IsPull old.device old.room got new.device
       × (answer ≡ option_map (λ n. min n lent) got)
 
+-- The bytes without some of the first of them, or with all.
+abbrev pub AreLeftOf : List ℕ → List ℕ → Type 0
+AreLeftOf bytes left = (taken : List ℕ) × (bytes ≡ taken ++ left)
+
+-- The bytes that a push took: none where it failed.
+abbrev pub taken_by : List ℕ → Option ℕ → List ℕ
+taken_by bytes None = []
+taken_by bytes (Some n) = take n bytes
+
 -- A sink that holds bytes back, and whose room was full: what is held was pushed into the sink
--- inside, and then a long push is passed on as it is.
+-- inside, and then a long push is passed on as it is. What that did not take is still held, and
+-- else only a short push.
 pub record HandsOnFull
     {D : Type 0} (IsPush : D → List ℕ → Option ℕ → D → Type 0)
     (old : HeldBack D) (bytes : List ℕ) (answer : Option ℕ) (new : HeldBack D)
@@ -108,28 +118,38 @@ pub record HandsOnFull
   pub ok : Bool
   pub mid : D
   pub flushed : PutsByPushes IsPush old.device old.held ok mid
-  pub failed : ok ≡ false → (answer ≡ None) × (new.device ≡ mid)
-  pub straight : ok ≡ true → old.room ≤ length bytes → IsPush mid bytes answer new.device
-  pub kept : ok ≡ true → length bytes < old.room → new.device ≡ mid
+  pub failed :
+      ok ≡ false → (answer ≡ None) × (new.device ≡ mid) × AreLeftOf old.held new.held
+  pub straight :
+      ok ≡ true
+      → old.room ≤ length bytes
+      → IsPush mid bytes answer new.device × (new.held ≡ [])
+  pub kept :
+      ok ≡ true
+      → length bytes < old.room
+      → (new.device ≡ mid) × (new.held ≡ taken_by bytes answer)
 
--- A push of these bytes into such a sink.
+-- A push of these bytes into such a sink: which calls of the sink inside it makes, and what is held
+-- then.
 pub record HoldsBack
     {D : Type 0} (IsPush : D → List ℕ → Option ℕ → D → Type 0)
     (old : HeldBack D) (bytes : List ℕ) (answer : Option ℕ) (new : HeldBack D)
     : Type 0 where
-  -- After a failure of the sink inside it is not called.
-  pub refused : old.failed ≡ true → (answer ≡ None) × (new.device ≡ old.device)
-  -- Nor where there is room for bytes, but for a long push while none is held, which is passed on.
+  -- After a failure of the sink inside it is not called, and what is held stays.
+  pub refused :
+      old.failed ≡ true → (answer ≡ None) × (new.device ≡ old.device) × (new.held ≡ old.held)
+  -- Nor is it where there is room for bytes: those that were taken are held behind the others. But
+  -- a long push while none is held is passed on, and none is held then.
   pub held :
       old.failed ≡ false
       → length old.held < old.room
       → (old.held ≢ []) ⊎ (length bytes < old.room)
-      → new.device ≡ old.device
+      → (new.device ≡ old.device) × (new.held ≡ old.held ++ taken_by bytes answer)
   pub straight :
       old.failed ≡ false
       → old.held ≡ []
       → old.room ≤ length bytes
-      → IsPush old.device bytes answer new.device
+      → IsPush old.device bytes answer new.device × (new.held ≡ [])
   pub full :
       old.failed ≡ false
       → old.room ≤ length old.held

@@ -4,7 +4,7 @@ ghost use Rattle.std.specs.Prelude.{◌≡◌, ◌≢◌, ◌+◌, ◌-◌, ◌<
 ghost use Rattle.std.specs.Prelude.{Ok, IfErr, IfOk, IsErr, OnOk, false, true, is_ok, ◌↔◌, ◌⊎◌};
 ghost use Rattle.std.specs.Io.KnownBytes.{Appends, Keeps, append_known};
 ghost use Rattle.sub_io.specs.Buffered.{HeldBack, failures_and_refused};
-ghost use Rattle.sub_io.specs.Calls.{HoldsBack, PutsByPushes, answered};
+ghost use Rattle.sub_io.specs.Calls.{AreLeftOf, HoldsBack, PutsByPushes, answered};
 ghost use Rattle.sub_io.specs.Closing.{ClosesInside};
 ghost use Rattle.sub_io.specs.Device.{CanFail, CountsFailure, Pushes};
 
@@ -228,6 +228,8 @@ impl<K: Sink> Flush for BufferedSink<'_, K> {
         // All bytes that were held back went to the sink inside.
         ensures whole { OnOk result ((self.new.held ≡ [])
             × Appends (K.contents self.old.device) (K.contents self.new.device) self.old.held) }
+        // Or those that were not taken are still held back.
+        ensures left { IfErr result (λ _. AreLeftOf self.old.held self.new.held) }
         ensures room { self.new.room ≡ self.old.room }
 
         ensures bytes { Keeps

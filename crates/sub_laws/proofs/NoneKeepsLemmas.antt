@@ -16,7 +16,7 @@ use Rattle.sub_laws.specs.Sufficient.{IsSufficient}
 use Rattle.sub_laws.specs.ToldRepeats.{IsSufficientRepeats}
 use Rattle.sub_laws.proofs.DelayLemmas.{law_of_right_cells}
 use Rattle.sub_laws.proofs.SoundStretchLemmas.{sound_of_repeated}
-use Rattle.sub_laws.proofs.SoundUntoldLemmas.{end_of}
+use Rattle.sub_laws.proofs.FollowedStretchLemmas.{end_of}
 use Rattle.sub_laws.proofs.StandingLemmas.{stands_broken}
 use Rattle.sub_laws.proofs.SufficientDelayLemmas.{enough_repeats}
 
@@ -49,8 +49,7 @@ pub complete_untold :
 complete_untold programme transmission options unread any_refused undecided a b at_once untold asks
     closed f low high holds =
     let g = criteria_unsure programme options unread any_refused undecided in
-    let end =
-    end_of programme transmission options unread any_refused undecided a b untold f low high in
+    let end = end_of transmission a b untold.stretch untold.rising f low high in
     let shut =
     ((stands_broken g transmission end.0 f at_once end.1.1).rules Incomplete).0
     (rw (closed end.0 f end.1 low high) refl)

@@ -145,25 +145,16 @@ module _ (one other : Bool) (programme : ProgrammeValue) (transmission : Transmi
   good_same :
       GoodBy one programme transmission options → GoodBy other programme transmission options
   good_same good = record {
-    rules = record {
-      not_empty = good.rules.not_empty;
-      rising = good.rules.rising;
-      whole = good.rules.whole;
-      starts = good.rules.starts;
-      lasts = good.rules.lasts;
-      exact = good.rules.exact;
-      serial = good.rules.serial;
-      control = good.rules.control;
-      erases = λ none. each;
-      keeping = good.rules.keeping;
-      spans = λ f n high.
-          subst (IsCleanSpan options.page)
-          (text_span-of_erasing one other options.page (on_air_until transmission f) (erasing f) n)
-          (good.rules.spans f n high);
-      opens = good.rules.opens;
-      repeats = good.rules.repeats;
-      paced = good.rules.paced;
-    };
+    rules =
+        let spans : (f n : ℕ)
+        → f ≤ last_frame transmission
+        → IsCleanSpan options.page
+        (text_span other (kind options.page) (take n (on_air_until transmission f))) =
+        λ f n high.
+        subst (IsCleanSpan options.page)
+        (text_span-of_erasing one other options.page (on_air_until transmission f) (erasing f) n)
+        (good.rules.spans f n high) in
+        assumption (spans, each, good.rules);
     codes = λ f row column low high named.
         subst (IsDueWithin programme transmission options f row column)
         (kept-of_erasing one other options.page (on_air_until transmission f) (erasing f) row
@@ -200,15 +191,7 @@ module _ (programme : ProgrammeValue) (transmission : Transmission) (options : O
     exact = rules.exact;
     serial = rules.serial;
     control = λ k d l m e n h is.
-        let bits = rules.control k d l m e n h is in
-        record {
-          erases = rules.erases refl k d l m e n h is;
-          no_newsflash = bits.no_newsflash;
-          subtitle = bits.subtitle;
-          suppressed = bits.suppressed;
-          displayed = bits.displayed;
-          option = bits.option;
-        };
+        assumption (rules.erases refl k d l m e n h is, rules.control k d l m e n h is);
     spans = λ f n high.
         subst (IsCleanSpan options.page)
         (text_span-none_keeps (kind options.page) (take n (on_air_until transmission f)))
@@ -229,15 +212,7 @@ module _ (programme : ProgrammeValue) (transmission : Transmission) (options : O
     lasts = rules.lasts;
     exact = rules.exact;
     serial = rules.serial;
-    control = λ k d l m e n h is.
-        let bits = rules.control k d l m e n h is in
-        record {
-          no_newsflash = bits.no_newsflash;
-          subtitle = bits.subtitle;
-          suppressed = bits.suppressed;
-          displayed = bits.displayed;
-          option = bits.option;
-        };
+    control = λ k d l m e n h is. assumption (rules.control k d l m e n h is);
     erases = λ none k d l m e n h is. (rules.control k d l m e n h is).erases;
     keeping = λ f n high below h is.
         inl (packets_between-each (ErasesPage options.page) transmission (first_frame transmission)
@@ -281,22 +256,7 @@ module _ (keeps : Bool) (programme : ProgrammeValue) (transmission : Transmissio
   good_longer :
       GoodBy keeps programme transmission options → GoodBy keeps programme transmission allowing
   good_longer good = record {
-    rules = record {
-      not_empty = good.rules.not_empty;
-      rising = good.rules.rising;
-      whole = good.rules.whole;
-      starts = good.rules.starts;
-      lasts = good.rules.lasts;
-      exact = good.rules.exact;
-      serial = good.rules.serial;
-      control = good.rules.control;
-      erases = good.rules.erases;
-      keeping = good.rules.keeping;
-      spans = good.rules.spans;
-      opens = good.rules.opens;
-      repeats = good.rules.repeats;
-      paced = good.rules.paced;
-    };
+    rules = assumption good.rules;
     codes = λ f row column low high named.
         elim (good.codes f row column low high named) [
           | inl spaced ↦ inl spaced

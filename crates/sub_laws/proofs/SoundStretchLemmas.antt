@@ -66,12 +66,7 @@ module _ (transmission : Transmission) (options : OptionsValue) (a b : ℕ)
 
   -- So a sound stretch is one of repeats of which none may keep.
   pub repeated : IsRepeatedStretch false transmission options a b
-  repeated = record {
-    first = stretch.first;
-    rising = stretch.rising;
-    sends = sends_from;
-    repeats = stretch.repeats;
-  }
+  repeated = assumption (sends_from, stretch)
 
 -- And one of repeats of which none may keep is sound.
 pub sound_of_repeated :

@@ -13,12 +13,12 @@ use Rattle.ttx_page.specs.Repeats.{MayFollow}
 use Rattle.stl_rows.specs.Programme.{ProgrammeValue}
 use Rattle.sub_plan.specs.Options.{OptionsValue}
 use Rattle.sub_rules.specs.Events.{is_gap, standing_at}
-use Rattle.sub_rules.specs.FrameRules.{Criteria, HasHeader, Unread, frame_at, packets_before}
+use Rattle.sub_rules.specs.FrameRules.{Criteria, HasHeader, Unread, frame_at}
 use Rattle.sub_rules.specs.FrameRules.{packets_of_frame, watched_of}
 use Rattle.sub_rules.specs.Good.{HoldsHeader}
 use Rattle.sub_rules.specs.PacketRules.{KeepsRule, codes_of}
 use Rattle.sub_rules.specs.PacketTests.{breaks}
-use Rattle.sub_rules.specs.Transmission.{Transmission, first_frame, on_air_until}
+use Rattle.sub_rules.specs.Transmission.{Transmission, first_frame}
 use Rattle.sub_rules.specs.declared.packet_rule.PacketRule.{PacketRule}
 use Rattle.sub_rules.specs.declared.packet_rule.PacketRule.TheVariants as rule
 use Rattle.sub_laws.specs.CleanStretch.{AtPackets, IsEnd, IsUntold, criteria_unsure, is_needed}
@@ -27,8 +27,7 @@ use Rattle.sub_rules.proofs.CodesLemmas.{code_of_column}
 use Rattle.ttx_page.proofs.DifferingLemmas.{columns_zero}
 use Rattle.sub_laws.proofs.BrokenRuleLemmas.{refuted, rule_decided}
 use Rattle.sub_laws.proofs.GoodLemmas.{any_sent, rises_each}
-use Rattle.sub_laws.proofs.PrefixLemmas.{RiseTo, before, first-same}
-use Rattle.sub_laws.proofs.PrefixLemmas.{packet_at, rises_to}
+use Rattle.sub_laws.proofs.PrefixLemmas.{before, first-same, packet_at, rises_to}
 use Rattle.sub_laws.proofs.FollowedStretchLemmas as stretches
 use Rattle.sub_laws.proofs.SoundStretchLemmas.{last_of_two}
 use Rattle.sub_laws.proofs.StandingLemmas.{gap_decided}
@@ -91,18 +90,6 @@ module _ (programme : ProgrammeValue) (transmission : Transmission) (options : O
         ∙ code_of_column (slice_index_or (packets_of_frame transmission i) k []) column;
   }
 
-  -- Each frame of the list is after the one before.
-  pub rising : RiseTo transmission (length transmission)
-  rising = rises_each transmission untold.rising
-
-  -- Each frame of the stretch has an end, at which what is on air up to it counts.
-  pub end_of : (f : ℕ) → a ≤ f → f ≤ b
-      → (n : ℕ)
-      × IsEnd transmission n f
-      × (on_air_until transmission f ≡ packets_before transmission n)
-      × (frame_at transmission (n - 1) ≤ f)
-  end_of = stretches.end_of transmission a b untold.stretch untold.rising
-
   gap_is : (n f : ℕ) → IsEnd transmission n f → a ≤ f → f ≤ b → is_gap g transmission n f ≡ false
   unfolding standing_at
   gap_is n f end low high = untold.gap n f end low high
@@ -121,12 +108,14 @@ module _ (programme : ProgrammeValue) (transmission : Transmission) (options : O
       × HasHeader g transmission j)
   covered f low high =
       let first = first-same transmission in
-      let (n, end, on, before) = end_of f low high in
+      let (n, end, on, before) =
+      stretches.end_of transmission a b untold.stretch untold.rising f low high in
       elim ((gap_decided g transmission n f end.1).0 (ap not (gap_is n f end low high))) [
         | inl early ↦ inl (omega arith)
         | inr (j, l, late, has) ↦
             let rises =
-            rises_to transmission (length transmission) rising j (n - 1) (omega arith)
+            rises_to transmission (length transmission) (rises_each transmission untold.rising) j
+            (n - 1) (omega arith)
             (omega (arith, end.0, end.1)) in
             inr (j, omega (arith, end.1), omega arith, late, has)
       ]

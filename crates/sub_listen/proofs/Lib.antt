@@ -1,4 +1,3 @@
-pub mod FileLemmas
 pub mod ReceptionLemmas
 pub mod RunningLemmas
 pub mod WaysOutLemmas

@@ -297,14 +297,7 @@ module _ (g : Criteria) (frames : Transmission) (a b i : ℕ)
           Leads-nil (top g frames a b i fits) b (Open n []) sent (
             opens,
             record {
-              follows = record {
-                rises = now.rises;
-                run = now.run;
-                low = now.low;
-                whole = now.whole;
-                since = now.since;
-                back = now.back;
-              };
+              follows = assumption now;
               clean = clean;
               back = λ l past r some. absurd (none-some r (sym none ∙ some));
             },

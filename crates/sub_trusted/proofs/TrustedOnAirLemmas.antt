@@ -152,8 +152,9 @@ pub law_of_trusted : LawOfTrusted
 law_of_trusted programme options unread any_refused undecided pieces from to none at_once told =
     record {
       passed =
-          passed_outside (criteria_unsure programme options unread any_refused undecided) pieces from
-          to told;
+          passed_outside (criteria_unsure programme options unread any_refused undecided) pieces
+          from to
+          told;
       stays = λ on_air is.
           may_stay_at_once programme options unread any_refused undecided pieces from to told on_air
           is none at_once;

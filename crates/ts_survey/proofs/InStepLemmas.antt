@@ -1,19 +1,38 @@
 -- What stands in bytes that come bit by bit, and what was found in them: starts, skipped_on,
--- found_none, found_packet and found_skips.
+-- found_none, found_packet and found_skips; that two calls find what one does: law_of_two_calls.
 use Rattle.std.proofs.Common.{◌≡◌, ℕ, zero, suc, ◌+◌, ◌-◌, ◌*◌, ◌<◌, ◌≤◌, Bool, true, false}
-use Rattle.std.proofs.Common.{List, [], ◌∷◌, ◌++◌, ◌∙◌, drop, take, length, replicate, Option}
+use Rattle.std.proofs.Common.{List, [], ◌∷◌, ◌++◌, ◌∙◌, drop, take, length, replicate}
 use Rattle.std.proofs.Common.{refl, sym, ap, subst, arith, append-nil, append_assoc}
 use Rattle.std.proofs.Common.{drop-drop, length-append, length-drop}
 use Rattle.std.proofs.lemmas.Bool.Decides.{nat_tests}
 use Rattle.std.proofs.lemmas.List.{get_or-drop, take-append-le, drop-append-le}
-use Rattle.std.proofs.KnownBytes.{Appends-kept, Appends-nil, Appends-trans}
-use Rattle.std.specs.Prelude.{slice_index, ◌==◌, ◌&&◌, ◌||◌}
-use Rattle.std.specs.Io.KnownBytes.{Appends, Keeps}
+use Rattle.std.specs.Prelude.{slice_index, ◌==◌, ◌&&◌, ◌||◌, nat_le, nat_lt, if◌then◌else◌}
+use Rattle.mpeg_ts.specs.GoodPackets.{hole_size}
+use Rattle.mpeg_ts.specs.PacketSize.{bytes_of}
+use Rattle.mpeg_ts.specs.declared.packet_size.PacketSize.{PacketSize}
+use Rattle.mpeg_ts.specs.declared.packet_size.PacketSize.TheVariants.{Plain, TimeStamped}
+use Rattle.mpeg_ts.specs.declared.packet_size.PacketSize.TheVariants.{ErrorCorrected}
 use Rattle.mpeg_ts.specs.PacketsInStep.{Item, Packet, Skipped, begins_packet, items}
 use Rattle.mpeg_ts.proofs.StreamLemmas.{by_bool, items_end, items_packet, items_skipped}
-use Rattle.ts_survey.specs.InStep.{AreFound, counted_on, items_from, packet_count, packets_in}
-use Rattle.ts_survey.specs.InStep.{skipped_in}
+use Rattle.ttx_page.specs.Receiver.{RunsBy}
+use Rattle.ttx_page.proofs.RunLemmas.{RunsBy-append}
+use Rattle.ts_survey.specs.InStep.{AreFound, LawOfTwoCalls, behind, counted_on}
+use Rattle.ts_survey.specs.InStep.{hole_told, items_from, packet_count, skipped_after, skipped_in}
+use Rattle.ts_survey.specs.InStep.{told_of}
 use Rattle.ts_survey.specs.declared.packets_in_step.PacketsInStep.{PacketsInStep}
+
+-- The bytes from one packet to the next.
+pub size_near : (size : PacketSize) → 188 ≤ bytes_of size
+size_near Plain = omega arith
+size_near TimeStamped = omega arith
+size_near ErrorCorrected = omega arith
+
+pub size_far : (size : PacketSize) → bytes_of size ≤ 204
+size_far Plain = omega arith
+size_far TimeStamped = omega arith
+size_far ErrorCorrected = omega arith
+
+pub ruleset sizes = (size_near, size_far)
 
 -- A byte that has come stays where it is, whatever follows.
 pub index_known : (bytes more : List ℕ) (place : ℕ)
@@ -139,13 +158,32 @@ suc_first : (a b : ℕ) → suc a + b ≡ suc (a + b)
 suc_first a b = omega arith
 
 -- Items, and then others.
-packets_in-append : (xs ys : List Item) → packets_in (xs ++ ys) ≡ packets_in xs ++ packets_in ys
-unfolding packets_in
-packets_in-append [] ys = refl
-packets_in-append (Packet p ∷ xs) ys =
-    ap (λ l. p ++ l) (packets_in-append xs ys)
-    ∙ sym (append_assoc p (packets_in xs) (packets_in ys))
-packets_in-append (Skipped ∷ xs) ys = packets_in-append xs ys
+skipped_after-append : (run : ℕ) (xs ys : List Item)
+    → skipped_after run (xs ++ ys) ≡ skipped_after (skipped_after run xs) ys
+unfolding skipped_after
+skipped_after-append run [] ys = refl
+skipped_after-append run (Packet p ∷ xs) ys = skipped_after-append 0 xs ys
+skipped_after-append run (Skipped ∷ xs) ys = skipped_after-append (counted_on run 1) xs ys
+
+skipped_after-small : (run : ℕ) (xs : List Item)
+    → run ≤ 0xFFFF_FFFF_FFFF_FFFF
+    → skipped_after run xs ≤ 0xFFFF_FFFF_FFFF_FFFF
+unfolding skipped_after
+skipped_after-small run [] small = small
+skipped_after-small run (Packet p ∷ xs) small = skipped_after-small 0 xs (omega arith)
+skipped_after-small run (Skipped ∷ xs) small =
+    skipped_after-small (counted_on run 1) xs (grind (arith, nat_tests))
+
+told_of-append : (distance run : ℕ) (xs ys : List Item)
+    → told_of distance run (xs ++ ys)
+    ≡ told_of distance run xs ++ told_of distance (skipped_after run xs) ys
+unfolding skipped_after told_of
+told_of-append distance run [] ys = refl
+told_of-append distance run (Packet p ∷ xs) ys = ap (λ l. p ∷ l) (told_of-append distance 0 xs ys)
+told_of-append distance run (Skipped ∷ xs) ys =
+    ap (λ l. hole_told distance (counted_on run 1) ++ l)
+    (told_of-append distance (counted_on run 1) xs ys)
+    ∙ sym (append_assoc (hole_told distance (counted_on run 1)) _ _)
 
 packet_count-append : (xs ys : List Item)
     → packet_count (xs ++ ys) ≡ packet_count xs + packet_count ys
@@ -163,10 +201,25 @@ skipped_in-append (Skipped ∷ xs) ys =
     ap suc (skipped_in-append xs ys) ∙ sym (suc_first (skipped_in xs) (skipped_in ys))
 
 -- Bytes that belong to none.
-packets_in-skipped : (k : ℕ) → packets_in (replicate k Skipped) ≡ []
-unfolding packets_in
-packets_in-skipped zero = refl
-packets_in-skipped (suc k) = packets_in-skipped k
+skipped_after-skipped : (k run : ℕ)
+    → run ≤ 0xFFFF_FFFF_FFFF_FFFF
+    → skipped_after run (replicate k Skipped) ≡ counted_on run k
+unfolding skipped_after
+skipped_after-skipped zero run small = grind (arith, nat_tests)
+skipped_after-skipped (suc k) run small =
+    grind (arith, nat_tests, skipped_after-skipped k (counted_on run 1))
+
+-- A hole is told once among them, where it ends there.
+told_of-skipped : (distance k run : ℕ)
+    → distance ≤ 204
+    → run ≤ 0xFFFF_FFFF_FFFF_FFFF
+    → told_of distance run (replicate k Skipped)
+    ≡ (if nat_lt run (hole_size distance) && nat_le (hole_size distance) (counted_on run k)
+    then [] ∷ [] else [])
+unfolding told_of
+told_of-skipped distance zero run far small = grind (arith, nat_tests)
+told_of-skipped distance (suc k) run far small =
+    grind (arith, nat_tests, told_of-skipped distance k (counted_on run 1))
 
 packet_count-skipped : (k : ℕ) → packet_count (replicate k Skipped) ≡ 0
 unfolding packet_count
@@ -178,20 +231,67 @@ unfolding skipped_in
 skipped_in-skipped zero = refl
 skipped_in-skipped (suc k) = ap suc (skipped_in-skipped k)
 
+-- They end a hole, or they end none: they are before its end, or behind it.
+pub hole_taken :
+    {T : Type 0} (IsTaken : T → List ℕ → T → Type 0) (distance k run : ℕ) (old new : T)
+    → distance ≤ 204
+    → run ≤ 0xFFFF_FFFF_FFFF_FFFF
+    → run < 15 * distance
+    → 15 * distance ≤ counted_on run k
+    → IsTaken old [] new
+    → RunsBy IsTaken old (told_of distance run (replicate k Skipped)) new
+hole_taken IsTaken distance k run old new far small before behind_it taken =
+    let ends : (nat_lt run (15 * distance) && nat_le (15 * distance) (counted_on run k)) ≡ true =
+    grind (arith, nat_tests, before, behind_it) in
+    subst (λ l. RunsBy IsTaken old l new)
+    (sym (told_of-skipped distance k run far small ∙ ap (λ b. if b then [] ∷ [] else []) ends))
+    (new, taken, refl)
+
+pub none_taken_before :
+    {T : Type 0} (IsTaken : T → List ℕ → T → Type 0) (distance k run : ℕ) (old : T)
+    → distance ≤ 204
+    → run ≤ 0xFFFF_FFFF_FFFF_FFFF
+    → counted_on run k < 15 * distance
+    → RunsBy IsTaken old (told_of distance run (replicate k Skipped)) old
+none_taken_before IsTaken distance k run old far small before =
+    let none : (nat_lt run (15 * distance) && nat_le (15 * distance) (counted_on run k)) ≡ false =
+    grind (arith, nat_tests, before) in
+    subst (λ l. RunsBy IsTaken old l old)
+    (sym (told_of-skipped distance k run far small ∙ ap (λ b. if b then [] ∷ [] else []) none))
+    refl
+
+pub none_taken_behind :
+    {T : Type 0} (IsTaken : T → List ℕ → T → Type 0) (distance k run : ℕ) (old : T)
+    → distance ≤ 204
+    → run ≤ 0xFFFF_FFFF_FFFF_FFFF
+    → 15 * distance ≤ run
+    → RunsBy IsTaken old (told_of distance run (replicate k Skipped)) old
+none_taken_behind IsTaken distance k run old far small behind_it =
+    let none : (nat_lt run (15 * distance) && nat_le (15 * distance) (counted_on run k)) ≡ false =
+    grind (arith, nat_tests, behind_it) in
+    subst (λ l. RunsBy IsTaken old l old)
+    (sym (told_of-skipped distance k run far small ∙ ap (λ b. if b then [] ∷ [] else []) none))
+    refl
+
+pub ruleset holes = (hole_taken, none_taken_before, none_taken_behind)
+
 -- Nothing yet.
-pub found_none : (old : PacketsInStep) (before : Option (List ℕ)) (bytes : List ℕ) (is_end : Bool)
+pub found_none :
+    {T : Type 0} (IsTaken : T → List ℕ → T → Type 0) (old : PacketsInStep) (before : T)
+    (bytes : List ℕ) (is_end : Bool)
     → old.number ≤ 0xFFFF_FFFF_FFFF_FFFF
     → old.skipped ≤ 0xFFFF_FFFF_FFFF_FFFF
-    → AreFound old before bytes is_end old.lead 0 old before
-unfolding packets_in packet_count skipped_in
-found_none old before bytes is_end number skipped = record {
+    → AreFound IsTaken old before bytes is_end old.lead 0 old before
+unfolding packet_count skipped_after skipped_in told_of
+found_none IsTaken old before bytes is_end number skipped = record {
   found = [];
   stand = λ more none. refl;
   up_to = grind (arith, nat_tests);
-  taken = Appends-nil before;
+  taken = refl;
+  run = refl;
   number = grind (arith, nat_tests);
   skipped = grind (arith, nat_tests);
-  distance = refl;
+  size = refl;
 }
 
 -- Sizes add up.
@@ -200,25 +300,26 @@ sums lead d a b s t = grind arith
 
 -- Items were found up to a place, and others from there on.
 module _
-    (old mid new : PacketsInStep) (before told after : Option (List ℕ)) (bytes : List ℕ)
-    (is_end : Bool) (at place rest : ℕ)
+    {T : Type 0} (IsTaken : T → List ℕ → T → Type 0) (old mid new : PacketsInStep)
+    (before told after : T) (bytes : List ℕ) (is_end : Bool) (at place rest : ℕ)
   where
     found_more : (those : List Item)
-        → AreFound old before bytes is_end at 0 mid told
+        → AreFound IsTaken old before bytes is_end at 0 mid told
         → ((more : List ℕ)
         → (is_end ≡ true → more ≡ [])
-        → items_from mid.distance.bytes mid.in_step (drop at (bytes ++ more))
-        ≡ those ++ items_from mid.distance.bytes new.in_step (drop place (bytes ++ more)))
-        → place ≡ at + mid.distance.bytes * packet_count those + skipped_in those
-        → Appends told after (packets_in those)
+        → items_from (bytes_of mid.size) mid.in_step (drop at (bytes ++ more))
+        ≡ those ++ items_from (bytes_of mid.size) new.in_step (drop place (bytes ++ more)))
+        → place ≡ at + bytes_of mid.size * packet_count those + skipped_in those
+        → RunsBy IsTaken told (told_of (bytes_of mid.size) mid.run those) after
+        → new.run ≡ skipped_after mid.run those
         → new.number ≡ counted_on mid.number (packet_count those)
         → new.skipped ≡ counted_on mid.skipped (skipped_in those + rest)
-        → new.distance ≡ mid.distance
-        → AreFound old before bytes is_end place rest new after
-    found_more those first stand up_to taken number skipped distance =
+        → new.size ≡ mid.size
+        → AreFound IsTaken old before bytes is_end place rest new after
+    found_more those first stand up_to taken run number skipped size =
         let of_number = packet_count-append first.found those in
         let of_skipped = skipped_in-append first.found those in
-        let same : mid.distance.bytes ≡ old.distance.bytes = first.distance in
+        let same : bytes_of mid.size ≡ bytes_of old.size = ap bytes_of first.size in
         record {
           found = first.found ++ those;
           stand = λ more none.
@@ -228,89 +329,175 @@ module _
           up_to =
               let by = first.up_to in
               rw (of_number, of_skipped)
-              (up_to ∙ rw (same, by) (sums old.lead old.distance.bytes _ _ _ _));
+              (up_to ∙ rw (same, by) (sums old.lead (bytes_of old.size) _ _ _ _));
           taken =
-              subst (λ l. Appends before after l) (sym (packets_in-append first.found those))
-              (Appends-trans before told after _ _ first.taken taken);
+              subst (λ l. RunsBy IsTaken before l after)
+              (sym (told_of-append (bytes_of old.size) old.run first.found those))
+              (RunsBy-append IsTaken (told_of (bytes_of old.size) old.run first.found)
+              (told_of (bytes_of old.size) (skipped_after old.run first.found) those)
+              before told after
+              first.taken
+              (subst (λ n. RunsBy IsTaken told (told_of (bytes_of old.size) n those) after)
+              first.run
+              (subst (λ n. RunsBy IsTaken told (told_of n mid.run those) after) same taken)));
+          run =
+              run ∙ ap (λ n. skipped_after n those) first.run
+              ∙ sym (skipped_after-append old.run first.found those);
           number = grind (arith, nat_tests, of_number, first.number);
           skipped = grind (arith, nat_tests, of_skipped, first.skipped);
-          distance = ap (λ d. d.bytes) distance ∙ first.distance;
+          size = size ∙ first.size;
         }
 
 -- A packet.
-pub found_packet : (old mid new : PacketsInStep) (before told after : Option (List ℕ))
-    (bytes packet : List ℕ) (is_end : Bool) (at : ℕ)
-    → AreFound old before bytes is_end at 0 mid told
+pub found_packet :
+    {T : Type 0} (IsTaken : T → List ℕ → T → Type 0) (old mid new : PacketsInStep)
+    (before told after : T) (bytes packet : List ℕ) (is_end : Bool) (at : ℕ)
+    → AreFound IsTaken old before bytes is_end at 0 mid told
     → at + 188 ≤ length bytes
-    → 188 ≤ mid.distance.bytes
+    → 188 ≤ bytes_of mid.size
     → mid.skipped ≤ 0xFFFF_FFFF_FFFF_FFFF
     → packet ≡ take 188 (drop at bytes)
     → ((more : List ℕ)
-    → begins_packet mid.distance.bytes mid.in_step (drop at (bytes ++ more)) ≡ true)
+    → begins_packet (bytes_of mid.size) mid.in_step (drop at (bytes ++ more)) ≡ true)
     → new ≡ record mid { in_step = true; number = counted_on mid.number 1; run = 0 }
-    → Appends told after packet
-    → AreFound old before bytes is_end (at + mid.distance.bytes) 0 new after
-unfolding packets_in packet_count skipped_in
-found_packet old mid new before told after bytes packet is_end at first there near small is
+    → IsTaken told packet after
+    → AreFound IsTaken old before bytes is_end (at + bytes_of mid.size) 0 new after
+unfolding packet_count skipped_after skipped_in told_of
+found_packet IsTaken old mid new before told after bytes packet is_end at first there near small is
     begins next taken =
     subst (λ (s : PacketsInStep).
-    AreFound old before bytes is_end (at + mid.distance.bytes) 0 s after) (sym next)
-    (found_more old mid (record mid { in_step = true; number = counted_on mid.number 1; run = 0 })
-    before told after bytes is_end at (at + mid.distance.bytes) 0 (Packet packet ∷ []) first
+    AreFound IsTaken old before bytes is_end (at + bytes_of mid.size) 0 s after) (sym next)
+    (found_more IsTaken old mid
+    (record mid { in_step = true; number = counted_on mid.number 1; run = 0 })
+    before told after bytes is_end at (at + bytes_of mid.size) 0 (Packet packet ∷ []) first
     (λ more none.
-    front_packet mid.distance.bytes mid.in_step (drop at (bytes ++ more)) near
+    front_packet (bytes_of mid.size) mid.in_step (drop at (bytes ++ more)) near
     (omega (arith, length-drop at (bytes ++ more), length-append bytes more)) (begins more)
-    ∙ ap (λ p. Packet p ∷ items_from mid.distance.bytes true
-    (drop mid.distance.bytes (drop at (bytes ++ more))))
+    ∙ ap (λ p. Packet p ∷ items_from (bytes_of mid.size) true
+    (drop (bytes_of mid.size) (drop at (bytes ++ more))))
     (ap (take 188) (drop-append-le at bytes more (omega arith))
     ∙ take-append-le 188 (drop at bytes) more (omega (arith, length-drop at bytes)) ∙ sym is)
-    ∙ ap (λ l. Packet packet ∷ items_from mid.distance.bytes true l)
-    (drop-drop mid.distance.bytes at (bytes ++ more)))
+    ∙ ap (λ l. Packet packet ∷ items_from (bytes_of mid.size) true l)
+    (drop-drop (bytes_of mid.size) at (bytes ++ more)))
     (omega arith)
-    (subst (λ l. Appends told after l) (sym (append-nil packet)) taken)
-    refl (grind (arith, nat_tests)) refl)
+    (after, taken, refl) refl refl (grind (arith, nat_tests)) refl)
 
 -- Bytes that belong to none: one, and those behind it.
-pub found_skips : (old mid new : PacketsInStep) (before told after : Option (List ℕ))
-    (bytes : List ℕ) (is_end : Bool) (at next : ℕ)
-    → AreFound old before bytes is_end at 0 mid told
+pub found_skips :
+    {T : Type 0} (IsTaken : T → List ℕ → T → Type 0) (old mid new : PacketsInStep)
+    (before told after : T) (bytes : List ℕ) (is_end : Bool) (at next : ℕ)
+    → AreFound IsTaken old before bytes is_end at 0 mid told
     → at + 188 ≤ length bytes
-    → 188 ≤ mid.distance.bytes
+    → 188 ≤ bytes_of mid.size
     → mid.number ≤ 0xFFFF_FFFF_FFFF_FFFF
+    → old.run ≤ 0xFFFF_FFFF_FFFF_FFFF
     → ((more : List ℕ)
     → (is_end ≡ true → more ≡ [])
-    → begins_packet mid.distance.bytes mid.in_step (drop at (bytes ++ more)) ≡ false)
+    → begins_packet (bytes_of mid.size) mid.in_step (drop at (bytes ++ more)) ≡ false)
     → at + 1 ≤ next
     → ((more : List ℕ)
-    → items_from mid.distance.bytes false (drop (at + 1) (bytes ++ more))
+    → items_from (bytes_of mid.size) false (drop (at + 1) (bytes ++ more))
     ≡ replicate (next - (at + 1)) Skipped
-    ++ items_from mid.distance.bytes false (drop next (bytes ++ more)))
+    ++ items_from (bytes_of mid.size) false (drop next (bytes ++ more)))
     → new ≡ record mid {
       in_step = false;
-      run = new.run;
+      run = counted_on mid.run (next - at);
       skipped = counted_on mid.skipped (next - at);
     }
-    → Keeps told after
-    → AreFound old before bytes is_end next 0 new after
-found_skips old mid new before told after bytes is_end at next first there near small skips
-    behind_at stand is kept =
+    → RunsBy IsTaken told
+    (told_of (bytes_of mid.size) mid.run (replicate (next - at) Skipped)) after
+    → AreFound IsTaken old before bytes is_end next 0 new after
+found_skips IsTaken old mid new before told after bytes is_end at next first there near small
+    small_run skips behind_at stand is taken =
+    let run : mid.run ≤ 0xFFFF_FFFF_FFFF_FFFF =
+    subst (λ n. n ≤ 0xFFFF_FFFF_FFFF_FFFF) (sym first.run)
+    (skipped_after-small old.run first.found small_run) in
     let count : suc (next - (at + 1)) ≡ next - at = omega arith in
     let passed = skipped_in-skipped (next - at) in
     let none_in = packet_count-skipped (next - at) in
-    subst (λ (s : PacketsInStep). AreFound old before bytes is_end next 0 s after) (sym is)
-    (found_more old mid
-    (record mid { in_step = false; run = new.run; skipped = counted_on mid.skipped (next - at) })
+    subst (λ (s : PacketsInStep). AreFound IsTaken old before bytes is_end next 0 s after) (sym is)
+    (found_more IsTaken old mid
+    (record mid {
+      in_step = false;
+      run = counted_on mid.run (next - at);
+      skipped = counted_on mid.skipped (next - at);
+    })
     before told after bytes is_end at next 0 (replicate (next - at) Skipped) first
     (λ more none.
-    front_skipped mid.distance.bytes mid.in_step (drop at (bytes ++ more)) near
+    front_skipped (bytes_of mid.size) mid.in_step (drop at (bytes ++ more)) near
     (omega (arith, length-drop at (bytes ++ more), length-append bytes more)) (skips more none)
-    ∙ ap (λ l. Skipped ∷ items_from mid.distance.bytes false l) (drop-drop 1 at (bytes ++ more))
+    ∙ ap (λ l. Skipped ∷ items_from (bytes_of mid.size) false l) (drop-drop 1 at (bytes ++ more))
     ∙ ap (λ l. Skipped ∷ l) (stand more)
     ∙ ap (λ n. replicate n Skipped
-    ++ items_from mid.distance.bytes false (drop next (bytes ++ more))) count)
+    ++ items_from (bytes_of mid.size) false (drop next (bytes ++ more))) count)
     (rw (passed, none_in) (omega arith))
-    (subst (λ l. Appends told after l) (sym (packets_in-skipped (next - at)))
-    (Appends-kept told told after [] (Appends-nil told) kept))
+    taken (sym (skipped_after-skipped (next - at) mid.run run))
     (rw none_in (grind (arith, nat_tests)))
     (rw passed (grind (arith, nat_tests)))
     refl)
+
+-- ---- bytes that come in two calls
+
+-- What was found in bytes is found in them and more.
+found_ahead :
+    {T : Type 0} (IsTaken : T → List ℕ → T → Type 0) (old new : PacketsInStep) (before after : T)
+    (bytes more : List ℕ) (is_end : Bool) (place : ℕ)
+    → AreFound IsTaken old before bytes false place 0 new after
+    → AreFound IsTaken old before (bytes ++ more) is_end place 0 new after
+found_ahead IsTaken old new before after bytes more is_end place first = record {
+  found = first.found;
+  stand = λ rest none. rw (append_assoc bytes more rest) (first.stand (more ++ rest)
+      (λ is. grind (arith, nat_tests, is)));
+  up_to = first.up_to;
+  taken = first.taken;
+  run = first.run;
+  number = first.number;
+  skipped = first.skipped;
+  size = first.size;
+}
+
+pub law_of_two_calls : {T : Type 0} (IsTaken : T → List ℕ → T → Type 0) → LawOfTwoCalls IsTaken
+law_of_two_calls IsTaken old mid new before told after bytes more is_end used more_used one other =
+    let within = one.within in
+    let all = bytes ++ more in
+    let place = used + more_used + new.lead in
+    let at_place : used + (more_used + new.lead) ≡ place = omega arith in
+    let size = length-append bytes more in
+    let left = length-append (drop used bytes) more in
+    let dropped = length-drop used bytes in
+    let ahead : (at : ℕ) → drop at (drop used bytes ++ more) ≡ drop (used + at) all =
+    λ at. ap (drop at) (sym (drop-append-le used bytes more within)) ∙ drop-drop at used all in
+    let whole : (at : ℕ) (rest : List ℕ)
+    → drop at ((drop used bytes ++ more) ++ rest) ≡ drop (used + at) (all ++ rest) =
+    λ at rest.
+    ap (λ l. drop at (l ++ rest)) (sym (drop-append-le used bytes more within))
+    ∙ ap (drop at) (sym (drop-append-le used all rest (omega (arith, within, size))))
+    ∙ drop-drop at used (all ++ rest) in
+    let same : behind is_end (drop used bytes ++ more) (more_used + new.lead)
+    ≡ behind is_end all place =
+    ap (λ n. if is_end then n else 0) (omega (arith, within, size, left, dropped)) in
+    let up_to = other.found.up_to in
+    let others = other.found.found in
+    let distance = bytes_of mid.size in
+    record {
+      within = omega (arith, within, size, left, dropped, other.within);
+      found =
+          found_more IsTaken old mid new before told after all is_end (used + mid.lead) place
+          (behind is_end all place) others
+          (found_ahead IsTaken old mid before told bytes more is_end (used + mid.lead) one.found)
+          (λ rest none.
+          ap (items_from distance mid.in_step) (sym (whole mid.lead rest))
+          ∙ other.found.stand rest none
+          ∙ ap (λ l. others ++ items_from distance new.in_step l)
+          (whole (more_used + new.lead) rest ∙ ap (λ n. drop n (all ++ rest)) at_place))
+          (omega (arith, up_to))
+          other.found.taken other.found.run other.found.number
+          (subst (λ n. new.skipped ≡ counted_on mid.skipped (skipped_in others + n)) same
+          other.found.skipped)
+          other.found.size;
+      left = omega (arith, within, size, left, dropped, other.left);
+      all = λ is.
+          ap (items_from (bytes_of new.size) new.in_step)
+          (sym (ahead (more_used + new.lead) ∙ ap (λ n. drop n all) at_place))
+          ∙ other.all is;
+    }

@@ -86,6 +86,7 @@ reach_words p Over = []
 reach_words p Before = pictures_line p (codes " 0\n")
 reach_words p Within = pictures_line p (codes " 1\n")
 
+-- That of a PID with pictures, by how far these have come.
 abbrev pub pictures_words : Pictures → List (List ℕ)
 pictures_words p = reach_words p p.reach
 
@@ -98,6 +99,7 @@ abbrev pub pcr_words : ℕ → Option (ℕ × ℕ) → List (List ℕ)
 pcr_words pid None = []
 pcr_words pid (Some (pcr, at)) = pcr_line pid pcr
 
+-- That of a clock: of its last PCR.
 abbrev pub clock_words : Clock → List (List ℕ)
 clock_words c = pcr_words c.pid c.last
 
@@ -112,6 +114,7 @@ abbrev pub place_in : Option PidState → ℕ
 place_in None = 0xFF
 place_in (Some state) = state.carrier
 
+-- That of a PID, by what is known of it.
 abbrev pub carrier_place : Pids → ℕ → ℕ
 carrier_place pids pid = place_in (slice_get pids.states.items pid)
 

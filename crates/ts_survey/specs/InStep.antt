@@ -1,40 +1,52 @@
 -- What is found in bytes of a transport stream that come bit by bit: packets in step, and bytes
--- that belong to none, as mpeg_ts.specs.PacketsInStep has them.
-use Rattle.std.specs.Prelude.{◌≡◌, ℕ, suc, ◌+◌, ◌-◌, ◌*◌, min, Bool, true, if◌then◌else◌}
-use Rattle.std.specs.Prelude.{List, [], ◌∷◌, ◌++◌, length, drop, Option, None}
-use Rattle.std.specs.Io.KnownBytes.{Appends}
-use Rattle.mpeg_ts.specs.PacketsInStep.{Item, Packet, Skipped, items}
+-- that belong to none, as mpeg_ts.specs.PacketsInStep has them; and what is told of them.
+use Rattle.std.specs.Prelude.{◌≡◌, ℕ, suc, ◌+◌, ◌-◌, ◌*◌, ◌<◌, ◌≤◌, ◌==◌, min, Bool, true, false}
+use Rattle.std.specs.Prelude.{if◌then◌else◌, List, [], ◌∷◌, ◌++◌, length, drop}
+use Rattle.mpeg_ts.specs.GoodPackets.{hole_size}
+use Rattle.mpeg_ts.specs.PacketSize.{bytes_of}
+use Rattle.mpeg_ts.specs.PacketsInStep.{Item, Packet, Skipped, bytes_needed, items}
+use Rattle.ttx_page.specs.Receiver.{RunsBy}
 use Rattle.ts_survey.specs.declared.packets_in_step.PacketsInStep.{PacketsInStep}
 
 -- A number, and some more: it stays at the last number of 64 bits.
 abbrev pub counted_on : ℕ → ℕ → ℕ
 counted_on number more = min (number + more) 0xFFFF_FFFF_FFFF_FFFF
 
--- Nothing is told of what was taken.
-abbrev pub untold : {T : Type 0} → T → Option (List ℕ)
-untold taker = None
-
 -- The items that bytes begin with.
 unfoldable pub items_from : ℕ → Bool → List ℕ → List Item
 items_from distance in_step bytes = items distance in_step (length bytes) bytes
 
--- The packets among items, each behind the one before.
-unfoldable pub packets_in : List Item → List ℕ
-packets_in [] = []
-packets_in (Packet p ∷ more) = p ++ packets_in more
-packets_in (Skipped ∷ more) = packets_in more
-
--- How many they are.
+-- How many packets are among items.
 unfoldable pub packet_count : List Item → ℕ
 packet_count [] = 0
 packet_count (Packet p ∷ more) = suc (packet_count more)
 packet_count (Skipped ∷ more) = packet_count more
 
--- And how many bytes belong to none.
+-- And how many bytes that belong to none.
 unfoldable pub skipped_in : List Item → ℕ
 skipped_in [] = 0
 skipped_in (Packet p ∷ more) = skipped_in more
 skipped_in (Skipped ∷ more) = suc (skipped_in more)
+
+-- So many are skipped in a row behind items, where so many were before them.
+unfoldable pub skipped_after : ℕ → List Item → ℕ
+skipped_after run [] = run
+skipped_after run (Packet p ∷ more) = skipped_after 0 more
+skipped_after run (Skipped ∷ more) = skipped_after (counted_on run 1) more
+
+-- A hole is told at its last byte, by [], for there is no packet. 15 packets of a PID may have
+-- stood there unseen. Fewer show in the next continuity_counter (4 bits; ISO/IEC 13818-1, 2.4.3.3):
+-- it is neither the last one, as that of a repeat, nor the one behind that.
+abbrev pub hole_told : ℕ → ℕ → List (List ℕ)
+hole_told distance run = if run == hole_size distance then [] ∷ [] else []
+
+-- What is told of items, where so many bytes were skipped in a row before them: each packet, and
+-- each hole.
+unfoldable pub told_of : ℕ → ℕ → List Item → List (List ℕ)
+told_of distance run [] = []
+told_of distance run (Packet p ∷ more) = p ∷ told_of distance 0 more
+told_of distance run (Skipped ∷ more) =
+    hole_told distance (counted_on run 1) ++ told_of distance (counted_on run 1) more
 
 -- The bytes behind the place up to which they were found belong to none at the end.
 abbrev pub behind : Bool → List ℕ → ℕ → ℕ
@@ -42,20 +54,47 @@ behind is_end bytes place = if is_end then length bytes - place else 0
 
 -- Items were found in bytes, from the place where they are looked at up to another one: whatever
 -- bytes follow, and none does at the end, it is they that stand there, before those from that place
--- on. The packets among them were taken. They are counted, and so are the bytes that belong to
--- none, with so many behind them.
+-- on. The packets and holes among them were taken. They are counted, and so are the bytes that
+-- belong to none, with so many behind them.
 pub record AreFound
-    (old : PacketsInStep) (before : Option (List ℕ)) (bytes : List ℕ) (is_end : Bool)
-    (place rest : ℕ) (new : PacketsInStep) (after : Option (List ℕ))
+    {T : Type 0} (IsTaken : T → List ℕ → T → Type 0) (old : PacketsInStep) (before : T)
+    (bytes : List ℕ) (is_end : Bool) (place rest : ℕ) (new : PacketsInStep) (after : T)
     : Type 0 where
   pub found : List Item
   pub stand :
       (more : List ℕ)
       → (is_end ≡ true → more ≡ [])
-      → items_from old.distance.bytes old.in_step (drop old.lead (bytes ++ more))
-      ≡ found ++ items_from old.distance.bytes new.in_step (drop place (bytes ++ more))
-  pub up_to : place ≡ old.lead + old.distance.bytes * packet_count found + skipped_in found
-  pub taken : Appends before after (packets_in found)
+      → items_from (bytes_of old.size) old.in_step (drop old.lead (bytes ++ more))
+      ≡ found ++ items_from (bytes_of old.size) new.in_step (drop place (bytes ++ more))
+  pub up_to : place ≡ old.lead + bytes_of old.size * packet_count found + skipped_in found
+  pub taken : RunsBy IsTaken before (told_of (bytes_of old.size) old.run found) after
+  pub run : new.run ≡ skipped_after old.run found
   pub number : new.number ≡ counted_on old.number (packet_count found)
   pub skipped : new.skipped ≡ counted_on old.skipped (skipped_in found + rest)
-  pub distance : new.distance.bytes ≡ old.distance.bytes
+  pub size : new.size ≡ old.size
+
+-- The packets that bytes have were taken, and so many bytes are not needed any more. Fewer are left
+-- than tell what stands next; at the end no packet is left.
+pub record TakesAll
+    {T : Type 0} (IsTaken : T → List ℕ → T → Type 0) (old : PacketsInStep) (before : T)
+    (bytes : List ℕ) (is_end : Bool) (used : ℕ) (new : PacketsInStep) (after : T)
+    : Type 0 where
+  pub within : used ≤ length bytes
+  pub found :
+      AreFound IsTaken old before bytes is_end (used + new.lead)
+      (behind is_end bytes (used + new.lead)) new after
+  pub left : length bytes < used + new.lead + bytes_needed (bytes_of new.size) new.in_step
+  pub all :
+      is_end ≡ true
+      → items_from (bytes_of new.size) new.in_step (drop (used + new.lead) bytes) ≡ []
+
+-- Bytes that come in two calls, what is left of the first ones before the others, are taken as they
+-- are in one.
+-- So what is told rests on all packets, whatever pieces a recording comes in.
+abbrev pub LawOfTwoCalls : {T : Type 0} → (T → List ℕ → T → Type 0) → Type 0
+LawOfTwoCalls {T} IsTaken =
+    (old mid new : PacketsInStep) (before told after : T) (bytes more : List ℕ) (is_end : Bool)
+    (used more_used : ℕ)
+    → TakesAll IsTaken old before bytes false used mid told
+    → TakesAll IsTaken mid told (drop used bytes ++ more) is_end more_used new after
+    → TakesAll IsTaken old before (bytes ++ more) is_end (used + more_used) new after

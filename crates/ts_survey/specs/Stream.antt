@@ -1,5 +1,6 @@
 -- What is read of a recording that is a transport stream.
 use Rattle.std.specs.Prelude.{◌≡◌, ℕ}
+use Rattle.mpeg_ts.specs.PacketSize.{bytes_of}
 use Rattle.mpeg_ts.specs.declared.survey_options.SurveyOptions.{SurveyOptions}
 use Rattle.ts_survey.specs.declared.recording.Kind.{Kind}
 use Rattle.ts_survey.specs.declared.recording.Kind.TheVariants.{Stream}
@@ -7,5 +8,5 @@ use Rattle.ts_survey.specs.declared.recording.Kind.TheVariants.{Stream}
 -- It is one, whose packets have that distance, and of which the PID that is asked for is followed.
 abbrev pub IsAsked : SurveyOptions → ℕ → Kind → Type 0
 IsAsked options distance (Stream packets multiplex) =
-    (packets.distance.bytes ≡ distance) × (multiplex.asked ≡ options.pid)
+    (bytes_of packets.size ≡ distance) × (multiplex.asked ≡ options.pid)
 IsAsked options distance _ = ⊥

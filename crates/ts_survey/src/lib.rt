@@ -14,7 +14,6 @@ mod adaptation;
 mod carrier;
 mod character_set;
 mod clock;
-mod distance;
 mod given;
 mod heard;
 mod laws;
@@ -37,6 +36,6 @@ mod telling;
 mod text;
 mod units;
 
-pub use laws::law_of_following;
+pub use laws::{law_of_following, law_of_two_calls};
 pub use pid_packets::{PidPackets, TakesPieces};
 pub use telling::{SurveyFault, survey};

@@ -1,14 +1,13 @@
 //! The packets of a transport stream, found in bytes that come bit by bit; bytes that belong to
 //! none are skipped and counted.
-ghost use Rattle.std.specs.Prelude.{◌≡◌, ◌≤◌, ◌<◌, ◌+◌, ◌-◌, List, [], ◌++◌, ℕ, Option, length};
+ghost use Rattle.std.specs.Prelude.{◌≡◌, ◌≤◌, ◌<◌, ◌+◌, ◌-◌, List, [], ◌++◌, ℕ, length};
 ghost use Rattle.std.specs.Prelude.{IfNone, IfSome, drop, false, replicate, take, true};
-ghost use Rattle.std.specs.Io.KnownBytes.{Appends, Keeps};
 ghost use Rattle.mpeg_ts.specs.PacketSize.{bytes_of};
-ghost use Rattle.mpeg_ts.specs.PacketsInStep.{Skipped, begins_packet, bytes_needed};
-ghost use Rattle.mpeg_ts.specs.PacketsInStep.{lead_size};
-ghost use Rattle.ts_survey.specs.InStep.{AreFound, behind, counted_on, items_from, untold};
+ghost use Rattle.mpeg_ts.specs.PacketsInStep.{Skipped, begins_packet, bytes_needed, lead_size};
+ghost use Rattle.ttx_page.specs.Receiver.{RunsBy};
+ghost use Rattle.ts_survey.specs.Following.{any_piece};
+ghost use Rattle.ts_survey.specs.InStep.{AreFound, TakesAll, counted_on, items_from, told_of};
 
-use crate::distance::Distance;
 use crate::text::Text;
 use mpeg_ts::{PACKET, PacketSize, SYNC_BYTE};
 
@@ -17,22 +16,23 @@ const HOLE: u64 = 15;
 
 /// Takes the packets of a transport stream, one after another.
 pub trait TakesPackets {
-    // Those that it took, each behind the one before, where it tells them.
-    ghost taken: { Self → Option (List ℕ) } = { untold };
+    // Which calls go so, where it says that: its state before, the packet or [] for a hole, its
+    // state after.
+    ghost is_taken: { Self → List ℕ → Self → Type 0 } = { any_piece };
 
     /// Takes the packet with that number, and tells what there is to tell of it.
     fn take(&mut self, number: u64, packet: &[u8; PACKET], text: &mut Text)
-        ensures { Appends (taken self.old) (taken self.new) packet.now };
+        ensures { is_taken self.old packet.now self.new };
 
     /// So many bytes were skipped that packets of any PID may be missing.
     fn note_hole(&mut self)
-        ensures { Keeps (taken self.old) (taken self.new) };
+        ensures { is_taken self.old [] self.new };
 }
 
 /// How far the packets were found.
 #[derive(Drop)]
 pub struct PacketsInStep {
-    distance: Distance,
+    size: PacketSize,
     // So many bytes are passed over before the next one that is looked at.
     lead: usize,
     in_step: bool,
@@ -70,13 +70,13 @@ impl PacketsInStep {
     /// At the start of a recording whose packets have that distance. So many bytes before it were
     /// skipped.
     pub fn new(size: PacketSize, skipped: u64) -> PacketsInStep
-        ensures distance { result.distance.bytes ≡ bytes_of size }
+        ensures size { result.size ≡ size }
         ensures lead { result.lead ≡ lead_size (bytes_of size) }
         ensures in_step { result.in_step ≡ true }
         ensures counted { (result.number ≡ 0) × (result.skipped ≡ skipped) }
     {
         PacketsInStep {
-            distance: Distance::of(size),
+            size,
             lead: match size {
                 PacketSize::TimeStamped => 4,
                 _ => 0,
@@ -98,6 +98,17 @@ impl PacketsInStep {
         self.skipped
     }
 
+    // The bytes from one packet to the next.
+    #[inline(always)]
+    #[tactic(auto, using(crate::proofs::InStepLemmas::sizes))]
+    fn distance(&self) -> usize
+        ensures is { result ≡ bytes_of self.now.size }
+        ensures near { 188 ≤ result }
+        ensures far { result ≤ 204 }
+    {
+        self.size.bytes()
+    }
+
     // Whether a packet begins at a place of bytes: in step, at a sync byte; else at one that has
     // another one at the distance behind it.
     #[inline(always)]
@@ -105,13 +116,13 @@ impl PacketsInStep {
     fn begins(&self, bytes: &[u8], place: usize, is_end: bool) -> Begins
         requires { place + 188 ≤ length bytes.now }
         ensures yes { result ≡ Begins.Yes → (more : List ℕ)
-            → begins_packet self.now.distance.bytes self.now.in_step
+            → begins_packet (bytes_of self.now.size) self.now.in_step
             (drop place (bytes.now ++ more)) ≡ true }
         ensures no { result ≡ Begins.No → (more : List ℕ) → (is_end ≡ true → more ≡ [])
-            → begins_packet self.now.distance.bytes self.now.in_step
+            → begins_packet (bytes_of self.now.size) self.now.in_step
             (drop place (bytes.now ++ more)) ≡ false }
         ensures unknown { result ≡ Begins.Unknown → (is_end ≡ false) × (self.now.in_step ≡ false)
-            × (length bytes.now ≤ place + self.now.distance.bytes) }
+            × (length bytes.now ≤ place + (bytes_of self.now.size)) }
     {
         if bytes[place] != SYNC_BYTE {
             return Begins::No;
@@ -119,7 +130,7 @@ impl PacketsInStep {
         if self.in_step {
             return Begins::Yes;
         }
-        let second = place + self.distance.bytes();
+        let second = place + self.distance();
         if second >= bytes.len() {
             return if is_end { Begins::No } else { Begins::Unknown };
         }
@@ -138,17 +149,9 @@ impl PacketsInStep {
         to: &mut M,
         text: &mut Text,
     ) -> usize
-        ensures within { result ≤ length bytes.now }
-        // What is taken are the packets that stand there, in order, each once; they and the bytes
-        // that are skipped are counted.
-        ensures found { AreFound self.old (M.taken to.old) bytes.now is_end
-            (result + self.new.lead) (behind is_end bytes.now (result + self.new.lead))
-            self.new (M.taken to.new) }
-        // Fewer bytes are left than tell what stands next; at the end no packet is left.
-        ensures left { length bytes.now
-            < result + self.new.lead + bytes_needed self.new.distance.bytes self.new.in_step }
-        ensures all { is_end ≡ true → items_from self.new.distance.bytes self.new.in_step
-            (drop (result + self.new.lead) bytes.now) ≡ [] }
+        // What is taken are the packets that stand there, in order, each once, and holes; they and
+        // the bytes that are skipped are counted.
+        ensures all { TakesAll M.is_taken self.old to.old bytes.now is_end result self.new to.new }
     {
         let at = self.find(bytes, is_end, to, text);
         self.lead = at.saturating_sub(bytes.len());
@@ -169,11 +172,11 @@ impl PacketsInStep {
         to: &mut M,
         text: &mut Text,
     ) -> usize
-        ensures found { AreFound self.old (M.taken to.old) bytes.now is_end result 0
-            self.new (M.taken to.new) }
+        ensures found { AreFound M.is_taken self.old to.old bytes.now is_end result 0
+            self.new to.new }
         ensures left { length bytes.now
-            < result + bytes_needed self.new.distance.bytes self.new.in_step }
-        ensures all { is_end ≡ true → items_from self.new.distance.bytes self.new.in_step
+            < result + bytes_needed (bytes_of self.new.size) self.new.in_step }
+        ensures all { is_end ≡ true → items_from (bytes_of self.new.size) self.new.in_step
             (drop result bytes.now) ≡ [] }
     {
         let mut at = self.lead;
@@ -184,7 +187,7 @@ impl PacketsInStep {
             match self.begins(bytes, at, is_end) {
                 Begins::Yes => {
                     self.take_packet(packet, to, text);
-                    at += self.distance.bytes();
+                    at += self.distance();
                 }
                 Begins::No => at = self.skip(bytes, at, to),
                 Begins::Unknown => return at,
@@ -201,7 +204,7 @@ impl PacketsInStep {
           number = counted_on self.old.number 1;
           run = 0;
         } }
-        ensures taken { Appends (M.taken to.old) (M.taken to.new) packet.now }
+        ensures taken { M.is_taken to.old packet.now to.new }
     {
         self.in_step = true;
         self.run = 0;
@@ -216,27 +219,43 @@ impl PacketsInStep {
         requires { place + 188 ≤ length bytes.now }
         ensures from { place + 1 ≤ result }
         ensures skips { (more : List ℕ)
-            → items_from self.old.distance.bytes false (drop (place + 1) (bytes.now ++ more))
+            → items_from (bytes_of self.old.size) false (drop (place + 1) (bytes.now ++ more))
             ≡ replicate (result - (place + 1)) Skipped
-            ++ items_from self.old.distance.bytes false (drop result (bytes.now ++ more)) }
+            ++ items_from (bytes_of self.old.size) false (drop result (bytes.now ++ more)) }
         ensures same { self.new ≡ record self.old {
           in_step = false;
-          run = self.new.run;
+          run = counted_on self.old.run (result - place);
           skipped = counted_on self.old.skipped (result - place);
         } }
-        ensures kept { Keeps (M.taken to.old) (M.taken to.new) }
+        ensures told { RunsBy M.is_taken to.old
+            (told_of (bytes_of self.old.size) self.old.run (replicate (result - place) Skipped))
+            to.new }
     {
-        let next = next_start(bytes, place + 1, self.distance.bytes());
+        let next = next_start(bytes, place + 1, self.distance());
         let count = (next - place) as u64;
-        let hole = HOLE * self.distance.bytes() as u64;
-        let run = self.run.saturating_add(count);
-        if self.run < hole && hole <= run {
-            to.note_hole();
-        }
-        self.run = run;
+        self.note_skipped(count, to);
+        self.run = self.run.saturating_add(count);
         self.skipped = self.skipped.saturating_add(count);
         self.in_step = false;
         next
+    }
+
+    // Notes a hole where so many skipped bytes end one.
+    #[inline(always)]
+    #[tactic(auto, using(crate::proofs::InStepLemmas::holes))]
+    fn note_skipped<M: TakesPackets>(&self, count: u64, to: &mut M)
+        ensures { RunsBy M.is_taken to.old
+            (told_of (bytes_of self.now.size) self.now.run (replicate count Skipped)) to.new }
+    {
+        let hole = HOLE * self.distance() as u64;
+        let run = self.run.saturating_add(count);
+        if self.run >= hole {
+            return;
+        }
+        if run < hole {
+            return;
+        }
+        to.note_hole();
     }
 }
 

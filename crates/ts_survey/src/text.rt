@@ -72,11 +72,7 @@ impl Text {
     pub fn number(&mut self, number: u64)
         ensures { Adds self.old (0x20 ∷ decimal number) self.new }
     {
-        let mut digits = itoa::Buffer::new();
-        let mut word = Word::new();
-        let _ = word.try_extend_from_slice(b" ");
-        let _ = word.try_extend_from_slice(digits.format(number).as_bytes());
-        self.put(word.as_slice());
+        self.number_behind(b' ', number);
     }
 
     /// Adds a number in decimal, behind a sign.

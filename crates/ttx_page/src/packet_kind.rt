@@ -20,6 +20,7 @@ pub enum PacketKind {
     Other,
 }
 
+#[tactic(auto, unfolding(crate::specs::PacketKind::kind, ttx_packet::specs::PageHeader::header))]
 impl PacketKind {
     ghost use Rattle.ttx_page.specs.PacketKind.{kind};
     ghost use Rattle.ttx_packet.specs.PageHeader.{header};
@@ -40,7 +41,6 @@ impl PacketKind {
     ///
     /// It reads the address once, and the coded bytes of a header alone.
     #[inline(always)]
-    #[tactic(auto, unfolding(crate::specs::PacketKind::kind, ttx_packet::specs::PageHeader::header))]
     pub fn with_header(watched: PageId, packet: &Packet) -> (PacketKind, Option<Header>)
         ensures kind { result.0 ≡ kind watched packet.now }
         ensures header { result.1 ≡ header packet.now }

@@ -1,16 +1,17 @@
 -- The canonical packet is a packet of its value, and what is made of a frame is it. Main lemmas:
--- canonical_is_packet, spelled.
-use Rattle.std.proofs.Common.{List, Some, [], append_assoc, arith, length, lit<, refl, suc, take}
-use Rattle.std.proofs.Common.{zero, ℕ, ◌*◌, ◌++◌, ◌+◌, ◌-◌, ◌/◌, ◌∷◌, ◌≡◌, ◌≤◌, ◌<◌}
+-- canonical_is_packet, refill-pts, spelled.
+use Rattle.std.proofs.Common.{List, Some, [], ap, append_assoc, arith, length, lit<, refl, suc}
+use Rattle.std.proofs.Common.{drop, take, zero, ℕ, ◌*◌, ◌++◌, ◌+◌, ◌-◌, ◌/◌, ◌∷◌, ◌≡◌, ◌≤◌, ◌<◌}
 use Rattle.std.proofs.lemmas.Bool.Decides.{nat_tests}
 use Rattle.std.specs.Prelude.{replicate}
 use Rattle.std.proofs.lemmas.List.{append-nil, take_all}
-use Rattle.std.specs.List.{flat_map, AllByRecursion}
+use Rattle.std.proofs.Math.Seq.{take-append_seam}
+use Rattle.std.specs.List.{flat_map, AllByRecursion, refill}
 use Rattle.ttx_pes.specs.DataUnit.{UnitValue, IsUnit, IsPassedUnit, AreDataUnits, teletext_unit}
 use Rattle.ttx_pes.specs.DataUnit.{stuffing, stuffing_unit}
 use Rattle.ttx_pes.specs.Laws.{LawOfCanonicalPacket, LawOfPacketValue}
 use Rattle.ttx_pes.specs.PesPacket.{PesValue, canonical_packet, pes_packet_header, payloads_for}
-use Rattle.ttx_pes.specs.PesPacket.{repeated}
+use Rattle.ttx_pes.specs.PesPacket.{pts_bytes, repeated}
 
 -- A stuffing unit is passed over.
 stuffing_is_passed : IsPassedUnit stuffing_unit
@@ -65,6 +66,25 @@ canonical_is_packet v h =
       are_units = rw count at (written_units v.units (4 * k - 1 - length v.units) h.each);
       in_order = h.in_order;
     }
+
+-- The canonical packet has room for its PTS. For `RepeatedPacket`.
+pub has_room_for_pts : (v : PesValue) → 14 ≤ length (canonical_packet v)
+unfolding canonical_packet pes_packet_header
+has_room_for_pts v = omega arith
+
+-- With the five bytes of another PTS it is that of the other PTS. For `RepeatedPacket`.
+pub refill-pts : (v : PesValue) (pts : ℕ) (bytes : List ℕ)
+    → bytes ≡ canonical_packet v
+    → refill (length bytes) bytes (take 9 bytes ++ (pts_bytes pts ++ drop 14 bytes))
+    ≡ canonical_packet (record v { pts = pts })
+unfolding canonical_packet pes_packet_header
+refill-pts v pts bytes is =
+    let n = payloads_for (length v.units) in
+    let units : List ℕ =
+    flat_map teletext_unit v.units ++ repeated (4 * n - 1 - length v.units) stuffing_unit in
+    rw is
+    (ap (λ rest. pes_packet_header n pts ++ rest)
+    (take-append_seam units (drop (length units) units)))
 
 -- The loop over stuffing units, one on: those that are left come after it.
 pub stuffed_more : (count i : ℕ) (out all : List ℕ)

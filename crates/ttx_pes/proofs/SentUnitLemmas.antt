@@ -2,14 +2,14 @@
 -- `places_left`, and one by its number, `unit_at_place`.
 use Rattle.std.proofs.lemmas.Bool.Decides.{nat_tests}
 use Rattle.std.proofs.Common.{◌≡◌, ℕ, ◌+◌, ◌-◌, ◌*◌, ◌<◌, List, [], ◌∷◌, ◌++◌}
-use Rattle.std.proofs.Common.{length, take, drop, get_or, map, sym, ap, subst, ◌∙◌, arith}
+use Rattle.std.proofs.Common.{length, take, drop, get_or, map, refl, sym, ap, subst, ◌∙◌, arith}
 use Rattle.std.specs.List.{AllByRecursion}
 use Rattle.std.proofs.lemmas.List.{drop-drop, map-append, get_or-map, length-map}
 use Rattle.std.proofs.lemmas.List.Elements.{All-from_recursion, All-push}
 use Rattle.ttx_packet.specs.BitOrder.{mirror}
 use Rattle.sub_io.specs.Reading.{◌>>=◌}
 use Rattle.ttx_pes.specs.DataUnit.{IsUnit, UnitValue}
-use Rattle.ttx_pes.specs.Reading.{unit_at, unit_of, units_at}
+use Rattle.ttx_pes.specs.Reading.{teletext_at, unit_at, unit_of, units_at, with_unit}
 use Rattle.ttx_pes.specs.SentUnits.{sent_units}
 use Rattle.ttx_pes.proofs.DataUnitLemmas.{units_next, units_none}
 use Rattle.ttx_pes.proofs.HeadLemmas.{placed_next, placed_none}
@@ -21,8 +21,14 @@ pub sent_units-push : (field places : List ℕ) (at : ℕ)
     ≡ sent_units field places ++ unit_of (take 46 (drop at field)) ∷ []
 sent_units-push field places at = grind (arith, nat_tests, map-append)
 
+-- A data unit after the units so far, by the unit that it is.
+pub unit_at-unit : (units : List UnitValue) (b : List ℕ)
+    → unit_at units b ≡ (teletext_at b >>= λ unit. with_unit units unit)
+unfolding unit_at
+unit_at-unit units b = refl
+
 -- For `take_place`.
-pub ruleset one_more = (sent_units-push, last_place-push, All-push)
+pub ruleset one_more = (unit_at-unit, sent_units-push, last_place-push, All-push)
 
 -- The next data unit of those that are left.
 pub places_next : (count k : ℕ) (units : List UnitValue) (field : List ℕ)

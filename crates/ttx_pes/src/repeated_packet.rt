@@ -1,7 +1,7 @@
 //! A PES packet that is sent again and again, each time with another PTS.
-ghost use Rattle.std.specs.Prelude.{◌≡◌, ◌^◌, ◌<◌, ◌≤◌, length};
+ghost use Rattle.std.specs.Prelude.{◌≡◌, ◌++◌, ◌^◌, ◌<◌, ◌≤◌, drop, length, take};
 ghost use Rattle.sub_io.specs.Device.{CanFail, CountsFailure, Writes};
-ghost use Rattle.ttx_pes.specs.PesPacket.{canonical_packet, numbered_frame};
+ghost use Rattle.ttx_pes.specs.PesPacket.{canonical_packet, numbered_frame, pts_bytes};
 
 use crate::line_numbers::frame_of;
 use crate::pes_frame::PesFrame;
@@ -46,15 +46,12 @@ impl RepeatedPacket {
     }
 
     /// Sets the PTS, in ticks of 90 kHz: 33 bits. The units stay.
-    #[tactic(auto, unfolding(crate::specs::PesPacket::canonical_packet, crate::specs::PesPacket::pes_packet_header))]
     pub fn set_pts(&mut self, pts: u64)
         requires { pts < 2 ^ 33 }
         ensures { self.new ≡ record self.old { pts = pts } }
     {
         self.frame.set_pts(pts);
-        let (_, rest) = self.bytes.as_mut_slice().split_at_mut(9);
-        let (time, _) = rest.split_at_mut(5);
-        time.copy_from_slice(&bytes_of_pts(pts));
+        put_pts(self.bytes.as_mut_slice(), pts);
     }
 
     /// Writes the packet: the canonical one of its PTS and its units.
@@ -70,4 +67,15 @@ impl RepeatedPacket {
     {
         put_all(sink, self.bytes.as_slice())
     }
+}
+
+// Sets the PTS in the bytes of a packet.
+fn put_pts(bytes: &mut [u8], pts: u64)
+    requires room { 14 ≤ length bytes.old }
+    requires fits { pts < 2 ^ 33 }
+    ensures { bytes.new ≡ take 9 bytes.old ++ (pts_bytes pts ++ drop 14 bytes.old) }
+{
+    let (_, rest) = bytes.split_at_mut(9);
+    let (time, _) = rest.split_at_mut(5);
+    time.copy_from_slice(&bytes_of_pts(pts));
 }

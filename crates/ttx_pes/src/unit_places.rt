@@ -91,7 +91,7 @@ fn place_after(last: u8, block: &[u8]) -> Option<u8>
 // Adds the place of a data unit, if it is a Teletext unit. `last` is the place in the order of
 // lines that its own has to come after; answers that of the next one.
 #[inline(always)]
-#[tactic(auto, unfolding(crate::specs::Reading::unit_at), using(crate::proofs::SentUnitLemmas::one_more))]
+#[tactic(auto, using(crate::proofs::SentUnitLemmas::one_more))]
 fn take_place(places: &mut UnitPlaces, last: u8, field: &[u8], place: u16) -> Result<u8, PesFault>
     requires room { length places.old < most_units }
     requires within { place + data_unit_size ≤ length field.now }

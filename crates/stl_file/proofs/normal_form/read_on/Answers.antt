@@ -8,4 +8,4 @@ pub returns-clause-exact : goal.returns-clause-exact
 returns-clause-exact c = grind (arith, nat_tests, left_is, no_failure)
 
 pub returns-clause-room : goal.returns-clause-room
-returns-clause-room c = λ is. took _ _ _ _ _ (c.next_into.ensures.subtitle c.requires is)
+returns-clause-room c = λ is. took _ _ _ _ _ (rw is at (c.next_into.ensures.taken c.requires))

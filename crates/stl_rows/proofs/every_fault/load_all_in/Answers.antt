@@ -2,7 +2,7 @@
 -- goes_on-next, tells-end, tells-stop, fails-next; and what is judged by: judges-enough,
 -- judges-not, judges-broken.
 use Rattle.std.proofs.Common.{◌∙◌, ◌++◌, ◌<◌, refl, rules, sym, [], ◌∷◌, map, arith}
-use Rattle.std.proofs.Common.{◌≡◌, drop, false, inl, inr}
+use Rattle.std.proofs.Common.{drop, inl, inr}
 use Rattle.std.proofs.lemmas.Bool.Decides.{nat_tests}
 use Rattle.std.proofs.lemmas.Bool.{cases_Bool, lt-ltb}
 use Rattle.std.specs.Prelude.{◌≢◌}
@@ -76,40 +76,31 @@ subtitles-preserved-in-Ok-Refused g c =
           (now.0, now.1, goes_on-refused fault here (rw now.2 at was.2));
     })
 
-pub returns-in-Ok-tell_end-clause-told : goal.returns-in-Ok-tell_end-clause-told
-returns-in-Ok-tell_end-clause-told g c = λ bytes e none.
+pub returns-in-Ok-tell_end-clause-exact : goal.returns-in-Ok-tell_end-clause-exact
+returns-in-Ok-tell_end-clause-exact g c = λ bytes e.
     let refused = c.in-Err.ensures.exact bytes e c.in-Ok-tell_end.ensures.file in
-    tells-end (goes_on-start c.args.drawing bytes) (Tells-none _)
-    (findings_for-refused c.args.drawing.scope bytes _ refused) c.in-Ok-tell_end.ensures.told
-
-pub returns-in-Ok-tell_end-clause-not_judged : goal.returns-in-Ok-tell_end-clause-not_judged
-returns-in-Ok-tell_end-clause-not_judged g c = λ bytes e none.
-    let refused = c.in-Err.ensures.exact bytes e c.in-Ok-tell_end.ensures.file in
-    inr (judges-broken (goes_on-start c.args.drawing bytes)
-    (findings_for-refused c.args.drawing.scope bytes _ refused))
+    let end = findings_for-refused c.args.drawing.scope bytes _ refused in
+    let start = goes_on-start c.args.drawing bytes in (
+      tells-end start (Tells-none _) end c.in-Ok-tell_end.ensures.told,
+      inr (judges-broken start end),
+    )
 
 pub returns-in-Err-tell_end-clause-read : goal.returns-in-Err-tell_end-clause-read
 returns-in-Err-tell_end-clause-read g c = grind (arith, nat_tests, lt-ltb, reads-nothing)
 
+pub returns-in-Ok-tell_end-2-clause-exact : goal.returns-in-Ok-tell_end-2-clause-exact
+returns-in-Ok-tell_end-2-clause-exact g c = λ bytes e.
+    let i = c.subtitles.invariant in
+    let here = i.goes_on bytes e in
+    let l = rw i.scope at (c.in-Err-next_into.ensures.leads c.in-Ok-tell_end-2.ensures.file) in
+    let end = left-then _ _ here.0 l here.1 in (
+      tells-end here.2 i.told end.2
+          (rw c.block.ensures.value at c.in-Ok-tell_end-2.ensures.told),
+      inr (judges-broken here.2 end.2),
+    )
+
 pub returns-in-Ok-tell_end-2-clause-told : goal.returns-in-Ok-tell_end-2-clause-told
-returns-in-Ok-tell_end-2-clause-told g c = λ bytes e none.
-    let i = c.subtitles.invariant in
-    let here = i.goes_on bytes e in
-    let l = rw i.scope at (c.in-Err-next_into.ensures.leads c.in-Ok-tell_end-2.ensures.file) in
-    let end = left-then _ _ here.0 l here.1 in
-    tells-end here.2 i.told end.2
-    (rw c.block.ensures.value at c.in-Ok-tell_end-2.ensures.told)
-
-pub returns-in-Ok-tell_end-2-clause-not_judged : goal.returns-in-Ok-tell_end-2-clause-not_judged
-returns-in-Ok-tell_end-2-clause-not_judged g c = λ bytes e none.
-    let i = c.subtitles.invariant in
-    let here = i.goes_on bytes e in
-    let l = rw i.scope at (c.in-Err-next_into.ensures.leads c.in-Ok-tell_end-2.ensures.file) in
-    let end = left-then _ _ here.0 l here.1 in
-    inr (judges-broken here.2 end.2)
-
-pub returns-in-Ok-tell_end-2-clause-some : goal.returns-in-Ok-tell_end-2-clause-some
-returns-in-Ok-tell_end-2-clause-some g c = λ none.
+returns-in-Ok-tell_end-2-clause-told g c =
     let i = c.subtitles.invariant in
     let ended : c.in-Err-next_into.fault ≢ Ended = grind (arith, nat_tests) in
     of_file-end i.early c.in-Err-next_into.fault i.early_told c.in-Ok-tell_end-2.ensures.file ended
@@ -123,34 +114,38 @@ returns-in-Err-tell_end-2-clause-read g c = λ is.
     (fails-next c.subtitles.reader i.taken i.early_told i.told i.goes_on
     (rw i.scope at (c.in-Err-next_into.ensures.failed (rw failed.0 refl))))
 
-pub returns-in_default-clause-told : goal.returns-in_default-clause-told
-returns-in_default-clause-told g c = λ bytes e none.
+pub returns-in_default-clause-exact : goal.returns-in_default-clause-exact
+returns-in_default-clause-exact g c = λ bytes e.
     let i = c.subtitles.invariant in
     let here = i.goes_on bytes e in
     let l = rw (c.in-Ok-Refused.field-0-is, i.scope) at (c.in-Ok-Refused.ensures.leads refl) in
-    let now = left-then _ _ here.0 l here.1 in
-    tells-refused here.2 i.told _ now.2 c.in_default.ensures.stopped
-    (rw c.block-in-Ok-Refused.ensures.value at c.in_default.ensures.told)
+    let now = left-then _ _ here.0 l here.1 in (
+      tells-refused here.2 i.told _ now.2 c.in_default.ensures.stopped
+          (rw c.block-in-Ok-Refused.ensures.value at c.in_default.ensures.told),
+      inl c.in_default.ensures.stopped,
+    )
 
-pub returns-in_default-clause-some : goal.returns-in_default-clause-some
-returns-in_default-clause-some g c = λ none.
+pub returns-in_default-clause-told : goal.returns-in_default-clause-told
+returns-in_default-clause-told g c =
     let i = c.subtitles.invariant in
     let first = rw c.in-Ok-Refused.field-0-is at c.in-Ok-Refused.ensures.first in
     let kind = first_kind c.in-Ok-Refused.fault first in
     of_file-end i.early c.in-Ok-Refused.fault i.early_told kind.0 kind.1 i.told
     c.in_default.ensures.told
 
-pub returns-in_default-tell_faults-clause-told : goal.returns-in_default-tell_faults-clause-told
-returns-in_default-tell_faults-clause-told g c = λ bytes e none.
+pub returns-in_default-tell_faults-clause-exact : goal.returns-in_default-tell_faults-clause-exact
+returns-in_default-tell_faults-clause-exact g c = λ bytes e.
     let i = c.subtitles.invariant in
     let here = i.goes_on bytes e in
     let l = rw (c.in-Ok-Subtitle.field-0-is, i.scope) at (c.in-Ok-Subtitle.ensures.leads refl) in
-    let now = left-then _ _ here.0 l here.1 in
-    tells-stop here.2 i.told _ now.2 c.in_default-tell_faults.ensures.stopped
-    (rw c.block-block.ensures.value at c.in_default-tell_faults.ensures.stops)
+    let now = left-then _ _ here.0 l here.1 in (
+      tells-stop here.2 i.told _ now.2 c.in_default-tell_faults.ensures.stopped
+          (rw c.block-block.ensures.value at c.in_default-tell_faults.ensures.stops),
+      inl c.in_default-tell_faults.ensures.stopped,
+    )
 
-pub returns-in_default-tell_faults-clause-some : goal.returns-in_default-tell_faults-clause-some
-returns-in_default-tell_faults-clause-some g c = λ none.
+pub returns-in_default-tell_faults-clause-told : goal.returns-in_default-tell_faults-clause-told
+returns-in_default-tell_faults-clause-told g c =
     let i = c.subtitles.invariant in
     let l = rw (c.in-Ok-Subtitle.field-0-is, i.scope) at (c.in-Ok-Subtitle.ensures.leads refl) in
     of_file-stopped i.early _
@@ -166,19 +161,15 @@ returns-in-Ok-End-clause-exact g c = λ bytes e.
     let end = left-then _ _ here.0 l here.1 in
     elim (cases_Bool (is_enough c.subtitles.kept)) [
       | inl enough ↦
-          rw (c.if_enough.ensures, enough) (judges-enough here.2 end.2 i.are_kept enough)
-      | inr few ↦ rw (c.if_enough.ensures, few) tt
-    ]
-
-pub returns-in-Ok-End-clause-told_all : goal.returns-in-Ok-End-clause-told_all
-returns-in-Ok-End-clause-told_all g c = λ bytes e.
-    let i = c.subtitles.invariant in
-    let here = i.goes_on bytes e in
-    let l = rw (c.in-Ok-End.field-0-is, i.scope) at (c.in-Ok-End.ensures.leads refl) in
-    let end = left-then _ _ here.0 l here.1 in
-    elim (cases_Bool (is_enough c.subtitles.kept)) [
-      | inl enough ↦ rw (c.if_enough.ensures, enough, told-all here.2 end.2) i.told
-      | inr few ↦ rw (c.if_enough.ensures, few) tt
+          rw (c.if_enough.ensures, enough) (
+            judges-enough here.2 end.2 i.are_kept enough,
+            rw (told-all here.2 end.2) i.told,
+          )
+      | inr few ↦
+          rw (c.if_enough.ensures, few) (
+            tells-none here.2 i.told end.2 (some-few i.are_kept few),
+            inr (judges-not here.2 end.2 few),
+          )
     ]
 
 pub returns-in-Ok-End-clause-programme : goal.returns-in-Ok-End-clause-programme
@@ -190,46 +181,21 @@ returns-in-Ok-End-clause-programme g c =
       | inr few ↦ rw (c.if_enough.ensures, few) tt
     ]
 
-pub returns-in-Ok-End-clause-any : goal.returns-in-Ok-End-clause-any
-returns-in-Ok-End-clause-any g c =
+pub returns-in-Ok-End-clause-told : goal.returns-in-Ok-End-clause-told
+returns-in-Ok-End-clause-told g c =
     let i = c.subtitles.invariant in
+    let of_file = told-of_file c.subtitles.reader.block i.early i.early_told in
     elim (cases_Bool (is_enough c.subtitles.kept)) [
-      | inl enough ↦ rw (c.if_enough.ensures, enough) (record {
+      | inl enough ↦
+          rw (c.if_enough.ensures, enough)
+          (record { faults = i.early; of_file = of_file; told = i.told })
+      | inr few ↦ rw (c.if_enough.ensures, few) (record {
         faults = i.early;
-        of_file = told-of_file c.subtitles.reader.block i.early i.early_told;
+        some = some-few i.are_kept few;
+        of_file = of_file;
         told = i.told;
       })
-      | inr few ↦ rw (c.if_enough.ensures, few) tt
     ]
-
-pub returns-in-Ok-End-clause-told : goal.returns-in-Ok-End-clause-told
-returns-in-Ok-End-clause-told g c = λ bytes e none.
-    let i = c.subtitles.invariant in
-    let here = i.goes_on bytes e in
-    let l = rw (c.in-Ok-End.field-0-is, i.scope) at (c.in-Ok-End.ensures.leads refl) in
-    let end = left-then _ _ here.0 l here.1 in
-    let few : is_enough c.subtitles.kept ≡ false = grind (arith, nat_tests) in
-    tells-none here.2 i.told end.2 (some-few i.are_kept few)
-
-pub returns-in-Ok-End-clause-not_judged : goal.returns-in-Ok-End-clause-not_judged
-returns-in-Ok-End-clause-not_judged g c = λ bytes e none.
-    let i = c.subtitles.invariant in
-    let here = i.goes_on bytes e in
-    let l = rw (c.in-Ok-End.field-0-is, i.scope) at (c.in-Ok-End.ensures.leads refl) in
-    let end = left-then _ _ here.0 l here.1 in
-    let few : is_enough c.subtitles.kept ≡ false = grind (arith, nat_tests) in
-    inr (judges-not here.2 end.2 few)
-
-pub returns-in-Ok-End-clause-some : goal.returns-in-Ok-End-clause-some
-returns-in-Ok-End-clause-some g c = λ none.
-    let i = c.subtitles.invariant in
-    let few : is_enough c.subtitles.kept ≡ false = grind (arith, nat_tests) in
-    record {
-      faults = i.early;
-      some = some-few i.are_kept few;
-      of_file = told-of_file c.subtitles.reader.block i.early i.early_told;
-      told = i.told;
-    }
 
 pub subtitles-preserved : goal.subtitles-preserved
 subtitles-preserved g c =
@@ -264,8 +230,8 @@ subtitles-preserved g c =
           );
     })
 
-pub returns-in-Err-put-clause-memory : goal.returns-in-Err-put-clause-memory
-returns-in-Err-put-clause-memory g c = λ bytes e is.
+pub returns-in-Err-put-clause-exact : goal.returns-in-Err-put-clause-exact
+returns-in-Err-put-clause-exact g c = λ bytes e is.
     let i = c.subtitles.invariant in
     let t = c.next_into.new.subtitle in
     let here = c.next_into.new.self.block in

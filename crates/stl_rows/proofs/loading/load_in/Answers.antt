@@ -1,9 +1,8 @@
 -- The first fault that is told is what comes of the file: tells-first; where none is told all is
 -- loaded: loads-all; and where the source failed or memory was refused there is none before:
 -- none-told, tells-failed.
-use Rattle.std.proofs.Common.{arith, ap, ◌∙◌, rules, sym}
+use Rattle.std.proofs.Common.{arith, ◌∙◌, rules, sym}
 use Rattle.std.proofs.lemmas.Bool.Decides.{nat_tests}
-use Rattle.std.specs.Prelude.{Ok}
 use Rattle.stl_rows.proofs.EveryFaultLemmas.{first-not_read, first-of_file, keeps-none}
 use Rattle.stl_rows.proofs.EveryFaultLemmas.{loads-all, none-told, tells-failed, tells-first}
 use Rattle.stl_rows.proofs.loading.load_in.Goals as goal
@@ -14,10 +13,9 @@ returns-in-Ok-Some-clause-exact g c = λ bytes e.
     let goes_on =
     keeps-none c.load_all_in.new.audience
     (λ stopped. let is = ok.stopped stopped in let own = c.in-Ok-Some.field-0-is in cc) in
-    let told = rw c.in-Ok-Some.field-0-is at (ok.told_all bytes e) in
+    let exact = rw c.in-Ok-Some.field-0-is at (ok.exact bytes e) in
     rw c.into_subtitles.ensures
-    (loads-all c.args.drawing bytes _ (rw c.in-Ok-Some.field-0-is at (ok.exact bytes e))
-    (rw (c.new-first.ensures, goes_on) at told))
+    (loads-all c.args.drawing bytes _ exact.0 (rw (c.new-first.ensures, goes_on) at exact.1))
 
 pub returns-in-Err-clause-fault : goal.returns-in-Err-clause-fault
 returns-in-Err-clause-fault g c = λ bytes e.
@@ -25,7 +23,7 @@ returns-in-Err-clause-fault g c = λ bytes e.
     let goes_on =
     keeps-none c.load_all_in.new.audience (λ stopped. let is = failed.stopped stopped in cc) in
     tells-failed c.args.drawing bytes c.in-Err.fault.block c.in-Err.fault.kind failed.kinds
-    (λ is. rw (c.new-first.ensures, goes_on) at (failed.memory bytes e is))
+    (λ is. rw (c.new-first.ensures, goes_on) at (failed.exact bytes e is))
 
 pub unreachable-requires : goal.unreachable-requires
 unreachable-requires g c = grind (arith, nat_tests, first-of_file)
@@ -33,14 +31,14 @@ unreachable-requires g c = grind (arith, nat_tests, first-of_file)
 pub returns-in-Some : goal.returns-in-Some
 returns-in-Some g c =
     let first = sym c.into_first.ensures ∙ c.in-Some.is in
-    let none = ap Ok c.in-Ok-None.field-0-is in
-    let of_file = c.in-Ok-None.ensures.some none in
+    let of_file = rw c.in-Ok-None.field-0-is at c.in-Ok-None.ensures.told in
     let own = first-not_read _ _ c.in-Some.fault c.new-first.ensures first of_file in
     record {
       exact = search rules;
       fault = λ bytes e.
+          let exact = rw c.in-Ok-None.field-0-is at (c.in-Ok-None.ensures.exact bytes e) in
           tells-first c.args.drawing bytes c.in-Some.fault _
-          (rw (c.new-first.ensures, first) at (c.in-Ok-None.ensures.told bytes e none))
+          (rw (c.new-first.ensures, first) at exact.0)
           (rw (c.new-first.ensures, first) at of_file);
       never = own.0;
       programme = search rules;

@@ -22,7 +22,8 @@ returns-in-Normal-clause-answers g c =
 pub returns-in-Schedule-clause-answers : goal.returns-in-Schedule-clause-answers
 returns-in-Schedule-clause-answers g c =
     rw c.in-Schedule.is (record {
-      answers = rw c.new-drawing.ensures at c.write_schedule.ensures.work;
+      answers =
+          rw (c.drawing_of-drawing.ensures, c.in-Schedule.is) at c.write_schedule.ensures.work;
       written = tt;
       followed = tt;
     })
@@ -48,10 +49,11 @@ returns-in-Survey-clause-answers g c =
       followed = λ fails none. c.print_survey.ensures.followed none fails;
     })
 
-pub returns-then-all-clause-answers : goal.returns-then-all-clause-answers
-returns-then-all-clause-answers g c =
+pub returns-in-Check-clause-answers : goal.returns-in-Check-clause-answers
+returns-in-Check-clause-answers g c =
     rw (c.in-Check.is, c.if-all.true) (record {
-      answers = rw c.new-drawing-in-Check.ensures at c.print_every_fault.ensures.all;
+      answers =
+          rw (c.drawing_of-drawing.ensures, c.in-Check.is) at c.print_every_fault.ensures.all;
       written = tt;
       followed = λ fails none. c.print_every_fault.ensures.followed none fails;
     })

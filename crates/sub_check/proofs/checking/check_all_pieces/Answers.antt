@@ -15,7 +15,7 @@ use Rattle.sub_check.proofs.checking.check_all_pieces.Goals as goal
 pub returns-clause-told : goal.returns-clause-told
 returns-clause-told g c = λ bytes told.
     tells_events c.args.judging.now c.args.options.now bytes _ _ _ c.tell_pieces.result
-    (λ pieces unread reads. c.tell_pieces.ensures.exact pieces unread bytes told reads)
+    (c.tell_pieces.ensures.exact bytes told)
 
 pub returns-clause-first : goal.returns-clause-first
 returns-clause-first g c = λ programme is none at_once bytes told.
@@ -24,7 +24,7 @@ returns-clause-first g c = λ programme is none at_once bytes told.
     c.tell_pieces.ensures.options
     (programme_known _ programme is c.tell_pieces.ensures.programme)
     (tells_known c.args.judging.now programme c.args.options.now bytes _ _ _ c.tell_pieces.result is
-    (λ pieces unread reads. c.tell_pieces.ensures.exact pieces unread bytes told reads)))
+    (c.tell_pieces.ensures.exact bytes told)))
 
 pub returns-clause-first_by : goal.returns-clause-first_by
 returns-clause-first_by g c = λ programme is bytes told.
@@ -33,7 +33,10 @@ returns-clause-first_by g c = λ programme is bytes told.
     c.tell_pieces.ensures.options
     (programme_known _ programme is c.tell_pieces.ensures.programme)
     (tells_known c.args.judging.now programme c.args.options.now bytes _ _ _ c.tell_pieces.result is
-    (λ pieces unread reads. c.tell_pieces.ensures.exact pieces unread bytes told reads)))
+    (c.tell_pieces.ensures.exact bytes told)))
+
+pub returns-clause-read : goal.returns-clause-read
+returns-clause-read g c = λ pes is. (c.tell_pieces.ensures.read pes is).0
 
 pub returns-clause-trusted : goal.returns-clause-trusted
 returns-clause-trusted g c = λ none at_once bytes told from to there.

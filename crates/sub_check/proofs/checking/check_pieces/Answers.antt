@@ -1,11 +1,9 @@
 -- What the device kept decides the answer: by FirstFaultLemmas.
-use Rattle.std.proofs.Common.{◌≡◌, Err, Option, Result, ap, refl}
+use Rattle.std.proofs.Common.{◌≡◌, Err, Option, Result, ap}
 use Rattle.ttx_pes.specs.declared.fault.PesFault.TheVariants.{Read}
-use Rattle.sub_plan.specs.FrameTime.{clock_of}
 use Rattle.sub_check.proofs.FirstFaultLemmas.{fails_at_packet, fault_kept, nothing_kept}
 use Rattle.sub_check.proofs.FirstFaultLemmas.{read_failed}
 use Rattle.sub_checker.specs.declared.accepted.Accepted.{Accepted}
-use Rattle.sub_rules.specs.Pieces.{piece_file_of}
 use Rattle.sub_rules.specs.declared.fault.CheckFault.{CheckFault}
 use Rattle.sub_rules.specs.declared.fault.CheckFault.TheVariants as fault
 use Rattle.sub_check.proofs.checking.check_pieces.Goals as goal
@@ -18,7 +16,7 @@ returns-in-Ok-Some-clause-checked g c = λ none at_once bytes told.
     c.new-first.result c.tell_known.new.audience c.in-Ok-Some.counts c.new-first.ensures
     (rw c.in-Ok-Some.field-0-is at c.in-Ok-Some.ensures.stopped)
     (λ pieces unread reads.
-    rw c.in-Ok-Some.field-0-is at (c.in-Ok-Some.ensures.exact pieces unread bytes told reads)) in
+    rw c.in-Ok-Some.field-0-is at (c.in-Ok-Some.ensures.exact bytes told pieces unread reads)) in
     answer.at_once none at_once
 
 pub returns-in-Ok-Some-clause-checked_by : goal.returns-in-Ok-Some-clause-checked_by
@@ -29,7 +27,7 @@ returns-in-Ok-Some-clause-checked_by g c = λ bytes told.
     c.new-first.result c.tell_known.new.audience c.in-Ok-Some.counts c.new-first.ensures
     (rw c.in-Ok-Some.field-0-is at c.in-Ok-Some.ensures.stopped)
     (λ pieces unread reads.
-    rw c.in-Ok-Some.field-0-is at (c.in-Ok-Some.ensures.exact pieces unread bytes told reads)) in
+    rw c.in-Ok-Some.field-0-is at (c.in-Ok-Some.ensures.exact bytes told pieces unread reads)) in
     answer.by
 
 pub returns-in-Ok-None-clause-checked : goal.returns-in-Ok-None-clause-checked
@@ -40,7 +38,7 @@ returns-in-Ok-None-clause-checked g c = λ none at_once bytes told.
     c.new-first.result c.tell_known.new.audience c.into_fault.result c.new-first.ensures
     c.into_fault.ensures.kept
     (λ pieces unread reads.
-    rw c.in-Ok-None.field-0-is at (c.in-Ok-None.ensures.exact pieces unread bytes told reads)) in
+    rw c.in-Ok-None.field-0-is at (c.in-Ok-None.ensures.exact bytes told pieces unread reads)) in
     answer.at_once none at_once
 
 pub returns-in-Ok-None-clause-checked_by : goal.returns-in-Ok-None-clause-checked_by
@@ -51,7 +49,7 @@ returns-in-Ok-None-clause-checked_by g c = λ bytes told.
     c.new-first.result c.tell_known.new.audience c.into_fault.result c.new-first.ensures
     c.into_fault.ensures.kept
     (λ pieces unread reads.
-    rw c.in-Ok-None.field-0-is at (c.in-Ok-None.ensures.exact pieces unread bytes told reads)) in
+    rw c.in-Ok-None.field-0-is at (c.in-Ok-None.ensures.exact bytes told pieces unread reads)) in
     answer.by
 
 pub returns-in-Err-clause-checked : goal.returns-in-Err-clause-checked
@@ -61,8 +59,7 @@ returns-in-Err-clause-checked g c = λ none at_once bytes told.
     c.in-Err.ensures.programme
     c.new-first.result c.tell_known.new.audience c.in-Err.fault c.new-first.ensures
     c.in-Err.ensures.goes_on
-    (λ pieces unread reads. c.in-Err.ensures.exact pieces unread bytes told reads)
-    c.in-Err.ensures.only in
+    (c.in-Err.ensures.exact bytes told) c.in-Err.ensures.only in
     answer.at_once none at_once
 
 pub returns-in-Err-clause-checked_by : goal.returns-in-Err-clause-checked_by
@@ -72,8 +69,7 @@ returns-in-Err-clause-checked_by g c = λ bytes told.
     c.in-Err.ensures.programme
     c.new-first.result c.tell_known.new.audience c.in-Err.fault c.new-first.ensures
     c.in-Err.ensures.goes_on
-    (λ pieces unread reads. c.in-Err.ensures.exact pieces unread bytes told reads)
-    c.in-Err.ensures.only in
+    (c.in-Err.ensures.exact bytes told) c.in-Err.ensures.only in
     answer.by
 
 pub returns-in-Err-clause-read : goal.returns-in-Err-clause-read
@@ -82,8 +78,4 @@ returns-in-Err-clause-read g c = λ pes is.
     let failed = ap (λ f. let r : Result (Option Accepted) CheckFault = Err f in r) same in
     fails_at_packet c.args.programme.now c.args.options.now
     c.new-first.result c.tell_known.new.audience c.in-Err.fault pes _ _ c.new-first.ensures
-    c.in-Err.ensures.goes_on same (c.in-Err.ensures.read pes failed)
-    (λ bytes told pieces unread reads. c.in-Err.ensures.exact pieces unread bytes told reads)
-    (λ bytes told sent.
-    let file = piece_file_of (clock_of c.args.options.now) bytes in
-    c.in-Err.ensures.sent pes file.pieces file.unread failed bytes told refl sent)
+    c.in-Err.ensures.goes_on same (c.in-Err.ensures.read pes failed) c.in-Err.ensures.exact

@@ -3,11 +3,9 @@ use Rattle.sub_check.proofs.AnsweredLemmas.{programme_known, tells_known}
 use Rattle.sub_check.proofs.checking.tell_known.Goals as goal
 
 pub returns-clause-exact : goal.returns-clause-exact
-returns-clause-exact g c = λ pieces unread bytes told.
+returns-clause-exact g c = λ bytes told.
     tells_known _ c.args.programme.now c.args.options.now bytes _ _ _ c.tell_pieces.result
-    c.known.ensures
-    (λ pieces unread reads. c.tell_pieces.ensures.exact pieces unread bytes told reads) pieces
-    unread
+    c.known.ensures (c.tell_pieces.ensures.exact bytes told)
 
 pub returns-clause-programme : goal.returns-clause-programme
 returns-clause-programme g c =

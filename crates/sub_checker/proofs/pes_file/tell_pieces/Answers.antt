@@ -54,7 +54,7 @@ pieces-init g c = record {
 }
 
 pub returns-then-is_source_failure-clause-exact : goal.returns-then-is_source_failure-clause-exact
-returns-then-is_source_failure-clause-exact g c = λ pieces unread bytes told reads.
+returns-then-is_source_failure-clause-exact g c = λ bytes told pieces unread reads.
     let i = c.pieces.invariant.told pieces unread bytes told reads in
     let here = rw c.in-Err.is at c.in-Some.ensures.reads in
     let so_far =
@@ -71,27 +71,33 @@ returns-then-is_source_failure-clause-exact g c = λ pieces unread bytes told re
       search rules,
     )
 
-pub returns-then-is_source_failure-clause-sent : goal.returns-then-is_source_failure-clause-sent
-returns-then-is_source_failure-clause-sent g c = λ pes pieces unread is bytes told reads sent.
-    let i = c.pieces.invariant.told pieces unread bytes told reads in
+pub returns-then-is_source_failure-clause-read : goal.returns-then-is_source_failure-clause-read
+returns-then-is_source_failure-clause-read g c = λ pes is.
     let here = rw c.in-Err.is at c.in-Some.ensures.reads in
     let failed = sym c.is_source_failure.ensures ∙ c.if-is_source_failure.true in
-    let at = front c.args.judging.now i.1 i.3 in
-    let same = named_pes c.in-Err.fault c.pieces.pes pes (here.place failed) is in
-    let done : take pes pieces ≡ i.0 =
-    ap (λ (n : ℕ). take n pieces) same ∙ at.1 in
-    record {
-      behind = g.P.Pieces.remaining c.pieces.source;
-      before =
-          packets_taken bytes (frames_of i.0) i.1.rest pes _ _
-          (i.1.taken (ap (λ (l : List Piece). length (frames_of l)) (sym done) ∙ sent ∙ same
-          ∙ sym i.1.count))
-          (ap (λ (l : List Piece). length (frames_of l)) (sym done) ∙ sent) told i.1.rest_is;
-      within = here.within failed;
-    }
+    let same = named_pes c.in-Err.fault c.pieces.pes pes (here.place failed) is in (
+      record {
+        behind = g.P.Pieces.remaining c.pieces.source;
+        before = rw (sym same) at c.pieces.invariant.taken;
+        within = here.within failed;
+      },
+      λ pieces unread bytes told reads sent.
+          let i = c.pieces.invariant.told pieces unread bytes told reads in
+          let at = front c.args.judging.now i.1 i.3 in
+          let done : take pes pieces ≡ i.0 = ap (λ (n : ℕ). take n pieces) same ∙ at.1 in
+          record {
+            behind = g.P.Pieces.remaining c.pieces.source;
+            before =
+                packets_taken bytes (frames_of i.0) i.1.rest pes _ _
+                (i.1.taken (ap (λ (l : List Piece). length (frames_of l)) (sym done) ∙ sent ∙ same
+                ∙ sym i.1.count))
+                (ap (λ (l : List Piece). length (frames_of l)) (sym done) ∙ sent) told i.1.rest_is;
+            within = here.within failed;
+          },
+    )
 
 pub returns-in-Err-clause-exact : goal.returns-in-Err-clause-exact
-returns-in-Err-clause-exact g c = λ pieces unread bytes told reads.
+returns-in-Err-clause-exact g c = λ bytes told pieces unread reads.
     let i = c.pieces.invariant.told pieces unread bytes told reads in
     let criteria = criteria_of_judged c.args.judging.now c.args.options.now unread in
     let here = rw c.in-Err.is at c.in-Some.ensures.reads in
@@ -113,7 +119,7 @@ returns-in-Err-clause-exact g c = λ pieces unread bytes told reads.
     search rules
 
 pub returns-in_default-next-clause-exact : goal.returns-in_default-next-clause-exact
-returns-in_default-next-clause-exact g c = λ pieces unread bytes told reads.
+returns-in_default-next-clause-exact g c = λ bytes told pieces unread reads.
     let i = c.pieces.invariant.told pieces unread bytes told reads in
     let criteria = criteria_of_judged c.args.judging.now c.args.options.now unread in
     let here = rw c.in-Ok.is at c.in-Some.ensures.reads in
@@ -135,7 +141,7 @@ returns-in_default-next-clause-exact g c = λ pieces unread bytes told reads.
 
 -- It said stop at this piece.
 pub returns-then-reporter-clause-exact : goal.returns-then-reporter-clause-exact
-returns-then-reporter-clause-exact g c = λ pieces unread bytes told reads.
+returns-then-reporter-clause-exact g c = λ bytes told pieces unread reads.
     let inv = c.pieces.invariant in
     let i = inv.told pieces unread bytes told reads in
     let criteria = criteria_of_judged c.args.judging.now c.args.options.now unread in
@@ -243,7 +249,7 @@ pieces-preserved g c =
 
 -- It said stop before the next piece.
 pub returns-in_default-clause-exact : goal.returns-in_default-clause-exact
-returns-in_default-clause-exact g c = λ pieces unread bytes told reads.
+returns-in_default-clause-exact g c = λ bytes told pieces unread reads.
     let i = c.pieces.invariant.told pieces unread bytes told reads in
     let device = c.next_followed.ensures.same ∙ c.pieces.invariant.same in
     let told =

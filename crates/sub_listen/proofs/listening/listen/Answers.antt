@@ -1,11 +1,11 @@
 -- What is said of the pieces is said of the bytes of the source.
-use Rattle.std.proofs.Common.{ap, rules}
-use Rattle.sub_listen.proofs.FileLemmas.{hears_source}
+use Rattle.std.proofs.Common.{rules}
 use Rattle.sub_listen.proofs.listening.listen.Goals as goal
 
 pub returns-clause-exact : goal.returns-clause-exact
 returns-clause-exact g c = λ frames unread bytes told reads none_failed.
-    hears_source _ _ _ _ _ c.new-pieces.ensures.none
-    (ap g.S.Source.remaining c.new-pieces.ensures.now) (search rules) _ _ _ _ _ _ _ _
+    let heard =
+    rw (c.new-pieces.ensures.none, c.new-pieces.ensures.now) at
     (c.listen_pieces.ensures.exact frames unread bytes
-    (rw (c.new-pieces.ensures.none, c.new-pieces.ensures.now) told) reads none_failed)
+    (rw (c.new-pieces.ensures.none, c.new-pieces.ensures.now) told) reads none_failed) in
+    search rules

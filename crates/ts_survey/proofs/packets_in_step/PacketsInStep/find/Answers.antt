@@ -1,13 +1,16 @@
 -- Nothing at first, then one item after another: found_none, found_packet and found_skips.
 use Rattle.std.proofs.Common.{◌≡◌, ◌≤◌, ◌∙◌, ap, arith, drop, length-drop, rules}
+use Rattle.mpeg_ts.specs.PacketSize.{bytes_of}
 use Rattle.ts_survey.proofs.InStepLemmas.{found_none, found_packet, found_skips, front_end}
+use Rattle.ts_survey.proofs.InStepLemmas.{size_near}
 use Rattle.ts_survey.proofs.packets_in_step.PacketsInStep.find.Goals.{in-Yes, in-No}
+use Rattle.ts_survey.specs.declared.packets_in_step.PacketsInStep.{PacketsInStep}
 use Rattle.ts_survey.proofs.packets_in_step.PacketsInStep.find.Goals as goal
 
 pub loop-init : goal.loop-init
 loop-init g c = record {
   found =
-      found_none c.args.self.now _ c.args.bytes.now c.args.is_end (search rules) (search rules);
+      found_none _ c.args.self.now _ c.args.bytes.now c.args.is_end (search rules) (search rules);
   far = omega arith;
 }
 
@@ -21,14 +24,13 @@ loop-preserved g c =
     elim c.match-begins.branch [
       | in-Yes w ↦
           let same = w.take_packet.ensures.same in
-          let bytes : w.bytes-at.result ≡ c.loop.self.distance.bytes =
-          w.bytes-at.ensures.is ∙ ap (λ s. s.distance.bytes) same in
-          let near : 188 ≤ c.loop.self.distance.bytes =
-          omega (arith, bytes, w.bytes-at.ensures.near) in
+          let bytes : w.distance-at.result ≡ bytes_of c.loop.self.size =
+          w.distance-at.ensures.is ∙ ap bytes_of (ap (λ (s : PacketsInStep). s.size) same) in
+          let near : 188 ≤ bytes_of c.loop.self.size = size_near c.loop.self.size in
           record {
             found =
                 rw (w.self-is, w.to-is, w.at-is, bytes)
-                (found_packet c.args.self.now c.loop.self w.take_packet.new.self _ _ _
+                (found_packet _ c.args.self.now c.loop.self w.take_packet.new.self _ _ _
                 c.args.bytes.now c.in-Some.packet.now c.args.is_end c.loop.at c.loop.invariant.found
                 there near (search rules) c.in-Some.ensures.some.1
                 (c.begins.ensures.yes w.in-Yes.is) same w.take_packet.ensures.taken);
@@ -38,10 +40,12 @@ loop-preserved g c =
           record {
             found =
                 rw (w.self-is, w.to-is, w.at-is)
-                (found_skips c.args.self.now c.loop.self w.skip-at.new.self _ _ _ c.args.bytes.now
-                c.args.is_end c.loop.at w.skip-at.result c.loop.invariant.found there (search rules)
-                (search rules) (c.begins.ensures.no w.in-No.is) w.skip-at.ensures.from
-                w.skip-at.ensures.skips w.skip-at.ensures.same w.skip-at.ensures.kept);
+                (found_skips _ c.args.self.now c.loop.self w.skip-at.new.self _ _ _ c.args.bytes.now
+                c.args.is_end c.loop.at w.skip-at.result c.loop.invariant.found there
+                (size_near c.loop.self.size)
+                (search rules) (search rules) (c.begins.ensures.no w.in-No.is)
+                w.skip-at.ensures.from w.skip-at.ensures.skips w.skip-at.ensures.same
+                w.skip-at.ensures.told);
             far = omega (arith, w.at-is, w.skip-at.ensures.from, c.loop.invariant.far);
           }
     ]

@@ -6,7 +6,6 @@ use Rattle.ts_survey.proofs.packets_in_step.PacketsInStep.find.Given as goal
 abbrev pub invariant-loop : goal.invariant-loop
 invariant-loop g l = record {
   found :
-      AreFound l.fn.self (g.M.TakesPackets.taken l.fn.to) l.bytes l.is_end l.at 0
-      l.self (g.M.TakesPackets.taken l.to);
+      AreFound g.M.TakesPackets.is_taken l.fn.self l.fn.to l.bytes l.is_end l.at 0 l.self l.to;
   far : l.counter ≤ l.at;
 }
