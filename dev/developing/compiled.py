@@ -26,6 +26,14 @@ def compile_beside(folder: str) -> None:
                    env=plain_environment())
 
 
+def share_compiled(folder: str) -> None:
+    """Lets a copy of the tools, whose files have the same times, take what they are compiled to."""
+    if PREFIX in os.environ:
+        place = os.environ[PREFIX] + os.path.realpath(folder)
+        os.makedirs(os.path.dirname(place), exist_ok=True)
+        os.symlink(os.environ[PREFIX] + TOOLS, place)
+
+
 def plain_environment() -> dict[str, str]:
     """The environment without what says where the compiled form is."""
     return {name: word for name, word in os.environ.items() if name not in (PREFIX, WRITES_NONE)}

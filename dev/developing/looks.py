@@ -5,15 +5,18 @@ report in a frame of some width, with a script that the report itself has not.
 """
 from __future__ import annotations
 
+import html
 import json
 import os
 import re
 import shutil
 import subprocess
+from typing import NamedTuple, Sequence
 
 from subtitles.core.built import TOP
 
 LEAST_CONTRAST = 4.5
+SECONDS = 600  # for a browser, on a machine that does other things too
 BROWSERS = ("chromium", "chromium-browser", "google-chrome")
 # Text colours and the grounds on which they stand, as variables of the style.
 PAIRS = [(text, ground) for text in ("words", "soft", "link", "bad")
@@ -68,10 +71,14 @@ parent.postMessage(JSON.stringify(told), "*");
 """
 WRAPPER = """<!DOCTYPE html><html><body style="margin:0"><script>
 addEventListener("message", event => {{
-  document.getElementById("told").textContent = event.data;
+  const number = [...document.querySelectorAll("iframe")].findIndex(
+    frame => frame.contentWindow === event.source);
+  const told = document.createElement("pre");
+  told.id = `told-${{number}}`;
+  told.textContent = event.data;
+  document.body.append(told);
 }});
-</script><iframe src="{name}" style="border:0;width:{width}px;height:2000px"></iframe>
-<pre id="told"></pre></body></html>
+</script>{frames}</body></html>
 """
 
 
@@ -111,29 +118,43 @@ def browser() -> str | None:
     return next(filter(None, map(shutil.which, BROWSERS)), None)
 
 
-def measured(path: str, folder: str, width: int, is_dark: bool) -> list[str]:
-    """What a browser finds wrong with a report in a window of some width, as lines."""
-    with open(path, encoding="utf-8") as file:
+class Look(NamedTuple):
+    """A report in a window of some width, light or dark."""
+
+    path: str
+    width: int
+    is_dark: bool
+
+
+def measured(looks: Sequence[Look], folder: str) -> list[list[str]]:
+    """What a browser finds wrong with each of some reports, as lines; all are in frames of one page.
+    """
+    frames = "".join(f'<iframe src="{framed(look, folder, number)}" style="border:0;'
+                     f'width:{look.width}px;height:2000px"></iframe>'
+                     for number, look in enumerate(looks))
+    around = os.path.join(folder, "around.html")
+    with open(around, "w", encoding="utf-8") as file:
+        file.write(WRAPPER.format(frames=frames))
+    command = [browser() or BROWSERS[0], "--headless", "--no-sandbox", "--disable-gpu",
+               "--hide-scrollbars", f"--user-data-dir={os.path.join(folder, 'profile')}",
+               "--virtual-time-budget=10000", "--dump-dom", f"file://{around}"]
+    done = subprocess.run(command, stdin=subprocess.DEVNULL, stdout=subprocess.PIPE,
+                          stderr=subprocess.DEVNULL, timeout=SECONDS, check=False)
+    text = done.stdout.decode("utf-8", "replace")
+    found = {int(number): json.loads(html.unescape(told)) for number, told in re.findall(
+        r'<pre id="told-(\d+)">(.+?)</pre>', text, re.S)}
+    return [found.get(number, ["the browser told nothing"]) for number in range(len(looks))]
+
+
+def framed(look: Look, folder: str, number: int) -> str:
+    """Writes a report with the script that measures it, all of it open; answers the name."""
+    with open(look.path, encoding="utf-8") as file:
         text = file.read()
-    name = f"measured-{width}-{is_dark}-{os.path.basename(path)}"
+    name = f"measured-{number}.html"
     text = re.sub(r"<details(?! open)", '<details open="open"', text)
     text = re.sub(r'<meta http-equiv="Content-Security-Policy"[^>]*/>', "", text)  # for the script
-    if is_dark:
+    if look.is_dark:
         text = text.replace("(prefers-color-scheme: dark)", "(min-width: 1px)")
     with open(os.path.join(folder, name), "w", encoding="utf-8") as file:
         file.write(text.replace("</body>", f"<script>{SCRIPT}</script></body>"))
-    wrapper = os.path.join(folder, f"around-{name}")
-    with open(wrapper, "w", encoding="utf-8") as file:
-        file.write(WRAPPER.format(name=name, width=width))
-    profile = os.path.join(folder, f"profile-{name}")
-    command = [browser() or BROWSERS[0], "--headless", "--no-sandbox", "--disable-gpu",
-               "--hide-scrollbars", f"--user-data-dir={profile}",
-               "--virtual-time-budget=10000", "--dump-dom", f"file://{wrapper}"]
-    done = subprocess.run(command, stdin=subprocess.DEVNULL, stdout=subprocess.PIPE,
-                          stderr=subprocess.DEVNULL, timeout=120, check=False)
-    found = re.search(r'<pre id="told">(.*?)</pre>', done.stdout.decode("utf-8", "replace"), re.S)
-    if not found or not found.group(1):
-        return ["the browser told nothing"]
-    told: list[str] = json.loads(found.group(1).replace("&lt;", "<").replace("&gt;", ">")
-                                 .replace("&amp;", "&"))
-    return told
+    return name

@@ -193,8 +193,9 @@ def apart(work: Callable[[], Answer], seconds: float) -> Answer:
     told = b""
     if select.select([reading], [], [], seconds)[0]:
         told = os.read(reading, 65536)
-    with contextlib.suppress(OSError):
-        os.killpg(child, signal.SIGKILL)
+    for kill in (os.killpg, os.kill):  # it may have no group of its own yet
+        with contextlib.suppress(OSError):
+            kill(child, signal.SIGKILL)
     os.waitpid(child, 0)
     os.close(reading)
     return dict(json.loads(told)) if told else {"passed": 0, "failed": TOO_LONG, "by": "time"}

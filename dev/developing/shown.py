@@ -4,7 +4,7 @@ from __future__ import annotations
 import re
 import subprocess
 
-SECONDS = 300  # for one line
+SECONDS = 600  # for one line, on a machine that does other things too
 
 
 class Line:

@@ -33,7 +33,7 @@ Bool true false not && || == nat_lt nat_le IsTrue IsFalse | Bool: true, false; n
 if let | if t then a else b, let x = a in b | as in any language
 MatchBool unwrap_or result_unwrap_or >>= option_and_then | MatchBool t A B; unwrap_or o d, result_unwrap_or r d; o >>= f, option_and_then f o | A where t is true, else B; the x of Some x or Ok x, else d; f of the x, where there is one
 bit_and bit_or bit_xor count_ones bytes_high_first | bit_and, bit_or, bit_xor, count_ones, bytes_high_first n k | of numbers, bit by bit; how many bits are 1; k in n bytes, the high one first
-IfTold | IfTold told P | P holds of the bytes of a source that tells them
+IfKnown | IfKnown told P | P holds of the bytes of a source that tells them
 """
 
 HEAD = """-- begins a comment; use lines say where words come from; pub, abbrev, unfoldable and Type 0 say

@@ -12,6 +12,7 @@ from subtitles.core.stl import GSI, TTI
 NO_MEMORY = re.compile(rb"fault (91 Memory|58 Memory block \d+)\n")
 ANOTHER_USER = 65534
 SECONDS = 2  # of the processor, for one run
+LONGEST = 600  # seconds for it, on a machine that does other things too
 LONG_LOG = 1 << 20  # bytes of strace's log: a run with more of them does not end
 
 CALL = re.compile(r"^\d+ +(\w+)\((.*)\) += (-?\w+)(.*)$")
@@ -186,7 +187,7 @@ class Trial:
             line = ["sh", "-c", script, "sh", *before, self.program, *command.words]
             try:
                 done = subprocess.run(line, stdout=stdout, stderr=subprocess.PIPE, cwd=place,
-                                      stdin=subprocess.DEVNULL, timeout=30 * SECONDS, check=False,
+                                      stdin=subprocess.DEVNULL, timeout=LONGEST, check=False,
                                       **more)
             except (OSError, subprocess.SubprocessError) as error:
                 return Ran(str(error), b"", None, [])

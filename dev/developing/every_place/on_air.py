@@ -10,6 +10,7 @@ from .rows import BLANK, COLUMNS, SPACE
 from .words import Options
 
 ERASE, SERIAL = 4, 11
+WITHOUT_PARITY = bytes(byte & 0x7F for byte in range(256))
 
 
 class Packet(NamedTuple):
@@ -26,14 +27,19 @@ def span_of(packets: Sequence[Packet], page: Page) -> tuple[Sequence[Packet], bo
 
     Answers these packets, and whether the page is still open after them.
     """
-    begin = next((at for at in reversed(range(len(packets)))
-                  if page_of(packets[at]) == page), None)
+    begin = last_header(packets, page)
     if begin is None:
         return [], False
     for end, packet in enumerate(packets[begin + 1:], begin + 1):
         if ends_page(packet, page):
             return packets[begin + 1:end], False
     return packets[begin + 1:], True
+
+
+def last_header(packets: Sequence[Packet], page: Page, has_to_erase: bool = False) -> int | None:
+    """The place of the last header of the page, or of the last that erases it."""
+    return next((at for at in reversed(range(len(packets))) if page_of(packets[at]) == page
+                 and (erases(packets[at]) or not has_to_erase)), None)
 
 
 def ends_page(packet: Packet, page: Page) -> bool:
@@ -46,12 +52,12 @@ def long_span_of(packets: Sequence[Packet], page: Page, may_keep: bool) -> list[
     """What follows the headers of the page, each up to the one that ends it: from the last one that
     erases on, where headers may keep the page, from the first one where none erases; else from the
     last one on."""
-    headers = [at for at, packet in enumerate(packets) if page_of(packet) == page]
-    erasing = [at for at in headers if erases(packets[at])]
-    first = (erasing[-1:] or headers[:1]) if may_keep else headers[-1:]
+    first = last_header(packets, page, may_keep)
+    if first is None:
+        first = next((at for at, packet in enumerate(packets) if page_of(packet) == page), None)
     span: list[Packet] = []
     is_open = False
-    for packet in packets[first[0]:] if first else []:
+    for packet in packets[first:] if first is not None else []:
         if page_of(packet) == page:
             is_open = True
         elif ends_page(packet, page):
@@ -78,13 +84,13 @@ def rows_in(span: Sequence[Packet], page: Page) -> dict[int, bytes]:
     """The codes of the first packet of each row."""
     rows: dict[int, bytes] = {}
     for packet in span:
-        if packet.address and is_row(packet, page):
-            rows.setdefault(packet.address[1], codes_of(packet))
+        if packet.address and is_row(packet, page) and packet.address[1] not in rows:
+            rows[packet.address[1]] = codes_of(packet)
     return rows
 
 
 def codes_of(packet: Packet) -> bytes:
-    return bytes(byte & 0x7F for byte in packet.data[2:])
+    return packet.data[2:].translate(WITHOUT_PARITY)
 
 
 class Held(NamedTuple):

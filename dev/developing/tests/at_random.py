@@ -11,6 +11,7 @@ once did; it stays where it is.
 from __future__ import annotations
 
 import contextlib
+import functools
 import hashlib
 import importlib.machinery
 import importlib.util
@@ -86,11 +87,14 @@ def in_process(entry: Any, words: list[str]) -> tuple[int, str, str]:
     return status, out.getvalue(), told.getvalue()
 
 
+@functools.lru_cache(maxsize=4)  # several files may have it
 def plain(text: str, program: str) -> str:
     """A text without what is another one at each call, or with each program."""
     if text.startswith("{"):
-        text = json.dumps(json.loads(text, object_hook=lambda one: {
-            name: value for name, value in one.items() if name != "program"}), indent=1)
+        known = json.loads(text)
+        for one in (known, *known.get("pairs", ())):
+            one.pop("program", None)
+        text = json.dumps(known, indent=1)
     text = text.replace(program, "PROGRAM")
     for pattern, word in VOLATILE:
         text = pattern.sub(word, text)

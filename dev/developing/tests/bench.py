@@ -16,6 +16,7 @@ import os
 import random
 import runpy
 import shutil
+import signal
 import subprocess
 import sys
 import tempfile
@@ -30,7 +31,7 @@ from subtitles.core.built import TOP, built_program
 from subtitles.core.times import CLOCK
 
 EXAMPLES = os.path.join(TOP, "examples")
-SECONDS = 300  # for one call, on a machine that does other things too
+SECONDS = 600  # for one call, or what is waited for, on a machine that does other things too
 
 
 class Done(NamedTuple):
@@ -111,16 +112,16 @@ class Case(unittest.TestCase):
             return file.read()
 
     def call(self, command: Sequence[str], data: bytes | None = None,
-             env: dict[str, str] | None = None, user: int | None = None) -> Done:
-        """Runs a command in the folder; what it prints, and its lines on standard error. Of a tool
-        a process is forked that has all loaded, unless it is to have another environment."""
-        is_loaded = env is None and user is None and is_python(command[0])
-        sys.__stdout__.flush()
-        done = subprocess.run(command, cwd=self.folder, check=False, stdout=subprocess.PIPE,
-                              stderr=subprocess.PIPE, timeout=SECONDS, input=data or b"",
-                              env=env, user=user, preexec_fn=functools.partial(
-                                  become, command) if is_loaded else None)
-        return Done(done.returncode, done.stdout, done.stderr.decode().splitlines())
+             env: dict[str, str] | None = None, user: int | None = None, folder: str = "") -> Done:
+        """Runs a command in the folder, or one in it; what it prints, and its lines on standard
+        error. Of a tool a process is forked that has all loaded, unless it is to have another
+        environment."""
+        does = loaded(command) if env is None and user is None else None
+        done = subprocess.run(command, cwd=os.path.join(self.folder, folder), check=False,
+                              stdout=subprocess.PIPE, stderr=subprocess.PIPE, timeout=SECONDS,
+                              input=data or b"", env=env, user=user, preexec_fn=does)
+        return Done(done.returncode, done.stdout,
+                    done.stderr.decode("utf-8", "surrogateescape").splitlines())
 
     def tool(self, name: str, *words: str, data: bytes | None = None) -> Done:
         """Runs one of the tools."""
@@ -159,10 +160,21 @@ def is_python(path: str) -> bool:
         return file.readline().endswith(b"python3\n")
 
 
+def loaded(command: Sequence[str]) -> Callable[[], NoReturn] | None:
+    """What a process that is forked for a command does in its place, where that is a tool of this
+    repository, which has all loaded."""
+    sys.__stdout__.flush()
+    return functools.partial(become, command) if is_python(command[0]) else None
+
+
 def become(command: Sequence[str]) -> NoReturn:
     """Does in a process that was forked for it what a tool does."""
     status: object = 1
     try:
+        for number in (signal.SIGPIPE, signal.SIGXFSZ):
+            signal.signal(number, signal.SIG_IGN)  # as Python does when it begins
+        if signal.getsignal(signal.SIGINT) == signal.SIG_DFL:
+            signal.signal(signal.SIGINT, signal.default_int_handler)
         for name in os.listdir("/proc/self/fd"):
             if int(name) > 2:
                 with contextlib.suppress(OSError):

@@ -2,8 +2,10 @@
 """
 from __future__ import annotations
 
+import contextlib
 import os
 import re
+import signal
 import subprocess
 import threading
 import time
@@ -12,11 +14,10 @@ from typing import Callable, Iterator, NamedTuple, Sequence
 from developing.pes import pts_bytes
 from developing.stl import boxed, gsi_block, subtitle_blocks
 from subtitles.core.times import CLOCK, FRAMES_A_SECOND, TICKS
-from .bench import Case, packets, tool_path
+from .bench import SECONDS, Case, loaded, packets, tool_path
 
 SECOND = TICKS * FRAMES_A_SECOND
 BEGIN = CLOCK - 30 * SECOND  # of a feed, so that PTS begin again soon
-SOON = 60.0  # seconds in which what is waited for has to come
 FITTED = "; the clock was fitted to the recording"
 ACCEPTED = f"accepted 276 frames 12 transmissions{FITTED}"
 # With the last blank sending before it.
@@ -72,9 +73,9 @@ def verdicts(done_lines: Sequence[str]) -> list[str]:
     return [line.partition("  ")[2] for line in done_lines]
 
 
-def until(holds: Callable[[], object], seconds: float = SOON) -> bool:
+def until(holds: Callable[[], object]) -> bool:
     """Waits until something holds; whether it does in time."""
-    end = time.monotonic() + seconds
+    end = time.monotonic() + SECONDS
     while not holds() and time.monotonic() < end:
         time.sleep(0.02)
     return bool(holds())
@@ -128,9 +129,10 @@ class Running:
     def __init__(self, case: Case, *words: str, stdin: int = subprocess.DEVNULL,
                  log: str = "log", before: Sequence[str] = ()) -> None:
         self.case, self.log = case, log
+        command = [*before, tool_path("qc"), *words]
         with open(case.path(log), "ab") as file:
-            self.process = subprocess.Popen([*before, tool_path("qc"), *words], cwd=case.folder,
-                                            stdin=stdin, stdout=file, stderr=file)
+            self.process = subprocess.Popen(command, cwd=case.folder, stdin=stdin, stdout=file,
+                                            stderr=file, preexec_fn=loaded(command))
         self.most = Used(0, 0, 0)  # kilobytes, also of the process alone, and open files
         self.watching = threading.Thread(target=self.watch, daemon=True)
 
@@ -159,10 +161,20 @@ class Running:
         """What it has said, without dates."""
         return verdicts(self.case.read(self.log).decode().splitlines())
 
+    def hears(self) -> bool:
+        """Whether the tool itself hears signals by now: a process that was just forked is still
+        this one's copy, which a signal ends with its traceback."""
+        with contextlib.suppress(OSError), open(f"/proc/{self.process.pid}/status") as file:
+            caught = next(line for line in file if line.startswith("SigCgt:"))
+            return bool(int(caught.split()[1], 16) >> signal.SIGTERM - 1 & 1)
+        return False
+
     def end(self, number: int | None = None) -> int:
         """Its status, after a signal, or once its feed has ended."""
         if number is not None:
+            until(lambda: number == signal.SIGKILL or self.hears()
+                  or self.process.poll() is not None)
             self.process.send_signal(number)
         elif self.process.stdin:
             self.process.stdin.close()
-        return self.process.wait(SOON * 5)
+        return self.process.wait(SECONDS)

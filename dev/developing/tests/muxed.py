@@ -179,6 +179,7 @@ def stream_of(pes: list[bytes], begin: int, end: int, rate: int = 200, pid: int 
     maker = Maker([(VIDEO_PID, MPEG_2, b""), (pid, PRIVATE, teletext_descriptor())])
     maker.counters = before.counters if before else maker.counters
     made: list[Sent] = []
+    due = [*map(pts_in, pes), None]
 
     def take(own: int) -> None:
         made.extend(Sent(own, maker.data[at:at + PACKET])
@@ -195,11 +196,20 @@ def stream_of(pes: list[bytes], begin: int, end: int, rate: int = 200, pid: int 
             clock += TICKS
             maker.put_pcr(now - AHEAD)
             take(VIDEO_PID)
-        while at < len(pes) and ticks_between(pts_in(pes[at]), wrapped(now)) >= 0:
+        while (pts := due[at]) is not None and ticks_between(pts, wrapped(now)) >= 0:
             maker.put(pid, pes[at])
             take(pid)
             at += 1
         own = AUDIO_PID if number % 9 == 0 else VIDEO_PID
-        maker.put_packet(own, 0, b"\x55" * (PACKET - 4))
-        take(own)
+        made.append(filler(own, maker.counters))
     return made, maker
+
+
+def filler(pid: int, counters: dict[int, int]) -> Sent:
+    """The next TS packet of a PID, with nothing that is looked at."""
+    counter = counters[pid] = counters.get(pid, 15) + 1 & 15
+    return FILLERS[pid][counter]
+
+
+FILLERS = {pid: [Sent(pid, head(pid, 0, PAYLOAD | counter) + b"\x55" * (PACKET - 4))
+                 for counter in range(16)] for pid in (VIDEO_PID, AUDIO_PID)}

@@ -18,6 +18,14 @@ from subtitles.qc.status import NOT_JUDGED, STATUSES
 SCHEMA = os.path.join(TOP, "docs", "verdict.schema.json")
 KINDS: dict[str, Any] = {"object": dict, "array": list, "string": str, "null": type(None),
                          "boolean": bool, "integer": int, "number": (int, float)}
+# The words of schemas that are used here, and those of the bounds of each kind.
+WORDS = frozenset("""description $schema $comment title definitions $ref type const enum anyOf oneOf
+    allOf required additionalProperties properties items minItems maxItems pattern minLength
+    maxLength minimum maximum""".split())
+ENDS: dict[type, tuple[str, str]] = {
+    str: ("minLength", "maxLength"), list: ("minItems", "maxItems"),
+    int: ("minimum", "maximum"), float: ("minimum", "maximum")}
+SOME = 20  # of a list are all read by the other reader, then one of 50
 ASKED = {"stl": "one.stl", "recording": "one.ts", "page": "888", "every": 250, "option": "english",
          "origin": None, "complete": True, "pid": None, "allow_lost": False, "severity": None,
          "breaks": 0, "pes": None, "start": None, "within": 0, "strict": False, "from": None,
@@ -56,12 +64,7 @@ def schema() -> dict[str, Any]:
 
 def wrong_in(value: Any, known: dict[str, Any], at: str = "") -> Iterator[str]:
     """Where a value is not as a schema has it, as far as that has words that are used here."""
-    strange = known.keys() - {"description", "$schema", "$comment", "title", "definitions", "$ref",
-                              "type", "const", "enum", "anyOf", "oneOf", "allOf", "required",
-                              "additionalProperties", "properties", "items", "minItems",
-                              "maxItems", "pattern", "minLength", "maxLength", "minimum",
-                              "maximum"}
-    assert not strange, strange
+    assert known.keys() <= WORDS, known.keys() - WORDS
     if "$ref" in known:
         yield from wrong_in(value, schema()["definitions"][known["$ref"].rpartition("/")[2]], at)
     if "type" in known and not is_of_kind(value, known["type"]):
@@ -70,36 +73,36 @@ def wrong_in(value: Any, known: dict[str, Any], at: str = "") -> Iterator[str]:
     values = known.get("enum", [known["const"]] if "const" in known else None)
     if values is not None and not any(type(one) is type(value) and one == value for one in values):
         yield f"{at}: none of {values}"
-    for word, wanted in (("anyOf", range(1, 99)), ("oneOf", range(1, 2))):
-        if word in known and sum(not any(wrong_in(value, one)) for one in known[word]) not in wanted:
-            yield f"{at}: {word}"
+    if "anyOf" in known and all(any(wrong_in(value, one)) for one in known["anyOf"]):
+        yield f"{at}: anyOf"
+    if "oneOf" in known and sum(not any(wrong_in(value, one)) for one in known["oneOf"]) != 1:
+        yield f"{at}: oneOf"
     for one in known.get("allOf", ()):
         yield from wrong_in(value, one, at)
-    yield from wrong_inside(value, known, at)
+    if isinstance(value, (dict, list)):
+        yield from wrong_inside(value, known, at)
+    ends = ENDS.get(type(value))
+    if ends and not known.keys().isdisjoint(ends):
+        size = len(value) if isinstance(value, (str, list)) else value
+        if not known.get(ends[0], size) <= size <= known.get(ends[1], size):
+            yield f"{at}: its bounds"
+    if isinstance(value, str) and "pattern" in known and not re.search(known["pattern"], value):
+        yield f"{at}: {known['pattern']}"
 
 
 def wrong_inside(value: Any, known: dict[str, Any], at: str) -> Iterator[str]:
-    """The same of what is in it, and of its bounds."""
+    """The same of what is in it."""
     if isinstance(value, dict):
-        members = known.get("properties", {})
-        for name in known.get("required", ()):
-            if name not in value:
-                yield f"{at}: no {name}"
+        members, is_closed = known.get("properties", {}), known.get("additionalProperties") is False
+        yield from (f"{at}: no {name}" for name in known.get("required", ()) if name not in value)
         for name, one in value.items():
             if name in members:
                 yield from wrong_in(one, members[name], f"{at}.{name}")
-            elif known.get("additionalProperties") is False:
+            elif is_closed:
                 yield f"{at}: {name}"
-    size = len(value) if isinstance(value, (str, list)) else value
-    ends = {str: ("minLength", "maxLength"), list: ("minItems", "maxItems"),
-            int: ("minimum", "maximum"), float: ("minimum", "maximum")}.get(type(value))
-    if ends and not known.get(ends[0], size) <= size <= known.get(ends[1], size):
-        yield f"{at}: its bounds"
-    if isinstance(value, list) and "items" in known:
+    elif "items" in known:
         for number, one in enumerate(value):
             yield from wrong_in(one, known["items"], f"{at}[{number}]")
-    if isinstance(value, str) and not re.search(known.get("pattern", ""), value):
-        yield f"{at}: {known['pattern']}"
 
 
 def is_of_kind(value: Any, kind: str) -> bool:
@@ -146,7 +149,13 @@ def wrong_by_schema(value: Any) -> list[str]:
     """All that is wrong in a result, by both readers; the other one, which takes its time, reads of
     a long list some."""
     reader = second_reader()
-    some = {**value, **{one.name: [*value[one.name][:100], *value[one.name][100::50]]
-                        for one in LISTS if one.name in value}}
-    others = [error.message for error in reader.iter_errors(some)] if reader else []
+    others = [error.message for error in reader.iter_errors(some_of(value))] if reader else []
     return [*wrong_in(value, schema()), *others]
+
+
+def some_of(value: dict[str, Any]) -> dict[str, Any]:
+    """A result with some of what its long lists have; those of each pair, where it is of several."""
+    lists = {one.name: [*value[one.name][:SOME], *value[one.name][SOME::50]]
+             for one in LISTS if one.name in value}
+    return {**value, **lists, **({"pairs": list(map(some_of, value["pairs"]))}
+                                 if "pairs" in value else {})}

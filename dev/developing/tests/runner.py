@@ -20,6 +20,10 @@ from .bench import BENCH
 
 FOLDER = os.path.dirname(os.path.realpath(__file__))
 PATTERN = "test_*.py"
+# What takes long is begun first, so that none of it is left alone in the end.
+LONG = ("test_hints", "test_channel_moments", "test_channel_streams", "test_channel_feeds",
+        "test_channel_days", "test_channel_at_random", "test_at_random", "test_installed",
+        "test_clones", "test_proving", "test_gate", "test_evidence", "test_hostile")
 Error = Union[Tuple[Type[BaseException], BaseException, TracebackType], Tuple[None, None, None]]
 Several = Sequence[unittest.TestCase]
 
@@ -97,10 +101,10 @@ def of_module(module: str, tests: Several) -> list[unittest.TestCase]:
     named = f"developing.tests.test_{module.rpartition('.')[2]}"
     asked, known = {module} & {*callers()}, set[str]()
     while asked:
-        several = [one for one in tests for its in [type(one).__module__]
-                   if its == named or asked & (shared_by(its) if known else called_by(its))]
-        if several:
-            return several
+        kinds = {its for its in {type(one).__module__ for one in tests}
+                 if its == named or asked & (shared_by(its) if known else called_by(its))}
+        if kinds:
+            return [one for one in tests if type(one).__module__ in kinds]
         known |= asked
         asked = {other for one in asked for other in callers()[one]} - known
     return []
@@ -205,7 +209,7 @@ class Apart:
 def run_all(tests: Several, at_once: int, is_verbose: bool) -> Counts:
     """Runs tests, some at once."""
     whole, running = Counts(is_verbose), list[Apart]()
-    waiting = list(in_units(tests))[::-1]
+    waiting = sorted(in_units(tests), key=lambda one: name_of(one[0]).startswith(LONG))
     BENCH.make_top()
     gc.freeze()  # what all of them have is neither looked at nor given back
     while running or waiting:

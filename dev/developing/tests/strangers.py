@@ -24,8 +24,8 @@ from subtitles.calls.claim import is_own
 from subtitles.calls.forked import Forked, ended_of, qc
 from subtitles.calls.objects import object_at
 from subtitles.core.built import TOP
+from .bench import SECONDS
 
-SECONDS = 60  # for a call: more is one that hangs
 WATCHED = 3.0  # seconds for which a folder is watched
 OLD = '{"format": 5, "verdict": "not judged", "status": 2, "name": "old", "reason": "old"}\n'
 STEMS = ["film", "film.1", "film.2", "index", ".film", "film~2", "a\udce9", "a%E9", "a\\xe9",

@@ -2,12 +2,18 @@
 without rows."""
 from __future__ import annotations
 
+import os
 from typing import Any
 
+from developing.pes import pes_packet
+from subtitles.core.built import TOP, read
 from subtitles.core.times import TICKS
+from subtitles.qc.causes import NAMES
 from .bench import Case
 from .judged import Judged, Sent, joined, judged, programme, sendings
 from .parts import CLOSING, HEADER, row
+from .test_holes import Shape, sent_of
+from .test_paced import of_pid
 
 BEGIN = 900_000
 TIMES = [(BEGIN + 100 * at, BEGIN + 100 * at + 50) for at in range(6)]
@@ -72,3 +78,22 @@ class Told(Case):
         told = judged(self, self.path("one.stl"), self.path("one.pes"), "--origin", "0")
         self.must("rows later", [one[0] for one in self.causes(told)] == ["unknown"] and
                   "it is gone at 10:00:01:00" in self.causes(told)[0][2], told.said)
+
+    def test_not_received(self) -> None:
+        """Whose page transmissions are lost, all of them; one of two that is lost is none."""
+        made = sent_of([pes_packet(*one) for one in sendings(self, programme(self, TIMES))],
+                       Shape(100))
+        for frames, wanted in (((200, 225), [("not received", 3)]), ((225,), [])):
+            gone = {of_pid(made, BEGIN + frame)[0] for frame in frames}
+            self.write("one.ts", b"".join(one.data for at, one in enumerate(made)
+                                          if at not in gone))
+            told = judged(self, self.path("one.stl"), self.path("one.ts"), "--origin", "0")
+            names = [(one["cause"], one["subtitle"]["number"]) for one in told.result["causes"]]
+            self.must(f"{frames}", told.word == "refused" and names == wanted, told.said)
+
+    def test_manual(self) -> None:
+        """Each cause begins a row there."""
+        rows = read(os.path.join(TOP, "docs", "manual", "refusals.md")) or ""
+        begins = [line.partition(" | ")[0] for line in rows.splitlines() if line.startswith("| `")]
+        for name in NAMES:
+            self.must(name, any(f"`{name}" in one for one in begins))

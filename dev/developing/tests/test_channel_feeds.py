@@ -2,6 +2,7 @@
 grows."""
 from __future__ import annotations
 
+import itertools
 import json
 import os
 import signal
@@ -15,6 +16,7 @@ from .muxed import in_frames, spaced
 from .test_channel_days import MEMORY
 
 STARTS, END = (3, 20, 37), 55  # seconds of a feed at which programmes begin, and at which it ends
+MUCH = 32 * 25  # frames of a feed of 40 Mbit/s: 160 MB
 HOUR = 3600 * SECOND
 NULL = b"\x47\x1f\xff\x10" + b"\xff" * 184
 
@@ -33,12 +35,15 @@ class Feeds(Case):
         return call
 
     def test_of_all_kinds(self) -> None:
-        """At 40 Mbit/s; with much before the first packet of a programme; of packets of 188, 192
-        and 204 bytes, through a pipe, and with a PID from a file."""
+        """For half a minute at 40 Mbit/s, more than memory may be taken; with much before the first
+        packet of a programme; of packets of 188, 192 and 204 bytes, through a pipe, and with a PID
+        from a file."""
         pes = packets(b"".join(three(self, STARTS, END)))
         data = b"".join(in_frames(pes, BEGIN, END * 25, 1))
         kinds: dict[str, Iterable[bytes]] = {
-            "40 Mbit": in_frames(pes, BEGIN, END * 25), "188": [data],
+            "40 Mbit": itertools.chain(itertools.islice(in_frames(pes, BEGIN, END * 25), MUCH),
+                                       itertools.islice(in_frames(pes, BEGIN, END * 25, 1), MUCH,
+                                                        None)), "188": [data],
             "behind null packets": [NULL * (17 * 2 ** 20 // len(NULL)), data],
             "behind zeros": [bytes(2 ** 23), data], "192": [spaced(data, 192)],
             "204": [spaced(data, 204)]}

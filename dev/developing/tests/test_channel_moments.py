@@ -3,6 +3,7 @@ which never changes, and it is that of a day without that. With --speed a day of
 and twenty moments of each kind, else five programmes and three moments."""
 from __future__ import annotations
 
+import contextlib
 import json
 import os
 import random
@@ -12,9 +13,10 @@ import statistics
 import time
 from typing import Any
 
+from subtitles.calls.claim import InUse, locking
 from subtitles.core.times import CLOCK
-from .bench import Case, packets
-from .channels import BEGIN, SECOND, SOON, Running, blank, family_of, make_programme, until
+from .bench import SECONDS, Case, packets
+from .channels import BEGIN, SECOND, Running, blank, family_of, make_programme, until
 from .muxed import in_frames
 
 EACH, LASTS = 40, 12  # seconds from one programme to the next one, and of each
@@ -77,13 +79,22 @@ class Moments(Case):
         while which and call.process.poll() is None:
             if which == "recorder":
                 for pid in self.recorders_of(call):
-                    os.kill(pid, number)
+                    with contextlib.suppress(ProcessLookupError):  # it ended just then
+                        os.kill(pid, number)
                     return call.end() == 0
             elif time.monotonic() > ending and self.count(out) >= count:
                 self.end(call, number)
+                until(lambda: self.is_left(f"{out}.feed"))
                 return False
             time.sleep(0.01)
-        return call.process.wait(SOON * 5) == 0
+        return call.process.wait(SECONDS) == 0
+
+    def is_left(self, folder: str) -> bool:
+        """Whether nobody records into a folder: the recorder of a judge that was killed goes on
+        until it knows that."""
+        with contextlib.suppress(InUse), locking(self.path(folder), "recorder", ""):
+            return True
+        return False
 
     def count(self, out: str) -> int:
         """How many results there are."""
@@ -146,7 +157,7 @@ class Moments(Case):
             calls[which] = Running(self, *words[which], log=f"log{which}")
         while at < len(self.feed):
             at += os.write(pipe, self.feed[at:at + 4096])
-        until(lambda: self.count("out") == len(self.names), SOON * 5)
+        until(lambda: self.count("out") == len(self.names))
         self.must("the ends", [one.end(signal.SIGTERM) for one in calls] == [2, 2])
         os.close(pipe)
         found = self.results("out")

@@ -11,8 +11,8 @@ from unittest import mock
 from subtitles.calls.channel import hook
 from subtitles.calls.channel.hook import failure_of, refuse_command
 from subtitles.core.words import Stop
-from .bench import Case, example
-from .channels import Running
+from .bench import SECONDS, Case, example
+from .channels import Running, until
 from .listings import BEGIN, SECOND, Lines, Programmes, Told, texts_of
 
 
@@ -130,19 +130,34 @@ class Folders(Programmes):
 class Commands(Case):
     """A command after each result."""
 
+    def failure(self, name: str, text: str, longest: int) -> str | None:
+        """Why a script failed that may take so long; one second is from when it has written
+        something."""
+        wait = subprocess.Popen.wait
+
+        def wait_then(process: subprocess.Popen[bytes], timeout: float | None = None) -> int:
+            if timeout == 1:
+                until(lambda: self.read("told").endswith(b"\n"))
+            return wait(process, timeout)
+
+        self.write("told", b"")
+        command = self.write_program(name, f"#!/bin/sh\n{text}\n")
+        with mock.patch.object(hook, "LONGEST", longest), \
+                mock.patch.object(subprocess.Popen, "wait", wait_then):
+            failure = failure_of(command, "a b.json", "not judged")
+        return failure and failure.removeprefix(f"{command} ")
+
     def test_failures(self) -> None:
         """Why one failed: its status, that it can't be called, or that it takes too long; nothing
         of it goes on then."""
         path = self.path("told")
-        for name, text, why in (
-                ("good", f'echo "$1 $2 $#" >{path}', None),
-                ("bad", "exit 7", "ended with status 7"),
-                ("killed", "kill -9 $$", "ended with status -9"),
-                ("slow", f"echo $$ >{path}; sleep 60", "did not end within 1 second")):
-            command = self.write_program(name, f"#!/bin/sh\n{text}\n")
-            with mock.patch.object(hook, "LONGEST", 1):
-                failure = failure_of(command, "a b.json", "not judged")
-            self.must(name, failure == (why and f"{command} {why}"), failure)
+        for name, text, longest, why in (
+                ("good", f'echo "$1 $2 $#" >{path}', SECONDS, None),
+                ("bad", "exit 7", SECONDS, "ended with status 7"),
+                ("killed", "kill -9 $$", SECONDS, "ended with status -9"),
+                ("slow", f"echo $$ >{path}; sleep {SECONDS}", 1, "did not end within 1 second")):
+            failure = self.failure(name, text, longest)
+            self.must(name, failure == why, failure)
             if name == "good":
                 self.must("its words", self.read("told") == b"a b.json not judged 2\n")
         self.must("it is gone", not os.path.exists(f"/proc/{int(self.read('told'))}/fd/0"))

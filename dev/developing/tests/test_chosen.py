@@ -27,13 +27,15 @@ AGREE = "origin: 5 of 5 cues agree, 5 with the letters that are due; the file ha
 ORIGIN_OF_TS = "origin", "5000000000", 5, 5, 1, f"{AGREE}--origin 1678370000 with 2"
 CUT = "pes", "2-6", 5, 7, 1, "cut: 5 of 7 PES packets, from 20:15:00:00 to 20:15:09:00"
 PID = "pid", "0x101", 7, 7, None, RECORDING_PID
+PACE = "pace", None, None, None, 1, "a hole of 15, or of 16, 32, 48 .. TS packets of PID 0x101 " \
+    "alone may be unseen: its PES packets are too few to measure a pace"
 # Words of a call, and what is chosen: the option, its value, how many agree among how many, of
 # which part, and the line.
 ROWS: list[tuple[Sequence[str], list[tuple[Any, ...]]]] = [
-    (TS, [PID, ORIGIN_OF_TS, CUT]),
-    ((*TS, "--pid", "0x101"), [ORIGIN_OF_TS, CUT]),
-    ((*TS, "--origin", "5000000000"), [PID, CUT]),
-    ((*TS, "--pid", "0x101", "--origin", "5000000000"), [CUT]),
+    (TS, [PID, ORIGIN_OF_TS, CUT, PACE]),
+    ((*TS, "--pid", "0x101"), [ORIGIN_OF_TS, CUT, PACE]),
+    ((*TS, "--origin", "5000000000"), [PID, CUT, PACE]),
+    ((*TS, "--pid", "0x101", "--origin", "5000000000"), [CUT, PACE]),
     ((TS[0],), []),
     ((TS[0], "--option", "auto"), [
         ("option", "english", None, None, None,
@@ -138,9 +140,14 @@ class Chosen(Case):
             json.loads(self.read(f"out/{name}.json")) for name in ("story", "story~2")], done)
 
     def test_manual(self) -> None:
-        """The table of the manual has each of them."""
+        """The table of the manual has each of them: what one is chosen by, what a wrong one can do,
+        and what keeps it from worse."""
         table = read(os.path.join(TOP, "docs", "manual", "qc.md"))
         assert table
         rows = table.partition('<a id="what-qc-chooses">')[2].partition("<a id=")[0]
         for what in CHOICES:
             self.must(what, f"`--{what}`" in rows or f"`--{what} " in rows)
+        cells = [[one.strip() for one in line.strip("|").split("|")]
+                 for line in rows.splitlines() if line.startswith("|")]
+        self.must("cells", len(cells) > len(CHOICES) + 2 and all(
+            len(one) == 4 and all(one) for one in cells), cells)

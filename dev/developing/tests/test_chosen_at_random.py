@@ -77,7 +77,7 @@ def programme_of(seed: int) -> Programme:
     some = random.Random(seed)
     has_codes, leaves_room, text = some.choice(HOUSES)
     between = b"\x8a\x8a" if leaves_room else b"\x8a"
-    count = some.choice((40, 60, 90))
+    count = some.choice((12, 40, 60, 90))
     found = Programme(text, [], [], some.choice((0, 1, 1, 1, 2)), some.randrange(100, count * 20),
                       some.choice((0, 1, 2, 3, 5, 15, 16, 17, 32, 48)), some.random() < 0.6,
                       some.random() < 0.3, some.random() < 0.6)
@@ -107,7 +107,7 @@ def filled(sent: Sent, step: int) -> Sent:
 
 def recorded(one: Programme, sent: Sent) -> bytes:
     """What is left of it, as a transport stream or as PES packets."""
-    place = min(one.place, len(sent) - 60)
+    place = min(one.place, max(len(sent) - 60, len(sent) // 2))
     if one.has_wrong:
         sent = [*sent[:place], (sent[place][0], WRONG), *sent[place + 1:]]
     if not one.is_stream:

@@ -8,6 +8,7 @@ import subprocess
 from typing import Iterable
 
 from subtitles.core.built import TOP, behind_script, read
+from ..compiled import share_compiled
 from ..proved import Proved, digest_of, parsed, text_of
 from ..trial import ANOTHER_USER, Trial
 from .bench import SECONDS, Case, Done
@@ -46,6 +47,7 @@ class Clone:
                 shutil.copytree(here, there, ignore=left_out)
             else:
                 shutil.copy(here, there)
+        share_compiled(self.path("tools"))
         self.crates = dict(line.split(" ") for line in self.tool("sources", "--crates"))
         self.put("dist", case.bench.program)
 

@@ -131,7 +131,7 @@ class Folders(Case):
             self.write(name, b"1")
 
         def due(now: float) -> list[str]:
-            return [item.name for item in watch.due(set(), now)]
+            return [item.name for item in watch.due(set(), lambda: now)]
 
         for now, wanted in ((100, []), (109, []), (110, ["one"]), (111, []), (150, [])):
             self.must(f"at {now}", due(now) == wanted)
@@ -144,6 +144,11 @@ class Folders(Case):
         self.write("in/two.stl", b"2")
         self.write("in/two.done", b"")
         self.must("somebody says so", due(311) == ["two"])
+        os.unlink(self.path("in/two.done"))
+        self.write("in/two.ts", b"22")
+        times = iter([400.0, 409.0, 418.0, 419.0])  # a look that takes nine seconds, and two more
+        self.must("from when it was seen", [[one.name for one in watch.due(
+            set(), lambda: next(times))] for _ in range(3)] == [[], [], ["two"]])
         self.must("what was seen", isinstance(watch.seen["one"], Sighting))
 
     def test_told_once(self) -> None:
@@ -156,7 +161,7 @@ class Folders(Case):
 
         def told(now: float) -> int:
             with contextlib.redirect_stderr(io.StringIO()) as told:
-                watch.due(set(), now)
+                watch.due(set(), lambda: now)
             return len(told.getvalue().splitlines())
 
         self.write("in/one.stl", b"1")

@@ -310,14 +310,14 @@ class Watched(Case):
             while len(looks) == 7 and running:
                 yield row(running.pop().name, "accepted")
 
-        def look(watch: Watch, busy: set[str], now: float) -> list[Item]:
+        def look(watch: Watch, busy: set[str]) -> list[Item]:
             looks.append(len(looks))
             if len(looks) in (1, 4):
                 for name in ("a.stl", "a.ts", "b.stl", "b.ts"):
                     self.write(f"in/{name}", b"x" * len(looks))
             if len(looks) == 8:
                 raise KeyboardInterrupt
-            return due(watch, busy, now)
+            return due(watch, busy)
 
         with mock.patch("signal.signal"), mock.patch.object(watching, "LOOK", 0.01), mock.patch.object(Watch, "due", look), \
                 mock.patch.object(watching, "judged_next", judged_next), \

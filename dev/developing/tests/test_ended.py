@@ -6,6 +6,7 @@ import csv
 import itertools
 import json
 import os
+import signal
 import subprocess
 import sys
 import unittest
@@ -14,10 +15,12 @@ from typing import Any, NamedTuple
 from unittest import mock
 
 from subtitles.calls.main import main
+from subtitles.calls.single import SIGNALS
 from subtitles.core.built import TOP
 from subtitles.core.stl import stl_bytes
 from subtitles.core.words import Stop, run
 from .bench import Case, example, tool_path
+from .judged import FEW
 
 QC = tool_path("qc")
 HELLO = [example("hello.stl"), example("hello.pes")]
@@ -37,7 +40,8 @@ esac
 
 
 class Ended(NamedTuple):
-    """How a call ended, what it printed, and its lines on standard error."""
+    """How a call ended, what it printed, and its lines on standard error, but for the note that the
+    recording, which is short, tells no pace."""
 
     status: int
     printed: list[str]
@@ -63,6 +67,7 @@ class Story(Case):
     def qc(self, *words: str, out: str = "out.txt") -> Ended:
         """Calls qc; what it prints goes into a file."""
         before = os.getcwd()
+        heard = [(one, signal.getsignal(one)) for one in SIGNALS]
         os.chdir(self.folder)
         try:
             with open(out, "w", encoding="utf-8") as printed, \
@@ -77,9 +82,12 @@ class Story(Case):
                 with contextlib.suppress(OSError):  # of a disk that is full
                     printed.close()
             lines = [] if out == FULL else self.text(out).splitlines()
-            return Ended(status, lines, self.text("told.txt").splitlines())
+            said = self.text("told.txt").splitlines()
+            return Ended(status, lines, [line for line in said if not line.endswith(FEW)])
         finally:
             os.chdir(before)
+            for one, handler in heard:  # a call that ends takes no signal any more
+                signal.signal(one, handler)
 
     def judge(self, program: str, *words: str) -> Ended:
         return self.qc(*HELLO, "--origin", "0", "-p", program, *words)

@@ -67,12 +67,16 @@ ITEMS = [
     ("after=0A,fit,left=2", [("after=0A", "fit,left=2"), ("fit", "after=0A,left=2"),
                              ("left=2", "after=0A,fit")]),
     ("", [])]
+OVERRULING = (*range(0x01, 0x08), 0x09, 0x0C)  # behind a line's own codes
 # A layout, and what of it takes from a page what a viewer sees.
 TAKEN = [
     ("strip=0A0B", ""), ("strip=0D", "strip=0D"), ("strip=0D,before=0D0B0B", ""),
     ("strip=0D,before=0B0B*0D", ""), ("strip=0A0B,before=", "strip=0B"), ("strip=0A,before=", ""),
     ("strip=070001090A0C", "strip=01"), ("strip=0106081C1D", "strip=0106081C1D"),
-    ("strip=03,before=030B0B", "strip=03"), ("text,up", "")]
+    ("strip=03,before=030B0B", "strip=03"), ("text,up", ""), ("before=07*0B0B", ""),
+    ("strip=03,before=*070B0B", "before=*070B0B,strip=03"),
+    *((text, text if code in OVERRULING else "")
+      for code in range(0x01, 0x0E) for text in [f"before=0B*{code:02X}0B"])]
 
 
 def meant(text: str) -> Layout:
@@ -157,6 +161,18 @@ class Taken(Case):
             self.must(f"{count}", text_of(choice.layout) == taken and choice.drawn == 100 - (
                 count if not taken else 0), choice)
 
+    def test_a_colour_that_is_overruled(self) -> None:
+        """By a white behind it, in however many: the codes then stand before a line's own."""
+        for count, text, drawn_so in ((1, "before=070B0B", 99), (10, "before=070B0B", 90),
+                                      (30, "", 0)):
+            sent = sent_of([One(b"\3Hi", b"\3Hi")] * count + plain(100 - count),
+                           meant("before=*070B0B"))
+            closest, choice = choices_of(sent, ENGLISH)
+            left = [(one.text, one.more) for one in choice.left]
+            self.must(f"{count}", closest.drawn == 100 and choice.drawn == drawn_so and
+                      text_of(choice.layout) == text and choice.is_clear == bool(text) and
+                      left == [("before=*070B0B", 100 - drawn_so)], choice)
+
     def test_evidence_is_of_what_is_decided(self) -> None:
         """Of those that an item draws otherwise nine in ten have to be sent so, whatever the others
         are: ten with two lines by `double`, one or two without."""
@@ -210,8 +226,8 @@ class Taken(Case):
         the closest, and nothing is taken."""
         for number, (has_codes, leaves_room, text) in enumerate(HOUSES):
             some = random.Random(number)
-            sent = programme(some, has_codes, leaves_room, meant(text), 150)
-            count = (1, 5, 20)[number % 3] * 3 // 2
+            sent = programme(some, has_codes, leaves_room, meant(text), 100)
+            count = (1, 5, 20)[number % 3]
             for at in some.sample(range(len(sent)), count):
                 rows = sent[at].rows
                 sent[at] = sent[at]._replace(rows=rows[at % 3 + 1:] + rows[:at % 3 + 1])

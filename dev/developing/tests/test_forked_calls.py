@@ -21,6 +21,7 @@ from subtitles.qc.asked import asked_of
 from subtitles.qc.made_with import program_at
 from subtitles.qc.typed import Typed
 from .bench import SECONDS, Case
+from .channels import until
 from .parts import asked_for
 from .results import result
 from .test_many_pairs import row
@@ -36,7 +37,7 @@ while [ $# -gt 0 ]; do
     shift
 done
 kind=$(cat "$stl")
-[ "$kind" = waits ] && exec sleep 9
+[ "$kind" = waits ] && exec sleep SECONDS
 [ "$kind" = changes ] && echo more >>"$stl"
 case $kind in
     accepted | changes | other | silent) status=0 ;; refused) status=1 ;; *) status=2 ;;
@@ -57,7 +58,7 @@ class Judged(Case):
 
     def setUp(self) -> None:
         super().setUp()
-        path = self.write_program("call", CALL)
+        path = self.write_program("call", CALL.replace("SECONDS", f"{SECONDS}"))
         for verdict in ("accepted", "refused", "not judged"):
             self.write(verdict, json.dumps(result(verdict, notes=TOLD)).encode())
         self.typed = Typed("tools/qc", self.bench.program)
@@ -227,10 +228,13 @@ class Judged(Case):
         calls = Calls(self.typed, self.path("temporary"), self.path("out"), False)
         items = [self.item("accepted", f"name{at}") for at in range(3)]
 
+        def are_over() -> bool:
+            running = calls.running  # none, where all ended before the first look
+            return all(os.path.exists(calls.path(item)) for item in items) and (
+                not running or len(ended_of(running, SECONDS)) == len(running))
+
         def stopped(*_: object) -> None:
-            while not all(os.path.exists(calls.path(item)) for item in items) or \
-                    len(ended_of(calls.running, SECONDS)) < len(calls.running):
-                time.sleep(0.01)
+            until(are_over)
             raise KeyboardInterrupt
 
         with mock.patch("subtitles.qc.progress.Progress.show", stopped), \

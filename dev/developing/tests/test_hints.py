@@ -1,9 +1,12 @@
 """The type hints of tools/, dev/ and bench/, by mypy --strict."""
 from __future__ import annotations
 
+import contextlib
+import fcntl
 import os
 import shutil
 import subprocess
+from typing import Iterator
 
 from subtitles.core.built import TOP
 from .bench import SECONDS, Case
@@ -39,6 +42,23 @@ def scripts() -> list[str]:
     return list(filter(is_python, paths))
 
 
+@contextlib.contextmanager
+def cache_of(case: Case) -> Iterator[str]:
+    """A folder for what mypy knows of modules as they are: one of the user, which stays, where no
+    other call has it now; in the gate an empty one."""
+    home = os.environ.get("XDG_CACHE_HOME") or os.path.expanduser("~/.cache")
+    kept = os.path.join(home, "subttx-mypy")
+    with contextlib.ExitStack() as stack:
+        own = case.path("cache")
+        if "CI" not in os.environ:
+            with contextlib.suppress(OSError):
+                os.makedirs(kept, exist_ok=True)
+                lock = stack.enter_context(open(os.path.join(kept, "lock"), "w", encoding="ascii"))
+                fcntl.flock(lock, fcntl.LOCK_EX | fcntl.LOCK_NB)
+                own = kept
+        yield own
+
+
 class Hints(Case):
     """Type hints."""
 
@@ -48,12 +68,12 @@ class Hints(Case):
         if mypy is None and "CI" not in os.environ:
             self.skipTest("type hints, since there is no mypy")
         assert mypy, "there is no mypy, which dev/install-test-tools installs"
-        command = [mypy, "--strict", "--scripts-are-modules", "--follow-imports=silent",
-                   f"--cache-dir={self.path('cache')}"]
+        command = [mypy, "--strict", "--scripts-are-modules", "--follow-imports=silent"]
         try:
             listed = [path for folder in PACKAGES for path in modules(folder)]
-            done = self.call([*command, *listed, *scripts()],
-                             env={**os.environ, "MYPYPATH": os.pathsep.join([TOOLS, DEV])})
+            with cache_of(self) as cache:
+                done = self.call([*command, f"--cache-dir={cache}", *listed, *scripts()],
+                                 env={**os.environ, "MYPYPATH": os.pathsep.join([TOOLS, DEV])})
         except subprocess.TimeoutExpired:
             if "CI" in os.environ:
                 raise

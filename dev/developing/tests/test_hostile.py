@@ -29,11 +29,7 @@ def controls(data: bytes) -> list[int]:
 
 def in_folder(case: Case, folder: str, *words: str) -> Done:
     """A call of qc there."""
-    found = subprocess.run([tool_path("qc"), "-p", case.bench.program, *words],
-                           cwd=os.path.join(case.folder, folder), stdin=subprocess.DEVNULL,
-                           stdout=subprocess.PIPE, stderr=subprocess.PIPE, check=False)
-    return Done(found.returncode, found.stdout,
-                found.stderr.decode("utf-8", "surrogateescape").splitlines())
+    return case.call([tool_path("qc"), "-p", case.bench.program, *words], folder=folder)
 
 
 def is_told(case: Case, what: str, folder: str) -> None:

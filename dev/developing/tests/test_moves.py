@@ -14,7 +14,7 @@ from subtitles.reading.survey import survey
 from .bench import Case, moved, packets
 from .judged import in_pipe, judged, programme
 from .muxed import MPEG_2, PRIVATE, TELETEXT_PID, VIDEO_PID, Maker, teletext_descriptor
-from .parts import CLOSING
+from .parts import CLOSING, HEADER, row
 from .test_holes import Sent as Packet, Shape, sent_of
 from .test_pairs_in_parts import times
 
@@ -114,6 +114,33 @@ class Moves(Case):
                 part["pid"] for part in told.result["parts"]] == [OLD, NEW], told.said)
             numbers = [one["subtitle"]["number"] for one in told.result["causes"]]
             self.must(f"{move}: causes", numbers == [], numbers)
+
+    def test_wrong_on_the_new_one(self) -> None:
+        """Another text on the new PID, while a subtitle is judged on the old one: that is said to
+        be not judged; from the out cue on it is refused."""
+        self.schedule(self.stl, "each.pes", "--every", "1")
+        pes, out = packets(self.read("each.pes")), times(10)[4][1]
+        wrong = [HEADER, row(20, b"Nobody wrote this"), CLOSING]
+        for frames, until, word, begun in ((9, out, "accepted", "00:00:22:01"),
+                                           (3, out, "accepted", "00:00:22:07"),
+                                           (3, out + 1, "refused", "00:00:22:07"),
+                                           (0, out, "accepted", None)):
+            def sent(number: int) -> Sequence[tuple[int, bytes]]:
+                pts = pts_in(pes[number])
+                old, new = [(OLD, pes[number])], [(NEW, pes[number])]
+                if pts < (out - frames) * TICKS:
+                    return old
+                if pts < until * TICKS:
+                    new = [(NEW, pes_packet(pts, wrong))]
+                return old + new if pts <= out * TICKS else new
+
+            at = next(at for at, one in enumerate(pes) if pts_in(one) == (out - frames) * TICKS)
+            path = self.write("one.ts", in_turn(pes, [(0, OLD), (at, NEW)], sent))
+            told = judged(self, self.stl, path, "--origin", "0", *WORDS)
+            line = "at 00:00:22:10, where both carry it" + (
+                f"; what PID 0x111 carries from {begun} up to then is not judged" if begun else "")
+            self.must(f"{frames} {until}", told.word == word and any(
+                one["line"].endswith(line) for one in told.result["warnings"]), told.said)
 
     def test_up_to(self) -> None:
         """Up to the PES packet before the first header on the next PID, or the last header."""
@@ -293,7 +320,7 @@ class Pieces(Case):
                                 goes=to) for pid, begin, end, to in (
                 (OLD, 0, last, goes), (NEW, first, 200, None)))
             told = [(each.line.partition("0x111 ")[2], each.time)
-                    for each in moves_told([one, other], "888")]
+                    for each in moves_told([one, other], "888", 0)]
             self.must(f"{last} {first} {goes}", told == [(words, time)] * (goes is not None), told)
 
     def test_joined(self) -> None:

@@ -68,6 +68,9 @@ TABLE = [
     regular("a row for each mark", *[range(50 * at, 50 * at + 40) for at in range(9)]),
     regular("short rows", *[range(50 * at, 50 * at + 4) for at in range(99)]),
     Row("rows of three", [range(50 * at, 50 * at + 3) for at in range(99)], TOO_FEW),
+    Row("few, up to the bound", [range(0, 990, 10)], TOO_FEW, every=30),
+    Row("few, over the bound", [range(0, 990, 10)], BY_EVERY, every=29),
+    Row("three", [[0, 300, 600]], TOO_FEW), Row("four", [[0, 100, 200, 300]], BY_EVERY),
     # Whatever its TS packets are: two PES packets at least are lost.
     *(regular(f"{each} TS packets", FOUR, each=each) for each in range(1, 10)),
     # By the distance.
@@ -76,6 +79,8 @@ TABLE = [
     regular("once a second", repeated([25], 200), frames=74, each=2),
     regular("up to the bound", repeated([25], 200), frames=74, every=75),
     Row("over the bound", [repeated([25], 200)], BY_EVERY, every=74),
+    regular("over the bound nearly everywhere", repeated([*[25] * 300, 1, 1, 1], 1), frames=74,
+            every=74, closer=3),
     regular("four in three frames", repeated([1, 1, 0, 1], 100), frames=1),
     Row("two in a frame", [repeated([0, 1], 200)], IRREGULAR),
     Row("three in two frames", [repeated([0, 1, 1, 0, 1], 200)], IRREGULAR),
@@ -148,6 +153,10 @@ TABLE = [
     of_pes("a file, each fifth frame", repeated([5], 200), frames=5),
     of_pes("a file, up to the bound", repeated([25], 200), frames=25, every=26),
     Row("a file, over the bound", [repeated([25], 200)], BY_EVERY, every=25, is_stream=False),
+    of_pes("a file, over the bound but for some", repeated([10, 15, 25], 70), frames=25, every=25,
+           closer=70),
+    Row("a file, all over the bound", [repeated([10, 16, 25], 70)], BY_EVERY, every=25,
+        is_stream=False),
     of_pes("a file with changes", repeated([25, 25, 12, 25], 60), frames=25),
     of_pes("a file with a change", repeated([*[25] * 99, 12, 13, *[25] * 99], 1), frames=25,
            closer=1),
@@ -157,6 +166,8 @@ TABLE = [
     Row("a file with a pause", [holed(LONG, (999, 100))], PAUSED, pauses=[(999, 1100)],
         is_stream=False),
     Row("a file, too few", [range(LEAST)], TOO_FEW, is_stream=False),
+    Row("a file, few, up to the bound", [range(0, 990, 10)], TOO_FEW, every=20, is_stream=False),
+    Row("a file, few, over the bound", [range(0, 990, 10)], BY_EVERY, every=19, is_stream=False),
 ]
 
 
@@ -172,6 +183,11 @@ class Told(Case):
         self.must("words", pace_of([holed(LONG, (9, 20))], 2, 250)[:3] == (REGULAR, 1, 3) and
                   pace_of([holed(LONG, (9, 300))], 1, 999, [(0, 9)])[:3] == (PAUSED, 301, 3))
         self.must("few", FEW == 3 and LEAST == 100)
+        closest: list[tuple[list[list[int]], int]] = [
+            ([], 0), ([[7]], 0), ([[0, 2, 9]], 7), ([[0, 1, 3], [9, 13, 18]], 1),
+            ([[0, 9, 17, 24, 30, 31]], 6)]
+        for rows, apart in closest:
+            self.must(f"{rows}", pace_of(rows, 1, 250).apart == apart)
 
     def test_rows(self) -> None:
         """The frames that are heard: up to marks, PES packets that are refused or have no frame,

@@ -32,10 +32,11 @@ def of_pid(made: list[Packet], frame: int) -> list[int]:
     return [at for at in range(first, len(made)) if made[at].pid == TELETEXT_PID]
 
 
-def lost(made: list[Packet], count: int, is_announced: bool = False) -> list[Packet]:
+def lost(made: list[Packet], count: int, is_announced: bool = False, frame: int = AT
+         ) -> list[Packet]:
     """Without so many TS packets of the PID from the wrong page on; the jump of the counter may be
     announced, by a packet without a payload."""
-    gone = of_pid(made, AT)[:count]
+    gone = of_pid(made, frame)[:count]
     field = bytes([PACKET - 5, 0x80]).ljust(PACKET - 4, b"\xff")
     says = Packet(head(TELETEXT_PID, 0, ADAPTATION_ALONE) + field, TELETEXT_PID)
     return [says if at == gone[-1] else one for at, one in enumerate(made)
@@ -94,6 +95,25 @@ class Hidden(Case):
                   f"{path} may be unseen: at 1 place its PES packets come closer" in
                   told.result["notes"], told.said)
 
+    def test_files_that_repeat_by_a_clock(self) -> None:
+        """Where the page comes each 25 frames and at the cues, what is between a repeat and a cue
+        may be missing though no header is late: a note says so."""
+        times = [(BEGIN + 60 * at, BEGIN + 60 * at + 47) for at in range(60)]
+        cues = {edge for both in times for edge in both}
+        sent = [one for one in sendings(self, programme(self, times), every=1)
+                if one[0] // TICKS in cues or one[0] // TICKS % 25 == 0]
+        frames = [pts // TICKS for pts, _ in sent]
+        place = next(at for at in range(20, len(frames)) if frames[at] not in cues
+                     and frames[at + 1] - frames[at - 1] <= 25)
+        wrong = [*sent[:place], (sent[place][0], WRONG), *sent[place + 1:]]
+        for name, some, word in (("it is wrong", wrong, "refused"),
+                                 ("missing", sent[:place] + sent[place + 1:], "accepted")):
+            self.write("one.pes", joined(some))
+            told = judged(self, self.path("one.stl"), self.path("one.pes"), "--origin", "0",
+                          "--every", "25")
+            self.must(name, told.word == word and told.parts("pace") == [(25,)] and any(
+                "may be unseen: at " in note for note in told.result["notes"]), told.said)
+
     def test_announced(self) -> None:
         """A hole at which a jump of the counter is announced, which then tells nothing, is 45 where
         more time passes than usual."""
@@ -114,6 +134,47 @@ class Hidden(Case):
         told = self.judge(lost(made, 6, True))
         self.must("two", told.word == "refused" and
                   told.result["line"] == "refused 79 Silent frame 10:00:12:01", told.said)
+
+    def test_few(self) -> None:
+        """Of fewer than 101 PES packets no pace is measured: what is missing is not seen, and a
+        note says so; a jump that is announced is 45 all the same, and what --every tells 73."""
+        sent = [one for at, one in enumerate(self.sent()) if at % 12 == 0 or one[1]]
+        sent = [one for one in sent if one[0] // TICKS < BEGIN + 600]
+        place = [pts // TICKS for pts, _ in sent].index(AT)
+        note = "PES packets that are missing from one.pes may be unseen: its PES packets are too " \
+            "few to measure a pace"
+        for some, word in ((sent, "refused"), (sent[:place] + sent[place + 1:], "accepted")):
+            self.write("one.pes", joined(some))
+            told = judged(self, self.path("one.stl"), self.path("one.pes"), "--origin", "0", "--to",
+                          "10:00:18:00")
+            known = [one.replace(self.folder + "/", "") for one in told.result["notes"]]
+            self.must(f"a file, {word}", len(sent) < 101 and told.word == word and note in known
+                      and told.parts("pace") == [(None,)], told.said)
+        made = sent_of([large(pes_packet(pts, some), 4) for pts, some in sent], Shape(100))
+        for count, is_announced, word in ((0, False, "refused"), (16, False, "accepted"),
+                                          (4, True, "lost")):
+            told = self.judge(lost(made, count, is_announced) if count else made, "--to",
+                              "10:00:18:00")
+            self.must(f"{count}", told.word == word and "a hole of 15, or of 16, 32, 48 .. TS "
+                      "packets of PID 0x101 alone may be unseen: its PES packets are too few to "
+                      "measure a pace" in told.told, told.said)
+
+    def test_announced_within_what_is_usual(self) -> None:
+        """Where there is a frame for a PES packet that would not be missed at a jump that is
+        announced, a note says so."""
+        sent = self.sent(50)
+        sent = [one for at, one in enumerate(sent) if at % 2 == 0 or one[1]]
+        wrong = sent.index((AT * TICKS, WRONG))
+        frame = sent[wrong - 1][0] // TICKS + 1  # between two that stay
+        sent[wrong:wrong + 1] = [(frame * TICKS, WRONG), (AT * TICKS, [])]
+        made = self.multiplexed(sent, 0, 1 << 20, 3)
+        note = "at 1 place a jump of the counter of PID 0x101 is announced: what is missing there " \
+            "may be unseen"
+        for words in ((), ("--pace", "3"), ("--pace", "none")):
+            whole, told = self.judge(made, *words), self.judge(lost(made, 3, True, frame), *words)
+            self.must(f"{words}", whole.word == "refused" and note not in whole.told and
+                      told.word == "accepted" and told.told.count(note) == 1 and
+                      note in told.result["notes"] and told.result["lost"] == [], told.said)
 
     def test_announced_where_nothing_is_missing(self) -> None:
         """A jump in the distance that is usual is none of these, nor is one without a jump."""

@@ -12,7 +12,7 @@ from subtitles.qc.clocks import origin_in
 from subtitles.reading.finding import Sought
 from .bench import Case, example
 from .parts import packets_told
-from .judged import Change, Judged, Sent, joined, judged, late, programme, sendings
+from .judged import FEW, Change, Judged, Sent, joined, judged, late, programme, sendings
 
 HELLO = example("hello.stl")
 EACH, LASTS = 100, 60  # frames from a TCI to the next one, and to its TCO
@@ -82,7 +82,8 @@ class Parts(Case):
             self.must(f"{shifts}: clocks", [
                 (one["source"], one["delay_frames"]) for one, in found.parts("clock")] == [
                 (GIVEN, 0) if words and not at else (RECORDING, None) for at in range(count)])
-            self.must(f"{shifts}: said", found.said[-3 - count:] == [
+            said = [line for line in found.said if not line.endswith(FEW)]
+            self.must(f"{shifts}: said", said[-3 - count:] == [
                 *(f"part {at + 1}, from {time_of(edges[at][0])} to {time_of(ends[at])}: accepted "
                   f"{ends[at] - begins[at] + 1} frames "
                   f"{self.at[ends[at]] - self.at[begins[at]] + 1} transmissions"

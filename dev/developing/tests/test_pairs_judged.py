@@ -9,7 +9,7 @@ from developing.pes import DATA, MARK, UNIT, mirrored, pes_packet, pts_bytes, pt
 from developing.stl import gsi_block, subtitle_blocks
 from subtitles.core.times import CLOCK, TICKS, time_of
 from .bench import Case, example, example_bytes, moved, packets, random_subtitles
-from .judged import Judged, Sent, in_pipe, joined, judged, programme, sendings
+from .judged import FEW, Judged, Sent, in_pipe, joined, judged, programme, sendings
 from .test_pairs_in_parts import ORIGIN, one_late, times
 from .test_qc_batch import agrees
 
@@ -272,7 +272,8 @@ class Said(Case):
             self.must(f"{by}", [one for one in found.told if "all subtitles" in one] ==
                       [words] * bool(words) and found.result["parts"][0]["clock"] == {
                           "origin": 0, "source": "given", "delay_frames": by}, found.said)
-            self.must(f"{by}: noted", found.result["notes"] == [words] * bool(words))
+            self.must(f"{by}: noted", found.result["notes"][:-1] == [words] * bool(words)
+                      and found.result["notes"][-1].endswith(FEW), found.result["notes"])
 
     def test_first_faults(self) -> None:
         """Hints: the first letter, and the first header with other control bits."""

@@ -7,7 +7,7 @@ from typing import Any
 
 from ..bugs import MODULE, bugs_in
 from ..planting import TOO_LONG, apart, patched, plain
-from .bench import Case
+from .bench import SECONDS, Case
 
 OF_TEXTS = {
     "def f(a, b):\n    return a < b": {"return a <= b"},
@@ -71,9 +71,9 @@ class Bugs(Case):
 
     def test_apart(self) -> None:
         """What is answered, what ends in an error, and what does not end in its time."""
-        self.must("answered", apart(lambda: {"one": os.getpid()}, 9)["one"] != os.getpid())
-        self.must("an error", apart(lambda: {"one": 1 // 0}, 9)["by"] == "ZeroDivisionError")
-        for seconds, wanted in ((0.1, TOO_LONG), (9, "")):
+        self.must("answered", apart(lambda: {"one": os.getpid()}, SECONDS)["one"] != os.getpid())
+        self.must("an error", apart(lambda: {"one": 1 // 0}, SECONDS)["by"] == "ZeroDivisionError")
+        for seconds, wanted in ((0.1, TOO_LONG), (SECONDS, "")):
             answer = apart(lambda: {"failed": "" if seconds > 1 else os.read(os.pipe()[0], 1)},
                            seconds)
             self.must(f"{seconds}", answer["failed"] == wanted, answer)

@@ -10,7 +10,7 @@ import time
 
 from subtitles.core.built import read
 from ..proved import digest_of, parsed
-from .bench import Case, Done
+from .bench import SECONDS, Case, Done
 from .test_clones import LINE, PACKET, SOURCE, TOOLCHAIN, Clone
 
 # It notes the crate, does what is put into FIRST, and proves the crate where all is there that it
@@ -32,7 +32,7 @@ LINKER = """#!/bin/sh
 [ "$5" = -o ] && cp 'PROGRAM' "$6"
 """
 TOLD = re.compile(r"subttx: (\w+) proved after \d+ s, (\d+) of \d+ crates left")
-SLEEPS = "echo $$ >>'PIDS'; exec sleep 60"
+SLEEPS = "echo $$ >>'PIDS'; exec sleep 600"
 
 
 class Bare(Clone):
@@ -134,7 +134,7 @@ class Proving(Case):
         while not read(pids) and running.poll() is None:
             time.sleep(0.05)
         running.send_signal(signal.SIGTERM)
-        self.must("status 130", running.wait(30) == 130, running.returncode)
+        self.must("status 130", running.wait(SECONDS) == 130, running.returncode)
         self.must("nothing runs on", not any(os.path.exists(f"/proc/{pid}")
                                              for pid in (read(pids) or "").split()))
         self.must("nothing is left", clone.has_cleared())

@@ -4,25 +4,24 @@ from __future__ import annotations
 import contextlib
 import json
 import os
-import queue
 import signal
 import subprocess
 import threading
-import time
 
 from developing.pes import pts_in
 from developing.stl import boxed, gsi_block, subtitle_blocks
 from subtitles.core.times import TICKS
 from subtitles.core.words import counted
-from .bench import Case, example, example_bytes, moved, packets, tool_path
+from .bench import SECONDS, Case, example, example_bytes, moved, packets, tool_path
+from .channels import until
 from .muxed import PRIVATE, TELETEXT_PID, Maker, teletext_descriptor
 from .test_qc import STORY, qc, stream
 
-SOON = 60.0  # seconds within which a verdict has to come, also on a machine that is busy
 BEGIN, EACH, SHOWN = 900_000, 75, 50  # frames: where subtitles come, one after another, how long
 COUNT, EVERY = 8, 25
 LAST = BEGIN + EACH * (COUNT - 1) + SHOWN  # the last TCO
 ORIGIN = 4321
+STALLED = "qc: nothing has come for %s"  # what is told once all has been taken that came
 
 
 class Running:
@@ -37,7 +36,6 @@ class Running:
             stdout=subprocess.PIPE, stderr=subprocess.PIPE)
         self.lines: list[str] = []
         self.told: list[str] = []
-        self.queue: queue.Queue[str | None] = queue.Queue()
         self.threads = [threading.Thread(target=self.hear, daemon=True),
                         threading.Thread(target=self.hear_told, daemon=True)]
         for thread in self.threads:
@@ -47,8 +45,6 @@ class Running:
         assert self.process.stdout
         for data in self.process.stdout:
             self.lines.append(data.decode().rstrip("\n"))
-            self.queue.put(self.lines[-1])
-        self.queue.put(None)
 
     def hear_told(self) -> None:
         assert self.process.stderr
@@ -56,37 +52,20 @@ class Running:
             self.told.append(data.decode().rstrip("\n"))
 
     def put(self, data: bytes) -> None:
+        """Hands on some of the feed; the call may have its verdict before."""
         assert self.process.stdin
-        self.process.stdin.write(data)
-        self.process.stdin.flush()
+        with contextlib.suppress(BrokenPipeError):
+            self.process.stdin.write(data)
+            self.process.stdin.flush()
 
-    def waits_for(self, begin: str, seconds: float = SOON) -> bool:
-        """Whether a line comes that begins so."""
-        end = time.monotonic() + seconds
-        while (left := end - time.monotonic()) > 0:
-            try:
-                line = self.queue.get(timeout=left)
-            except queue.Empty:
-                return False
-            if line is None:
-                return False
-            if line.startswith(begin):
-                return True
-        return False
-
-    def waits_for_told(self, words: str) -> bool:
+    def tells(self, words: str) -> bool:
         """Whether a line with some words comes on standard error."""
-        end = time.monotonic() + SOON
-        while time.monotonic() < end:
-            if any(words in line for line in self.told):
-                return True
-            time.sleep(0.05)
-        return False
+        return until(lambda: any(words in line for line in self.told))
 
     def ends(self) -> int | None:
         """The status, `None` where it does not end by itself."""
         try:
-            status = self.process.wait(SOON)
+            status = self.process.wait(SECONDS)
         except subprocess.TimeoutExpired:
             self.process.kill()
             return None
@@ -161,9 +140,11 @@ class Feeds(Case):
         for frame in range(frame_of(kept[-1]), LAST + EVERY, 5):
             maker.put_pcr(ORIGIN + frame * TICKS)
         running = Running(self, stl, "-", "--every", str(EVERY), "--no-complete", "--origin",
-                          str(ORIGIN))
+                          str(ORIGIN), "--stall", "2")
         running.put(maker.data)
-        self.must("not before", not running.waits_for("refused 74 Late", 3.0), running.lines)
+        self.must("not before", running.tells(STALLED % "2 seconds") and
+                  running.process.poll() is None and not any(
+                      line.startswith("refused ") for line in running.lines), running.lines)
         whole, maker.data = maker.data, b""
         for frame in range(LAST + EVERY, LAST + EVERY + 60, 5):
             maker.put_pcr(ORIGIN + frame * TICKS)
@@ -189,7 +170,6 @@ class Feeds(Case):
         running = Running(self, stl, "-", "--every", str(EVERY), "--no-complete", "--breaks", "1")
         for one in parted:
             running.put(one)
-        time.sleep(7.0)  # the parts are looked for after five seconds
         status = running.ends()
         self.must("in two parts", status == 0 and running.lines[-1].endswith(" in 2 parts"),
                   (status, running.lines, running.told))
@@ -201,15 +181,12 @@ class Feeds(Case):
         half = [one for one in pes if frame_of(one) < BEGIN + 5 * EACH]
         for one in (signal.SIGINT, signal.SIGTERM, signal.SIGHUP):
             running = Running(self, stl, "-", "--every", str(EVERY), "--no-complete", "--origin",
-                              str(ORIGIN), "--json", "one.json", "-o", "out")
+                              str(ORIGIN), "--json", "one.json", "-o", "out", "--stall", "1")
             running.put(b"".join(half))
-            end = time.monotonic() + SOON
-            while not os.listdir(running.folder) and time.monotonic() < end:
-                time.sleep(0.05)  # it has not begun
-            time.sleep(1.0)
+            name = signal.Signals(one).name
+            self.must(f"{name}: it waits", running.tells(STALLED % "1 second"), running.told)
             os.kill(running.process.pid, one)
             status = running.ends()
-            name = signal.Signals(one).name
             self.must(f"{name}: status", status == 2, (status, running.lines, running.told))
             said = [line for line in running.told if "not judged: stopped at " in line]
             verdict = json.loads(self.read("one.json"))
@@ -228,8 +205,9 @@ class Feeds(Case):
         for count, faults, up_to in ((0, 0, "nothing yet"), (1, 0, "all up to 20:15:00:24"),
                                      (2, 1, "all up to 20:15:01:00"),
                                      (4, 3, "all up to 20:15:03:00")):
+            begun = self.path(f"begun {count}")
             self.program_but("check*--pes*--all*", f"'{self.bench.program}' \"$@\" | head -n "
-                             f"{count}; exec sleep 60")
+                             f"{count}; touch '{begun}'; exec sleep {SECONDS} 2>/dev/null")
             with subprocess.Popen([tool_path("qc"), STORY, example("five-faults.pes"), "--every",
                                    "25",
                                    "-o", "out", "-p", "./program"], cwd=self.folder,
@@ -239,7 +217,7 @@ class Feeds(Case):
                     if line.startswith(b"+ ./program check"):
                         break
                 came = [process.stdout.readline() for _ in range(count)]
-                time.sleep(0.5)
+                until(lambda: os.path.exists(begun))
                 process.send_signal(signal.SIGTERM)
                 lines, told = (text.decode().splitlines() for text in process.communicate())
             known = json.loads(self.read("out/story.json"))
@@ -270,10 +248,9 @@ class Feeds(Case):
         pes = packets(example_bytes("story.pes"))
         running = Running(self, STORY, "-", "--origin", "0", "--stall", "1")
         running.put(pes[0])
-        self.must("told", running.waits_for_told("qc: nothing has come for 1 second"), running.told)
+        self.must("told", running.tells(STALLED % "1 second"), running.told)
         running.put(b"".join(pes[1:]))
-        self.must("that it goes on", running.waits_for_told("qc: the feed goes on, after "),
-                  running.told)
+        self.must("that it goes on", running.tells("qc: the feed goes on, after "), running.told)
         self.must("accepted", running.ends() == 0, running.told)
         running.close()
         for word in ("x", "-1", "1.5"):

@@ -1,6 +1,7 @@
 """tools/qc in a house: a batch that goes on, hostile names, a folder that is watched."""
 from __future__ import annotations
 
+import itertools
 import json
 import os
 import re
@@ -9,13 +10,14 @@ import signal
 import subprocess
 import time
 import xml.etree.ElementTree as tree
-from typing import Any, Callable
+from typing import Any
 from urllib.parse import unquote
 
 from subtitles.core.built import TOP
-from .bench import Case, Done, example_bytes, tool_path
+from .bench import SECONDS, Case, Done, example_bytes, tool_path
+from .channels import until
 
-SOON = 60.0  # seconds in which what is waited for has to come
+SETTLED = 2  # seconds after which a file is whole
 HOSTILE = [b"\xff\xfe", b"caf\xe9", "caf\u00e9".encode(), b"-o", b"--help", b"=1+2", b"\x1b[31mred",
            b"two\nlines", b"tab\there", b" leading", b"trailing ", b"a  b", b"$(date)", b"`date`",
            b"*", b"?", b"[a]", b"a;b", b"a|b&c", b"#one", b"100%", b"back\\slash", b"it's\"",
@@ -24,16 +26,6 @@ HOSTILE = [b"\xff\xfe", b"caf\xe9", "caf\u00e9".encode(), b"-o", b"--help", b"=1
 
 def qc(case: Case, *words: str) -> Done:
     return case.tool("qc", *words, "-p", case.bench.program)
-
-
-def comes(is_there: Callable[[], bool]) -> bool:
-    """Whether something comes soon."""
-    end = time.monotonic() + SOON
-    while not is_there():
-        if time.monotonic() > end:
-            return False
-        time.sleep(0.05)
-    return True
 
 
 def fill(case: Case, folder: str, count: int) -> None:
@@ -46,18 +38,28 @@ def fill(case: Case, folder: str, count: int) -> None:
                    example_bytes("no-erase.pes" if is_broken else "hello.pes"))
 
 
-def slow_program(case: Case) -> str:
-    """The program, which takes its time where a transmission is checked, and counts that: a second
-    look, whether `--keeping` accepts it, is none."""
+def waiting_program(case: Case, count: int) -> str:
+    """The program, which counts the transmissions that it checks, and behind so many of them waits
+    until it may go on: a second look, whether `--keeping` accepts it, is none."""
+    case.write("checked", b"")
     script = ("#!/bin/sh\n"
-              "case $* in *--keeping*) ;; check*--pes*--all*) echo one >>'{0}'; sleep 0.2 ;; esac\n"
-              "exec '{1}' \"$@\"\n").format(case.path("checked"), case.bench.program)
+              "case $* in *--keeping*) ;; check*--pes*--all*) echo one >>'{0}'\n"
+              "    while [ $(wc -l <'{0}') -gt {1} ] && [ ! -e '{2}' ]; do sleep 0.02; done ;;\n"
+              "esac\n"
+              "exec '{3}' \"$@\"\n").format(case.path("checked"), count, case.path("goes on"),
+                                         case.bench.program)
     return case.write_program("program", script)
 
 
 def count_judged(case: Case) -> int:
     """How many pairs were judged: a transmission is checked once."""
     return len(case.read("checked").splitlines())
+
+
+def judges_another(case: Case, folder: str, count: int) -> bool:
+    """Whether there come so many objects in a folder, and the next pair is being judged."""
+    return until(lambda: os.path.isdir(case.path(folder)) and count_judged(case) == count + 1
+                 and len(objects_in(case, folder)) == count)
 
 
 def objects_in(case: Case, folder: str) -> dict[str, Any]:
@@ -69,32 +71,53 @@ def objects_in(case: Case, folder: str) -> dict[str, Any]:
     return found
 
 
+def comes_slowly(case: Case, name: str) -> float:
+    """Writes a pair, its recording in parts, for longer than a file has to be the same; for how
+    long it was the same at the most, which may be long on a machine that does other things too."""
+    data, longest = example_bytes("recording.ts"), 0.0
+    case.write(f"{name}.stl", example_bytes("story.stl"))
+    last = time.monotonic()
+    for part in range(8):
+        before = time.monotonic()
+        with open(case.path(f"{name}.ts"), "ab") as file:
+            file.write(data[part * len(data) // 8:(part + 1) * len(data) // 8])
+        longest, last = max(longest, time.monotonic() - last), before
+        time.sleep(SETTLED / 5)
+    return longest
+
+
+def put(case: Case, name: str, of: str) -> None:
+    """Puts an example under a name at once: nobody sees a part of it."""
+    os.rename(case.write("whole", example_bytes(of)), case.path(name))
+
+
 def judges_what_comes(case: Case, process: subprocess.Popen[bytes]) -> None:
     """What a call that watches does of files that come slowly, at once, and again."""
     def lines() -> list[str]:
-        return [line.partition("  ")[2] for line in case.read("log").decode().splitlines()
+        told = [line.partition("  ")[2] for line in case.read("log").decode().splitlines()
                 if line[:1].isdecimal()]
+        return [line for line in told if line.partition("  ")[0] not in too_slow]
 
-    data = example_bytes("recording.ts")
-    case.write("in/slow.stl", example_bytes("story.stl"))
+    too_slow = set[str]()
     case.write("in/lone.stl", example_bytes("story.stl"))
-    for part in range(8):  # for longer than a file has to be the same
-        with open(case.path("in/slow.ts"), "ab") as file:
-            file.write(data[part * len(data) // 8:(part + 1) * len(data) // 8])
-        time.sleep(0.4)
-    case.must("not before it is whole", lines() == [], lines())
-    case.must("when it is whole", comes(lambda: lines() == ["slow  accepted"]), lines())
-    case.must("a file without a partner, once", comes(
+    for name in map("slow {}".format, itertools.count()):
+        if comes_slowly(case, f"in/{name}") < SETTLED:
+            break
+        too_slow.add(name)
+    whole = [f"{name}  accepted"]
+    case.must("not before it is whole", lines() in ([], whole), lines())
+    case.must("when it is whole", until(lambda: lines() == whole), lines())
+    case.must("a file without a partner, once", until(
         lambda: case.read("log").count(b"lone.stl: no recording") == 1), case.read("log"))
-    case.write("in/now.stl", example_bytes("hello.stl"))
-    case.write("in/now.pes", example_bytes("no-erase.pes"))
+    put(case, "in/now.stl", "hello.stl")
+    put(case, "in/now.pes", "no-erase.pes")
     case.write("in/now.done", b"")
-    case.must("at once", comes(lambda: any(line.startswith("now  refused: 67 Control ")
+    case.must("at once", until(lambda: any(line.startswith("now  refused: 67 Control ")
                                            for line in lines())), lines())
-    case.write("in/now.pes", example_bytes("hello.pes"))
-    case.must("again", comes(lambda: "now  accepted" in lines()), lines())
+    put(case, "in/now.pes", "hello.pes")
+    case.must("again", until(lambda: "now  accepted" in lines()), lines())
     process.send_signal(signal.SIGTERM)
-    case.must("it ends", process.wait(SOON) == 2)
+    case.must("it ends", process.wait(SECONDS) == 2)
     case.must("no more than that", len(lines()) == 3 and b"Traceback" not in case.read("log"),
               case.read("log"))
 
@@ -103,19 +126,19 @@ class Sites(Case):
     """Batches that end early, folders that are watched."""
 
     def test_goes_on_after_a_kill(self) -> None:
-        """A batch that is killed leaves whole objects; the next one judges the others alone."""
+        """A batch that is killed leaves whole objects, also of the call that was running, which ends
+        by itself; the next one judges the others alone."""
         fill(self, "in", 4)
-        program = slow_program(self)
+        program = waiting_program(self, 1)
         words = [tool_path("qc"), "--batch", "in", "-o", "out", "--jobs", "1", "-p", program]
         with subprocess.Popen(words, cwd=self.folder, stdout=subprocess.DEVNULL,
                               stderr=subprocess.DEVNULL) as process:
-            came = comes(lambda: os.path.isdir(self.path("out"))
-                         and len(objects_in(self, "out")) >= 1)
+            came = judges_another(self, "out", 1)
             process.kill()
-        time.sleep(2)  # the call that was running ends by itself
+        self.write("goes on", b"")
+        self.must("both are judged", came and until(lambda: len(objects_in(self, "out")) == 2))
         kept = set(objects_in(self, "out"))
-        self.must("some are judged", came and 1 <= len(kept) < 4, kept)
-        for again in (4 - len(kept), 0):
+        for again in (2, 0):
             before = count_judged(self)
             done = self.tool("qc", "--batch", "in", "-o", "out", "--resume", "-p", program)
             judged = count_judged(self) - before
@@ -127,22 +150,20 @@ class Sites(Case):
         """By a signal a batch ends with what it has: the table, the files, and how many there were.
         """
         fill(self, "in", 6)
-        program = slow_program(self)
         for one in (signal.SIGINT, signal.SIGTERM, signal.SIGHUP):
-            name, out = one.name, f"out.{one.name}"
+            name, out, program = one.name, f"out.{one.name}", waiting_program(self, 2)
             words = [tool_path("qc"), "--batch", "in", "-o", out, "--jobs", "1", "-p", program,
                      "--json", "all.json"]
             with subprocess.Popen(words, cwd=self.folder, stdout=subprocess.PIPE,
                                   stderr=subprocess.PIPE) as process:
-                came = comes(lambda: os.path.isdir(self.path(out))
-                             and len(objects_in(self, out)) >= 2)
+                came = judges_another(self, out, 2)
                 process.send_signal(one)
                 lines, told = (text.decode().splitlines() for text in process.communicate())
             known = json.loads(self.read("all.json"))
             count = len(known["pairs"])
             self.must(f"{name}: status", came and (process.returncode, known["status"]) == (2, 2),
                       (lines, told))
-            self.must(f"{name}: is said", 0 < count < 6 and told == [
+            self.must(f"{name}: is said", count == 2 and told == [
                 f"qc: stopped when {count} of 6 pairs were judged; --resume judges the others"],
                       told)
             self.must(f"{name}: the table", len(lines) == count + 2
@@ -177,7 +198,7 @@ class Sites(Case):
     def test_watches_a_folder(self) -> None:
         """A pair is judged when both files are whole, again when one changes, and not twice."""
         os.mkdir(self.path("in"))
-        words = [tool_path("qc"), "--watch", "in", "-o", "out", "--settled", "2", "-p",
+        words = [tool_path("qc"), "--watch", "in", "-o", "out", "--settled", str(SETTLED), "-p",
                  self.bench.program]
         with open(self.path("log"), "wb") as log, subprocess.Popen(
                 words, cwd=self.folder, stdout=log, stderr=log) as process:
@@ -192,15 +213,13 @@ class Sites(Case):
         for name in ("one.stl", "one.pes"):
             self.write(f"in/{name}", example_bytes(name.replace("one", "hello")))
         self.write("in/one.done", b"")
-        slow = self.program_but("*check*", f"touch '{self.path('begun')}'; sleep 60")
+        slow = self.program_but("*check*", f"touch '{self.path('begun')}'; exec sleep {SECONDS}")
         for program, wanted in ((slow, "begun"), (self.bench.program, "out/one.json")):
             words = [tool_path("qc"), "--watch", "in", "-o", "out", "-p", program]
             with subprocess.Popen(words, cwd=self.folder, stdout=subprocess.DEVNULL) as process:
-                end = time.monotonic() + SOON
-                while not os.path.exists(self.path(wanted)) and time.monotonic() < end:
-                    time.sleep(0.1)
+                until(lambda: os.path.exists(self.path(wanted)))
                 process.send_signal(signal.SIGTERM)
-                self.must(f"{wanted}: it ends", process.wait(SOON) == 2)
+                self.must(f"{wanted}: it ends", process.wait(SECONDS) == 2)
             self.must(f"{wanted}: its result", os.path.exists(self.path("out/one.json")) ==
                       (program != slow), os.listdir(self.path("out")))
         self.must("accepted", json.loads(self.read("out/one.json"))["verdict"] == "accepted")

@@ -7,7 +7,8 @@ import random
 import unittest
 from typing import Sequence
 
-from subtitles.core.times import CLOCK, FRAMES_OF_A_DAY, TICKS, frame_in
+from subtitles.core.times import (
+    CLOCK, FRAMES_A_SECOND, FRAMES_OF_A_DAY, TICKS, frame_in)
 from subtitles.reading.alignment import AGAIN, Edge, Shown, bases_of, edges_of
 from subtitles.reading.cutting import cut_of
 from subtitles.reading.finding import Origin, Sought, packets_of as packets_of_run, take_one, take_parts
@@ -188,11 +189,23 @@ class Laws(unittest.TestCase):
             step = TICKS * (edges[-1].frame - edges[0].frame + chance.randrange(100, 5000))
             sendings = [one for run in range(runs) for one in sent(edges, origin + step * run)]
             if sendings[-1][0] - sendings[0][0] >= CLOCK // 2:
-                continue
+                continue  # two in a row that are so far apart are of two time bases
             for number in range(1, runs + 1):
                 one = found(shown, packets_of(sendings), run=number)
                 self.assertEqual((len(one.runs), [part.origin for part in one.parts]),
                                  (runs if runs > 1 else 0, [(origin + step * (number - 1)) % CLOCK]), one.told)
+
+    def test_runs_far_apart(self) -> None:
+        """Twice in one time base, which is sent each hour and longer than half of what PTS count."""
+        hour = 3600 * FRAMES_A_SECOND
+        for chance, shown, edges, origin in self.each():
+            away = chance.randrange(14, 20) * hour
+            sendings = [one for at in (0, away) for one in sent(edges, origin + TICKS * at)]
+            packets = packets_of(sendings, hour)
+            half = len(packets.changes) // 2
+            last, first = (one.number for one in packets.changes[half - 1:half + 1])
+            self.assertEqual(found(shown, packets).runs, [
+                (0, first - 1), (last + 1, packets.count - 1)])
 
     def test_what_fits_twice_is_not_clear(self) -> None:
         """One subtitle whose length another one has too, with no text of its own."""

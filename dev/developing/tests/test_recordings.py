@@ -124,7 +124,7 @@ class Fed(Case):
                 for end in range(size, 3 * size + 1, size):
                     process.stdin.write(data[end - size:end])
                     process.stdin.flush()
-                    wanted, last = self.packets_in(data[:end]), time.monotonic() + SECONDS / 10
+                    wanted, last = self.packets_in(data[:end]), time.monotonic() + SECONDS
                     while told != wanted and (left := last - time.monotonic()) > 0:
                         if select.select([process.stdout], [], [], left)[0]:
                             out += os.read(process.stdout.fileno(), 1 << 16)

@@ -3,14 +3,20 @@ from __future__ import annotations
 
 import tempfile
 import unittest
+from types import SimpleNamespace
+from typing import Any
 
+from subtitles.core.markup import markup
 from subtitles.core.programme import SubtitleList, Subtitle
 from subtitles.core.times import time_of
 from subtitles.preview.fault_list import FaultList
 from subtitles.preview.faults import Entry, Faults
+from subtitles.preview.reasons import Reasons
+from subtitles.qc.causes import Cause
 from subtitles.qc.checking import Answer
 from subtitles.qc.counted import End
-from .parts import fault_of
+from subtitles.reading.receiver import TUNED, Rows, State
+from .parts import fault_of, in_page
 
 # Three subtitles, of which the second has another number than its place.
 SUBTITLES = [Subtitle(1, 1, 25, 50, 20, 2, b"one"), Subtitle(2, 7, 75, 100, 20, 2, b"two"),
@@ -148,3 +154,80 @@ class Lists(unittest.TestCase):
             entry.count = count
             entry.end = End(None if until is None else time_of(until), until_pes)
             self.assertEqual(FaultList.span_words(entry), words)
+
+    def made(self, state: State | None = None, listed: int = 1, count: int = 1) -> FaultList:
+        """A list of so many entries, of which more are told, and what is held at each frame."""
+        made = FaultList.__new__(FaultList)
+        made.entries = [Entry(number, fault_of("refused 74 End")) for number in range(
+            1, listed + 1)]
+        given: dict[str, Any] = {
+            "report": SimpleNamespace(faults=SimpleNamespace(count=count, entry_count=count),
+                                      reasons=None, programme=PROGRAMME),
+            "looks": SimpleNamespace(entries=SimpleNamespace(drawn={}, frame_of=lambda one: None)),
+            "held": SimpleNamespace(state_at=lambda frame: state),
+            "figures": SimpleNamespace(due_at=lambda frame: (page_with(b"a"), bytes(8))),
+            "section": lambda entry: markup("one ")}
+        vars(made).update(given)
+        return made
+
+    def test_bounds(self) -> None:
+        """How many entries are left out, how many have pictures, and the ways between them."""
+        for count, listed, words in ((1, 1, None), (3, 2, "1 more entry</b>"), (100, 100, None),
+                                     (1002, 1000, "2 more entries</b>")):
+            made = self.made(listed=listed, count=count)
+            self.assertEqual(in_page(made.others()), "one " * (min(listed, 100) - 1))
+            said = in_page(made.listed())
+            self.assertEqual("left out here" in said, words is not None)
+            self.assertIn(words or "", said)
+            self.assertEqual("first 100 entries" in said, listed > 100)
+            self.assertNotIn("are one entry", said)
+            self.assertEqual(said.count('<a href="#f'), min(listed, 100) - 1)
+            for index in (one for one in (1, 2, 100, 101) if one <= listed):
+                steps = in_page(made.steps(made.entries[index - 1]))
+                self.assertEqual(("previous" in steps, "next" in steps), (
+                    1 < index <= 101, index < min(listed, 100)), index)
+
+    def test_cells(self) -> None:
+        """What is due in a cell and what is held, where a receiver and a header are heard."""
+        for state, words in (
+                (None, "a</code>; a receiver can&#x27;t be followed up to there"),
+                (TUNED, "a</code>; no header was heard yet"),
+                (State(True, True, bytes(8), page_with(b"b"), None), "a</code>, was <code>b</code>")
+        ):
+            found = self.made(state).cell_words(fault_of(
+                "refused 72 Content frame 00:00:01:05 row 20 column 2"))
+            self.assertEqual(in_page(found), f"should be <code>{words}")
+
+    def test_details(self) -> None:
+        """They are of the first fault of an entry."""
+        entry = Entry(1, fault_of(f"refused 68 Parity frame {at(30)}"))
+        entry.add(fault_of(f"refused 68 Parity frame {at(80)}"))
+        self.assertEqual(in_page(self.made().details(entry)), "subtitle 1")
+
+    def test_causes(self) -> None:
+        """A row for each of the first 1000, what was sent in words, and how many are left out."""
+        made = Reasons.__new__(Reasons)
+        made.drawn = ()
+        wording: Any = SimpleNamespace(
+            said=lambda cause, has_text=True: cause.name,
+            values=lambda cause: {"text": "due", "sent": cause.words or None})
+        made.wording = wording
+        for count, left in ((1, None), (1000, None), (1001, "1 more subtitle"),
+                            (1002, "2 more subtitles")):
+            causes = [Cause(0, "late", 3, None, None, "", number) for number in range(count)]
+            known: Any = SimpleNamespace(programme=PROGRAMME, all=lambda several=causes: several,
+                                         named={one.known: one for one in causes})
+            made.causes = known
+            words = in_page(made.section())
+            self.assertEqual(words.count('<th scope="row">'), min(count, 1000))
+            self.assertEqual("Left out here" in words, left is not None)
+            self.assertIn(f"{left}." if left else "", words)
+        for sent, words in (("", "nothing"), ("due", "the same"), ("other", "other")):
+            found = in_page(made.row(Cause(2, "late", 3, None, None, sent, 100)))
+            self.assertIn(f'<td data-name="Sent">{words}</td>', found)
+            self.assertIn('<th scope="row">subtitle 3, 00:00:04:00</th>', found)
+
+
+def page_with(letter: bytes) -> Rows:
+    """A page of which row 20 has a letter in column 2."""
+    return (b" " * 40,) * 19 + ((b"  " + letter).ljust(40),) + (b" " * 40,) * 4

@@ -2,6 +2,7 @@
 from __future__ import annotations
 
 import unittest
+from types import SimpleNamespace
 from typing import Any, NamedTuple, Sequence
 
 from developing.stl import gsi_block, tti_block
@@ -9,11 +10,14 @@ from subtitles.core.markup import Markup
 from subtitles.core.programme import Subtitle
 from subtitles.preview import blocks
 from subtitles.preview.faults import Entry
+from subtitles.preview.figures import (
+    DIFFERENT, NOT_KNOWN, NOT_READ, NOTHING, SAME, Figures, marks_words)
 from subtitles.preview.strips import Strip, Strips, runs_of
 from subtitles.preview.subtitles import Looked, looked_at
 from subtitles.qc.subtitle_file import SubtitleFile
+from subtitles.reading.receiver import BLANK_PAGE, TUNED, Rows, State
 from .bench import Case
-from .parts import fault_of, in_page
+from .parts import fault_of, in_page, part_with
 from .test_report_faults import SUBTITLES, at, faults
 
 
@@ -144,6 +148,69 @@ class Seen(unittest.TestCase):
             "whole after 2 frames"])
 
 
+class Looks(unittest.TestCase):
+    """What is held beside what is due."""
+
+    SAME = (b" " * 40,) * 19 + (b"\x0b\x0bsame".ljust(40),) + (b" " * 40,) * 4
+    OTHER = SAME[:19] + (b"\x0b\x0bsome".ljust(40),) + SAME[20:]
+    HEADER = bytes([8, 8, 0, 8, 0, 8, 1, 0])
+
+    def figures(self, state: State | None, is_complete: bool = False, is_after: bool = False,
+                due: State | None = None) -> Figures:
+        own = due or State(True, False, self.HEADER, self.SAME, None)
+        heard: Any = [SimpleNamespace(state_at=lambda frame, one=one: one,
+                                      is_after=lambda frame: is_after) for one in (own, state)]
+        return Figures(heard[0], heard[1], self.HEADER, "888", is_complete)
+
+    def test_kinds(self) -> None:
+        """As due, another page, none yet, or not known; with complete pages by the screen too."""
+        def held(rows: Rows, screen: Rows | None = None) -> State:
+            return State(True, True, self.HEADER, rows, (screen, self.HEADER) if screen else None)
+
+        for state, is_complete, is_after, kind in (
+                (None, False, False, NOT_KNOWN), (TUNED, False, False, NOTHING),
+                (held(self.SAME), False, False, SAME), (held(self.SAME), False, True, NOT_KNOWN),
+                (held(self.OTHER), False, False, DIFFERENT),
+                (held(self.SAME), True, False, NOTHING),
+                (held(self.SAME, self.SAME), True, False, SAME),
+                (held(self.SAME, self.OTHER), True, False, DIFFERENT),
+                (held(self.SAME, self.OTHER), False, False, SAME),
+                (held(self.OTHER, self.SAME), True, False, DIFFERENT)):
+            with self.subTest(kind=kind, is_complete=is_complete):
+                self.assertEqual(self.figures(state, is_complete, is_after).kind_at(5), kind)
+
+    def test_due_before_the_first_sending(self) -> None:
+        """A blank page, by the header that is given."""
+        for due in (TUNED, TUNED._replace(rows=self.SAME)):
+            self.assertEqual(self.figures(None, due=due).due_at(5), (BLANK_PAGE, self.HEADER))
+
+    def test_not_heard(self) -> None:
+        """Where nobody can follow, or nothing has come, that stands in the pictures of what is held
+        and of the screen."""
+        not_read, told = in_page(NOT_READ), "complete pages alone"
+        for state, words, drawn in (
+                (None, [not_read, not_read], [">not known<", ">not known<"]),
+                (TUNED, ["no header of page 888 was heard yet", told],
+                 [">nothing heard<", ">nothing yet<"])):
+            found = in_page(self.figures(state, True).at(5)).partition('class="held"')[2]
+            for one, what, said in zip(words, drawn, found.split('class="screen"')):
+                before, _, behind = said.partition("</figcaption>")
+                self.assertEqual((one in before, what in behind), (True, True), said)
+            self.assertEqual("<details>" in found, state is not None)
+
+    def test_words(self) -> None:
+        """What is seen beside letters; below a picture its rows as ASCII, and its header."""
+        found = in_page(self.figures(State(True, False, self.HEADER, self.OTHER, None)).at(5))
+        self.assertIn("<br/><small><b>1 cell differs</b></small></figcaption>", found)
+        self.assertIn("<details><summary>codes as ASCII</summary><small>not open; C4 C6 C7, English"
+                      "</small><pre>row 20 |..some", found)
+        for header, cell, words in (
+                (self.HEADER, 0x20, []), (self.HEADER, 0xA0, ["dashed: even parity"]),
+                (self.HEADER, 0xBF, ["dotted: never sent"]),
+                (bytes(8), 0x20, ["no subtitle: all of the page is shown"])):
+            self.assertEqual(marks_words(header, (bytes([cell]) * 40,) * 24), words)
+
+
 class Blocks(Case):
     """A subtitle file that is refused: its subtitles, block by block."""
 
@@ -227,3 +294,39 @@ class Blocks(Case):
             table = in_page(blocks.two_times(made, one, fault_of(line)))
             own = f"<mark>{begin}</mark></td><td>{end}"
             self.must(line, words in table and own in table, table)
+
+    def test_list(self) -> None:
+        """An item for each block; what is left out; where reading ended."""
+        lines = ["refused 50 X block 2 at 1", "refused 51 X block 2 at 2", "refused 56 X block 6"]
+        for more, last, words in (
+                (0, lines[-1], "read to its end, 6 blocks"),
+                (0, "", "read to its end, 6 blocks"),
+                (1, "refused 15 Ebn block 6", "ended at block 6</b>, with 15 Ebn")):
+            told: Any = SimpleNamespace(of_blocks=[*map(fault_of, lines)],
+                                        counts={50: 1, 51: 1, 56: 1 + more, 78: 9})
+            report: Any = SimpleNamespace(faults=told, is_beside=False, part=SimpleNamespace(
+                answer=SimpleNamespace(last_told=last)))
+            said = in_page(blocks.refused_blocks(report, self.blocks()))
+            self.must(words, words in said and said.count("<li") == 2 and
+                      ("<b>1 more fault</b>" in said) == ("left out here" in said) == bool(more),
+                      said)
+            self.must("after", "after 00:00:03:00 to 00:00:03:24, SN 7" in said and
+                      said.count(" after 00") == 1, said)
+            report.is_beside = True
+            beside = in_page(blocks.refused_blocks(report, self.blocks()))
+            self.must("beside", ("No PES file is read" in said, "No PES file is read" in beside) ==
+                      (True, False), beside)
+
+    def test_printed(self) -> None:
+        """What show prints, without its middle where it is long."""
+        for count, left in ((3, 0), (200, 0), (220, 0), (221, 1), (500, 280)):
+            lines = [f"line {at}" for at in range(count)]
+            report: Any = SimpleNamespace(
+                part=part_with(1, 2, 0), asked=SimpleNamespace(is_open=False),
+                program=SimpleNamespace(show=lambda path, lines=lines: lines))
+            said = in_page(blocks.printed(report))
+            words = f"Lines 201 to {200 + left}, {left} of them" if left else ""
+            self.must(f"{count}", words in said and ("left out" in said) == (left > 0) and
+                      said.count("line ") == count - left, said[-200:])
+        report.asked.is_open = True
+        self.must("of open subtitles, which it shows not", in_page(blocks.printed(report)) == "")

@@ -6,22 +6,26 @@ import collections
 import random
 import unittest
 from types import SimpleNamespace
-from typing import Any
+from typing import Any, cast
+from unittest import mock
 
 from developing.pes import packet
 from subtitles.core.markup import markup
 from subtitles.core.spans import Spans
-from subtitles.core.times import FRAMES_OF_A_DAY
+from subtitles.core.times import CLOCK, FRAMES_OF_A_DAY, TICKS
 from subtitles.core.teletext import CODE_WORDS
-from subtitles.preview import page, program as asking
+from subtitles.preview import page, program as asking, report
+from subtitles.preview.faults import Entry
 from subtitles.preview.packet_words import packet_lines
 from subtitles.preview.page import lost_places, pages_table, subtitles_words
-from subtitles.preview.places import marked_bytes
+from subtitles.preview.places import marked_bytes, place_of_pts
+from subtitles.preview.report import Report, Subject
 from subtitles.preview.scope import BETWEEN, DELAY, ROW_0, Scope
+from subtitles.qc.clock import GIVEN, RECORDING, START, TCP, Clock
 from subtitles.qc.made_with import MadeWith
 from subtitles.qc.sums import SummedFile
-from .bench import Case
-from .parts import in_page, part_with
+from .bench import Case, example
+from .parts import asked_for, fault_of, in_page, part_with
 
 
 class Box(unittest.TestCase):
@@ -91,6 +95,110 @@ class Bounds(unittest.TestCase):
             self.assertEqual((text.count("<tr>") - bool(count), text.count(
                 ">C7 (9); C8 (4); C4 (3); C6 (2)<"), f"{count - 200} more page" in text), (
                     min(count, 200), min(count, 200), count > 200), count)
+
+
+    def test_options(self) -> None:
+        """All as they hold, also where there is no clock, and those that are not as left out."""
+        for words, origin, wanted in (
+                (("--no-complete",), None, "--page 888 --every 250 --origin 0 --option english"),
+                (("--page", "150", "--every", "25", "--option", "german", "--from", "00:00:01:00"),
+                 7, "--page 150 --every 25 --origin 7 --option german --complete --from "
+                 "00:00:01:00"),
+                (("--within", "2"), 7, "--page 888 --every 250 --origin 7 --option english "
+                 "--complete --within 2")):
+            asked = asked_for("a.stl", "a.pes", *words)
+            part = part_with(0, 9, origin)
+            part.asked = asked
+            judged: Any = SimpleNamespace(asked=asked)
+            program: Any = None
+            self.assertEqual(Subject(judged, part, 1, program, [], []).options(), wanted)
+
+    def test_flag_and_scope(self) -> None:
+        """Beside refused subtitles the flag has the line of the fault at its frame; of no subtitle
+        there is no scope."""
+        made: Any = Report.__new__(Report)
+        lines = [f"refused 68 Parity frame 00:00:0{second}:00" for second in (1, 2, 3)]
+        entries = [Entry(at, fault_of(one)) for at, one in enumerate(lines[:2])]
+        entries[1].add(fault_of(lines[2]))  # within the same subtitle
+        made.faults = SimpleNamespace(entries=entries)
+        made.line, made.subtitles, made.is_refused_file = "a line", [], False
+        for is_beside, frame, words in ((True, 25, lines[0]), (True, 50, lines[1]), (True, 75, ""),
+                                        (True, None, ""), (False, 50, "a line")):
+            made.is_beside = is_beside
+            self.assertEqual(made.flag(frame), words)
+        self.assertIsNone(made.scope())
+
+    def test_scope_of_a_part(self) -> None:
+        """From the first TCI to the last TCO; which part it is where there are several; the clock
+        where it is by the first picture. Of a refused subtitle file there is none."""
+        made: Any = Report.__new__(Report)
+        made.subtitles = [SimpleNamespace(begin=at, end=at + 25) for at in (25, 50, 75)]
+        recording = SummedFile("a.ts", 1, "0" * 64)
+        for source, number, count, is_fitted in (
+                (GIVEN, 1, 1, False), (START, 1, 2, False), (TCP, 2, 2, True),
+                (RECORDING, 3, 3, True), (None, 1, 1, False)):
+            clock = source and Clock(7, source)
+            made.is_refused_file = False
+            made.part = SimpleNamespace(clock=clock, number=number, names=SimpleNamespace(
+                given=example("story.stl")))
+            made.subject = SimpleNamespace(parts=count, judged=SimpleNamespace(
+                recording=recording, fitted="fitted" * is_fitted or None))
+            self.assertEqual(made.scope(), Scope(
+                ["Story"], recording, 25, 100, 3, (number, count) if count > 1 else None,
+                is_fitted, count > 1, clock.words() if clock and source in (START, TCP) else None))
+            made.is_refused_file = True
+            self.assertIsNone(made.scope())
+
+    def test_first_link(self) -> None:
+        """The place of a fault leads to its entry, where the list has one."""
+        made: Any = Report.__new__(Report)
+        made.faults = SimpleNamespace(first_entries={68: 3})
+        for line, words in (
+                ("refused 68 Parity frame 00:00:01:00", '<a href="#e3">00:00:01:00</a>'),
+                ("refused 67 Control frame 00:00:02:00", "00:00:02:00")):
+            self.assertEqual(in_page(markup("{}", made.first_link(fault_of(line)))), words)
+
+    def test_flag_of_the_strips(self) -> None:
+        """It is at the first fault, or in the sending before its PES packet; beside refused
+        subtitles at the first fault of the transmission of which it is known what is due. Reasons
+        know which subtitles are drawn."""
+        block = "refused 50 Character block 3 at 11"
+        lines = ["refused 78 Undecided frame 00:00:01:00", "refused 31 Start pes 7",
+                 "refused 68 Parity frame 00:00:02:00", "refused 67 Control frame 00:00:03:00"]
+        seen = SimpleNamespace(last_before=lambda pes: 100 + pes, sendings=[])
+        rows: list[tuple[bool, list[str], int | None, str | None]] = [
+            (True, lines, 50, lines[2]), (True, lines[:1], None, None),
+            (True, lines[3:], 75, lines[3]), (False, lines[2:], 50, "lead"),
+            (False, lines[1:], 107, "lead"), (False, [], None, None)]
+        for is_beside, told, frame, line in rows:
+            made: Any = Report.__new__(Report)
+            made.faults = SimpleNamespace(entries=[
+                Entry(at, fault_of(one)) for at, one in enumerate(told)])
+            made.asked, made.line, made.subtitles = asked_for("a.stl", "a.pes"), "lead", []
+            for one in made.faults.entries:
+                one.add(fault_of("refused 68 Parity frame 00:00:09:00"))
+            made.first = next(map(fault_of, [block] * is_beside + told), None)
+            made.is_beside, made.looked, made.page = is_beside, [], "888"
+            made.part, made.reasons = mock.MagicMock(), SimpleNamespace(drawn=None)
+            others = {name: mock.DEFAULT for name in (
+                "Figures", "Entries", "FaultList", "Strips", "mark_unheard", "end_of_knowledge")}
+            with mock.patch.multiple(report, **others) as made_of:
+                looks = report.Looks(made, cast(Any, seen))
+            at, words = made_of["Strips"].call_args.args[4:6]
+            self.assertEqual((at, None if at is None else words), (frame, line))
+            self.assertIs(made.reasons.drawn, looks.entries.drawn)
+
+    def test_places_of_pts(self) -> None:
+        """Its time of the day, or why it is none; how many ticks off, where that may be."""
+        day = TICKS * FRAMES_OF_A_DAY
+        for pts, within, words in (
+                (0, 0, "00:00:00:00"), (5 * TICKS, 0, "00:00:00:05"), (5 * TICKS, 1, "00:00:00:05"),
+                (TICKS + 1, 0, "none: 00:00:00:01 is 1 ticks before"),
+                (TICKS + 5, 1, "00:00:00:01, 5 ticks later"),
+                (TICKS - 5, 1, "00:00:00:01, 5 ticks earlier"),
+                (day - 1, 0, "none: 23:59:59:24 is 3599 ticks before"),
+                (day, 0, "none: after the day's end"), (day, 1, "none: after the day's end")):
+            self.assertEqual(place_of_pts((pts - 7) % CLOCK, CLOCK - 7, within), words)
 
 
 class Reports(Case):

@@ -5,7 +5,6 @@ from __future__ import annotations
 import os
 import re
 import subprocess
-import unittest
 import xml.etree.ElementTree as tree
 from collections import Counter
 from typing import Callable
@@ -16,9 +15,9 @@ from subtitles.core.times import frame_of
 from subtitles.core.told import PASSED_OVER
 from .bench import BENCH
 from .judged import Judged
-from .test_reports_at_random import HTML, made
+from .test_reports_at_random import BESIDE, HTML, Rows, made
 
-COUNT, EACH = 120, 6  # pages, and how many a test has
+EACH = 6  # pages that a test has
 MOST = 25  # pictures that are looked at, of a page
 TIME = re.compile(r"\d\d:\d\d:\d\d:\d\d")
 
@@ -110,8 +109,8 @@ class Beside:
         return lines if lines[0] == "heard no" else lines[2:]
 
 
-class Reports(unittest.TestCase):
-    """Pages, some at a time."""
+class Reports(Rows):
+    """Pages, some at a time; each is as its row says."""
 
     def lists(self, page: tree.Element, beside: Beside) -> None:
         """The list has each entry in its order, the table how many there are of each number."""
@@ -141,15 +140,16 @@ def pages_from(first: int) -> Callable[[Reports], None]:
 
     def test(self: Reports) -> None:
         for number in range(first, first + EACH):
-            with made(number) as (found, page), self.subTest(number):
-                if not page.startswith("<"):
-                    continue
-                beside, root = Beside(found), tree.fromstring(page)
-                self.lists(root, beside)
-                self.pictures(root, beside)
+            with made(number) as (found, page):
+                self.holds(number, page)
+                with self.subTest(number):
+                    if page.startswith("<"):
+                        beside, root = Beside(found), tree.fromstring(page)
+                        self.lists(root, beside)
+                        self.pictures(root, beside)
 
     return test
 
 
-for FIRST in range(0, COUNT, EACH):
+for FIRST in range(0, BESIDE, EACH):
     setattr(Reports, f"test_from_{FIRST:03}", pages_from(FIRST))

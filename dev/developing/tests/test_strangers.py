@@ -1,6 +1,8 @@
 """What strangers leave in folders, lists and results: see `strangers`; and signals at the start."""
 from __future__ import annotations
 
+import html
+import json
 import os
 import random
 import re
@@ -23,6 +25,15 @@ ALL = 500
 TAGS = {"html", "head", "meta", "title", "style", "body", "h1", "p", "small", "table", "thead",
         "tbody", "tr", "th", "td", "br", "a"}
 ATTRIBUTES = {"lang", "charset", "http-equiv", "content", "name", "class", "href"}
+# A page with others in frames, which says in the end what stands in each.
+AROUND = """<!DOCTYPE html><html><body><script>
+addEventListener("load", () => setTimeout(() => {{
+  document.getElementById("told").textContent = JSON.stringify(
+    [...document.querySelectorAll("iframe")].map(
+      one => one.contentDocument.documentElement.outerHTML));
+}}, 500));
+</script>{frames}<pre id="told"></pre></body></html>
+"""
 # Milliseconds after which a signal comes; with --speed one comes after each of ALL_STARTS.
 STARTS = {signal.SIGINT: range(0, 101, 10), signal.SIGTERM: range(0, 401, 80),
           signal.SIGHUP: range(40, 401, 80)}
@@ -111,17 +122,29 @@ class Pages(Case):
         self.assertIn(POLICY, self.read("0.html").decode().replace("&#x27;", "'"))
 
     def test_browser(self) -> None:
-        """Nothing is loaded, run or logged."""
+        """Nothing is loaded, run or logged: each in a frame of one page, beside one that does all
+        of it."""
         command = browser()
         if command is None:
             self.skipTest("30 pages in a browser, since there is none")
-        for number in range(30):
-            done = self.call([command, "--headless", "--no-sandbox", "--disable-gpu",
-                              f"--user-data-dir={self.path('profile')}", "--enable-logging=stderr",
-                              "--dump-dom", f"file://{self.page(number)}"])
-            self.must(f"{number}", b"<table" in done.out and not any(
-                "CONSOLE" in line for line in done.told), done.told)
-            self.must(f"{number}: as it was written", b"<title>run" not in done.out)
+        self.write("wrong.html", b"<title>a</title><table></table><script>document.title = 'run';"
+                   b" console.log('run')</script>")
+        names = [*(os.path.basename(self.page(number)) for number in range(30)), "wrong.html"]
+        all_of_them = self.write("all.html", AROUND.format(frames="".join(
+            f'<iframe src="{name}"></iframe>' for name in names)).encode())
+        profile = self.path("profile")
+        done = self.call([command, "--headless", "--no-sandbox", "--disable-gpu",
+                          "--allow-file-access-from-files", f"--user-data-dir={profile}",
+                          "--enable-logging=stderr", "--virtual-time-budget=10000", "--dump-dom",
+                          f"file://{all_of_them}"])
+        told = re.search('<pre id="told">(.*)</pre>', done.out.decode(), re.S)
+        texts = json.loads(html.unescape(told[1])) if told else []
+        self.must("each", len(texts) == len(names), done)
+        for name, text in zip(names, texts):
+            is_wrong = name == "wrong.html"
+            logged = any("CONSOLE" in line and f"/{name} " in line for line in done.told)
+            self.must(name, "<table" in text and logged == is_wrong, done.told)
+            self.must(f"{name}: as it was written", ("<title>run" in text) == is_wrong)
 
 
 class Starts(Case):

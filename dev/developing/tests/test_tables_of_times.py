@@ -143,16 +143,17 @@ class Times(unittest.TestCase):
     def test_hours(self) -> None:
         """All of a programme is taken, also where it is longer than half of what PTS count, and
         nothing of what comes before or after it, in whatever runs it comes."""
-        hour = 90_000
+        hour, step = 90_000, 250
         for hours, before, after in ((1, 3, 9), (9, 0, 9), (13, 1, 1), (14, 0, 0), (14, 1, 8),
                                      (20, 0, 0), (20, 1, 2), (23, 0, 0), (23, 0, 2)):
             begin, end = before * hour, (before + hours) * hour
-            for length, origin in itertools.product((1, 100, 3600), (0, CLOCK - TICKS * end // 2)):
-                count = (before + hours + after) * hour // 25
-                made = Packets(257, [Run(at, length, (origin + TICKS * 25 * at) % CLOCK, TICKS * 25,
-                                         "heb", "") for at in range(0, count, length)])
-                found = cut_of(made, begin, end, origin, 25).range
-                wanted = max(begin // 25 - 1, 0), min(end // 25, count - 1)
+            for length, origin in itertools.product((1, 10, 360), (0, CLOCK - TICKS * end // 2)):
+                count = (before + hours + after) * hour // step
+                made = Packets(257, [
+                    Run(at, length, (origin + TICKS * step * at) % CLOCK, TICKS * step, "heb", "")
+                    for at in range(0, count, length)])
+                found = cut_of(made, begin, end, origin, step).range
+                wanted = max(begin // step - 1, 0), min(end // step, count - 1)
                 self.assertEqual(found, wanted, (hours, before, after, length, origin))
 
     def test_ends_within_some_frames(self) -> None:

@@ -32,7 +32,7 @@ from ..qc.typed import Typed
 from ..qc.unclear import Unclear
 from ..qc.verdict import Gap, Verdict
 from ..qc.within import line_of as line_of_within
-from ..reading.gaps import TOLD
+from ..reading.gaps import first_of
 from . import junit, machine, table
 from .claim import claimed, clear, refuse_files_of
 from .objects import found, text_of, unjudged
@@ -184,10 +184,9 @@ def end(verdict: Verdict, speech: Speech) -> None:
         speech.say(count_line(causes))
     for line in verdict.lines():
         speech.say(line)
-    for gap in verdict.gaps[:TOLD]:
-        speech.tell(gap.line() + ("" if gap.is_judged else ", outside of what is judged"))
-    if len(verdict.gaps) > TOLD:
-        speech.tell(f"and at {counted(len(verdict.gaps) - TOLD, 'more place')}")
+    for line in first_of([gap.line() + ("" if gap.is_judged else ", outside of what is judged")
+                          for gap in verdict.gaps]):
+        speech.tell(line)
     if verdict.is_lost and not verdict.asked.is_loss_allowed:
         would = "; --allow-lost accepts the recording without it" if verdict.is_lost_alone else ""
         speech.tell(f"that part was not recorded{would}")

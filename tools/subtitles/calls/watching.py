@@ -5,7 +5,7 @@ import argparse
 import collections
 import os
 import time
-from typing import NamedTuple
+from typing import Callable, NamedTuple
 
 from ..core.outputs import NOTHING
 from ..core.words import Stop, line_of, say, tell
@@ -41,21 +41,23 @@ class Watch:
         self.named: dict[str, str] = {}  # what is no pair, and the reason that was told
         self.rows = rows_in(self.out)
 
-    def due(self, busy: set[str], now: float) -> list[Item]:
+    def due(self, busy: set[str], clock: Callable[[], float] = time.monotonic) -> list[Item]:
         """The pairs that are whole and not yet judged as they are; tells what is no pair."""
+        now = clock()
         items = of_folder(self.folder, self.words)
         self.calls.inputs = inputs_of(items)
         items = [item for item in items if item.name not in busy]
-        return [item for item in items if self.is_settled(item, now) and self.is_new(item)]
+        return [item for item in items if self.is_settled(item, now, clock) and self.is_new(item)]
 
-    def is_settled(self, item: Item, now: float) -> bool:
-        """Whether the files of an item are whole: somebody says so, or they have not changed."""
+    def is_settled(self, item: Item, now: float, clock: Callable[[], float]) -> bool:
+        """Whether the files of an item are whole: somebody says so, or they have not changed from
+        when they were seen first to when this look began."""
         if os.path.exists(os.path.join(self.folder, item.name + DONE)):
             return True
         is_like = found(item.asked) if item.asked else item.reason
         seen = self.seen.get(item.name)
         if seen is None or seen.is_like != is_like:
-            self.seen[item.name] = Sighting(is_like, now)
+            self.seen[item.name] = Sighting(is_like, clock())
             return False
         return bool(now - seen.since >= self.words.settled)
 
@@ -117,7 +119,7 @@ def watch(words: argparse.Namespace, called: str) -> int:
         while True:
             if time.monotonic() >= next_look:
                 busy = {item.name for item in [*waiting, *calls.items()]}
-                waiting += watching.due(busy, time.monotonic())
+                waiting += watching.due(busy)
                 next_look = time.monotonic() + LOOK
             for row in judged_next(calls, waiting, words.jobs or os.cpu_count() or 1, LOOK):
                 watching.end(row)

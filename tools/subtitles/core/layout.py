@@ -5,6 +5,7 @@ looks for a layout; the program's own drawing decides.
 """
 from __future__ import annotations
 
+import functools
 import re
 from typing import NamedTuple, Sequence
 
@@ -23,6 +24,7 @@ NUMBERS = {"left": range(40), "right": range(40), "free": range(1, 4),
 TAKES = {"strip": "codes 00 to 1F, each once", "before": "up to 6 codes 01 to 0D and one * at most",
          "after": "up to 4 codes 01 to 0D", "left": "0 to 39", "right": "0 to 39",
          "free": "1, 2 or 3", "row": "-22 to 22"}
+KEPT = 1 << 14  # texts of which the lines are known
 NUMBER = re.compile(r"[0-9]{1,2}")
 HEX = re.compile(r"(?:[0-9A-Fa-f]{2})*")
 
@@ -154,7 +156,8 @@ def text_of(layout: Layout) -> str:
     return ",".join(items_of(layout))
 
 
-def lines_of(text: bytes, option: NationalOption, strip: bytes = b"") -> list[bytes] | Refused:
+@functools.lru_cache(maxsize=KEPT)
+def lines_of(text: bytes, option: NationalOption, strip: bytes = b"") -> tuple[bytes, ...] | Refused:
     """The lines of a text, each as the cells that its bytes give; or the first that gives none."""
     lines = [bytearray()]
     for at, byte, cell in cells_in(text, option):
@@ -166,7 +169,7 @@ def lines_of(text: bytes, option: NationalOption, strip: bytes = b"") -> list[by
             return Refused(CONTROL if byte in CONTROLS else CHARACTER, at)
         else:
             lines[-1].append(cell)
-    return [bytes(line) for line in lines]
+    return tuple(map(bytes, lines))
 
 
 def leading(cells: bytes) -> int:

@@ -19,7 +19,7 @@ from ..qc.made_with import program_at
 from ..qc.part import Part
 from ..qc.sums import SummedFile
 from ..qc.verdict import Verdict
-from ..reading.gaps import TOLD
+from ..reading.gaps import first_of
 from ..reading.timeline import Timeline
 from .counts import place_words
 from .fault_list import FaultList
@@ -86,9 +86,7 @@ class Report:
                            "is drawn beside it")
         self.faults = Faults(answer, due)
         self.meanings = meanings()
-        self.lost = [gap.line() for gap in subject.judged.gaps]
-        if len(self.lost) > TOLD:
-            self.lost[TOLD:] = [f"and at {counted(len(self.lost) - TOLD, 'more place')}"]
+        self.lost = first_of([gap.line() for gap in subject.judged.gaps])
         unread = [self.asked.recording] if self.asked.recording and self.part.pes is None else []
         self.notes = [*(f"{shown(one)} was not read" for one in unread), *subject.judged.notes,
                       *(one.said() for one in subject.judged.warnings),

@@ -11,7 +11,7 @@ import itertools
 from typing import Iterable, NamedTuple, Sequence
 
 from ..core.layout import (
-    DOUBLE, PLAIN, START_BOX, Layout, Refused, drawn, page_of, text_of)
+    COLOURS, DOUBLE, PLAIN, START_BOX, Layout, Refused, drawn, page_of, text_of)
 from ..core.national import NationalOption
 from ..reading.receiver import Rows
 from .layouts import FEWEST, TENTHS, Sent, candidates, is_found, simplicity
@@ -23,6 +23,9 @@ MOST_ITEMS = 12  # of which all groups are looked at
 # Codes of a text that a viewer sees: colours other than white, flash, backgrounds.
 SEEN_CODES = (*range(0x01, 0x07), 0x08, 0x1C, 0x1D)
 BROUGHT = (DOUBLE, START_BOX)  # those that `before` may put back
+# Behind a line's own codes: another colour than its own, steady in the place of its flash, normal
+# in the place of its double height.
+OVERRULING = (*COLOURS, 0x09, 0x0C)
 Item = tuple[str, int]  # its name, and of `strip` the code
 Group = frozenset[Item]
 Page = Rows | None  # what a layout draws of a text, if it does
@@ -110,7 +113,8 @@ def words_of(group: Iterable[Item], layout: Layout) -> str:
 def taken_from(layout: Layout) -> Group:
     """The items of a layout that take from a page what a viewer sees, and do not put it back."""
     gone = {*SEEN_CODES, *({*BROUGHT} - {*layout.before, *layout.behind})}
-    return frozenset(("strip", code) for code in layout.strip if code in gone)
+    taken: set[Item] = {("strip", code) for code in layout.strip if code in gone}
+    return frozenset(taken | {(STAR, 0)} if {*OVERRULING} & {*layout.behind} else taken)
 
 
 # ---- evidence
@@ -184,11 +188,12 @@ class Evidence:
     def left_of(self, layout: Layout, gone: Sequence[Group], whole: Layout) -> list[Left]:
         """What would draw more than a layout, of the items of another one; and all of these, where
         they draw most together."""
-        count, found = self.count(layout), []
+        count, found = self.count(layout), list[Left]()
         for group in gone:
-            other = with_items(layout, group, whole)
-            if (more := self.count(other) - count) > 0:
-                found.append(Left(words_of(group, whole), more, text_of(other)))
+            other, text = with_items(layout, group, whole), words_of(group, whole)
+            more = self.count(other) - count
+            if more > 0 and all(one.text != text for one in found):
+                found.append(Left(text, more, text_of(other)))
         together = self.count(whole) - count
         if together > max((one.more for one in found), default=0):
             items = [item for group in gone for item in group]

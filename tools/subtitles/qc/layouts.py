@@ -170,8 +170,8 @@ def ways_to_prepare(pairs: Sequence[SentLine]) -> list[Layout]:
             if layout not in scores:
                 scores[layout] = sum(
                     count for (cells, sent), count in all_lines.items()
-                    if prepared(cells, layout).strip(b" ") == sent.strip(b" ")
-                    and len(prepared(cells, layout)) <= COLUMNS)
+                    for made in [prepared(cells, layout)]
+                    if made.strip(b" ") == sent.strip(b" ") and len(made) <= COLUMNS)
     best = max(scores.values())
     near = [one for one, score in scores.items() if score * 10 >= best * TENTHS]
     return sorted(near, key=lambda one: (-scores[one], simplicity(one)))[:4 * MOST_KEPT]

@@ -2,7 +2,8 @@
 
 A subtitle that is due when the page moves is judged on both PIDs: on neither is it whole, and the
 program says so, as 74 and 63. Of the frames between the last PES packet on the one and the first
-header on the other nothing is said.
+header on the other nothing is said, nor of what the other one carries before a subtitle is over
+that is judged on the first.
 """
 from __future__ import annotations
 
@@ -10,6 +11,7 @@ from typing import Iterator, Sequence
 
 from ..core.programme import Subtitle
 from ..core.times import Between, frame_in, time_of
+from ..core.words import pid_name
 from ..reading.moving import Stage, part_inside, up_to, words_of
 from .clock import Found
 from .warned import Warned
@@ -54,7 +56,7 @@ def linked(parts: Sequence[Found], place: int, found: Found) -> Found:
         goes=None if is_last else parts[place + 1].pid)
 
 
-def moves_told(parts: Sequence[Found], page: str) -> Iterator[Warned]:
+def moves_told(parts: Sequence[Found], page: str, within: int) -> Iterator[Warned]:
     """What is said of each move between PIDs of which something is judged."""
     for one, other in zip(parts, parts[1:]):
         if one.pid is None or one.goes is None or one.goes != other.pid:
@@ -62,5 +64,9 @@ def moves_told(parts: Sequence[Found], page: str) -> Iterator[Warned]:
         last, first = one.end, other.begin
         where = f"between {time_of(last)} and {time_of(first)}: what was sent between is not " \
             "trusted" if last < first else f"at {time_of(first)}, where both carry it"
+        begun = next(other.stage.frames(other.origin, within), first) if other.stage else first
+        if begun < first:
+            where += f"; what {pid_name(one.goes)} carries from {time_of(begun)} up to then is " \
+                "not judged"
         yield Warned(PID, f"{words_of(page, one.pid, one.goes)} {where}",
                      time_of(max(last, first)))

@@ -241,7 +241,8 @@ class Pair:
             its.clock.chosen(one.number) for one in parts for its in [one.recorded[1]]))
         for one, its in (part.recorded for part in parts if recording.stages):
             self.warn(one, its.origin, its)
-        self.verdict.warn(moves_told([part.recorded[1] for part in parts], self.asked.page_name))
+        self.verdict.warn(moves_told([part.recorded[1] for part in parts], self.asked.page_name,
+                                     self.asked.within))
         for part in parts:
             self.recording, its = part.recorded
             judging.judge(self, part, len(parts))

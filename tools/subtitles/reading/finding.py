@@ -8,7 +8,7 @@ from ..core.stl import letters_on_page, readable, stl_bytes, times_of
 from ..core.teletext import Page, page_name
 from ..core.times import (
     ALL_DAY, FRAMES_A_SECOND, FRAMES_OF_A_DAY, TICKS, Between, frame_in, pts_of, ticks_between,
-    time_of, wrapped)
+    ticks_within, time_of, wrapped)
 from ..core.words import Stop, counted, range_words
 from .alignment import MOST_APART, Base, Fit, Shown, bases_of
 from .packets import STRAY, Packets, Range
@@ -364,9 +364,14 @@ def packets_of(runs: Sequence[Airing], number: int, bases: Sequence[Base],
 
 
 def number_of_place(place: tuple[int, int], bases: Sequence[Base], packets: Packets) -> int:
-    """The number of the PES packet at a place."""
+    """The number of the PES packet at a place; a base may be longer than half of the clock."""
     base = bases[place[0]]
-    pts = wrapped(pts_of(place[1], base.first) - TICKS // 2)
-    return next((number for run in packets.inside(*base.packets) if run.last is not None
-                 and ticks_between(pts, run.last) >= 0 for number in range(run.first, run.end)
-                 if ticks_between(pts, run.pts_of(number) or 0) >= 0), base.packets[1])
+    length, least = TICKS * base.length, TICKS * place[1] - TICKS // 2
+
+    def is_there(pts: int) -> bool:
+        return ticks_within(base.first, length, pts) >= least
+
+    return next((number for run in packets.inside(*base.packets)
+                 if run.last is not None and is_there(run.last)
+                 for number in range(run.first, run.end) if is_there(run.pts_of(number) or 0)),
+                base.packets[1])

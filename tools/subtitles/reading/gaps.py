@@ -2,7 +2,7 @@
 from __future__ import annotations
 
 import dataclasses
-from typing import Iterator, NamedTuple
+from typing import Iterator, NamedTuple, Sequence
 
 from ..core.times import TICKS, ticks_between, time_of, wrapped
 from ..core.words import counted, pid_name
@@ -109,6 +109,12 @@ def line_of(place: Place, first: int | None) -> str:
     times = " and ".join(time_of(wrapped(pts - (first or 0)) // TICKS) for pts in known)
     where = "between" if len(known) == 2 else "before" if place.before is None else "after"
     return (f"{where} PTS {names}, {times} on: " if known else "") + what_of(place)
+
+
+def first_of(lines: Sequence[str]) -> list[str]:
+    """A line for each place; where they are many the first, and how many more there are."""
+    more = len(lines) - TOLD
+    return [*lines[:TOLD], *([f"and at {counted(more, 'more place')}"] if more > 0 else [])]
 
 
 def marks_told(packets: Packets) -> list[str]:

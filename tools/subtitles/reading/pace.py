@@ -71,11 +71,11 @@ def pace_of(rows: Sequence[Sequence[int]], each: int, every: int, pauses: Pauses
     near, far = distances(rows, 1), distances(rows, TWO_LOST if is_stream else ONE_LOST)
     count = sum(near.values())
     few = max(FEW, count // PART)
+    apart = at_rank(near, few, True) if count > few else max(near, default=0)
     if count < LEAST or sum(far.values()) <= few:
-        return Pace(TOO_FEW)
-    apart = at_rank(near, few, True)
+        return Pace(BY_EVERY if min(far, default=0) > every else TOO_FEW, apart)
     lost = lost_in(far, apart, few) if is_stream else apart + 1
-    if lost > every:
+    if min(lost, *far) > every:
         return Pace(BY_EVERY, apart, lost)
     if max(apart, 1) >= lost:
         return Pace(IRREGULAR, apart, lost)
