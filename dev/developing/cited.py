@@ -19,7 +19,7 @@ DOCUMENTS = {"docs/HEADLINE.md": "", "docs/ASSURANCE.md": "", "docs/CLAUSES.md":
 # A row of the table of what has to be read: what is read, how it is printed, and the counts.
 ROW = re.compile(r"^\| (.*) \| `tools/reading-list (\S+)` \| (\d+) \| (\d+) \| (\d+) \|$", re.M)
 # For these at most so many lines may have to be read, so that the law of a run can be.
-MOST_LINES = {"run_in_memory.headline": 700, "run_in_memory.acceptance": 800}
+MOST_LINES = {"run_in_memory.headline": 450, "run_in_memory.acceptance": 800}
 NUMBERS = re.compile(r"^## The proof in numbers$.*?(?=^## )", re.M | re.S)
 NUMBER = re.compile(r"^\| (.*) \| ([\d,]+) \|$", re.M)  # a row there: what is counted, how many
 PARTS = ("src", "specs", "must-fail", "release-edits")  # of a crate, whose words are taken

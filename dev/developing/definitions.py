@@ -13,7 +13,7 @@ import re
 from typing import Iterable, Iterator, NamedTuple, Union
 
 from subtitles.core.words import Stop
-from .crates import read_lines
+from .crates import below, read_lines
 
 BEGINS = ("abbrev ", "unfoldable ", "pub record ", "pub data ", "record ", "data ")
 BETWEEN = ("use ", "pub use ", "mod ", "pub mod ", "infix")
@@ -198,27 +198,35 @@ class Library:
 
     def clause(self, name: str) -> list[Meant]:
         """What a clause FUNCTION.CLAUSE names, or all clauses of FUNCTION."""
+        return [it for file, _, text in self.texts(name)
+                for it in self.used(file, text, binders(text))]
+
+    def texts(self, name: str) -> list[tuple[File, str, str]]:
+        """A clause, or all clauses of a function: the file, the name of each, its text."""
         function, _, clause = name.partition(".")
         crate, slash, function = function.rpartition("/")
-        found: list[tuple[File, str]] = []
+        found: list[tuple[File, str, str]] = []
         for one in [crate] if slash else self.crates:
             for path, module in paths(self.top, one, "src", ".rt"):
                 file = File(one, path, module)
-                for text in clauses(file.text, function, clause):
-                    found.append((file, text))
-        if not slash and len({file.path for file, _ in found}) > 1:
-            places = ", ".join(sorted({file.crate for file, _ in found}))
+                found += [(file, *it) for it in clauses(file.text, function, clause)]
+        if not slash and len({file.path for file, *_ in found}) > 1:
+            places = ", ".join(sorted({file.crate for file, *_ in found}))
             raise Stop(f"{name} is a function of {places}: put the crate before it, as CRATE/NAME")
-        return [it for file, text in found for it in self.used(file, text, binders(text))]
+        return found
+
+    def defined(self, name: str) -> list[Definition]:
+        """The definitions of a name, NAME or CRATE/FILE.NAME."""
+        place, _, last = name.rpartition(".")
+        return [file.definitions[last] for file in self.files.values()
+                if last in file.definitions
+                and place in ("", f"{file.crate}/{file.module.split('.specs.')[1]}")]
 
     def roots(self, name: str) -> list[Meant]:
         """What a name of the command line names: a definition, or a clause."""
-        place, _, last = name.rpartition(".")
-        found = [file.definitions[last] for file in self.files.values()
-                 if last in file.definitions
-                 and place in ("", f"{file.crate}/{file.module.split('.specs.')[1]}")]
+        found = self.defined(name)
         if len(found) > 1:
-            places = ", ".join(f"{one.file.crate}/{one.file.module.split('.specs.')[1]}.{last}"
+            places = ", ".join(f"{one.file.crate}/{one.file.module.split('.specs.')[1]}.{one.name}"
                                for one in found)
             raise Stop(f"{name} is one of {places}")
         roots: list[Meant] = list(found)
@@ -237,9 +245,8 @@ class Library:
                 return path, text.count("\n", 0, found.start()) + 1
         raise Stop(f"{outside.crate} declares no {outside.name}")
 
-    def reading(self, name: str) -> tuple[list[Definition], list[Outside]]:
-        """What a name rests on: the definitions, in the order in which they are read, and what is
-        outside, sorted."""
+    def rests_on(self, name: str) -> dict[Meant, list[Meant]]:
+        """All that a name rests on, each with what it names."""
         used: dict[Meant, list[Meant]] = {}
         left = collections.deque(self.roots(name))
         while left:
@@ -247,6 +254,30 @@ class Library:
             if one not in used:
                 used[one] = self.used_by(one) if isinstance(one, Definition) else []
                 left += used[one]
+        return used
+
+    def from_the_top(self, name: str) -> list[Definition]:
+        """What a name rests on, what names something before it: crate by crate, the highest first,
+        and there in the order in which one comes to it."""
+        used, seen, last_first = self.rests_on(name), set[Meant](), list[Definition]()
+
+        def visit(one: Meant) -> None:
+            if isinstance(one, Definition) and one not in seen:
+                seen.add(one)
+                for other in reversed(used[one]):
+                    visit(other)
+                last_first.append(one)
+
+        for root in reversed(self.roots(name)):
+            visit(root)
+        lines = read_lines(os.path.join(self.top, "crates.txt"))
+        ranks = {crate: (-len(below(crate, lines)), at) for at, crate in enumerate(lines)}
+        return sorted(reversed(last_first), key=lambda it: ranks[it.file.crate])
+
+    def reading(self, name: str) -> tuple[list[Definition], list[Outside]]:
+        """What a name rests on: the definitions, in the order in which they are read, and what is
+        outside, sorted."""
+        used = self.rests_on(name)
         needs = {one: {it for it in names if isinstance(it, Definition)}
                  for one, names in used.items() if isinstance(one, Definition)}
         return self.in_order(needs), sorted(it for it in used if isinstance(it, Outside))
@@ -301,8 +332,8 @@ def binders(text: str) -> set[str]:
     return {name for group in groups for name in group.split()}
 
 
-def clauses(text: str, function: str, clause: str) -> Iterator[str]:
-    """The texts of a function's clauses, or of the one of that name."""
+def clauses(text: str, function: str, clause: str) -> Iterator[tuple[str, str]]:
+    """The names and texts of a function's clauses, or of the one of that name."""
     for found in FUNCTION.finditer(text):
         if found[2] != function:
             continue
@@ -310,7 +341,7 @@ def clauses(text: str, function: str, clause: str) -> Iterator[str]:
         head = text[found.end():end.start() if end else len(text)]
         for start in CLAUSE.finditer(head):
             if not clause or start[1] == clause:
-                yield braced(head, start.end())
+                yield start[1] or "", braced(head, start.end())
 
 
 def braced(text: str, start: int) -> str:

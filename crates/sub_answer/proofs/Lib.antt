@@ -9,4 +9,3 @@ pub mod MemoryLemmas
 pub mod PartLemmas
 pub mod PesEventLemmas
 pub mod SurveyListingLemmas
-pub mod PartOfFileLemmas

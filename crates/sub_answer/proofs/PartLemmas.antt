@@ -1,5 +1,5 @@
 -- A part of what a source gives, by how it was made. Main lemmas: all_of_source, file_of_source,
--- stream_of_source, all_of_pieces, range_of_pieces, all_of_file.
+-- stream_of_source, all_of_pieces, range_of_pieces.
 use Rattle.std.proofs.lemmas.Bool.Decides.{nat_tests}
 use Rattle.std.proofs.Common.{◌≡◌, ◌∙◌, ap, arith, ℕ, List, Option, Some, None, true, false}
 use Rattle.std.specs.Prelude.{◌⊎◌, option_map}
@@ -27,16 +27,21 @@ module _ {D : Type 0} (remaining : D → Option (List ℕ)) (failure_count : D �
   all_of_source request p fits none is = grind (arith, nat_tests, whole_source)
 
   -- A range of a file.
-  pub file_of_source : (p : Part)
+  pub file_of_source : {P : Type 0} (given behind : P → Option (List ℕ)) (count : P → ℕ)
+      (before after : P) (p : Part)
+      → IsRangeOf p.range given behind count before after input
       → p.stream ≡ None
-      → IsRangeOf p.range remaining remaining failure_count old left input
+      → given before ≡ remaining old
+      → behind after ≡ remaining left
+      → count before ≡ failure_count old
+      → count after ≡ failure_count left
       → IsPartOf p remaining failure_count old left input
-  file_of_source p stream is = record {
-    told = rw stream is.told;
-    number = rw stream is.number;
-    old_count = is.old_count;
-    new_count = is.new_count;
-    left_is = λ whole. is.left_is (ap (λ (q : Part). q.range) whole);
+  file_of_source given behind count before after p is stream gives leaves first last = record {
+    told = rw stream (is.told ∙ ap (through_range p.range) gives);
+    number = rw stream (is.number ∙ ap (number_in p.range) gives);
+    old_count = is.old_count ∙ first;
+    new_count = is.new_count ∙ last;
+    left_is = λ whole. is.left_is (ap (λ (q : Part). q.range) whole) ∙ leaves;
   }
 
   -- A range of what a transport stream carries.
@@ -88,22 +93,3 @@ module _ {P : Type 0} (given behind : P → Option (List ℕ)) (count : P → �
     new_count = ap (λ (i : InputCall). i.call.new_count) is ∙ new_count;
     left_is = λ none. absurd cc;
   }
-
--- All pieces of a source, by what is told of who gives them.
-pub all_of_file : {D : Type 0} (remaining : D → Option (List ℕ)) (failure_count : D → ℕ)
-    (old new : D) (input part : InputCall)
-    → input ≡ part
-    → part.call.known ≡ remaining old
-    → part.number.known ≡ Some 0
-    → part.call.old_count ≡ failure_count old
-    → part.call.new_count ≡ failure_count new
-    → part.call.left ≡ remaining new
-    → IsRangeOf None remaining remaining failure_count old new input
-all_of_file remaining failure_count old new input part is told number old_count new_count left =
-    record {
-      told = ap (λ (i : InputCall). i.call.known) is ∙ told;
-      number = ap (λ (i : InputCall). i.number.known) is ∙ number;
-      old_count = ap (λ (i : InputCall). i.call.old_count) is ∙ old_count;
-      new_count = ap (λ (i : InputCall). i.call.new_count) is ∙ new_count;
-      left_is = λ none. ap (λ (i : InputCall). i.call.left) is ∙ left;
-    }

@@ -3,8 +3,6 @@
 use Rattle.std.specs.Prelude.{◌≡◌, ℕ, List, Option, Some, None, option_map}
 use Rattle.mpeg_ts.specs.Carried.{carried}
 use Rattle.mpeg_ts.specs.PacketSize.{bytes_of}
-use Rattle.ttx_pes.specs.Advancing.{held_then}
-use Rattle.ttx_pes.specs.PartOfPieces.{part_number}
 use Rattle.ttx_pes.specs.PieceRange.{PieceRangeValue, first_index, in_range}
 use Rattle.sub_request.specs.declared.pes_packets.TransportStream.{TransportStream}
 use Rattle.sub_request.specs.declared.request.Request.{Request}
@@ -39,12 +37,6 @@ through_range (Some r) told = option_map (in_range r) told
 abbrev pub number_in : Option PieceRangeValue → Option (List ℕ) → Option ℕ
 number_in None told = Some 0
 number_in (Some r) told = option_map (first_index r) told
-
--- The number of the first piece that is given of a file, where so many were passed over and so many
--- are still to be, by what is held of the next one and what the source has still to give.
-abbrev pub number_behind : ℕ → ℕ → List ℕ → Option (List ℕ) → Option ℕ
-number_behind passed to_pass held told =
-    part_number (record { passed = passed; to_pass = to_pass }) (held_then held told)
 
 -- A source of this part of what another one gives, in a call which leaves that so, by what is told
 -- of that one and how often it has failed.

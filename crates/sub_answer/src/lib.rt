@@ -18,7 +18,6 @@ mod handing_on;
 mod laws;
 mod over_files;
 mod part;
-mod part_of_file;
 mod parts;
 
 pub use answering::{answer, answer_over, say};

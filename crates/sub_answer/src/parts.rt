@@ -13,13 +13,12 @@ use crate::answering::reads_pieces;
 use crate::ending::{answer_pair, answer_pieces, answer_source};
 use crate::handing_on::HandOn;
 use crate::part::Part;
-use crate::part_of_file::PartOfFile;
 use mpeg_ts::RecordingPieces;
 use std::alloc::Global;
 use sub_io::{BufferedSink, Close, Sink, Source};
 use sub_listing::Status;
 use sub_request::Request;
-use ttx_pes::{FilePieces, NumberedPieces, PartOfPieces, PieceRange};
+use ttx_pes::{FilePieces, LimitedPieces, NumberedPieces, PartOfPieces, PieceRange, PiecesAhead};
 
 /// Answers a request that reads a part of one source, and may write a file; gives the source back
 /// as that left it.
@@ -52,92 +51,51 @@ pub fn answer_part<S: Source + Drop, F: Close, O: HandOn<F>>(
     }
     match stream {
         None => {
-            let status = answer_file(alloc, request, range, &mut whole, file, out);
+            let mut pieces = FilePieces::new(&mut whole);
+            let status = answer_range(alloc, request, range, &mut pieces, file, out);
             (status, whole)
         }
         Some(stream) => {
-            let pieces = RecordingPieces::new(whole, stream.pid, stream.packet_size);
-            let (status, pieces) = answer_range(alloc, request, range, pieces, file, out);
+            let mut pieces = RecordingPieces::new(whole, stream.pid, stream.packet_size);
+            let status = answer_range(alloc, request, range, &mut pieces, file, out);
             (status, pieces.into_inner())
         }
     }
 }
 
-// Answers a request that reads PES packets of a range, or all, of a file.
-fn answer_file<S: Source, F: Close, O: HandOn<F>>(
+// Answers a request that reads PES packets of a range, or all.
+fn answer_range<P: NumberedPieces, F: Close, O: HandOn<F>>(
     alloc: Global,
     request: &Request<'_>,
     range: Option<PieceRange>,
-    whole: &mut S,
+    pieces: &mut P,
     file: &mut BufferedSink<'_, F>,
     out: &mut O,
 ) -> Status
     requires reads { reads_pieces request.now ≡ true }
-    requires first { CanFail (S.failure_count whole.old) }
+    requires start { P.first pieces.old ≡ Some 0 }
+    requires pieces { CanFail (P.failure_count pieces.old) }
     requires file { (failures_and_refused (F.failure_count file.old.device) file.old.refused ≡ 0)
         × (file.old.held ≡ []) }
     requires out { O.failure_count out.old ≡ 0 }
     ensures ends { EndsWith request.now
-        (IsRangeOf range S.remaining S.remaining S.failure_count whole.old whole.new)
+        (IsRangeOf range P.remaining P.left P.failure_count pieces.old pieces.new)
         IsEmptySource ⊤
         (IsClosedAfter F.contents F.failure_count F.is_close request.now file.old file.new)
         (HoldsLineAlone O.contents O.held_back O.failure_count O.is_push)
         (lines_in O.contents O.held_back O.failure_count out.old)
         (lines_in O.contents O.held_back O.failure_count out.new) result }
+    ensures device { P.device pieces.new ≡ P.device pieces.old }
     ensures done { result ≡ Status.Done → HandsOn F.failure_count file.old file.new }
 {
     match range {
-        None => {
-            let mut pieces = FilePieces::new(whole);
-            answer_pieces(alloc, request, &mut pieces, file, out)
-        }
+        None => answer_pieces(alloc, request, pieces, file, out),
         Some(range) => {
-            let mut some = PartOfFile {
-                pieces: FilePieces::new(whole),
-                to_pass: range.first(),
-                passed: 0,
-                left: range.most(),
+            let mut some = PartOfPieces {
+                inner: LimitedPieces::new(pieces, range.most()),
+                ahead: PiecesAhead::new(range.first()),
             };
             answer_pieces(alloc, request, &mut some, file, out)
-        }
-    }
-}
-
-// Answers a request that reads PES packets of a range, or all; gives back who gives them.
-fn answer_range<P: NumberedPieces + Drop, F: Close, O: HandOn<F>>(
-    alloc: Global,
-    request: &Request<'_>,
-    range: Option<PieceRange>,
-    pieces: P,
-    file: &mut BufferedSink<'_, F>,
-    out: &mut O,
-) -> (Status, P)
-    requires reads { reads_pieces request.now ≡ true }
-    requires start { P.first pieces ≡ Some 0 }
-    requires pieces { CanFail (P.failure_count pieces) }
-    requires file { (failures_and_refused (F.failure_count file.old.device) file.old.refused ≡ 0)
-        × (file.old.held ≡ []) }
-    requires out { O.failure_count out.old ≡ 0 }
-    ensures ends { EndsWith request.now
-        (IsRangeOf range P.remaining P.left P.failure_count pieces result.1)
-        IsEmptySource ⊤
-        (IsClosedAfter F.contents F.failure_count F.is_close request.now file.old file.new)
-        (HoldsLineAlone O.contents O.held_back O.failure_count O.is_push)
-        (lines_in O.contents O.held_back O.failure_count out.old)
-        (lines_in O.contents O.held_back O.failure_count out.new) result.0 }
-    ensures device { P.device result.1 ≡ P.device pieces }
-    ensures done { result.0 ≡ Status.Done → HandsOn F.failure_count file.old file.new }
-{
-    match range {
-        None => {
-            let mut pieces = pieces;
-            let status = answer_pieces(alloc, request, &mut pieces, file, out);
-            (status, pieces)
-        }
-        Some(range) => {
-            let mut some = PartOfPieces::new(pieces, range);
-            let status = answer_pieces(alloc, request, &mut some, file, out);
-            (status, some.into_inner())
         }
     }
 }
@@ -167,89 +125,49 @@ pub fn answer_second_part<S: Source, T: Source + Drop, K: Sink>(
     let mut whole = whole;
     match stream {
         None => {
-            let status = answer_second_file(alloc, request, first, range, &mut whole, out);
+            let mut pieces = FilePieces::new(&mut whole);
+            let status = answer_second_range(alloc, request, first, range, &mut pieces, out);
             (status, whole)
         }
         Some(stream) => {
-            let carried = RecordingPieces::new(whole, stream.pid, stream.packet_size);
-            let (status, carried) = answer_second_range(alloc, request, first, range, carried, out);
-            (status, carried.into_inner())
+            let mut pieces = RecordingPieces::new(whole, stream.pid, stream.packet_size);
+            let status = answer_second_range(alloc, request, first, range, &mut pieces, out);
+            (status, pieces.into_inner())
         }
     }
 }
 
-// Answers a request that reads a source, and PES packets of a range, or all, of a file.
-fn answer_second_file<S: Source, T: Source, K: Sink>(
+// Answers a request that reads a source, and PES packets of a range, or all.
+fn answer_second_range<S: Source, P: NumberedPieces, K: Sink>(
     alloc: Global,
     request: &Request<'_>,
     first: &mut S,
     range: Option<PieceRange>,
-    whole: &mut T,
+    pieces: &mut P,
     out: &mut BufferedSink<'_, K>,
 ) -> Status
     requires reads { reads_pieces request.now ≡ false }
+    requires start { P.first pieces.old ≡ Some 0 }
     requires first { CanFail (S.failure_count first.old) }
-    requires second { CanFail (T.failure_count whole.old) }
-    requires out { failures_and_refused (K.failure_count out.old.device) out.old.refused ≡ 0 }
-    ensures { EndsWith request.now
-        (λ input. input ≡ whole_call S.remaining S.failure_count first.old first.new)
-        (IsRangeOf range T.remaining T.remaining T.failure_count whole.old whole.new)
-        (whole.new ≡ whole.old) IsEmptyFile
-        (BufferHoldsLineAlone K.contents K.failure_count K.is_push)
-        (lines_of K.contents K.failure_count out.old)
-        (lines_of K.contents K.failure_count out.new) result }
-{
-    match range {
-        None => {
-            let mut pieces = FilePieces::new(whole);
-            answer_pair(alloc, request, first, &mut pieces, out)
-        }
-        Some(range) => {
-            let mut some = PartOfFile {
-                pieces: FilePieces::new(whole),
-                to_pass: range.first(),
-                passed: 0,
-                left: range.most(),
-            };
-            answer_pair(alloc, request, first, &mut some, out)
-        }
-    }
-}
-
-// Answers a request that reads a source, and PES packets of a range, or all; gives back who gives
-// them.
-fn answer_second_range<S: Source, P: NumberedPieces + Drop, K: Sink>(
-    alloc: Global,
-    request: &Request<'_>,
-    first: &mut S,
-    range: Option<PieceRange>,
-    pieces: P,
-    out: &mut BufferedSink<'_, K>,
-) -> (Status, P)
-    requires reads { reads_pieces request.now ≡ false }
-    requires start { P.first pieces ≡ Some 0 }
-    requires first { CanFail (S.failure_count first.old) }
-    requires pieces { CanFail (P.failure_count pieces) }
+    requires pieces { CanFail (P.failure_count pieces.old) }
     requires out { failures_and_refused (K.failure_count out.old.device) out.old.refused ≡ 0 }
     ensures ends { EndsWith request.now
         (λ input. input ≡ whole_call S.remaining S.failure_count first.old first.new)
-        (IsRangeOf range P.remaining P.left P.failure_count pieces result.1)
-        (result.1 ≡ pieces) IsEmptyFile
+        (IsRangeOf range P.remaining P.left P.failure_count pieces.old pieces.new)
+        (pieces.new ≡ pieces.old) IsEmptyFile
         (BufferHoldsLineAlone K.contents K.failure_count K.is_push)
         (lines_of K.contents K.failure_count out.old)
-        (lines_of K.contents K.failure_count out.new) result.0 }
-    ensures device { P.device result.1 ≡ P.device pieces }
+        (lines_of K.contents K.failure_count out.new) result }
+    ensures device { P.device pieces.new ≡ P.device pieces.old }
 {
     match range {
-        None => {
-            let mut pieces = pieces;
-            let status = answer_pair(alloc, request, first, &mut pieces, out);
-            (status, pieces)
-        }
+        None => answer_pair(alloc, request, first, pieces, out),
         Some(range) => {
-            let mut some = PartOfPieces::new(pieces, range);
-            let status = answer_pair(alloc, request, first, &mut some, out);
-            (status, some.into_inner())
+            let mut some = PartOfPieces {
+                inner: LimitedPieces::new(pieces, range.most()),
+                ahead: PiecesAhead::new(range.first()),
+            };
+            answer_pair(alloc, request, first, &mut some, out)
         }
     }
 }

@@ -164,17 +164,14 @@ module _ (g : Criteria) (frames : Transmission) (n : ℕ) (last : List (List ℕ
         go (suc k) number at holds = grind (arith, nat_tests)
 
     module _ (due : c.listener.comparison.due ≡ due_in c.programme c.frame) where
-      abbrev heard : List (List ℕ)
-      heard = packets_before frames (suc n)
-
       -- What comes at the end. For `end_sent`.
-      pub ending_steps : end_steps heard c ≡ steps_at_end g frames n (suc n) (frame_at frames n)
+      pub ending_steps : end_steps c ≡ steps_at_end g frames n (suc n) (frame_at frames n)
       ending_steps =
           steps_are g frames n (suc n) (frame_at frames n) last c is.known is.begun is.frame_is due
           is.standing_is is.last_is is.since_is (frame_on g frames n) (omega arith)
           is.latest_is
 
-      stands_then : (stands heard c)
+      stands_then : stands c
           ≡ standing_at g frames (suc n) (frame_at frames n)
       stands_then =
           stands_are g frames n (suc n) (frame_at frames n) last c is.known is.begun is.frame_is due
@@ -183,7 +180,7 @@ module _ (g : Criteria) (frames : Transmission) (n : ℕ) (last : List (List ℕ
 
       -- The step there. For `end_sent`.
       pub end_step : (f : ℕ) (begins none : Bool) (d : CheckerValue)
-          → d ≡ after_end heard c
+          → d ≡ after_end c
           → f ≡ d.frame
           → begins
           ≡ holds_beginning g.watched.keeps (kind g.watched.page) (packets_of_frame frames n)
@@ -197,7 +194,7 @@ module _ (g : Criteria) (frames : Transmission) (n : ℕ) (last : List (List ℕ
           ∙ ap stands_none stands_then in
           rw (at ∙ ap (λ (v : CheckerValue). v.frame) end ∙ is.frame_is, holds, stand ∙ stood) refl
 
-      since_then : 0 < g.within → (after_end heard c).since ≡ since_frames g frames (suc n)
+      since_then : 0 < g.within → (after_end c).since ≡ since_frames g frames (suc n)
       since_then l =
           since_are g frames n (suc n) (frame_at frames n) last c is.known is.begun is.frame_is due
           is.standing_is is.last_is is.since_is (frame_on g frames n) (omega arith)
@@ -205,7 +202,7 @@ module _ (g : Criteria) (frames : Transmission) (n : ℕ) (last : List (List ℕ
           ∙ since_last g frames n
 
       -- What is kept there. For `end_sent`.
-      pub follows_then : AfterEnd g frames (suc n) last (after_end heard c)
+      pub follows_then : AfterEnd g frames (suc n) last (after_end c)
       follows_then = record {
         known = assumption is.known;
         none = λ e. absurd (omega (arith, e));

@@ -14,11 +14,11 @@ use Rattle.sub_checker.specs.Checker.{end_steps, nothing_counted, stands}
 use Rattle.sub_checker.specs.declared.counts.Counts.{Counts}
 use Rattle.sub_checker.specs.CheckedFrames.{AfterEnd, BeforeEnd, BeforePackets, BetweenPieces}
 use Rattle.sub_checker.specs.CheckedFrames.{HasBegun, Remembers, criteria_kept, reaching_steps}
-use Rattle.sub_packets.specs.Listener.{Knows, KnowsLast}
+use Rattle.sub_packets.specs.Listener.{KnowsLast}
 use Rattle.sub_rules.specs.Events.{end_before, gap_length, is_early, is_gap, latest}
 use Rattle.sub_rules.specs.Events.{nothing_stands, order_events, since_before, since_frames}
 use Rattle.sub_rules.specs.Events.{standing_at, standing_before, unfinished_since}
-use Rattle.sub_rules.specs.FrameRules.{Criteria, frame_at, packets_before}
+use Rattle.sub_rules.specs.FrameRules.{Criteria, frame_at}
 use Rattle.sub_rules.specs.PieceEvents.{steps_at_end, steps_of_gap}
 use Rattle.sub_rules.specs.Transmission.{Transmission}
 use Rattle.sub_rules.specs.Trusted.CheckStep.{Says}
@@ -147,30 +147,27 @@ module _ (g : Criteria) (frames : Transmission) (n f : ℕ) (last : List (List �
     since_there : 0 < g.within → b.since ≡ since_before g frames n f
     since_there l = ap (λ (c : CheckerValue). c.since) moved ∙ waits.since_is l
 
-    pub gap_steps : end_steps (packets_before frames n) b ≡ steps_at_end g frames n n f
+    pub gap_steps : end_steps b ≡ steps_at_end g frames n n f
     gap_steps =
         steps_are g frames n n f last b known_there begun_there at_there due stood_there
         before_there since_there (gap_on g frames n f some later) some latest_there
 
-    stands_there : (stands (packets_before frames n) b) ≡ standing_at g frames n f
+    stands_there : stands b ≡ standing_at g frames n f
     stands_there =
         stands_are g frames n n f last b known_there begun_there at_there due stood_there
         before_there since_there (gap_on g frames n f some later) some latest_there
 
     since_then : 0 < g.within
-        → (after_end (packets_before frames n) b).since ≡ unfinished_since g frames n f
+        → (after_end b).since ≡ unfinished_since g frames n f
     since_then =
         since_are g frames n n f last b known_there begun_there at_there due stood_there
         before_there since_there (gap_on g frames n f some later) some latest_there
-
-    pub gap_knows : Knows (packets_before frames n) b.listener
-    gap_knows = known_there.knows.knows
 
     number_there : b.counts.frames ≡ n
     number_there = ap (λ (c : CheckerValue). c.counts.frames) moved ∙ waits.number
 
     pub gap_waits : (e : ℕ) → e ≡ f + 1
-        → BeforeEnd g frames n e last (after_end (packets_before frames n) b)
+        → BeforeEnd g frames n e last (after_end b)
     gap_waits e is = record {
       known = assumption known_there;
       begun = record { first_is = begun_there.first_is; late_is = begun_there.late_is };

@@ -1,18 +1,18 @@
 -- What stands at the end of a frame, and what comes there, by what is kept: `steps_are`,
 -- `stands_are`, `since_are`; since which frame the page is not whole, `gap_on`, `frame_on`; and
--- where nothing stands, `quiet_steps`, `quiet_after`.
+-- where nothing stands, `quiet_once`, `quiet_within`.
 use Rattle.std.proofs.lemmas.Bool.Decides.{nat_tests}
-use Rattle.std.proofs.Common.{◌≡◌, ℕ, zero, suc, ◌+◌, ◌-◌, ◌<◌, ◌≤◌, Bool, false, ◌&&◌, ◌||◌}
+use Rattle.std.proofs.Common.{◌≡◌, ℕ, zero, suc, ◌+◌, ◌-◌, ◌<◌, ◌≤◌, Bool, false, ◌||◌}
 use Rattle.std.proofs.Common.{cond, List, [], ◌∷◌, ◌++◌, map, Option, Some, None, refl, sym}
 use Rattle.std.proofs.Common.{ap, ap₂, ◌∙◌, arith, ◌==◌}
 use Rattle.std.proofs.lemmas.List.{append-nil}
 use Rattle.ttx_page.specs.Page.{Rows}
-use Rattle.ttx_page.specs.PacketKind.{kind}
-use Rattle.ttx_page.specs.Span.{is_open_after}
 use Rattle.sub_plan.specs.Schedule.{due_in}
 use Rattle.sub_checker.specs.Checker.{CheckerValue, after_end, back_steps, differs_now, end_steps}
 use Rattle.sub_checker.specs.Checker.{is_overdue_at, is_undecided_by, is_unfinished_now, late_now}
-use Rattle.sub_checker.specs.Checker.{quiet_end, since_now, stands, undecided_now, undue_now}
+use Rattle.sub_checker.specs.Checker.{IsQuietEnd, since_now, stands, undecided_now, undue_now}
+use Rattle.sub_packets.specs.KeptPage.{is_incomplete_kept}
+use Rattle.sub_packets.proofs.KeptPageLemmas.{incomplete_heard, undue_heard, wrong_heard}
 use Rattle.sub_checker.specs.CheckedFrames.{HasBegun, Remembers}
 use Rattle.sub_rules.specs.Events.{end_before, end_events, end_rules, events_at_end, is_silent}
 use Rattle.sub_rules.specs.Events.{gap_length, nothing_stands, silent_for, is_incomplete, is_late}
@@ -157,29 +157,31 @@ module _ (g : Criteria) (frames : Transmission) (i n f : ℕ) (last : List (List
     within_is : g.within ≡ c.within
     within_is = ap (λ (t : Criteria). t.within) known.criteria_are
 
-    wrong_is : differs_now so_far c ≡ wrong_cell g frames n f
+    wrong_is : differs_now c ≡ wrong_cell g frames n f
     wrong_is =
-        ap (λ (d : Rows). cond (is_undecided_by c c.frame) None
+        ap (λ (o : Option (ℕ × ℕ)). cond (is_undecided_by c c.frame) None o)
+        (wrong_heard so_far c.listener known.knows.knows)
+        ∙ ap (λ (d : Rows). cond (is_undecided_by c c.frame) None
         (wrong_after c.listener.watched.keeps c.listener.watched.page so_far d)) due
         ∙ ap (λ (k : ℕ). cond (is_undecided_by c k) None
         (wrong_after c.listener.watched.keeps c.listener.watched.page so_far
         (due_in c.programme k))) at
         ∙ ap (λ (t : Criteria). wrong_cell t frames n f) (sym known.criteria_are)
 
-    incomplete_is :
-        (c.listener.watched.complete && is_open_after (kind c.listener.watched.page) so_far)
-        ≡ is_incomplete g frames n
+    incomplete_is : is_incomplete_kept c.listener ≡ is_incomplete g frames n
     unfolding is_incomplete
-    incomplete_is = ap (λ (t : Criteria). is_incomplete t frames n) (sym known.criteria_are)
+    incomplete_is =
+        incomplete_heard so_far c.listener known.knows.knows
+        ∙ ap (λ (t : Criteria). is_incomplete t frames n) (sym known.criteria_are)
 
-    unfinished_is : is_unfinished_now so_far c ≡ is_unfinished g frames n f
+    unfinished_is : is_unfinished_now c ≡ is_unfinished g frames n f
     unfinished_is = rw (wrong_is, incomplete_is) refl
 
     -- Since which frame the page is not whole.
-    since_is : 0 < g.within → since_now so_far c ≡ unfinished_since g frames n f
+    since_is : 0 < g.within → since_now c ≡ unfinished_since g frames n f
     since_is l = rw (since l, unfinished_is, at) (sym on)
 
-    late_is : late_now so_far c ≡ is_late g frames n f
+    late_is : late_now c ≡ is_late g frames n f
     unfolding is_late
     late_is =
         late_by c.within _ _
@@ -196,9 +198,12 @@ module _ (g : Criteria) (frames : Transmission) (i n f : ℕ) (last : List (List
         rw (begun.first_is, at)
         (ap (λ (t : Criteria). undecided_within t frames f) (sym known.criteria_are))
 
-    undue_is : undue_now so_far c ≡ undue_cell g frames n f
+    undue_is : undue_now c ≡ undue_cell g frames n f
     undue_is =
-        rw (begun.first_is, at)
+        ap (λ (o : Option (ℕ × ℕ)). cond (undecided_now c) None o)
+        (undue_heard so_far c.listener known.knows.knows (due_in c.programme) c.first c.frame
+        c.within)
+        ∙ rw (begun.first_is, at)
         (ap (λ (t : Criteria). undue_cell t frames n f) (sym known.criteria_are))
 
     silent_is : silent_for c.pace c.latest c.frame ≡ is_silent g frames n f
@@ -208,7 +213,7 @@ module _ (g : Criteria) (frames : Transmission) (i n f : ℕ) (last : List (List
         ∙ sym (silent_at g frames n f some))
 
     -- What stands broken.
-    pub stands_are : (stands so_far c) ≡ standing_at g frames n f
+    pub stands_are : stands c ≡ standing_at g frames n f
     unfolding standing_at
     stands_are =
         rw (
@@ -223,26 +228,26 @@ module _ (g : Criteria) (frames : Transmission) (i n f : ℕ) (last : List (List
         ) refl
 
     -- What comes there.
-    pub steps_are : end_steps so_far c ≡ steps_at_end g frames i n f
+    pub steps_are : end_steps c ≡ steps_at_end g frames i n f
     steps_are =
         ap₂ (λ (back ms : List CheckStep). back ++ ms ++ map Says (end_events c.standing c.last
-        ((stands so_far c)) c.frame)) (back_are g frames i n f last c known since) firsts
+        (stands c) c.frame)) (back_are g frames i n f last c known since) firsts
         ∙ ap (λ (es : List Event). steps_before g (since_before g frames i f)
         ++ (cond (g.within == 0) []
         (AtEnd f (unfinished_since g frames n f) (is_late g frames n f) ∷ [])) ++ map Says es)
-        (ap (end_events c.standing c.last ((stands so_far c))) at
-        ∙ ends_are g frames i n f c.standing ((stands so_far c)) c.last
+        (ap (end_events c.standing c.last (stands c)) at
+        ∙ ends_are g frames i n f c.standing (stands c) c.last
         stood before stands_are)
       where
-        by : (w : ℕ) → (0 < w → since_now so_far c ≡ unfinished_since g frames n f)
-            → cond (w == 0) [] (AtEnd c.frame (since_now so_far c) (late_now so_far c) ∷ [])
+        by : (w : ℕ) → (0 < w → since_now c ≡ unfinished_since g frames n f)
+            → cond (w == 0) [] (AtEnd c.frame (since_now c) (late_now c) ∷ [])
             ≡ cond (w == 0) []
             (AtEnd f (unfinished_since g frames n f) (is_late g frames n f) ∷ [])
         by zero same = refl
         by (suc w) same = rw (late_is, same (omega arith), at) refl
 
         firsts : cond (c.within == 0) []
-            (AtEnd c.frame (since_now so_far c) (late_now so_far c) ∷ [])
+            (AtEnd c.frame (since_now c) (late_now c) ∷ [])
             ≡ cond (g.within == 0) []
             (AtEnd f (unfinished_since g frames n f) (is_late g frames n f) ∷ [])
         firsts =
@@ -251,11 +256,11 @@ module _ (g : Criteria) (frames : Transmission) (i n f : ℕ) (last : List (List
             (AtEnd f (unfinished_since g frames n f) (is_late g frames n f) ∷ [])) (sym within_is)
 
     -- Since which frame the page is not whole, as it is kept then.
-    pub since_are : 0 < g.within → (after_end so_far c).since ≡ unfinished_since g frames n f
+    pub since_are : 0 < g.within → (after_end c).since ≡ unfinished_since g frames n f
     since_are l = by c.within (rw (sym within_is) l)
       where
         by : (w : ℕ) → 0 < w
-            → cond (w == 0) c.since (since_now so_far c) ≡ unfinished_since g frames n f
+            → cond (w == 0) c.since (since_now c) ≡ unfinished_since g frames n f
         by zero m = absurd (omega arith)
         by (suc w) m =
             let not_each : (suc w == 0) ≡ false = grind (arith, nat_tests) in
@@ -264,44 +269,26 @@ module _ (g : Criteria) (frames : Transmission) (i n f : ℕ) (last : List (List
 -- ---- an end, by what is found there
 
 -- Where the page has to be whole at the end of each frame.
-pub once_steps : (heard : List (List ℕ)) (d c : CheckerValue) (s : Standing)
+pub once_steps : (d c : CheckerValue) (s : Standing)
     → d ≡ c
     → c.within ≡ 0
-    → s ≡ stands heard c
-    → end_steps heard c
+    → s ≡ stands c
+    → end_steps c
     ≡ map Says (end_events d.standing d.last s d.frame)
-once_steps heard d c s same each is = grind (arith, nat_tests, back_none)
-
-pub once_after : (heard : List (List ℕ)) (d c : CheckerValue) (s : Standing)
-    → d ≡ c
-    → c.within ≡ 0
-    → s ≡ stands heard c
-    → record d { standing = s; last = d.frame } ≡ after_end heard c
-once_after heard d c s same each is = rw (same, is, each) refl
+once_steps d c s same each is = grind (arith, nat_tests, back_none)
 
 -- Where it need not.
-pub within_steps : (heard : List (List ℕ)) (d c : CheckerValue) (s : Standing)
+pub within_steps : (d c : CheckerValue) (s : Standing)
     (since : Option ℕ) (late : Bool)
     → d ≡ c
     → 0 < c.within
-    → s ≡ stands heard c
-    → since ≡ since_now heard c
-    → late ≡ late_now heard c
-    → end_steps heard c
+    → s ≡ stands c
+    → since ≡ since_now c
+    → late ≡ late_now c
+    → end_steps c
     ≡ (back_steps d ++ AtEnd d.frame since late ∷ [])
     ++ map Says (end_events d.standing d.last s d.frame)
-within_steps heard d c s since late same some is since_is late_is = grind (arith, nat_tests)
-
-pub within_after : (heard : List (List ℕ)) (d c : CheckerValue) (s : Standing)
-    (since : Option ℕ)
-    → d ≡ c
-    → 0 < c.within
-    → s ≡ stands heard c
-    → since ≡ since_now heard c
-    → record d { standing = s; since = since; last = d.frame } ≡ after_end heard c
-within_after heard d c s since same some is since_is =
-    let not_each : (c.within == 0) ≡ false = grind (arith, nat_tests) in
-    rw (same, is, since_is, not_each) refl
+within_steps d c s since late same some is since_is late_is = grind (arith, nat_tests)
 
 -- Where nothing stands broken, and nothing did.
 none_told : (old new : Standing) (before f : ℕ)
@@ -311,17 +298,16 @@ none_told : (old new : Standing) (before f : ℕ)
 unfolding end_events end_rules
 none_told old new before f none none_now = rw (none, none_now) refl
 
-pub quiet_steps : (heard : List (List ℕ)) (c : CheckerValue)
-    → c.standing ≡ nothing_stands
-    → stands heard c ≡ nothing_stands
-    → since_now heard c ≡ None
-    → end_steps heard c
-    ≡ back_steps c ++ cond (c.within == 0) [] (AtEnd c.frame None false ∷ [])
-quiet_steps heard c stood stand since = grind (arith, nat_tests, none_told, append-nil)
+pub quiet_once : (v c : CheckerValue) → v ≡ c → v.within ≡ 0 → IsQuietEnd c → end_steps c ≡ []
+quiet_once v c same each quiet =
+    let stood = quiet.stood in
+    let stand = quiet.stand in
+    grind (arith, nat_tests, none_told)
 
-pub quiet_after : (heard : List (List ℕ)) (c : CheckerValue)
-    → c.standing ≡ nothing_stands
-    → stands heard c ≡ nothing_stands
-    → since_now heard c ≡ None
-    → quiet_end c ≡ after_end heard c
-quiet_after heard c stood stand since = rw (stand, since, sym stood) refl
+pub quiet_within : (v c : CheckerValue) → v ≡ c → 0 < v.within → IsQuietEnd c
+    → end_steps c ≡ back_steps (record v { last = v.frame }) ++ AtEnd v.frame None false ∷ []
+quiet_within v c same some quiet =
+    let stood = quiet.stood in
+    let stand = quiet.stand in
+    let since = quiet.since in
+    grind (arith, nat_tests, none_told, append-nil)

@@ -1,9 +1,11 @@
--- What came to a device behind a latch: `unlatched`.
+-- What came to a device behind a latch: `unlatched`; and where one could not hand on:
+-- `handed_stopped`.
 use Rattle.std.proofs.Common.{◌≡◌, ◌∙◌, Bool, true, false, List, [], ◌∷◌, refl, sym, subst}
 use Rattle.std.proofs.lemmas.Bool.{true≢false}
 use Rattle.sub_io.proofs.TellingLemmas.{Tells-none, Tells-trans, TellsPrefix-first}
 use Rattle.sub_io.proofs.TellingLemmas.{TellsPrefix-second, TellsPrefix-whole}
-use Rattle.std.proofs.Common.{take}
+use Rattle.std.proofs.Common.{ℕ, ap, inl, inr, not, take}
+use Rattle.sub_io.specs.HandingOn.{HandsOnIfWaiting, StaysTold}
 use Rattle.sub_io.specs.Telling.{Tells, TellsInTurn, TellsPrefix, TellsSome}
 use Rattle.sub_checker.specs.Latch.{IsLatched}
 use Rattle.sub_rules.specs.declared.event.Event.{Event}
@@ -76,3 +78,17 @@ module _ {D : Type 0} {g : _} (IsTold : D → Event → D → Type 0) where
   unlatched_some old new some =
       let p = unlatched old new some.items some.told in
       (p.same, record { items = take p.cut.0 _; told = p.cut.2 })
+
+-- It says stop exactly where it could not hand on. For `hand_on_told`.
+pub handed_stopped : {A D : Type 0} {IsTold : D → A → D → Type 0}
+    {has_stopped is_waiting : D → Bool} {held : D → ℕ}
+    {IsHandedOn : D → Bool → D → Type 0}
+    → StaysTold IsTold has_stopped is_waiting held IsHandedOn
+    → (old new : D) (ok : Bool)
+    → HandsOnIfWaiting is_waiting IsHandedOn old ok new
+    → has_stopped old ≡ false
+    → has_stopped new ≡ not ok
+handed_stopped {A} {D} {IsTold} {has_stopped} stays old new ok (inl same) goes_on =
+    ap has_stopped same.1 ∙ goes_on ∙ sym (ap not same.0)
+handed_stopped {A} {D} {IsTold} {has_stopped} stays old new ok (inr on) goes_on =
+    stays.stopped old new ok on.1

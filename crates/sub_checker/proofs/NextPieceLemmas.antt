@@ -1,25 +1,39 @@
 -- What a piece that was read says of the packets that were sent last: `again_is`, `last_is`.
-use Rattle.std.proofs.Common.{◌≡◌, ◌∙◌, ℕ, Bool, false, List, Option, Some, Ok, sym, ap, refl}
+use Rattle.std.proofs.Common.{◌≡◌, ◌∙◌, ℕ, Bool, true, false, List, Ok, Option, Result, Some, sym}
+use Rattle.std.proofs.Common.{ap, refl}
 use Rattle.std.proofs.lemmas.Bool.{true≢false}
-use Rattle.ttx_pes.specs.Comparing.{ComparingValue}
-use Rattle.sub_plan.specs.FrameTime.{Clock}
+use Rattle.ttx_pes.specs.DataUnit.{UnitValue}
 use Rattle.sub_rules.specs.PacketRules.{packets_of_units}
 use Rattle.sub_rules.specs.declared.piece.NextPiece.{NextPiece}
 use Rattle.sub_rules.specs.declared.piece.NextPiece.TheVariants as next
-use Rattle.sub_checker.specs.AwaitedPiece.{ReadsNext}
+use Rattle.sub_rules.specs.declared.fault.CheckFault.{CheckFault}
+use Rattle.sub_rules.specs.declared.sending.Sending.{Sending}
 use Rattle.sub_checker.specs.NextPieces.{IsAgain, is_passed, last_with}
 
+-- An answer that is a piece that is sent.
+pub given_sent : {n : Option NextPiece} {r : NextPiece} {s : Sending}
+    → n ≡ Some r
+    → r ≡ next.Sent s
+    → (let x : Result (Option NextPiece) CheckFault = Ok n in x) ≡ Ok (Some (next.Sent s))
+given_sent is sent =
+    ap (λ n. let x : Result (Option NextPiece) CheckFault = Ok n in x)
+    (is ∙ ap (λ (p : NextPiece). Some p) sent)
+
 -- Where it is those of the PES packet before again, they are those that were sent last.
-pub again_is : {clock : Clock} {pes : ℕ} {told rest behind : Option (List ℕ)}
-    {old new : ComparingValue} (r : NextPiece) (passed : Bool) (last : List (List ℕ))
-    → ReadsNext clock pes told rest behind old new (Ok (Some r))
-    → (passed ≡ false → last ≡ packets_of_units old.frame.units)
+pub again_is : {old new : List UnitValue} {n : Option NextPiece} (r : NextPiece) (passed : Bool)
+    (last : List (List ℕ))
+    → n ≡ Some r
+    → ((s : Sending)
+    → (let x : Result (Option NextPiece) CheckFault = Ok n in x) ≡ Ok (Some (next.Sent s))
+    → s.again ≡ true
+    → new ≡ old)
+    → (passed ≡ false → last ≡ packets_of_units old)
     → passed ≡ false
     → IsAgain r
-    → last ≡ packets_of_units new.frame.units
-again_is (next.Passed f) passed last here was sent same = absurd same
-again_is (next.Sent s) passed last here was sent same =
-    was sent ∙ ap packets_of_units (sym (here.again s refl same))
+    → last ≡ packets_of_units new
+again_is (next.Passed f) passed last is here was sent same = absurd same
+again_is (next.Sent s) passed last is here was sent same =
+    was sent ∙ ap packets_of_units (sym (here s (given_sent is refl) same))
 
 -- Where it is not passed over, its packets are the last ones then.
 pub last_is : (r : NextPiece) (last packets : List (List ℕ)) → is_passed r ≡ false

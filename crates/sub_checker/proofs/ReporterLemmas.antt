@@ -1,14 +1,13 @@
 -- What a reporter relays, in parts: `relays_two`; nothing, `relays_nothing`; steps with which
 -- nothing is told, `relays_step` and its kin; events that it was told, `relays_told`.
-use Rattle.std.proofs.Common.{◌≡◌, ◌<◌, ◌==◌, List, [], ◌∷◌, ◌++◌, Bool, true, false, cond, map}
-use Rattle.std.proofs.lemmas.Bool.Decides.{nat_tests}
-use Rattle.std.proofs.Common.{◌&&◌, arith, not, None, refl, sym, subst}
+use Rattle.std.proofs.Common.{◌≡◌, List, [], ◌∷◌, ◌++◌, Bool, true, false, cond, map}
+use Rattle.std.proofs.Common.{refl, sym, subst}
 use Rattle.sub_io.specs.Telling.{Tells}
 use Rattle.sub_rules.specs.Trusted.{CheckStep}
-use Rattle.sub_rules.specs.Trusted.CheckStep.{AtEnd, Begins, GoesBack, Says}
+use Rattle.sub_rules.specs.Trusted.CheckStep.{Begins, GoesBack, Says}
 use Rattle.sub_rules.specs.declared.event.Event.{Event}
 use Rattle.sub_checker.specs.Checker.{CheckerValue, back_steps, goes_back_now}
-use Rattle.sub_checker.specs.CheckedFrames.{back_reporter, quiet_reporter}
+use Rattle.sub_checker.specs.CheckedFrames.{back_reporter}
 use Rattle.sub_checker.specs.Relay.{IsRelayed, ReporterRelays, at_step}
 use Rattle.sub_checker.specs.declared.reporter.Reporter.{Reporter}
 use Rattle.sub_checker.proofs.RelayLemmas.{may_tell, relays-none, relays-trans, relays_all, silent}
@@ -43,7 +42,7 @@ module _ {D : Type 0} {g : _} {IsTold : D → Event → D → Type 0} where
       → ReporterRelays IsTold s zs t
   relays_told {s} {t} {es} is told = rw is (relays_all IsTold s t es told)
 
-  -- A step with which nothing is told; and after an end at which nothing stands broken.
+  -- A step with which nothing is told.
   pub relays_step : {s t : Reporter D g} {m : CheckStep} {zs : List CheckStep}
       → zs ≡ m ∷ []
       → t ≡ at_step m s
@@ -73,34 +72,3 @@ module _ {D : Type 0} {g : _} {IsTold : D → Event → D → Type 0} where
       relays_two {xs = Begins c.frame ∷ []} refl
       (relays_step {s = s} {t = at_step (Begins c.frame) s} refl refl refl)
       (relays_back (at_step (Begins c.frame) s) t c refl at)
-
-  pub relays_quiet : (s t : Reporter D g) (c : CheckerValue) {zs : List CheckStep}
-      → zs ≡ back_steps c ++ cond (c.within == 0) [] (AtEnd c.frame None false ∷ [])
-      → t ≡ quiet_reporter c s
-      → ReporterRelays IsTold s zs t
-  unfolding back_reporter
-  relays_quiet s t c is at = rw is (by c.any_refused (c.within == 0) at)
-    where
-      by : (b z : Bool)
-          → t ≡ cond z s (at_step (AtEnd c.frame None false)
-          (cond (b && not z) (at_step (GoesBack c.since) s) s))
-          → ReporterRelays IsTold s
-          (cond (b && not z) (GoesBack c.since ∷ []) []
-          ++ cond z [] (AtEnd c.frame None false ∷ [])) t
-      by true true at = subst (ReporterRelays IsTold s []) (sym at) (relays_nothing refl)
-      by false true at = subst (ReporterRelays IsTold s []) (sym at) (relays_nothing refl)
-      by true false at =
-          relays_two {xs = GoesBack c.since ∷ []} refl
-          (relays_step {s = s} {t = at_step (GoesBack c.since) s} refl refl refl)
-          (relays_step refl at refl)
-      by false false at = relays_step refl at refl
-
--- After an end at which nothing stands broken, within frames.
-pub quiet_is : {D : Type 0} {g : _} (s b t : Reporter D g) (v c : CheckerValue)
-    → v ≡ c
-    → 0 < v.within
-    → b ≡ back_reporter (record v { last = v.frame }) s
-    → t ≡ at_step (AtEnd v.frame None false) b
-    → t ≡ quiet_reporter c s
-unfolding back_reporter
-quiet_is s b t v c same some back at = grind (arith, nat_tests)

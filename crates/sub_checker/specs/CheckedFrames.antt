@@ -1,7 +1,7 @@
 -- The parts of the check of one frame of the list, and what is kept after the first n frames.
 -- Private functions alone cite this.
 use Rattle.std.specs.Prelude.{◌≡◌, ℕ, suc, ◌+◌, ◌-◌, ◌<◌, ◌==◌, List, [], ◌++◌, length, map}
-use Rattle.std.specs.Prelude.{nat_le, false, true, Option, None, if◌then◌else◌}
+use Rattle.std.specs.Prelude.{nat_le, false, true, Option, if◌then◌else◌}
 use Rattle.ttx_page.specs.PacketKind.{kind}
 use Rattle.ttx_page.specs.Span.{holds_beginning}
 use Rattle.sub_rules.specs.Transmission.{Transmission}
@@ -16,7 +16,7 @@ use Rattle.sub_rules.specs.PacketRules.{header_count}
 use Rattle.sub_rules.specs.PieceEvents.{steps_of_arrival, steps_of_closing, steps_of_ending}
 use Rattle.sub_rules.specs.PieceEvents.{steps_of_gap, steps_of_packets, steps_of_waiting}
 use Rattle.sub_rules.specs.Trusted.{CheckStep}
-use Rattle.sub_rules.specs.Trusted.CheckStep.{AtEnd, GoesBack, Says}
+use Rattle.sub_rules.specs.Trusted.CheckStep.{GoesBack, Says}
 use Rattle.sub_checker.specs.Relay.{at_step}
 use Rattle.sub_checker.specs.declared.reporter.Reporter.{Reporter}
 
@@ -134,8 +134,3 @@ last_steps g list pes = steps_of_waiting g list ++ steps_of_closing g list pes (
 -- Before a frame, or its end: since which one the page is not whole, where that is told.
 unfoldable pub back_reporter : {D : Type 0} {g : _} → CheckerValue → Reporter D g → Reporter D g
 back_reporter c s = if goes_back_now c then at_step (GoesBack c.since) s else s
-
--- After an end at which nothing stands broken, and nothing did at the one before.
-abbrev pub quiet_reporter : {D : Type 0} {g : _} → CheckerValue → Reporter D g → Reporter D g
-quiet_reporter c s =
-    if c.within == 0 then s else at_step (AtEnd c.frame None false) (back_reporter c s)

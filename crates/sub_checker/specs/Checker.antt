@@ -5,11 +5,9 @@ use Rattle.std.specs.Prelude.{Option, Some, None, max, map, nat_le, nat_lt, is_s
 use Rattle.std.specs.Prelude.{Bool, false, true, if◌then◌else◌}
 use Rattle.stl_file.specs.TimeCode.{day}
 use Rattle.stl_rows.specs.Programme.{ProgrammeValue}
-use Rattle.ttx_page.specs.PacketKind.{kind}
-use Rattle.ttx_page.specs.Span.{is_open_after}
 use Rattle.ttx_pes.specs.DataUnit.{UnitValue}
-use Rattle.sub_rules.specs.Events.{end_events, is_missed, undue_after, unfinished_from, silent_for}
-use Rattle.sub_rules.specs.Events.{was_undecided, wrong_after}
+use Rattle.sub_rules.specs.Events.{end_events, is_missed, nothing_stands, unfinished_from, silent_for}
+use Rattle.sub_rules.specs.Events.{was_undecided}
 use Rattle.stl_rows.specs.DuePage.{TellsNextEdge, tci_of_ending}
 use Rattle.stl_rows.specs.Judged.{JudgedValue, has_refused}
 use Rattle.sub_rules.specs.FrameRules.{is_due_undecided}
@@ -19,6 +17,7 @@ use Rattle.sub_rules.specs.Trusted.{CheckStep}
 use Rattle.sub_rules.specs.Trusted.CheckStep.{AtEnd, GoesBack, Says}
 use Rattle.sub_rules.specs.declared.sending.Sending.{Sending}
 use Rattle.sub_rules.specs.declared.standing.Standing.{Standing}
+use Rattle.sub_packets.specs.KeptPage.{is_incomplete_kept, undue_kept, wrong_kept}
 use Rattle.sub_packets.specs.Listener.{KnowsLast, begins_frame}
 use Rattle.sub_packets.specs.declared.listener.Listener.{Listener}
 use Rattle.sub_checker.specs.declared.counts.Counts.{Counts}
@@ -122,7 +121,7 @@ pub record HasHeard
   pub begins :
       listener.begun ≡ begins_frame old.listener.watched from old.listener.begun packets
 
--- ---- the end of the frame that was reached, where these packets were heard
+-- ---- the end of the frame that was reached
 
 -- The page had to be whole by the end of frame f, where it is not since this frame.
 abbrev pub is_overdue_at : ProgrammeValue → ℕ → ℕ → Option ℕ → ℕ → Bool
@@ -135,12 +134,8 @@ abbrev pub is_undecided_by : CheckerValue → ℕ → Bool
 is_undecided_by c frame = is_due_undecided c.judging frame
 
 -- The first cell that is not right, where it is known what is due.
-abbrev pub differs_now : List (List ℕ) → CheckerValue → Option (ℕ × ℕ)
-differs_now heard c =
-    if is_undecided_by c c.frame
-    then None
-    else
-    wrong_after c.listener.watched.keeps c.listener.watched.page heard c.listener.comparison.due
+abbrev pub differs_now : CheckerValue → Option (ℕ × ℕ)
+differs_now c = if is_undecided_by c c.frame then None else wrong_kept c.listener
 
 -- It is not known of a frame what was due, within the frames that count.
 abbrev pub undecided_now : CheckerValue → Bool
@@ -148,37 +143,30 @@ undecided_now c = was_undecided (is_undecided_by c) c.first c.frame c.within
 
 -- The first cell in which is kept what was not due within the frames that count, where it is known
 -- what was due.
-abbrev pub undue_now : List (List ℕ) → CheckerValue → Option (ℕ × ℕ)
-undue_now heard c =
+abbrev pub undue_now : CheckerValue → Option (ℕ × ℕ)
+undue_now c =
     if undecided_now c
     then None
-    else
-    undue_after c.listener.watched.keeps c.listener.watched.page heard (due_in c.programme) c.first
-    c.frame c.within
+    else undue_kept c.listener (due_in c.programme) c.first c.frame c.within
 
 -- The page is not whole.
-abbrev pub is_unfinished_now : List (List ℕ) → CheckerValue → Bool
-is_unfinished_now heard c =
-    is_some (differs_now heard c)
-    || (c.listener.watched.complete && is_open_after (kind c.listener.watched.page) heard)
+abbrev pub is_unfinished_now : CheckerValue → Bool
+is_unfinished_now c = is_some (differs_now c) || is_incomplete_kept c.listener
 
 -- Since which frame it is not.
-abbrev pub since_now : List (List ℕ) → CheckerValue → Option ℕ
-since_now heard c = unfinished_from c.since (is_unfinished_now heard c) c.frame
+abbrev pub since_now : CheckerValue → Option ℕ
+since_now c = unfinished_from c.since (is_unfinished_now c) c.frame
 
 -- Whether the page had to be whole by now: at once, or within frames that are over.
-abbrev pub late_now : List (List ℕ) → CheckerValue → Bool
-late_now heard c =
-    c.within == 0 || is_overdue_at c.programme c.within c.first (since_now heard c) c.frame
+abbrev pub late_now : CheckerValue → Bool
+late_now c = c.within == 0 || is_overdue_at c.programme c.within c.first (since_now c) c.frame
 
 -- What stands broken.
-abbrev pub stands : List (List ℕ) → CheckerValue → Standing
-stands heard c = record {
-  content = if late_now heard c then differs_now heard c else undue_now heard c;
+abbrev pub stands : CheckerValue → Standing
+stands c = record {
+  content = if late_now c then differs_now c else undue_now c;
   gap = nat_le c.late_at (c.frame + 1);
-  incomplete =
-      late_now heard c
-      && (c.listener.watched.complete && is_open_after (kind c.listener.watched.page) heard);
+  incomplete = late_now c && is_incomplete_kept c.listener;
   undecided = undecided_now c;
   silent = silent_for c.pace c.latest c.frame;
 }
@@ -193,27 +181,25 @@ abbrev pub back_steps : CheckerValue → List CheckStep
 back_steps c = if goes_back_now c then GoesBack c.since ∷ [] else []
 
 -- What comes there.
-abbrev pub end_steps : List (List ℕ) → CheckerValue → List CheckStep
-end_steps heard c =
+abbrev pub end_steps : CheckerValue → List CheckStep
+end_steps c =
     back_steps c
-    ++ (if c.within == 0 then [] else AtEnd c.frame (since_now heard c) (late_now heard c) ∷ [])
-    ++ map Says
-    (end_events c.standing c.last (stands heard c) c.frame)
+    ++ (if c.within == 0 then [] else AtEnd c.frame (since_now c) (late_now c) ∷ [])
+    ++ map Says (end_events c.standing c.last (stands c) c.frame)
 
 -- The checker after it.
-abbrev pub after_end : List (List ℕ) → CheckerValue → CheckerValue
-after_end heard c = record c {
-  standing = stands heard c;
+abbrev pub after_end : CheckerValue → CheckerValue
+after_end c = record c {
+  standing = stands c;
   last = c.frame;
-  since = if c.within == 0 then c.since else since_now heard c;
+  since = if c.within == 0 then c.since else since_now c;
 }
 
--- The checker after one at which nothing stands broken, and nothing did at the one before.
-abbrev pub quiet_end : CheckerValue → CheckerValue
-quiet_end c = record c {
-  last = c.frame;
-  since = if c.within == 0 then c.since else None;
-}
+-- Nothing stood broken at the end before, and nothing does here.
+pub record IsQuietEnd (c : CheckerValue) : Type 0 where
+  pub stood : c.standing ≡ nothing_stands
+  pub stand : stands c ≡ nothing_stands
+  pub since : since_now c ≡ None
 
 -- The page is not whole at the last end, and that is not late.
 abbrev pub is_pending_now : CheckerValue → Bool

@@ -1,4 +1,3 @@
-pub mod AwaitedPiece
 pub mod CheckedFrames
 pub mod Checker
 pub mod LastEvents

@@ -3,13 +3,11 @@ ghost use Rattle.std.specs.Prelude.{◌≡◌, ◌==◌, ◌&&◌, ℕ, suc, ◌
 ghost use Rattle.std.specs.Prelude.{false, is_err, length, nat_le, not, true};
 ghost use Rattle.stl_file.specs.TimeCode.{day};
 ghost use Rattle.sub_checker.specs.Checker.{AreFew, after_end, differs_now, end_steps};
-ghost use Rattle.sub_checker.specs.Checker.{is_overdue_at, is_undecided_by, late_now, quiet_end};
+ghost use Rattle.sub_checker.specs.Checker.{is_overdue_at, is_undecided_by, late_now, IsQuietEnd};
 ghost use Rattle.sub_checker.specs.Checker.{since_now, stands, undecided_now, undue_now};
 ghost use Rattle.sub_checker.specs.CheckedFrames.{AfterEnd, AfterPackets, BetweenPieces};
-ghost use Rattle.sub_checker.specs.CheckedFrames.{quiet_reporter};
 ghost use Rattle.sub_checker.specs.Relay.{ReporterRelays};
-ghost use Rattle.sub_packets.specs.Listener.{Knows};
-ghost use Rattle.sub_rules.specs.Events.{nothing_stands, silent_for};
+ghost use Rattle.sub_rules.specs.Events.{silent_for};
 ghost use Rattle.sub_rules.specs.FrameRules.{Criteria, packets_of_frame};
 ghost use Rattle.sub_rules.specs.PieceEvents.{steps_of_ending, steps_of_waiting};
 ghost use Rattle.sub_rules.specs.Transmission.{Transmission};
@@ -42,9 +40,7 @@ impl<'a> Checker<'a> {
     #[inline(always)]
     #[tactic(auto, using(crate::proofs::WholeLemmas::quiet_stands))]
     fn is_quiet(&self) -> bool
-        ensures { (heard : List (List ℕ)) → Knows heard self.now.listener → IsTrue result
-            → (self.now.standing ≡ nothing_stands) × (stands heard self.now ≡ nothing_stands)
-            × (since_now heard self.now ≡ None) }
+        ensures { IsTrue result → IsQuietEnd self.now }
     {
         if !self.standing.has_none() {
             return false;
@@ -62,8 +58,7 @@ impl<'a> Checker<'a> {
     // of each.
     fn standing_now(&self) -> Standing
         requires each { self.now.within ≡ 0 }
-        ensures { (heard : List (List ℕ)) → Knows heard self.now.listener
-            → result ≡ stands heard self.now }
+        ensures { result ≡ stands self.now }
     {
         let undecided = self.is_undecided();
         let content = self.first_wrong(undecided);
@@ -98,8 +93,7 @@ impl<'a> Checker<'a> {
     // The first cell that is not right, where it is known what is due.
     fn first_wrong(&self, is_undecided: bool) -> Option<(u8, u8)>
         requires { is_undecided ≡ is_undecided_by self.now self.now.frame }
-        ensures { (heard : List (List ℕ)) → Knows heard self.now.listener
-            → result ≡ differs_now heard self.now }
+        ensures { result ≡ differs_now self.now }
     {
         if is_undecided {
             return None;
@@ -130,12 +124,9 @@ impl<'a> Checker<'a> {
     // each: in a cell may be kept what was due within these frames, until it is late.
     fn end_now(&self) -> EndWithin
         requires within { 0 < self.now.within }
-        ensures standing { (heard : List (List ℕ)) → Knows heard self.now.listener
-            → result.standing ≡ stands heard self.now }
-        ensures since { (heard : List (List ℕ)) → Knows heard self.now.listener
-            → result.since ≡ since_now heard self.now }
-        ensures late { (heard : List (List ℕ)) → Knows heard self.now.listener
-            → result.is_late ≡ late_now heard self.now }
+        ensures standing { result.standing ≡ stands self.now }
+        ensures since { result.since ≡ since_now self.now }
+        ensures late { result.is_late ≡ late_now self.now }
     {
         let differing = self.first_wrong(self.is_undecided_here());
         let is_open = self.listener.is_incomplete();
@@ -167,8 +158,7 @@ impl<'a> Checker<'a> {
     // known what was, by the first one that is not right now: where there is none, nor is there one
     // of the former.
     fn first_undue(&self, differing: Option<(u8, u8)>) -> Option<(u8, u8)>
-        ensures { (heard : List (List ℕ)) → Knows heard self.now.listener
-            → differing ≡ differs_now heard self.now → result ≡ undue_now heard self.now }
+        ensures { differing ≡ differs_now self.now → result ≡ undue_now self.now }
     {
         let frame = self.frame;
         if differing.is_none() {
@@ -193,8 +183,9 @@ impl<'a> Checker<'a> {
     // The end of the frame that was reached, where nothing stood broken and nothing does.
     #[inline(always)]
     fn end_quietly<A: Audience<Event>>(&mut self, reporter: &mut Reporter<'_, A>)
-        ensures kept { self.new ≡ quiet_end self.old }
-        ensures reporter { reporter.new ≡ quiet_reporter self.old reporter.old }
+        requires quiet { IsQuietEnd self.old }
+        ensures told { ReporterRelays A.is_told reporter.old (end_steps self.old) reporter.new }
+        ensures ended { self.new ≡ after_end self.old }
     {
         self.last = self.frame;
         if self.within > 0 {
@@ -209,12 +200,8 @@ impl<'a> Checker<'a> {
     #[inline(always)]
     fn end_at_once<A: Audience<Event>>(&mut self, reporter: &mut Reporter<'_, A>)
         requires each { self.old.within ≡ 0 }
-        ensures counts { self.new.counts ≡ self.old.counts }
-        ensures latest { self.new.latest ≡ self.old.latest }
-        ensures told { (heard : List (List ℕ)) → Knows heard self.old.listener
-            → ReporterRelays A.is_told reporter.old (end_steps heard self.old) reporter.new }
-        ensures ended { (heard : List (List ℕ)) → Knows heard self.old.listener
-            → self.new ≡ after_end heard self.old }
+        ensures told { ReporterRelays A.is_told reporter.old (end_steps self.old) reporter.new }
+        ensures ended { self.new ≡ after_end self.old }
     {
         let frame = self.frame;
         let standing = self.standing_now();
@@ -227,12 +214,8 @@ impl<'a> Checker<'a> {
     #[inline(never)]
     fn end_within<A: Audience<Event>>(&mut self, reporter: &mut Reporter<'_, A>)
         requires within { 0 < self.old.within }
-        ensures counts { self.new.counts ≡ self.old.counts }
-        ensures latest { self.new.latest ≡ self.old.latest }
-        ensures told { (heard : List (List ℕ)) → Knows heard self.old.listener
-            → ReporterRelays A.is_told reporter.old (end_steps heard self.old) reporter.new }
-        ensures ended { (heard : List (List ℕ)) → Knows heard self.old.listener
-            → self.new ≡ after_end heard self.old }
+        ensures told { ReporterRelays A.is_told reporter.old (end_steps self.old) reporter.new }
+        ensures ended { self.new ≡ after_end self.old }
     {
         let frame = self.frame;
         let end = self.end_now();
@@ -247,13 +230,9 @@ impl<'a> Checker<'a> {
     /// The end of the frame that was reached: what changes of what stands broken is told.
     #[inline(always)]
     pub fn end_of_frame<A: Audience<Event>>(&mut self, reporter: &mut Reporter<'_, A>)
-        ensures counts { self.new.counts ≡ self.old.counts }
-        ensures latest { self.new.latest ≡ self.old.latest }
         ensures due { self.old.listener.comparison.due ≡ due_in self.old.programme self.old.frame }
-        ensures told { (heard : List (List ℕ)) → Knows heard self.old.listener
-            → ReporterRelays A.is_told reporter.old (end_steps heard self.old) reporter.new }
-        ensures ended { (heard : List (List ℕ)) → Knows heard self.old.listener
-            → self.new ≡ after_end heard self.old }
+        ensures told { ReporterRelays A.is_told reporter.old (end_steps self.old) reporter.new }
+        ensures ended { self.new ≡ after_end self.old }
     {
         // Most ends are quiet: what else is asked within frames would cost each of them something.
         if self.within == 0 && self.is_quiet() {
@@ -267,12 +246,8 @@ impl<'a> Checker<'a> {
     // Apart from `end_of_frame`, which stands in each loop over frames.
     #[inline(never)]
     fn end_otherwise<A: Audience<Event>>(&mut self, reporter: &mut Reporter<'_, A>)
-        ensures counts { self.new.counts ≡ self.old.counts }
-        ensures latest { self.new.latest ≡ self.old.latest }
-        ensures told { (heard : List (List ℕ)) → Knows heard self.old.listener
-            → ReporterRelays A.is_told reporter.old (end_steps heard self.old) reporter.new }
-        ensures ended { (heard : List (List ℕ)) → Knows heard self.old.listener
-            → self.new ≡ after_end heard self.old }
+        ensures told { ReporterRelays A.is_told reporter.old (end_steps self.old) reporter.new }
+        ensures ended { self.new ≡ after_end self.old }
     {
         if self.is_quiet() {
             self.end_quietly(reporter);

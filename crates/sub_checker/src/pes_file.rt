@@ -23,7 +23,7 @@ ghost use Rattle.sub_checker.specs.Relay.{ReporterRelays};
 ghost use Rattle.sub_checker.specs.PesFileEvents.{FailsReadingOn, TellsFile};
 
 use crate::accepted::{Accepted, is_source_failure};
-use crate::awaited_piece::next_followed;
+use crate::awaited_piece::hand_on_told;
 use crate::checker::Checker;
 use crate::file_end::finish;
 use crate::latch::Latch;
@@ -31,7 +31,7 @@ use crate::reporter::{Relay, Reporter};
 use stl_rows::Judging;
 use sub_io::{Audience, LiveAudience};
 use sub_plan::Options;
-use sub_rules::{CheckFault, Event, NextPiece, Sending, units_of};
+use sub_rules::{CheckFault, Event, NextPiece, Sending, next_piece, units_of};
 use ttx_pes::{ComparingReader, PesFault, Pieces};
 
 /// Tells all that is broken of a PES file to a device of the caller's, piece by piece, until it
@@ -80,11 +80,10 @@ pub fn tell_pieces<P: Pieces, A: LiveAudience<Event>>(
     let mut passed = false;
     let mut pes = 0;
     'pieces: loop {
-        let Some(read) = next_followed(&mut reader, source, &mut reporter.latch, options, pes)
-        else {
+        if hand_on_told(source, &mut reporter.latch).is_err() {
             return Ok(None);
-        };
-        let next = match read {
+        }
+        let next = match next_piece(&mut reader, source, options, pes) {
             Err(fault) => {
                 if is_source_failure(&fault) {
                     return Err(fault);

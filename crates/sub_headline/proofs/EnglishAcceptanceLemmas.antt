@@ -10,13 +10,14 @@ use Rattle.stl_file.specs.Subtitle.{IsSubtitle, SubtitleValue}
 use Rattle.stl_rows.specs.declared.national.National.TheVariants.{English}
 use Rattle.stl_rows.specs.declared.national.NationalBits.{NationalBits}
 use Rattle.stl_rows.specs.SubSets.{sub_set}
+use Rattle.sub_plan.specs.Options.{OptionsValue}
 use Rattle.sub_plan.specs.Sending.{national_bits}
 use Rattle.sub_rules.specs.Good.{Good, IsSubtitleHeader, KeepsPace}
 use Rattle.sub_rules.specs.Transmission.{Transmission}
 use Rattle.sub_check.specs.CheckedFiles.{IsAccepted, Mean}
 use Rattle.sub_headline.specs.Acceptance.{LawOfEnglishAcceptance, default_drawing}
 use Rattle.sub_headline.specs.PlainAcceptance.{IsEnglishGood, IsEnglishHeader, IsPlainlyAccepted}
-use Rattle.sub_headline.specs.PlainHeadline.{AreFilesOf}
+use Rattle.sub_headline.specs.PlainFiles.{AreFilesOf}
 use Rattle.sub_headline.specs.PlainWords.{default_options}
 use Rattle.sub_headline.proofs.AcceptanceLemmas.{all_subtitles, programme_of}
 use Rattle.sub_headline.proofs.EnglishLemmas.{IsDrawn, all_drawn, due_is, ok_of_whole}
@@ -120,17 +121,23 @@ module _ (subtitles : List SubtitleValue) (transmission : Transmission)
 
 -- ---- both files
 
-module _ (stl pes : List ℕ) (subtitles : List SubtitleValue) (transmission : Transmission) where
+-- The default options, by the PTS of frame 0.
+abbrev from_origin : ℕ → OptionsValue
+from_origin origin = record default_options { origin = origin }
+
+module _ (origin : ℕ) (stl pes : List ℕ) (subtitles : List SubtitleValue)
+    (transmission : Transmission) where
   pub drawn_of :
-      Mean default_drawing default_options.origin stl pes subtitles transmission
+      Mean default_drawing origin stl pes subtitles transmission
       → All IsDrawn subtitles
   drawn_of mean =
-      let of = programme_of default_drawing default_options stl pes subtitles transmission mean in
+      let of =
+      programme_of default_drawing (from_origin origin) stl pes subtitles transmission mean in
       all_drawn subtitles of.each of.drawable
 
   pub files_of :
-      Mean default_drawing default_options.origin stl pes subtitles transmission
-      → AreFilesOf stl pes subtitles transmission
+      Mean default_drawing origin stl pes subtitles transmission
+      → AreFilesOf origin stl pes subtitles transmission
   files_of mean = record {
     gsi = mean.gsi;
     subtitle_file = mean.subtitle_file;
@@ -140,8 +147,8 @@ module _ (stl pes : List ℕ) (subtitles : List SubtitleValue) (transmission : T
   }
 
   mean_of :
-      AreFilesOf stl pes subtitles transmission
-      → Mean default_drawing default_options.origin stl pes subtitles transmission
+      AreFilesOf origin stl pes subtitles transmission
+      → Mean default_drawing origin stl pes subtitles transmission
   mean_of files =
       let each : All IsSubtitle subtitles =
       all_subtitles subtitles _ files.subtitle_file.rest.are_of in
@@ -159,24 +166,24 @@ there : (stl pes : List ℕ)
 there stl pes is = record {
   subtitles = is.subtitles;
   transmission = is.transmission;
-  files = files_of stl pes is.subtitles is.transmission is.mean;
+  files = files_of 0 stl pes is.subtitles is.transmission is.mean;
   good =
       english_of is.subtitles is.transmission
-      (drawn_of stl pes is.subtitles is.transmission is.mean) is.good;
+      (drawn_of 0 stl pes is.subtitles is.transmission is.mean) is.good;
 }
 
 back : (stl pes : List ℕ)
     → IsPlainlyAccepted stl pes
     → IsAccepted default_drawing default_options stl pes
 back stl pes is =
-    let mean = mean_of stl pes is.subtitles is.transmission is.files in
+    let mean = mean_of 0 stl pes is.subtitles is.transmission is.files in
     record {
       subtitles = is.subtitles;
       transmission = is.transmission;
       mean = mean;
       good =
           good_of is.subtitles is.transmission
-          (drawn_of stl pes is.subtitles is.transmission mean) is.good;
+          (drawn_of 0 stl pes is.subtitles is.transmission mean) is.good;
       complete = not_asked;
     }
 

@@ -1,16 +1,23 @@
--- For `law_of_headline`. A run of `check STL PES` over files in memory that does not end with code
--- 2 ends with 0 exactly where the bytes are accepted, `code_tells`.
+-- For `law_of_headline`. A run of `check` over files in memory that does not end with code 2 ends
+-- with 0 exactly where the bytes are accepted, `code_tells`.
 use Rattle.std.proofs.Common.{◌≡◌, ◌≢◌, ◌↔◌, ◌⊎◌, ◌∙◌, ℕ, List, [], ◌∷◌, Option, Some, None, Ok}
 use Rattle.std.proofs.Common.{Result}
-use Rattle.std.proofs.Common.{Bool, ap, arith, codes, false, refl, subst, sym}
+use Rattle.std.proofs.Common.{Bool, ap, arith, codes, refl, subst, sym}
 use Rattle.std.proofs.lemmas.Bool.Decides.{nat_tests}
+use Rattle.std.specs.Prelude.{◌<◌, ◌^◌, IsFalse, IsTrue, map, option_map}
+use Rattle.std.specs.List.{flat_map}
 use Rattle.clap.specs.Words.{Text}
 use Rattle.ttx_page.specs.Page.{Rows, cell, space}
 use Rattle.ttx_page.specs.DroppedRows.{ExcusedBy}
 use Rattle.ttx_page.specs.LostRows.{IsHitOrLost, arrivals_of}
+use Rattle.ttx_page.specs.Receiver.{ReceiverClass}
+use Rattle.ttx_page.specs.Receiver.ReceiverClass.{Dropping, Storing}
+use Rattle.mpeg_ts.specs.declared.packet_size.PacketSize.{PacketSize}
 use Rattle.stl_file.specs.Scope.{whole}
+use Rattle.stl_file.specs.Subtitle.{SubtitleValue}
 use Rattle.stl_rows.specs.Programme.{ProgrammeValue}
-use Rattle.stl_rows.specs.Layout.{default_layout, drawing_within}
+use Rattle.stl_rows.specs.DuePage.{due}
+use Rattle.stl_rows.specs.Layout.{default_layout, drawing_by, drawing_within}
 use Rattle.stl_file.specs.declared.scope.Scope.{Scope}
 use Rattle.stl_rows.specs.declared.layout.Drawing.{Drawing}
 use Rattle.stl_rows.specs.declared.layout.Layout.{Layout}
@@ -25,7 +32,7 @@ use Rattle.sub_request.specs.declared.request.UsageFault.{UsageFault}
 use Rattle.sub_files.specs.FileCalls.{CallsInTurn}
 use Rattle.sub_files.specs.MemoryFiles.{IsMemoryCall, MemFilesValue, bytes_at}
 use Rattle.sub_words.specs.Requests.{Asked, AsksFor, asked_by}
-use Rattle.sub_rules.specs.Transmission.{on_air}
+use Rattle.sub_rules.specs.Transmission.{Transmission, on_air}
 use Rattle.sub_laws.proofs.GoodByLemmas.{begins_in, ends_in}
 use Rattle.sub_laws.proofs.RobustLemmas.{law_of_good}
 use Rattle.sub_check.specs.CheckedFiles.{IsAccepted, IsAcceptedBy}
@@ -36,185 +43,496 @@ use Rattle.sub_answer.specs.FilesInMemory.{TellsAccepted, known_of_memory}
 use Rattle.sub_answer.specs.Part.{through_range, through_stream}
 use Rattle.sub_answer.specs.Ending.{BufferHoldsLineAlone}
 use Rattle.sub_answer.proofs.MemoryLemmas.{law_of_files_in_memory}
-use Rattle.sub_plan.specs.Examples.{page_888}
 use Rattle.sub_headline.specs.Acceptance.{default_drawing}
-use Rattle.sub_headline.specs.Headline.{LawOfHeadline, TellsHeadline}
+use Rattle.sub_headline.specs.BothClasses.{EachOfClassGets}
+use Rattle.sub_headline.specs.DrawnOptions.{Looking, looking_of, words_for}
+use Rattle.sub_headline.specs.DrawnOptions.Look.{Of}
+use Rattle.sub_headline.specs.EnglishPage.{english_due}
+use Rattle.sub_headline.specs.EnglishScreen.{EachScreenShows}
+use Rattle.sub_headline.specs.Headline.{ServesOthers, LawOfHeadline, OfChosen, OfLook, OfRecording}
+use Rattle.sub_headline.specs.Headline.{TellsChosen}
+use Rattle.sub_headline.specs.OnScreens.{EachDisplayShows}
+use Rattle.sub_headline.specs.RecordingOptions.{Portion, Reading, bytes_read, carried_by}
+use Rattle.sub_headline.specs.RecordingOptions.{numbered_by}
+use Rattle.sub_headline.specs.RecordingOptions.{reading_of, words_in}
+use Rattle.sub_headline.specs.RecordingOptions.Portion.{Any}
+use Rattle.sub_headline.specs.PlainOptions.{Choice, options_by, choice_words}
+use Rattle.sub_headline.specs.PlainFiles.{AreFilesOf}
 use Rattle.sub_headline.specs.PlainHeadline.{Headline}
-use Rattle.sub_headline.specs.PlainWords.{IsName, default_options, whole_pes_file}
+use Rattle.sub_headline.specs.PlainReading.{frames_by_place, subtitles_by_place}
+use Rattle.sub_headline.specs.PlainWords.{IsName}
 use Rattle.sub_headline.specs.Run.{RunsProgram}
+use Rattle.sub_headline.proofs.ChosenWordLemmas.{law_of_chosen_words, law_of_look_words}
+use Rattle.sub_headline.proofs.ChosenWordLemmas.{law_of_part_words, look_of_parts, plain_by}
+use Rattle.sub_headline.proofs.ChosenWordLemmas.{read_any}
 use Rattle.sub_headline.proofs.AcceptanceLemmas.{law_of_plain_acceptance, programme_of}
 use Rattle.sub_headline.proofs.EnglishAcceptanceLemmas.{drawn_of, files_of}
 use Rattle.sub_headline.proofs.EnglishAcceptanceLemmas.{law_of_english_acceptance}
 use Rattle.sub_headline.proofs.EnglishLemmas.{due_is}
-use Rattle.sub_headline.proofs.PlainWordLemmas.{law_of_plain_words}
+use Rattle.sub_headline.proofs.FrameReadingLemmas.{frames_are}
 use Rattle.sub_headline.proofs.RunLemmas.{HasAnswered, answered, done_by_code, no_fault}
 use Rattle.sub_headline.proofs.ScreenLemmas.{screens_of}
+use Rattle.sub_headline.proofs.SubtitleReadingLemmas.{subtitles_are}
 
--- What is asked of two files by the default options.
-abbrev plain_check : (stl pes : Text) → Asked
-plain_check stl pes =
-    Asked.Check stl (whole_pes_file pes) default_options English default_layout whole false
+-- What is asked of two files by options.
+abbrev check_by :
+    (stl pes : Text) → Option TransportStream → Option PieceRangeValue → OptionsValue → National
+    → Layout → Bool → Asked
+check_by stl pes stream range options national layout all =
+    Asked.Check stl (record { name = pes; stream = stream; range = range }) options national layout
+    whole all
 
--- What it names and asks for is that of the default options.
-record IsPlain
-    (stl0 name : Text) (stream : Option TransportStream) (range : Option PieceRangeValue)
-    (options : OptionsValue) (national : National) (layout : Layout) (scope : Scope)
-    (stl pes : Text)
+-- What it names and asks for is that.
+record IsCheckBy
+    (stl0 name : Text) (stream0 : Option TransportStream) (range0 : Option PieceRangeValue)
+    (options0 : OptionsValue) (national0 : National) (layout0 : Layout) (scope : Scope)
+    (stl pes : Text) (stream : Option TransportStream) (range : Option PieceRangeValue)
+    (options : OptionsValue) (national : National) (layout : Layout)
     : Type 0 where
   pub stl_is : stl0 ≡ stl
   pub name_is : name ≡ pes
-  pub stream_is : stream ≡ None
-  pub range_is : range ≡ None
-  pub options_are : options ≡ default_options
-  pub national_is : national ≡ English
-  pub layout_is : layout ≡ default_layout
+  pub stream_is : stream0 ≡ stream
+  pub range_is : range0 ≡ range
+  pub options_are : options0 ≡ options
+  pub national_is : national0 ≡ national
+  pub layout_is : layout0 ≡ layout
   pub scope_is : scope ≡ whole
 
-is_plain :
-    (stl0 name : Text) (stream : Option TransportStream) (range : Option PieceRangeValue)
-    (options : OptionsValue) (national : National) (layout : Layout) (scope : Scope) (all : Bool)
-    (stl pes : Text)
-    → Asked.Check stl0 (record { name = name; stream = stream; range = range }) options national
-    layout scope all
-    ≡ plain_check stl pes
-    → IsPlain stl0 name stream range options national layout scope stl pes
-is_plain stl0 name stream range options national layout scope all stl pes e =
-    grind (arith, nat_tests)
+is_check_by :
+    (stl0 name : Text) (stream0 : Option TransportStream) (range0 : Option PieceRangeValue)
+    (options0 : OptionsValue) (national0 : National) (layout0 : Layout) (scope : Scope)
+    (all0 : Bool) (stl pes : Text) (stream : Option TransportStream)
+    (range : Option PieceRangeValue) (options : OptionsValue) (national : National)
+    (layout : Layout) (all : Bool)
+    → Asked.Check stl0 (record { name = name; stream = stream0; range = range0 }) options0 national0
+    layout0 scope all0
+    ≡ check_by stl pes stream range options national layout all
+    → IsCheckBy stl0 name stream0 range0 options0 national0 layout0 scope stl pes stream range
+    options national layout
+is_check_by stl0 name stream0 range0 options0 national0 layout0 scope all0 stl pes stream range
+    options national layout all e = grind (arith, nat_tests)
 
 -- What the status of such a check tells.
 tells :
-    (request : Request) (stl pes : Text) (file bytes : List ℕ) (files : MemFilesValue)
+    (request : Request) (stl pes : Text) (stream : Option TransportStream)
+    (range : Option PieceRangeValue) (options : OptionsValue) (national : National)
+    (layout : Layout) (all : Bool) (file bytes read : List ℕ) (files : MemFilesValue)
     (status : Status)
-    → asked_by request ≡ plain_check stl pes
+    → asked_by request ≡ check_by stl pes stream range options national layout all
     → bytes_at stl files ≡ Some file
     → bytes_at pes files ≡ Some bytes
+    → through_range range (through_stream stream (Some bytes)) ≡ Some read
     → TellsAccepted request files status
-    → (status ≡ Done) ↔ IsAcceptedBy default_drawing default_options file bytes
+    → (status ≡ Done) ↔ IsAcceptedBy (drawing_by national layout) options file read
 tells
-    (ask.Check stl0 pes0 options national layout scope all) stl pes file bytes files status asked
-    stl_is pes_is told =
+    (ask.Check stl0 pes0 options0 national0 layout0 scope all0) stl pes stream range options
+    national layout all file bytes read files status asked stl_is pes_is read_is told =
     let is =
-    is_plain stl0.now pes0.name.now pes0.stream pes0.range options national layout scope all stl pes
-    asked in
+    is_check_by stl0.now pes0.name.now pes0.stream pes0.range options0 national0 layout0 scope all0
+    stl pes stream range options national layout all asked in
     let drawing_is =
-    ap (λ n. drawing_within n layout scope) is.national_is
-    ∙ ap (λ l. drawing_within English l scope) is.layout_is
-    ∙ ap (λ s. drawing_within English default_layout s) is.scope_is in
-    subst (λ (d : Drawing). (status ≡ Done) ↔ IsAcceptedBy d default_options file bytes) drawing_is
+    ap (λ n. drawing_within n layout0 scope) is.national_is
+    ∙ ap (λ l. drawing_within national l scope) is.layout_is
+    ∙ ap (λ s. drawing_within national layout s) is.scope_is in
+    subst (λ (d : Drawing). (status ≡ Done) ↔ IsAcceptedBy d options file read) drawing_is
     (subst
     (λ (o : OptionsValue).
-    (status ≡ Done) ↔ IsAcceptedBy (drawing_within national layout scope) o file bytes)
+    (status ≡ Done) ↔ IsAcceptedBy (drawing_within national0 layout0 scope) o file read)
     is.options_are
-    (told file bytes bytes (ap (λ n. bytes_at n files) is.stl_is ∙ stl_is)
+    (told file bytes read (ap (λ n. bytes_at n files) is.stl_is ∙ stl_is)
     (ap (λ n. bytes_at n files) is.name_is ∙ pes_is)
     (ap (λ r. through_range r (through_stream pes0.stream (Some bytes))) is.range_is
-    ∙ ap (λ s. through_stream s (Some bytes)) is.stream_is)))
-tells ask.Help stl pes file bytes files status asked stl_is pes_is told = cc
-tells (ask.Packet packet) stl pes file bytes files status asked stl_is pes_is told = cc
-tells (ask.Packets of) stl pes file bytes files status asked stl_is pes_is told = cc
-tells (ask.Show of) stl pes file bytes files status asked stl_is pes_is told = cc
-tells (ask.Normal input output) stl pes file bytes files status asked stl_is pes_is told = cc
+    ∙ ap (λ s. through_range range (through_stream s (Some bytes))) is.stream_is
+    ∙ read_is)))
+tells ask.Help stl pes st ra o n y all file bytes read files s e at_stl at_pes r told = cc
+tells (ask.Packet p) stl pes st ra o n y all file bytes read files s e at_stl at_pes r told =
+    cc
+tells (ask.Packets p) stl pes st ra o n y all file bytes read files s e at_stl at_pes r told =
+    cc
+tells (ask.Show p) stl pes st ra o n y all file bytes read files s e at_stl at_pes r told = cc
 tells
-    (ask.Schedule a b options serial national layout scope) stl pes file bytes files status asked
-    stl_is pes_is told = cc
-tells (ask.Listen of listening) stl pes file bytes files status asked stl_is pes_is told = cc
-tells (ask.Extract a b stream) stl pes file bytes files status asked stl_is pes_is told = cc
-tells (ask.Survey a options) stl pes file bytes files status asked stl_is pes_is told = cc
+    (ask.Normal a b) stl pes st ra o n y all file bytes read files s e at_stl at_pes r told =
+    cc
+tells
+    (ask.Schedule a b c serial national layout scope) stl pes st ra o n y all file bytes read files
+    s e at_stl at_pes r told = cc
+tells
+    (ask.Listen p l) stl pes st ra o n y all file bytes read files s e at_stl at_pes r told =
+    cc
+tells
+    (ask.Extract a b c) stl pes st ra o n y all file bytes read files s e at_stl at_pes r told = cc
+tells
+    (ask.Survey a c) stl pes st ra o n y all file bytes read files s e at_stl at_pes r told =
+    cc
 
 -- The words that were given are those that were answered.
 given_words :
     (given : Result (List Text) UsageFault) (a b : List Text) → given ≡ Ok a → given ≡ Ok b → a ≡ b
 given_words given a b one other = let e = sym one ∙ other in cc
 
--- What both files mean, where the transmission is good, keeps the headline.
-plain_headline : (stl pes : List ℕ)
-    → IsAccepted default_drawing default_options stl pes
-    → Headline stl pes
-plain_headline stl pes is =
-    let programme : ProgrammeValue =
-    record { drawing = default_drawing; records = is.subtitles } in
-    let of =
-    programme_of default_drawing default_options stl pes is.subtitles is.transmission is.mean in
-    let drawn = drawn_of stl pes is.subtitles is.transmission is.mean in
-    let trusted = (law_of_good programme is.transmission default_options is.good).trusted in
-    record {
-      subtitles = is.subtitles;
-      transmission = is.transmission;
-      files = files_of stl pes is.subtitles is.transmission is.mean;
-      covers = λ k d below. (
-        begins_in programme is.transmission of is.good.rules.starts is.good.rules.lasts k d below,
-        ends_in programme is.transmission of is.good.rules.starts is.good.rules.lasts k d below,
-      );
-      receivers = λ class g j f arrived got old new is_got hears.
-          let served = trusted.recovers class g j f arrived got old new is_got hears in
-          record {
-            in_time = served.in_time;
-            heard = served.heard;
-            cells = λ header row column is_cell.
-                subst
-                (λ (due : Rows).
-                (cell new.page row column ≡ cell due row column)
-                ⊎ ((cell new.page row column ≡ space)
-                × ExcusedBy class
-                (IsHitOrLost page_888 (on_air is.transmission g j f) (arrivals_of arrived got))
-                row column))
-                (due_is is.subtitles f drawn) (served.cells header row column is_cell);
-          };
-    }
+-- What both files mean, where the transmission is good.
+module _ (options : OptionsValue) (stl pes : List ℕ)
+    (is : IsAccepted default_drawing options stl pes) where
+  files : AreFilesOf options.origin stl pes is.subtitles is.transmission
+  files = files_of options.origin stl pes is.subtitles is.transmission is.mean
+
+  -- It keeps the headline.
+  each : (class : ReceiverClass)
+      → EachOfClassGets class options.page options.every is.subtitles is.transmission
+  each class = λ g j f arrived got old new is_got hears.
+      let programme : ProgrammeValue =
+      record { drawing = default_drawing; records = is.subtitles } in
+      let good = law_of_good programme is.transmission options is.good in
+      let served = good.trusted.recovers class g j f arrived got old new is_got hears in
+      record {
+        in_time = served.in_time;
+        heard = served.heard;
+        cells = λ header row column is_cell.
+            subst
+            (λ (due : Rows).
+            (cell new.page row column ≡ cell due row column)
+            ⊎ ((cell new.page row column ≡ space)
+            × ExcusedBy class
+            (IsHitOrLost options.page (on_air is.transmission g j f) (arrivals_of arrived got))
+            row column))
+            (due_is is.subtitles f
+            (drawn_of options.origin stl pes is.subtitles is.transmission is.mean))
+            (served.cells header row column is_cell);
+      }
+
+  -- Where complete pages were asked for, they are on the screens.
+  complete : IsTrue options.asks_complete
+      → EachDisplayShows options.page is.subtitles is.transmission
+  complete asks = λ class g j f arrived got old new is_got shows header.
+      let programme : ProgrammeValue =
+      record { drawing = default_drawing; records = is.subtitles } in
+      let good = law_of_good programme is.transmission options is.good in
+      let (page, screen, holds) =
+      good.trusted.shown (is.complete asks) class g j f arrived got old new is_got shows header in (
+        page,
+        screen,
+        λ row column is_cell.
+            subst
+            (λ (due : Rows).
+            (cell page row column ≡ cell due row column)
+            ⊎ ((cell page row column ≡ space)
+            × ExcusedBy class
+            (IsHitOrLost options.page (on_air is.transmission g j f) (arrivals_of arrived got))
+            row column))
+            (due_is is.subtitles f
+            (drawn_of options.origin stl pes is.subtitles is.transmission is.mean))
+            (holds row column is_cell),
+      )
+
+  headline : Headline options.page options.every english_due is.subtitles is.transmission
+  headline =
+      let programme : ProgrammeValue =
+      record { drawing = default_drawing; records = is.subtitles } in
+      let of =
+      programme_of default_drawing options stl pes is.subtitles is.transmission is.mean in
+      let rules = is.good.rules in
+      record {
+        covers = λ k d below. (
+          begins_in programme is.transmission of rules.starts rules.lasts k d below,
+          ends_in programme is.transmission of rules.starts rules.lasts k d below,
+        );
+        receivers = each Storing;
+      }
+
+  -- What is so of what they mean is so of what is read by place.
+  read : options.origin < 2 ^ 33
+      → (IsSo : List SubtitleValue → Transmission → Type 0)
+      → IsSo is.subtitles is.transmission
+      → IsSo (subtitles_by_place stl) (frames_by_place options.origin pes)
+  read fits IsSo so =
+      subst (λ (ts : List SubtitleValue). IsSo ts (frames_by_place options.origin pes))
+      (sym (subtitles_are stl files.gsi is.subtitles files.subtitle_file))
+      (subst (λ (t : Transmission). IsSo is.subtitles t)
+      (sym (frames_are options.origin pes is.transmission fits files.carries)) so)
+
+  -- Other receivers and screens, of what is read by place.
+  kept : options.origin < 2 ^ 33 → ServesOthers options stl pes
+  kept fits = record {
+    dropping =
+        read fits (EachOfClassGets Dropping options.page options.every) (each Dropping);
+    screens =
+        read fits (EachScreenShows options.page)
+        (screens_of options.page options.every is.subtitles is.transmission each);
+    complete = λ asks. read fits (EachDisplayShows options.page) (complete asks);
+  }
+
+-- The headline by any national option and layout.
+module _ (national : National) (layout : Layout) (options : OptionsValue) (stl pes : List ℕ)
+    (is : IsAccepted (drawing_by national layout) options stl pes) where
+  drawn_headline :
+      Headline options.page options.every (due (drawing_by national layout)) is.subtitles
+      is.transmission
+  drawn_headline =
+      let programme : ProgrammeValue =
+      record { drawing = drawing_by national layout; records = is.subtitles } in
+      let good = law_of_good programme is.transmission options is.good in
+      let of =
+      programme_of (drawing_by national layout) options stl pes is.subtitles is.transmission
+      is.mean in
+      let rules = is.good.rules in
+      record {
+        covers = λ k d below. (
+          begins_in programme is.transmission of rules.starts rules.lasts k d below,
+          ends_in programme is.transmission of rules.starts rules.lasts k d below,
+        );
+        receivers = λ g j f arrived got old new is_got hears.
+            let served = good.trusted.recovers Storing g j f arrived got old new is_got hears in
+            record {
+              in_time = served.in_time;
+              heard = served.heard;
+              cells = λ header row column is_cell. served.cells header row column is_cell;
+            };
+      }
+
+  drawn_read :
+      options.origin < 2 ^ 33
+      → Headline options.page options.every (due (drawing_by national layout))
+      (subtitles_by_place stl) (frames_by_place options.origin pes)
+  drawn_read fits =
+      let IsSo = Headline options.page options.every (due (drawing_by national layout)) in
+      subst (λ (ts : List SubtitleValue). IsSo ts (frames_by_place options.origin pes))
+      (sym (subtitles_are stl is.mean.gsi is.subtitles is.mean.subtitle_file))
+      (subst (λ (t : Transmission). IsSo is.subtitles t)
+      (sym (frames_are options.origin pes is.transmission fits is.mean.carries)) drawn_headline)
+
+-- ---- what is read of a recording
+
+abbrev stream_of : Reading → Option TransportStream
+stream_of r = option_map (λ pid. record { pid = pid; packet_size = r.size }) r.pid
+
+range_so : (range : Option PieceRangeValue) (bytes : List ℕ)
+    → through_range range (Some bytes) ≡ Some (numbered_by range bytes)
+range_so None bytes = refl
+range_so (Some range) bytes = refl
+
+read_so : (pid : Option ℕ) (size : PacketSize) (range : Option PieceRangeValue) (bytes : List ℕ)
+    → through_range range
+    (through_stream (option_map (λ pid. record { pid = pid; packet_size = size }) pid)
+    (Some bytes))
+    ≡ Some (numbered_by range (carried_by pid size bytes))
+read_so None size range bytes = range_so range bytes
+read_so (Some pid) size range bytes = range_so range (carried_by (Some pid) size bytes)
+
+-- ---- a run
+
+-- Words ask for nothing but a check of these files, and of this part of the one, by options that
+-- allow no frames and no repeat that keeps the page.
+record AskForCheck
+    (words : List Text) (stl pes : Text) (stream : Option TransportStream)
+    (range : Option PieceRangeValue) (options : OptionsValue) (national : National)
+    (layout : Layout)
+    : Type 0 where
+  pub asked :
+      (request : Request)
+      → AsksFor words request
+      → (all : Bool)
+      × (asked_by request ≡ check_by stl pes stream range options national layout all)
+      × (options.origin < 2 ^ 33)
+  pub none : options.within ≡ 0
+  pub off : IsFalse options.keeps
+
+-- What the code of a run then tells of the bytes of both files.
+record TellsBytes
+    (drawing : Drawing) (options : OptionsValue) (file read : List ℕ) (code : ℕ)
+    : Type 0 where
+  pub fits : options.origin < 2 ^ 33
+  pub tells : (code ≡ 0) ↔ IsAccepted drawing options file read
 
 module _ {K : Type 0} (contents : K → Option (List ℕ)) (failure_count : K → ℕ)
     (IsPush : K → List ℕ → Option ℕ → K → Type 0) (output left : K)
     (before after : MemFilesValue) (given : Result (List Text) UsageFault) (code : ℕ)
     (runs : RunsProgram (CallsInTurn IsMemoryCall before after) known_of_memory (λ was is. is ≡ was)
-    given contents failure_count IsPush output left code)
-    (program stl pes : Text) (file bytes : List ℕ)
-    (is_stl : IsName stl) (is_pes : IsName pes)
-    (given_is : given ≡ Ok (program ∷ codes "check" ∷ stl ∷ pes ∷ []))
-    (stl_is : bytes_at stl before ≡ Some file) (pes_is : bytes_at pes before ≡ Some bytes)
-    (not_two : code ≢ 2) where
-  ran : HasAnswered (CallsInTurn IsMemoryCall before after) known_of_memory (λ was is. is ≡ was)
-      given (BufferHoldsLineAlone contents failure_count IsPush) code
-  ran = answered _ _ _ _ contents failure_count IsPush output left code runs not_two
+    given contents failure_count IsPush output left code) where
+  module _ (words : List Text) (stl pes : Text) (stream : Option TransportStream)
+      (range : Option PieceRangeValue) (options : OptionsValue) (national : National)
+      (layout : Layout) (file bytes read : List ℕ)
+      (ask_for : AskForCheck words stl pes stream range options national layout)
+      (given_is : given ≡ Ok words)
+      (stl_is : bytes_at stl before ≡ Some file) (pes_is : bytes_at pes before ≡ Some bytes)
+      (read_is : through_range range (through_stream stream (Some bytes)) ≡ Some read)
+      (not_two : code ≢ 2) where
+    ran : HasAnswered (CallsInTurn IsMemoryCall before after) known_of_memory
+        (λ was is. is ≡ was) given (BufferHoldsLineAlone contents failure_count IsPush) code
+    ran = answered _ _ _ _ contents failure_count IsPush output left code runs not_two
 
-  status_tells : (ran.status ≡ Done) ↔ IsAccepted default_drawing default_options file bytes
-  status_tells =
-      let of = ran.answered in
-      let asked =
-      law_of_plain_words program stl pes of.request is_stl is_pes
-      (subst (λ words. AsksFor words of.request) (given_words given _ _ of.are_given given_is)
-      of.asked) in
+    code_tells : TellsBytes (drawing_by national layout) options file read code
+    code_tells =
+        let of = ran.answered in
+        let (all, asked, fits) =
+        ask_for.asked of.request
+        (subst (λ words. AsksFor words of.request) (given_words given _ _ of.are_given given_is)
+        of.asked) in
+        let told =
+        law_of_files_in_memory _ of.request before after ran.old ran.new ran.status of.ends
+        (no_fault ran.status (λ e. not_two (ran.code_is ∙ e))) in
+        let by =
+        tells of.request stl pes stream range options national layout all file bytes read before
+        ran.status asked
+        stl_is pes_is read_is told in
+        let same =
+        law_of_plain_acceptance (drawing_by national layout) options file read ask_for.off
+        ask_for.none in
+        record {
+          fits = fits;
+          tells = (
+            λ none. same.0 (by.0 (done_by_code ran.status (sym ran.code_is ∙ none))),
+            λ is. ran.code_is ∙ ap exit_code (by.1 (same.1 is)),
+          );
+        }
+
+  -- The words of parts.
+  ask_for_parts :
+      (program stl pes : Text) (parts : List Portion)
+      → IsName stl
+      → IsName pes
+      → AskForCheck (program ∷ codes "check" ∷ stl ∷ pes ∷ flat_map words_in parts) stl pes
+      (stream_of (reading_of parts)) (reading_of parts).range (reading_of parts).options English
+      default_layout
+  ask_for_parts program stl pes parts is_stl is_pes =
+      let by = plain_by (map Of parts) in
+      let at = ap (λ (l : Looking). l.reading.options) (look_of_parts (looking_of []) parts) in
+      record {
+        asked = λ request. law_of_part_words program stl pes parts request is_stl is_pes;
+        none = ap (λ (o : OptionsValue). o.within) (sym at) ∙ by.0;
+        off = ap (λ (o : OptionsValue). o.keeps) (sym at) ∙ by.1;
+      }
+
+  part_tells : OfRecording given before
+      (λ r file bytes.
+      code ≢ 2 → TellsBytes default_drawing r.options file (bytes_read r bytes) code)
+  part_tells = λ program stl pes parts file bytes is_stl is_pes given_is stl_is pes_is not_two.
+      let r = reading_of parts in
+      code_tells _ stl pes (stream_of r) r.range r.options English default_layout file bytes
+      (bytes_read r bytes)
+      (ask_for_parts program stl pes parts is_stl is_pes) given_is stl_is pes_is
+      (read_so r.pid r.size r.range bytes) not_two
+
+  -- The words of all that may be chosen.
+  look_tells : OfLook given before
+      (λ l file bytes.
+      code ≢ 2
+      → TellsBytes (drawing_by l.national l.layout) l.reading.options file
+      (bytes_read l.reading bytes) code)
+  look_tells = λ program stl pes looks file bytes is_stl is_pes given_is stl_is pes_is not_two.
+      let l = looking_of looks in
+      let r = l.reading in
+      let by = plain_by looks in
+      code_tells (program ∷ codes "check" ∷ stl ∷ pes ∷ flat_map words_for looks) stl pes
+      (stream_of r) r.range r.options l.national l.layout file bytes (bytes_read r bytes)
+      (record {
+        asked = λ request. law_of_look_words program stl pes looks request is_stl is_pes;
+        none = by.0;
+        off = by.1;
+      }) given_is stl_is pes_is (read_so r.pid r.size r.range bytes) not_two
+
+  -- The words of choices.
+  ask_for_chosen :
+      (program stl pes : Text) (choices : List Choice)
+      → IsName stl
+      → IsName pes
+      → AskForCheck (program ∷ codes "check" ∷ stl ∷ pes ∷ flat_map choice_words choices) stl pes
+      None None (options_by choices) English default_layout
+  ask_for_chosen program stl pes choices is_stl is_pes =
+      let by = plain_by (map Of (map Any choices)) in
+      let at =
+      ap (λ (l : Looking). l.reading.options)
+      (look_of_parts (looking_of []) (map Any choices))
+      ∙ ap (λ (r : Reading). r.options) (read_any (reading_of []) choices) in
+      record {
+        asked = λ request. law_of_chosen_words program stl pes choices request is_stl is_pes;
+        none = ap (λ (o : OptionsValue). o.within) (sym at) ∙ by.0;
+        off = ap (λ (o : OptionsValue). o.keeps) (sym at) ∙ by.1;
+      }
+
+  chosen_tells : OfChosen given before
+      (λ o file bytes. code ≢ 2 → TellsBytes default_drawing o file bytes code)
+  chosen_tells = λ program stl pes choices file bytes is_stl is_pes given_is stl_is pes_is not_two.
+      code_tells _ stl pes None None (options_by choices) English default_layout file bytes bytes
+      (ask_for_chosen program stl pes choices is_stl is_pes) given_is stl_is pes_is refl not_two
+
+  -- Where the code is 0, what is so of all that is accepted is so of what is read by place.
+  of_accepted :
+      (IsSo : OptionsValue → List ℕ → List ℕ → List SubtitleValue → Transmission → Type 0)
+      → ((o : OptionsValue) (file bytes : List ℕ) (is : IsAccepted default_drawing o file bytes)
+      → IsSo o file bytes is.subtitles is.transmission)
+      → OfChosen given before
+      (λ o file bytes.
+      code ≡ 0
+      → IsSo o file bytes (subtitles_by_place file) (frames_by_place o.origin bytes))
+  of_accepted IsSo so =
+      λ program stl pes choices file bytes is_stl is_pes given_is stl_is pes_is none.
       let told =
-      law_of_files_in_memory _ of.request before after ran.old ran.new ran.status of.ends
-      (no_fault ran.status (λ e. not_two (ran.code_is ∙ e))) in
-      let by = tells of.request stl pes file bytes before ran.status asked stl_is pes_is told in
-      let same = law_of_plain_acceptance default_drawing default_options file bytes refl refl in
-      (λ done. same.0 (by.0 done), λ is. by.1 (same.1 is))
-
-  code_tells : (code ≡ 0) ↔ IsAccepted default_drawing default_options file bytes
-  code_tells = (
-    λ none. status_tells.0 (done_by_code ran.status (sym ran.code_is ∙ none)),
-    λ is. ran.code_is ∙ ap exit_code (status_tells.1 is),
-  )
+      chosen_tells program stl pes choices file bytes is_stl is_pes given_is stl_is pes_is
+      (λ two. absurd (omega (arith, none, two))) in
+      let o = options_by choices in
+      let is = told.tells.0 none in
+      read o file bytes is told.fits (IsSo o file bytes) (so o file bytes is)
 
 pub law_of_headline : {K : Type 0} (contents : K → Option (List ℕ)) (failure_count : K → ℕ)
     (IsPush : K → List ℕ → Option ℕ → K → Type 0)
     → LawOfHeadline contents failure_count IsPush
 law_of_headline contents failure_count IsPush given before after output left code runs =
-    let tells : TellsHeadline given before code =
-    λ program stl pes file bytes is_stl is_pes given_is stl_is pes_is none.
-    plain_headline file bytes
-    ((code_tells contents failure_count IsPush output left before after given code runs program
-    stl pes file bytes is_stl is_pes given_is stl_is pes_is
-    (λ two. absurd (omega (arith, none, two)))).0
-    none) in (
-      tells,
-      λ program stl pes file bytes is_stl is_pes given_is stl_is pes_is none.
-          screens_of file bytes
-          (tells program stl pes file bytes is_stl is_pes given_is stl_is pes_is none),
+    let by =
+    of_accepted contents failure_count IsPush output left before after given code runs in
+    let chosen : TellsChosen given before code =
+    by (λ o file bytes. Headline o.page o.every english_due)
+    (λ o file bytes is. headline o file bytes is) in
+    let tells =
+    part_tells contents failure_count IsPush output left before after given code runs in
+    let not_two = λ (none : code ≡ 0) (two : code ≡ 2). absurd (omega (arith, none, two)) in (
+      λ program stl pes. chosen program stl pes [],
+      chosen,
+      by (λ o file bytes. EachOfClassGets Dropping o.page o.every)
+          (λ o file bytes is. each o file bytes is Dropping),
+      by (λ o file bytes. EachScreenShows o.page)
+          (λ o file bytes is.
+          screens_of o.page o.every is.subtitles is.transmission (each o file bytes is)),
+      by (λ o file bytes. AreFilesOf o.origin file bytes)
+          (λ o file bytes is. files o file bytes is),
+      by
+          (λ o file bytes subtitles transmission.
+          IsTrue o.asks_complete → EachDisplayShows o.page subtitles transmission)
+          (λ o file bytes is. complete o file bytes is),
+      λ program stl pes parts file bytes is_stl is_pes given_is stl_is pes_is none.
+          let r = reading_of parts in
+          let told =
+          tells program stl pes parts file bytes is_stl is_pes given_is stl_is pes_is
+          (not_two none) in
+          let is = told.tells.0 none in
+          read r.options file (bytes_read r bytes) is told.fits
+          (Headline r.options.page r.options.every english_due)
+          (headline r.options file (bytes_read r bytes) is),
+      λ program stl pes parts file bytes is_stl is_pes given_is stl_is pes_is none.
+          let r = reading_of parts in
+          let told =
+          tells program stl pes parts file bytes is_stl is_pes given_is stl_is pes_is
+          (not_two none) in
+          kept r.options file (bytes_read r bytes) (told.tells.0 none) told.fits,
+      λ program stl pes parts file bytes is_stl is_pes given_is stl_is pes_is none.
+          let r = reading_of parts in
+          let told =
+          tells program stl pes parts file bytes is_stl is_pes given_is stl_is pes_is
+          (not_two none) in
+          let is = told.tells.0 none in
+          read r.options file (bytes_read r bytes) is told.fits
+          (AreFilesOf r.options.origin file (bytes_read r bytes))
+          (files r.options file (bytes_read r bytes) is),
+      λ program stl pes looks file bytes is_stl is_pes given_is stl_is pes_is none.
+          let l = looking_of looks in
+          let told =
+          look_tells contents failure_count IsPush output left before after given code runs program
+          stl pes looks file bytes is_stl is_pes given_is stl_is pes_is (not_two none) in
+          drawn_read l.national l.layout l.reading.options file (bytes_read l.reading bytes)
+          (told.tells.0 none) told.fits,
       λ program stl pes file bytes is_stl is_pes given_is stl_is pes_is not_two.
-          let by =
-          code_tells contents failure_count IsPush output left before after given code runs program
-          stl pes file bytes is_stl is_pes given_is stl_is pes_is not_two in
+          let told =
+          chosen_tells contents failure_count IsPush output left before after given code runs
+          program stl pes [] file bytes is_stl is_pes given_is stl_is pes_is not_two in
           let same = law_of_english_acceptance file bytes in
-          (λ none. same.0 (by.0 none), λ is. by.1 (same.1 is)),
+          (λ none. same.0 (told.tells.0 none), λ is. told.tells.1 (same.1 is)),
     )

@@ -2,6 +2,11 @@ pub mod AcceptanceLemmas
 pub mod EnglishLemmas
 pub mod EnglishAcceptanceLemmas
 pub mod PlainWordLemmas
+pub mod RowLemmas
+pub mod OptionWordLemmas
+pub mod ChosenWordLemmas
 pub mod RunLemmas
 pub mod ScreenLemmas
+pub mod FrameReadingLemmas
+pub mod SubtitleReadingLemmas
 pub mod HeadlineLemmas

@@ -37,7 +37,7 @@ no_hyphen : (x : ℕ) (xs : Text) → IsName (x ∷ xs) → nat_eq x 45 ≡ fals
 no_hyphen x xs name = grind (arith, nat_tests)
 
 -- It is not `--`.
-no_dashes : (word : Text) → IsName word → bytes_eq word (45 ∷ 45 ∷ []) ≡ false
+pub no_dashes : (word : Text) → IsName word → bytes_eq word (45 ∷ 45 ∷ []) ≡ false
 no_dashes [] name = refl
 no_dashes (x ∷ xs) name =
     ap (λ (b : Bool). b && bytes_eq xs (45 ∷ [])) (no_hyphen x xs name)
@@ -50,7 +50,7 @@ no_help program stl pes = refl
 
 -- ---- a word that is no option is a value
 
-no_long : (word : Text) → IsName word → long_of word ≡ None
+pub no_long : (word : Text) → IsName word → long_of word ≡ None
 no_long [] name = refl
 no_long (x ∷ xs) name =
     ap
@@ -59,7 +59,7 @@ no_long (x ∷ xs) name =
     (option_and_then (strip_byte 45) (let o : Option Text = if b then Some xs else None in o)))
     (no_hyphen x xs name)
 
-no_short : (word : Text) → IsName word → short_of word ≡ None
+pub no_short : (word : Text) → IsName word → short_of word ≡ None
 no_short [] name = refl
 no_short (x ∷ xs) name =
     ap
@@ -80,11 +80,11 @@ plain_other c position word h name =
     ∙ ap (λ o. short_or_plain c idle word o h) (no_short word name)
 
 -- Where nothing waits for a value.
-abbrev at_rest : Held → ℕ → Walk
+abbrev pub at_rest : Held → ℕ → Walk
 at_rest h position =
     record { held = h; waiting = idle; position = position; is_trailing = false; stopped = None }
 
-walked_plain : (c : List Rule) (h : Held) (position : ℕ) (word : Text)
+pub walked_plain : (c : List Rule) (h : Held) (position : ℕ) (word : Text)
     → IsName word
     → walked c [] (at_rest h position) word
     ≡ to_positional c (arg_by_index c position) word (at_rest h position) h
@@ -96,13 +96,13 @@ walked_plain c h position word name =
 -- ---- the words of `check`
 
 -- How `check` is built.
-abbrev check_shape : Shape
+abbrev pub check_shape : Shape
 check_shape =
     unwrap_or (find (λ s. answers_to (codes "check") (label_of s)) (built subttx_app).subs)
     (built subttx_app).top
 
 -- What two words leave of it.
-abbrev held_of_two : (stl pes : Text) → Held
+abbrev pub held_of_two : (stl pes : Text) → Held
 held_of_two stl pes =
     let c = check_shape.rules in
     let one = to_positional c (arg_by_index c 1) stl (at_rest nothing_held 1) nothing_held in
@@ -154,7 +154,7 @@ plain_asked program stl pes is_stl is_pes =
     (rows_are stl pes is_stl is_pes)
     ∙ ap (λ asked. Some asked) (asked_are stl pes)
 
-asks_of : (words : List Text) (request : Request) (asked : Asked)
+pub asks_of : (words : List Text) (request : Request) (asked : Asked)
     → asks_help words ≡ false
     → asked_for words ≡ Some (Ok asked)
     → AsksFor words request

@@ -4,12 +4,17 @@ use Rattle.std.proofs.lemmas.Bool.Decides.{nat_tests}
 use Rattle.std.proofs.Common.{arith}
 use Rattle.std.proofs.Common.{◌≡◌, ◌⊎◌, ◌∙◌, ℕ, Bool, List, Some, None, ap, inl, inr}
 use Rattle.std.proofs.Common.{refl, true, false, if◌then◌else◌, ◌==◌, subst}
+use Rattle.ttx_packet.specs.PageId.{PageIdValue}
 use Rattle.ttx_page.specs.Page.{space}
+use Rattle.ttx_page.specs.Receiver.{ReceiverClass}
+use Rattle.stl_file.specs.Subtitle.{SubtitleValue}
 use Rattle.stl_rows.specs.TextCode.{is_common}
+use Rattle.sub_rules.specs.Transmission.{Transmission}
+use Rattle.sub_headline.specs.BothClasses.{EachOfClassGets}
 use Rattle.sub_headline.specs.EnglishPage.{english_cell}
-use Rattle.sub_headline.specs.EnglishScreen.{LawOfEnglishCharacters, Screens, blank_character}
+use Rattle.sub_headline.specs.EnglishScreen.{EachScreenShows, LawOfEnglishCharacters}
+use Rattle.sub_headline.specs.EnglishScreen.{blank_character}
 use Rattle.sub_headline.specs.EnglishScreen.{english_character, text_character}
-use Rattle.sub_headline.specs.PlainHeadline.{Headline}
 
 -- A byte that gives the cell of its own number stands at no place of the sub-set.
 elsewhere : (place byte : ℕ)
@@ -101,12 +106,11 @@ seen_so is due IsExcused (inl same) = inl (ap english_character same)
 seen_so is due IsExcused (inr (none, excused)) = inr (ap english_character none ∙ space_is, excused)
 
 -- The screens of receivers that get what the headline says.
-pub screens_of : (stl pes : List ℕ) → Headline stl pes → Screens stl pes
-screens_of stl pes is = record {
-  subtitles = is.subtitles;
-  transmission = is.transmission;
-  files = is.files;
-  screens = λ class g j f arrived got old new is_got hears header row column is_cell.
-      seen_so _ _ _
-      ((is.receivers class g j f arrived got old new is_got hears).cells header row column is_cell);
-}
+pub screens_of : (page : PageIdValue) (every : ℕ) (subtitles : List SubtitleValue)
+    (transmission : Transmission)
+    → ((class : ReceiverClass) → EachOfClassGets class page every subtitles transmission)
+    → EachScreenShows page subtitles transmission
+screens_of page every subtitles transmission each =
+    λ class g j f arrived got old new is_got hears header row column is_cell.
+    seen_so _ _ _
+    ((each class g j f arrived got old new is_got hears).cells header row column is_cell)

@@ -1,6 +1,7 @@
 -- What a viewer sees of a page in English: characters, by their numbers in ISO/IEC 10646 (Unicode).
 use Rattle.std.specs.Prelude.{◌≡◌, ◌⊎◌, ℕ, Bool, IsTrue, List, Some, ◌==◌, nat_lt}
 use Rattle.std.specs.Prelude.{if◌then◌else◌}
+use Rattle.ttx_packet.specs.PageId.{PageIdValue}
 use Rattle.ttx_page.specs.DroppedRows.{ExcusedBy}
 use Rattle.ttx_page.specs.LostRows.{IsHitOrLost, arrivals_of}
 use Rattle.ttx_page.specs.Page.{IsCell, Rows, cell}
@@ -8,11 +9,9 @@ use Rattle.ttx_page.specs.PacketKind.{kind}
 use Rattle.ttx_page.specs.Receiver.{HearsBy, ReceiverClass, State}
 use Rattle.ttx_page.specs.Span.{holds_header}
 use Rattle.stl_file.specs.Subtitle.{SubtitleValue}
-use Rattle.sub_plan.specs.Examples.{page_888}
 use Rattle.sub_rules.specs.Transmission.{Transmission, first_frame, last_frame, on_air}
 use Rattle.sub_laws.specs.LostRows.{IsGot}
 use Rattle.sub_headline.specs.EnglishPage.{english_cell, english_due}
-use Rattle.sub_headline.specs.PlainHeadline.{AreFilesOf}
 
 -- A space.
 abbrev pub blank_character : ℕ
@@ -57,26 +56,19 @@ abbrev pub seen : Rows → ℕ → ℕ → ℕ
 seen page row column = english_character (cell page row column)
 
 -- On the screen of every receiver, at the end of frame f, in each cell: the character of the page
--- that is due, or a space where that is excused. It is one of those of `EachReceiverGets`, once
--- a header of page 888 was sent since it was switched on in frame g.
-abbrev pub EachScreenShows : List SubtitleValue → Transmission → Type 0
-EachScreenShows subtitles transmission =
+-- that is due, or a space where that is excused. It is one of those of `EachOfClassGets`, once
+-- a header of the page was sent since it was switched on in frame g.
+abbrev pub EachScreenShows : PageIdValue → List SubtitleValue → Transmission → Type 0
+EachScreenShows page subtitles transmission =
     (class : ReceiverClass) (g j f : ℕ) (arrived : List Bool) (got : List (List ℕ))
     (old new : State)
     → IsGot transmission (first_frame transmission) (last_frame transmission) g j f arrived got
-    → HearsBy class page_888 old got new
-    → IsTrue (holds_header (kind page_888) (on_air transmission g j f))
+    → HearsBy class page old got new
+    → IsTrue (holds_header (kind page) (on_air transmission g j f))
     → (row column : ℕ)
     → IsCell row column
     → (seen new.page row column ≡ seen (english_due subtitles f) row column)
     ⊎ ((seen new.page row column ≡ blank_character)
     × ExcusedBy class
-    (IsHitOrLost page_888 (on_air transmission g j f) (arrivals_of arrived got))
+    (IsHitOrLost page (on_air transmission g j f) (arrivals_of arrived got))
     row column)
-
--- The bytes of both files are those of some subtitles and of a transmission that shows these.
-pub record Screens (stl pes : List ℕ) : Type 0 where
-  pub subtitles : List SubtitleValue
-  pub transmission : Transmission
-  pub files : AreFilesOf stl pes subtitles transmission
-  pub screens : EachScreenShows subtitles transmission

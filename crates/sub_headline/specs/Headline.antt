@@ -1,13 +1,30 @@
--- What the exit status of `check STL PES` tells of the bytes of both files.
+-- What the exit status of `check` tells of the bytes of both files.
 use Rattle.std.specs.Prelude.{◌≡◌, ◌≢◌, ◌↔◌, ℕ, List, [], ◌∷◌, Option, Some, Ok, Result, codes}
+use Rattle.std.specs.Prelude.{IsTrue}
+use Rattle.std.specs.List.{flat_map}
 use Rattle.clap.specs.Words.{Text}
+use Rattle.ttx_page.specs.Receiver.ReceiverClass.{Dropping}
+use Rattle.stl_file.specs.Subtitle.{SubtitleValue}
+use Rattle.stl_rows.specs.DuePage.{due}
+use Rattle.stl_rows.specs.Layout.{drawing_by}
 use Rattle.sub_files.specs.FileCalls.{CallsInTurn}
 use Rattle.sub_files.specs.MemoryFiles.{IsMemoryCall, MemFilesValue, bytes_at}
 use Rattle.sub_request.specs.declared.request.UsageFault.{UsageFault}
+use Rattle.sub_plan.specs.Examples.{page_888}
+use Rattle.sub_plan.specs.Options.{OptionsValue}
+use Rattle.sub_rules.specs.Transmission.{Transmission}
 use Rattle.sub_answer.specs.FilesInMemory.{known_of_memory}
-use Rattle.sub_headline.specs.EnglishScreen.{Screens}
+use Rattle.sub_headline.specs.BothClasses.{EachOfClassGets}
+use Rattle.sub_headline.specs.DrawnOptions.{Look, Looking, looking_of, words_for}
+use Rattle.sub_headline.specs.EnglishPage.{english_due}
+use Rattle.sub_headline.specs.EnglishScreen.{EachScreenShows}
 use Rattle.sub_headline.specs.PlainAcceptance.{IsPlainlyAccepted}
+use Rattle.sub_headline.specs.PlainFiles.{AreFilesOf}
 use Rattle.sub_headline.specs.PlainHeadline.{Headline}
+use Rattle.sub_headline.specs.PlainOptions.{Choice, options_by, choice_words}
+use Rattle.sub_headline.specs.OnScreens.{EachDisplayShows}
+use Rattle.sub_headline.specs.RecordingOptions.{Portion, Reading, bytes_read, reading_of, words_in}
+use Rattle.sub_headline.specs.PlainReading.{frames_by_place, subtitles_by_place}
 use Rattle.sub_headline.specs.PlainWords.{IsName}
 use Rattle.sub_headline.specs.Run.{RunsProgram}
 
@@ -24,13 +41,137 @@ OfCheck given files IsSo =
     → bytes_at pes files ≡ Some bytes
     → IsSo file bytes
 
--- Where the code is 0 they keep the headline.
+-- Where the code is 0, every receiver of page 888 gets what the headline says, and a header of it
+-- within 250 frames, 10 seconds, where frame 0 has the PTS 0.
 abbrev pub TellsHeadline : Result (List Text) UsageFault → MemFilesValue → ℕ → Type 0
-TellsHeadline given files code = OfCheck given files (λ file bytes. code ≡ 0 → Headline file bytes)
+TellsHeadline given files code =
+    OfCheck given files
+    (λ file bytes.
+    code ≡ 0
+    → Headline page_888 250 english_due (subtitles_by_place file) (frames_by_place 0 bytes))
 
--- And so do screens.
+-- Where the words are `check STL PES` and choices, in any order, and the files hold these bytes,
+-- this is so by their options.
+abbrev pub OfChosen :
+    Result (List Text) UsageFault → MemFilesValue
+    → (OptionsValue → List ℕ → List ℕ → Type 0) → Type 0
+OfChosen given files IsSo =
+    (program stl pes : Text) (choices : List Choice) (file bytes : List ℕ)
+    → IsName stl
+    → IsName pes
+    → given ≡ Ok (program ∷ codes "check" ∷ stl ∷ pes ∷ flat_map choice_words choices)
+    → bytes_at stl files ≡ Some file
+    → bytes_at pes files ≡ Some bytes
+    → IsSo (options_by choices) file bytes
+
+-- Where the code is 0, this is so of the options, and of the subtitles and the frames that stand in
+-- both files.
+abbrev pub OfAccepted :
+    Result (List Text) UsageFault → MemFilesValue → ℕ
+    → (OptionsValue → List SubtitleValue → Transmission → Type 0) → Type 0
+OfAccepted given files code IsSo =
+    OfChosen given files
+    (λ o file bytes. code ≡ 0 → IsSo o (subtitles_by_place file) (frames_by_place o.origin bytes))
+
+-- Where the code is 0, every receiver of the page that is chosen gets what the headline says.
+abbrev pub TellsChosen : Result (List Text) UsageFault → MemFilesValue → ℕ → Type 0
+TellsChosen given files code =
+    OfAccepted given files code (λ o. Headline o.page o.every english_due)
+
+-- So does every receiver that drops a row with a hit byte.
+abbrev pub TellsDropping : Result (List Text) UsageFault → MemFilesValue → ℕ → Type 0
+TellsDropping given files code =
+    OfAccepted given files code (λ o. EachOfClassGets Dropping o.page o.every)
+
+-- And the screens of all of them show what is due.
 abbrev pub TellsScreens : Result (List Text) UsageFault → MemFilesValue → ℕ → Type 0
-TellsScreens given files code = OfCheck given files (λ file bytes. code ≡ 0 → Screens file bytes)
+TellsScreens given files code = OfAccepted given files code (λ o. EachScreenShows o.page)
+
+-- Where the code is 0 the bytes of both files are of their formats, and hold these subtitles and
+-- frames and nothing else.
+abbrev pub TellsFiles : Result (List Text) UsageFault → MemFilesValue → ℕ → Type 0
+TellsFiles given files code =
+    OfChosen given files
+    (λ o file bytes.
+    code ≡ 0
+    → AreFilesOf o.origin file bytes (subtitles_by_place file) (frames_by_place o.origin bytes))
+
+-- Where complete pages were asked for and the code is 0, they are on the screens.
+abbrev pub TellsComplete : Result (List Text) UsageFault → MemFilesValue → ℕ → Type 0
+TellsComplete given files code =
+    OfAccepted given files code
+    (λ o subtitles transmission.
+    IsTrue o.asks_complete → EachDisplayShows o.page subtitles transmission)
+
+-- Where the words are `check STL RECORDING` and parts, in any order, and the files hold these
+-- bytes, this is so by how the recording is read.
+abbrev pub OfRecording :
+    Result (List Text) UsageFault → MemFilesValue → (Reading → List ℕ → List ℕ → Type 0) → Type 0
+OfRecording given files IsSo =
+    (program stl recording : Text) (parts : List Portion) (file bytes : List ℕ)
+    → IsName stl
+    → IsName recording
+    → given ≡ Ok (program ∷ codes "check" ∷ stl ∷ recording ∷ flat_map words_in parts)
+    → bytes_at stl files ≡ Some file
+    → bytes_at recording files ≡ Some bytes
+    → IsSo (reading_of parts) file bytes
+
+-- Where the code is 0, the headline is so of the frames that stand in what is read of a recording.
+abbrev pub TellsRecording : Result (List Text) UsageFault → MemFilesValue → ℕ → Type 0
+TellsRecording given files code =
+    OfRecording given files
+    (λ r file bytes.
+    code ≡ 0
+    → Headline r.options.page r.options.every english_due (subtitles_by_place file)
+    (frames_by_place r.options.origin (bytes_read r bytes)))
+
+-- And so is what is so of other receivers and of screens.
+pub record ServesOthers (o : OptionsValue) (file pes : List ℕ) : Type 0 where
+  pub dropping :
+      EachOfClassGets Dropping o.page o.every (subtitles_by_place file)
+      (frames_by_place o.origin pes)
+  pub screens : EachScreenShows o.page (subtitles_by_place file) (frames_by_place o.origin pes)
+  pub complete :
+      IsTrue o.asks_complete
+      → EachDisplayShows o.page (subtitles_by_place file) (frames_by_place o.origin pes)
+
+abbrev pub TellsRecordingToo : Result (List Text) UsageFault → MemFilesValue → ℕ → Type 0
+TellsRecordingToo given files code =
+    OfRecording given files
+    (λ r file bytes. code ≡ 0 → ServesOthers r.options file (bytes_read r bytes))
+
+-- And the bytes that are read are those of a PES file, which holds these frames and nothing else.
+abbrev pub TellsRecordingFiles : Result (List Text) UsageFault → MemFilesValue → ℕ → Type 0
+TellsRecordingFiles given files code =
+    OfRecording given files
+    (λ r file bytes.
+    code ≡ 0
+    → AreFilesOf r.options.origin file (bytes_read r bytes) (subtitles_by_place file)
+    (frames_by_place r.options.origin (bytes_read r bytes)))
+
+-- Where the words are `check STL RECORDING` and any of these options, in any order, and the files
+-- hold these bytes, this is so by how the recording is read and subtitles are drawn.
+abbrev pub OfLook :
+    Result (List Text) UsageFault → MemFilesValue → (Looking → List ℕ → List ℕ → Type 0) → Type 0
+OfLook given files IsSo =
+    (program stl recording : Text) (looks : List Look) (file bytes : List ℕ)
+    → IsName stl
+    → IsName recording
+    → given ≡ Ok (program ∷ codes "check" ∷ stl ∷ recording ∷ flat_map words_for looks)
+    → bytes_at stl files ≡ Some file
+    → bytes_at recording files ≡ Some bytes
+    → IsSo (looking_of looks) file bytes
+
+-- Where the code is 0, the headline is so by the page that is due by a national option and a
+-- layout.
+abbrev pub TellsDrawn : Result (List Text) UsageFault → MemFilesValue → ℕ → Type 0
+TellsDrawn given files code =
+    OfLook given files
+    (λ l file bytes.
+    let o = l.reading.options in
+    code ≡ 0
+    → Headline o.page o.every (due (drawing_by l.national l.layout)) (subtitles_by_place file)
+    (frames_by_place o.origin (bytes_read l.reading bytes)))
 
 -- Where it is not 2, which tells that a device failed or memory ran out, it is 0 exactly where they
 -- are accepted: they are those of some subtitles and of a good transmission of these.
@@ -39,7 +180,7 @@ TellsAcceptance given files code =
     OfCheck given files (λ file bytes. code ≢ 2 → (code ≡ 0) ↔ IsPlainlyAccepted file bytes)
 
 -- Of a run of the program over files in memory, whatever standard output is, its code tells all
--- three.
+-- this.
 abbrev pub LawOfHeadline :
     {K : Type 0}
     → (K → Option (List ℕ)) → (K → ℕ) → (K → List ℕ → Option ℕ → K → Type 0) → Type 0
@@ -48,5 +189,9 @@ LawOfHeadline {K} contents failure_count IsPush =
     (code : ℕ)
     → RunsProgram (CallsInTurn IsMemoryCall before after) known_of_memory (λ was is. is ≡ was) given
     contents failure_count IsPush output left code
-    → TellsHeadline given before code × TellsScreens given before code
+    → TellsHeadline given before code × TellsChosen given before code
+    × TellsDropping given before code × TellsScreens given before code
+    × TellsFiles given before code × TellsComplete given before code
+    × TellsRecording given before code × TellsRecordingToo given before code
+    × TellsRecordingFiles given before code × TellsDrawn given before code
     × TellsAcceptance given before code

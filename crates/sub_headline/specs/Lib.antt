@@ -1,8 +1,15 @@
 pub mod Acceptance
+pub mod BothClasses
 pub mod EnglishPage
 pub mod EnglishScreen
 pub mod Headline
 pub mod PlainAcceptance
+pub mod PlainFiles
 pub mod PlainHeadline
+pub mod PlainOptions
+pub mod RecordingOptions
+pub mod DrawnOptions
+pub mod OnScreens
+pub mod PlainReading
 pub mod PlainWords
 pub mod Run

@@ -14,7 +14,7 @@ use Rattle.sub_rules.specs.Good.{HasCleanSpans, HoldsHeader, IsInOneMode, Repeat
 use Rattle.sub_rules.specs.Transmission.{EachPacket, IsRising, Transmission, first_frame}
 use Rattle.sub_rules.specs.Transmission.{last_frame, on_air_until}
 use Rattle.sub_headline.specs.EnglishPage.{english_due}
-use Rattle.sub_headline.specs.PlainHeadline.{AreFilesOf}
+use Rattle.sub_headline.specs.PlainFiles.{AreFilesOf}
 
 -- The control bits of the header of a subtitle in English: the page is erased, C4; it is a
 -- subtitle, C6, and no newsflash, C5; the header row is suppressed, C7; display is not inhibited,
@@ -78,5 +78,5 @@ pub record IsEnglishGood (subtitles : List SubtitleValue) (transmission : Transm
 pub record IsPlainlyAccepted (stl pes : List ℕ) : Type 0 where
   pub subtitles : List SubtitleValue
   pub transmission : Transmission
-  pub files : AreFilesOf stl pes subtitles transmission
+  pub files : AreFilesOf 0 stl pes subtitles transmission
   pub good : IsEnglishGood subtitles transmission

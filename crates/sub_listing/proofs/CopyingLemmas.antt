@@ -13,7 +13,7 @@ use Rattle.ttx_pes.specs.Advancing.{IsRest, rest_fault}
 use Rattle.ttx_pes.specs.PesPacket.{payload_size}
 use Rattle.ttx_pes.specs.PieceRange.{piece_size}
 use Rattle.ttx_pes.specs.Pieces.{IsPiece}
-use Rattle.ttx_pes.specs.Reading.{is_mark}
+use Rattle.ttx_pes.specs.Reading.{is_filled, is_mark}
 use Rattle.ttx_pes.specs.declared.fault.PesFault.{PesFault}
 use Rattle.ttx_pes.specs.declared.pieces.Came.TheVariants.{Piece}
 use Rattle.ttx_pes.proofs.LimitedLemmas.{piece_is, rest_told}
@@ -55,7 +55,7 @@ pub piece_copied : (bytes p : List ℕ) (told left old new : Option (List ℕ)) 
     → told ≡ Some bytes
     → IsPiece p
     → Consumes told left p
-    → is_a_mark ≡ ((length p == payload_size) && is_mark (drop 6 p))
+    → is_a_mark ≡ is_mark p
     → Appends old new p
     → CopiesNext bytes left old new (Ok (Piece is_a_mark))
 piece_copied bytes p told left old new is_a_mark is piece taken mark written =
@@ -64,7 +64,8 @@ piece_copied bytes p told left old new is_a_mark is piece taken mark written =
       length p,
       size left here,
       mark
-          ∙ ap (λ (l : List ℕ). (length p == payload_size) && is_mark (drop 6 l)) (sym front.same),
+          ∙ ap (λ (l : List ℕ). (length p == payload_size) && is_filled (drop 6 l))
+          (sym front.same),
       record {
         left_is = front.left_is;
         written = subst (Appends old new) (sym front.same) written;

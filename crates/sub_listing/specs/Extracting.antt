@@ -10,7 +10,7 @@ use Rattle.ttx_pes.specs.PesPacket.{payload_size}
 use Rattle.ttx_pes.specs.PieceRange.{behind_pieces, by_piece, count_pieces, first_pieces}
 use Rattle.ttx_pes.specs.PieceRange.{piece_size}
 use Rattle.ttx_pes.specs.Advancing.{rest_fault}
-use Rattle.ttx_pes.specs.Reading.{is_mark}
+use Rattle.ttx_pes.specs.Reading.{is_filled}
 use Rattle.ttx_pes.specs.declared.fault.PesFault.{PesFault}
 use Rattle.ttx_pes.specs.declared.fault.PesFault.TheVariants as pes
 use Rattle.sub_rules.specs.declared.fault.CheckFault.TheVariants as check
@@ -32,7 +32,7 @@ use Rattle.sub_listing.specs.declared.status.Status.{Status}
 -- The piece of this size that begins bytes is a mark: 184 bytes, of which all from byte 6 on are
 -- FF.
 abbrev pub begins_with_mark : ℕ → List ℕ → Bool
-begins_with_mark size b = (size == payload_size) && is_mark (drop 6 (take size b))
+begins_with_mark size b = (size == payload_size) && is_filled (drop 6 (take size b))
 
 -- How many of the first n pieces are marks.
 unfoldable pub count_marks : ℕ → List ℕ → ℕ

@@ -1,27 +1,19 @@
 //! Copies pieces into a file, each as soon as it has come, and bytes that no piece begins.
-ghost use Rattle.std.specs.Prelude.{◌≡◌, ◌==◌, ◌&&◌, Err, IfOk, OnErr, OnOk, drop};
-ghost use Rattle.std.specs.Prelude.{false, length, true};
+ghost use Rattle.std.specs.Prelude.{◌≡◌, Err, IfOk, OnErr, OnOk, false, length, true};
 ghost use Rattle.std.specs.Io.KnownBytes.{Appends};
 ghost use Rattle.sub_io.specs.Device.{AppendsPrefix, CanFail, CountsIf, failed};
 ghost use Rattle.sub_io.specs.Reading.{IfKnown};
 ghost use Rattle.ttx_pes.specs.Advancing.{tells_rest};
-ghost use Rattle.ttx_pes.specs.PesPacket.{payload_size};
 ghost use Rattle.ttx_pes.specs.Reading.{is_mark};
 ghost use Rattle.sub_listing.specs.Copying.{CopiesNext, CopiesRest, is_copy_read};
 ghost use Rattle.sub_listing.specs.Copying.{is_copy_write, is_piece, tells_read};
 
 use std::marker::Model;
 use sub_io::{Flush, put_all};
-use ttx_pes::{Came, Pieces, REST_ROOM, TakePiece};
+use ttx_pes::{Came, Pieces, REST_ROOM, TakePiece, is_mark};
 
 // Room for the longest piece.
 const PIECE_ROOM: usize = 1656;
-
-// The bytes that tell the size of a piece.
-const HEAD: usize = 6;
-
-// The bytes of a payload, and of a mark.
-const PAYLOAD: usize = 184;
 
 /// Which device failed.
 #[derive(Clone, Copy)]
@@ -71,8 +63,7 @@ impl TakePiece for TakenPiece {
     // Whether it is a mark.
     type Answer = bool;
 
-    ghost is_take = { λ old piece answer new. (new ≡ piece)
-        × (answer ≡ ((length piece == payload_size) && is_mark (drop 6 piece))) };
+    ghost is_take = { λ old piece answer new. (new ≡ piece) × (answer ≡ is_mark piece) };
 
     #[tactic(auto, using(crate::proofs::CopyingLemmas::piece_fits))]
     fn take(&mut self, piece: &[u8]) -> bool {
@@ -81,24 +72,6 @@ impl TakePiece for TakenPiece {
         self.len = piece.len();
         is_mark(piece)
     }
-}
-
-// Whether all bytes are FF.
-fn is_filled(bytes: &[u8]) -> bool
-    ensures { result ≡ is_mark bytes.now }
-{
-    bytes.iter().all(|byte| *byte == 0xFF)
-}
-
-// Whether a piece is a mark.
-fn is_mark(piece: &[u8]) -> bool
-    ensures { result ≡ ((length piece.now == payload_size) && is_mark (drop 6 piece.now)) }
-{
-    if piece.len() != PAYLOAD {
-        return false;
-    }
-    let (_, body) = piece.split_at(HEAD);
-    is_filled(body)
 }
 
 // Puts bytes into a file, and has it hand them on.

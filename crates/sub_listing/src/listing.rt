@@ -47,8 +47,8 @@ pub trait Lister<I> {
     // How many calls of its device have failed.
     ghost failure_count: { I → ℕ };
 
-    // By which reference it holds its device, where it holds it by one.
-    ghost device: { I → Option GName };
+    // By which references it holds its device, the outermost first.
+    ghost device: { I → List GName };
 
     /// Makes the lines of the next piece. `None` where another may follow, else how the listing
     /// ends.

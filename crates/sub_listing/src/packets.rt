@@ -1,12 +1,9 @@
 //! `packets PES`: lists PES packets and their Teletext units.
-ghost use Rattle.std.specs.Prelude.{◌≡◌, ℕ, ◌+◌, ◌-◌, ◌<◌, ◌≤◌, ◌++◌, [], None, IfNone};
-ghost use Rattle.std.specs.Prelude.{IfSome, Ok, false, is_none, true};
+ghost use Rattle.std.specs.Prelude.{◌≡◌, ℕ, ◌+◌, ◌-◌, ◌<◌, ◌≤◌, ◌++◌, [], None};
+ghost use Rattle.std.specs.Prelude.{OnOk, false, is_err, true};
 ghost use Rattle.arrayvec.specs.ArrayVec.{array_vec_len};
-ghost use Rattle.sub_io.specs.Device.{CanFail, CountsIf, failed};
-ghost use Rattle.ttx_pes.specs.Comparing.{as_given};
-ghost use Rattle.ttx_pes.specs.Fault.{is_read};
+ghost use Rattle.sub_io.specs.Device.{CanFail};
 ghost use Rattle.ttx_pes.specs.LentPacket.{NothingWaits};
-ghost use Rattle.ttx_pes.specs.Reader.{TellsPacket, given_frame, progress_after};
 ghost use Rattle.ttx_pes.specs.Outcome.{ReadsPackets, outcome_after};
 ghost use Rattle.ttx_pes.specs.Reading.{most_packets};
 ghost use Rattle.ttx_pes.specs.declared.progress.Progress.TheVariants.{Reading};
@@ -24,11 +21,9 @@ use crate::listing::{Lister, PIECE, Text, end_at, end_with, list};
 use crate::printer::Printer;
 use crate::printing::print_fault_line;
 use crate::status::Status;
-use sub_io::{Flush, Live};
+use sub_io::{Flush, Stopped};
 use sub_rules::CheckFault;
-use ttx_pes::{
-    Compared, ComparingReader, MOST_UNITS, NumberedPieces, PesFault, Pieces, Unit, hand_on_first,
-};
+use ttx_pes::{Compared, ComparingReader, MOST_UNITS, NumberedPieces, Pieces, Unit, hand_on_first};
 
 /// Lists PES packets of a file (EN 300 472), one after another as they are read, each by its number
 /// in the file; and then how many were listed, or why it is refused.
@@ -121,10 +116,10 @@ impl<P: Pieces> Lister<P> for PacketLister {
         printer: &mut Printer<'_, K>,
         text: &mut Text,
     ) -> Option<Status> {
-        let Some(read) = next_followed(&mut self.reader, input, printer) else {
+        if hand_on_lines(input, printer).is_err() {
             return Some(Status::Fault);
-        };
-        match read {
+        }
+        match self.reader.next(input) {
             Ok(Compared::End) => end_at(text, self.index, b" pes\n"),
             Ok(Compared::Same) => self.list_read(text),
             Ok(Compared::Other) => self.list_read(text),
@@ -137,14 +132,11 @@ impl<P: Pieces> Lister<P> for PacketLister {
     }
 }
 
-// Reads the next PES packet. Where a device may be asked for it, the lines before it are handed on
-// first; `None` where they can't be, and then nothing was read.
-fn next_followed<P: Pieces, K: Flush>(
-    reader: &mut ComparingReader,
-    pieces: &mut P,
+// Where a device may be asked for the next PES packet, the lines before it are handed on first.
+fn hand_on_lines<P: Pieces, K: Flush>(
+    pieces: &P,
     printer: &mut Printer<'_, K>,
-) -> Option<Result<Compared, PesFault>>
-    requires pieces { CanFail (P.failure_count pieces.old) }
+) -> Result<(), Stopped>
     requires out { CanFail (K.failure_count printer.old.out.now) }
     requires goes_on { printer.old.failed ≡ false }
     ensures same { printer.new.out.ghost_name ≡ printer.old.out.ghost_name }
@@ -153,48 +145,12 @@ fn next_followed<P: Pieces, K: Flush>(
         printer.old.refused printer.old.failed printer.old.first)
         (printer_value (K.contents printer.new.out.now) (K.failure_count printer.new.out.now)
         printer.new.refused printer.new.failed printer.new.first) }
-    ensures failed { printer.new.failed ≡ is_none result }
-    ensures refused { IfNone result (P.failure_count pieces.new ≡ P.failure_count pieces.old) }
-    ensures device { P.device pieces.new ≡ P.device pieces.old }
-    ensures count { IfSome result (λ read.
-        CountsIf P.failure_count pieces.old (failed is_read read) pieces.new) }
-    ensures tells { IfSome result (λ read. TellsPacket reader.old.progress
-        (P.remaining pieces.old) (P.left pieces.new)
-        (given_frame (as_given read) reader.new.frame)) }
-    ensures settled { IfSome result (λ read. as_given read ≡ Ok true
-        → P.left pieces.new ≡ P.remaining pieces.new) }
-    ensures progress { IfSome result (λ read. reader.new.progress
-        ≡ progress_after reader.old.progress (given_frame (as_given read) reader.new.frame)) }
-    ensures few { IfSome result (λ _.
-        (given : ℕ) → reader.new.progress ≡ Reading given → given ≤ most_packets) }
-    ensures asked { (printer.old.waiting ≡ false → K.held printer.old.out.now ≡ 0)
-        → IfSome result (λ read. failed is_read read ≡ true → K.held printer.new.out.now ≡ 0) }
+    ensures failed { printer.new.failed ≡ is_err result }
+    ensures settled { OnOk result (NothingWaits printer.new.waiting (P.ready pieces.now)) }
+    ensures holds { (printer.old.waiting ≡ false → K.held printer.old.out.now ≡ 0)
+        → OnOk result (printer.new.waiting ≡ false → K.held printer.new.out.now ≡ 0) }
 {
-    if hand_on_first(pieces, printer).is_err() {
-        return None;
-    }
-    Some(read_settled(reader, pieces, printer))
-}
-
-// Reads the next PES packet, beside a printer at which nothing waits meanwhile.
-fn read_settled<P: Pieces, A: Live>(
-    reader: &mut ComparingReader,
-    pieces: &mut P,
-    _printer: &A,
-) -> Result<Compared, PesFault>
-    requires pieces { CanFail (P.failure_count pieces.old) }
-    requires settled { NothingWaits (A.is_waiting _printer.now) (P.ready pieces.old) }
-    ensures device { P.device pieces.new ≡ P.device pieces.old }
-    ensures count { CountsIf P.failure_count pieces.old (failed is_read result) pieces.new }
-    ensures tells { TellsPacket reader.old.progress (P.remaining pieces.old)
-        (P.left pieces.new) (given_frame (as_given result) reader.new.frame) }
-    ensures settled { as_given result ≡ Ok true → P.left pieces.new ≡ P.remaining pieces.new }
-    ensures progress { reader.new.progress
-        ≡ progress_after reader.old.progress (given_frame (as_given result) reader.new.frame) }
-    ensures few { (given : ℕ) → reader.new.progress ≡ Reading given → given ≤ most_packets }
-    ensures asked { failed is_read result ≡ true → A.is_waiting _printer.now ≡ false }
-{
-    reader.next(pieces)
+    hand_on_first(pieces, printer)
 }
 
 // Room for the line of a PES packet.

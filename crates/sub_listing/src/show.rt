@@ -68,7 +68,7 @@ impl<S: Source> Lister<S> for SubtitleLister {
 
     ghost failure_count = { λ s. S.failure_count s };
 
-    ghost device = { λ s. None };
+    ghost device = { λ s. [] };
 
     fn next<K: Flush>(
         &mut self,

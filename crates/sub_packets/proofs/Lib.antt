@@ -1,4 +1,5 @@
 pub mod KeptLemmas
+pub mod KeptPageLemmas
 pub mod ListenerLemmas
 pub mod PacketEventLemmas
 pub mod PacketRuleLemmas

@@ -3,7 +3,7 @@
 use Rattle.std.proofs.lemmas.Bool.Decides.{nat_tests}
 use Rattle.std.proofs.lemmas.List.{get_or-replicate}
 use Rattle.std.proofs.Common.{◌≡◌, ℕ, zero, suc, ◌+◌, ◌-◌, ◌<◌, ◌≤◌}
-use Rattle.std.proofs.Common.{List, Option, None, MatchOption}
+use Rattle.std.proofs.Common.{Option, None, MatchOption}
 use Rattle.std.proofs.Common.{sym, ◌∙◌, subst, arith}
 use Rattle.stl_rows.specs.DuePage.{IsEdge}
 use Rattle.stl_rows.specs.Programme.{ProgrammeValue}
@@ -13,12 +13,12 @@ use Rattle.ttx_page.specs.Differing.{differing, row_differing}
 use Rattle.ttx_page.specs.Page.{DiffersFirst, IsCell, Rows, blank, blank_row, cell, row_at}
 use Rattle.ttx_page.specs.Page.{space}
 use Rattle.sub_plan.specs.Schedule.{due_in}
-use Rattle.sub_packets.specs.Listener.{Knows}
+use Rattle.sub_packets.specs.KeptPage.{undue_kept}
 use Rattle.sub_packets.specs.Undue.{IsLeft, unless_due}
 use Rattle.sub_packets.specs.declared.listener.Listener.{Listener}
 use Rattle.sub_packets.proofs.WrongCellLemmas.{by_cells, cell-blank, first_cell-none}
-use Rattle.sub_packets.proofs.WrongCellLemmas.{first_difference, shown_is}
-use Rattle.sub_rules.specs.Events.{undue_after, was_due}
+use Rattle.sub_packets.proofs.WrongCellLemmas.{first_difference}
+use Rattle.sub_rules.specs.Events.{was_due}
 
 -- ---- frames at which the same page is due
 
@@ -102,17 +102,14 @@ module _ (page : ℕ → Rows) (first f : ℕ) where
 
 -- The first cell that is left shows a code that was not due. For `first_undue`.
 pub undue_is :
-    (heard : List (List ℕ)) (s : Listener) (page : ℕ → Rows) (first f n : ℕ) (left : Rows)
-    (o : Option (ℕ × ℕ))
-    → Knows heard s
+    (s : Listener) (page : ℕ → Rows) (first f n : ℕ) (left : Rows) (o : Option (ℕ × ℕ))
     → IsLeft page first f n s.comparison.page left
     → MatchOption o (left ≡ blank) (λ place. DiffersFirst left blank place.0 place.1)
-    → o ≡ undue_after s.watched.keeps s.watched.page heard page first f n
-unfolding undue_after
-undue_is heard s page first f n left o known is_left found =
+    → o ≡ undue_kept s page first f n
+unfolding undue_kept
+undue_is s page first f n left o is_left found =
     first_difference _ left blank o
     (λ row column is.
-    let kept = shown_is heard s known row column is in
     let rest = is_left row column is in
     let space_is = cell-blank row column is in
     grind (arith, nat_tests))
@@ -120,15 +117,13 @@ undue_is heard s page first f n left o known is_left found =
 
 -- Nothing is left of a page of spaces. For `first_undue`.
 pub undue_none :
-    (heard : List (List ℕ)) (s : Listener) (page : ℕ → Rows) (first f n : ℕ)
-    → Knows heard s
+    (s : Listener) (page : ℕ → Rows) (first f n : ℕ)
     → differing blank s.comparison.page ≡ 0
-    → undue_after s.watched.keeps s.watched.page heard page first f n ≡ None
-unfolding undue_after
-undue_none heard s page first f n known same =
+    → undue_kept s page first f n ≡ None
+unfolding undue_kept
+undue_none s page first f n same =
     first_cell-none _
     (λ row column is.
-    let kept = shown_is heard s known row column is in
     let space_is = cell-blank row column is in
     let equal = cells_same blank s.comparison.page same row column is in
     grind (arith, nat_tests))

@@ -4,18 +4,18 @@ use Rattle.std.proofs.lemmas.Bool.Decides.{nat_tests}
 use Rattle.std.proofs.Common.{◌≡◌, ℕ, ◌+◌, ◌-◌, ◌<◌, ◌≤◌, ◌⊎◌, ◌||◌, ◌==◌, Bool, true, false, not}
 use Rattle.std.proofs.Common.{List, [], Option, None, Some, MatchOption, option_map, unwrap_or}
 use Rattle.std.proofs.Common.{is_some, get_or, cond, replicate, refl, sym, ap, ◌∙◌}
-use Rattle.std.proofs.Common.{arith}
+use Rattle.std.proofs.Common.{arith, zero, suc}
+use Rattle.std.specs.Prelude.{option_and_then}
 use Rattle.std.proofs.lemmas.List.{get_or-drop, get_or-replicate}
 use Rattle.ttx_packet.specs.OneBit.{first_below}
-use Rattle.ttx_packet.proofs.OneBitLemmas.{first_below-at, first_below-none}
+use Rattle.ttx_packet.proofs.OneBitLemmas.{first_below-at, first_below-none, first_below_is}
 use Rattle.ttx_packet.specs.Parity.{code_of}
 use Rattle.ttx_packet.specs.RowPacket.{text_byte}
 use Rattle.ttx_page.specs.Page.{DiffersFirst, IsCell, Rows, blank, blank_row, cell, space}
 use Rattle.ttx_page.specs.Shown.{kept}
 use Rattle.sub_rules.proofs.CodesLemmas.{code_at}
-use Rattle.sub_rules.specs.Events.{first_cell, is_right, wrong_after}
-use Rattle.sub_rules.specs.Kept.{has_row}
-use Rattle.sub_packets.proofs.KeptLemmas.{row_of_code}
+use Rattle.sub_rules.specs.Events.{first_cell}
+use Rattle.sub_packets.specs.KeptPage.{is_right_kept, wrong_kept}
 use Rattle.sub_packets.specs.Listener.{Knows, held}
 use Rattle.sub_packets.specs.Missing.{earlier}
 use Rattle.sub_packets.specs.declared.listener.Listener.{Listener}
@@ -100,6 +100,78 @@ pub record PassesFirst (test : ℕ → ℕ → Bool) (row column : ℕ) : Type 0
   pub rows_above : (r c : ℕ) → IsCell r c → r < row → test r c ≡ false
   pub cells_before : (c : ℕ) → c < column → test row c ≡ false
 
+-- Tests that are the same of each cell find the same.
+below_same : (n : ℕ) (p q : ℕ → Bool) → ((k : ℕ) → k < n → p k ≡ q k)
+    → first_below n p ≡ first_below n q
+below_same zero p q same = refl
+below_same (suc n) p q same =
+    rw (below_same n p q (λ k l. same k (omega arith)), same n (omega arith)) refl
+
+abbrev in_it : (ℕ → ℕ → Bool) → ℕ → Option (ℕ × ℕ)
+in_it test above = option_map (λ column. (above + 1, column)) (first_below 40 (test (above + 1)))
+
+pub first_cell-same : (p q : ℕ → ℕ → Bool)
+    → ((row column : ℕ) → IsCell row column → p row column ≡ q row column)
+    → first_cell p ≡ first_cell q
+unfolding first_cell
+first_cell-same p q same =
+    rw (below_same 24 (λ above. is_some (first_below 40 (p (above + 1))))
+    (λ above. is_some (first_below 40 (q (above + 1)))) (λ k l. ap is_some (in_row k l)))
+    (go (first_below 24 (λ above. is_some (first_below 40 (q (above + 1))))) refl)
+  where
+    in_row : (above : ℕ) → above < 24
+        → first_below 40 (p (above + 1)) ≡ first_below 40 (q (above + 1))
+    in_row above l =
+        below_same 40 (p (above + 1)) (q (above + 1))
+        (λ c m. same (above + 1) c (omega arith, omega arith, m))
+
+    go : (o : Option ℕ) → first_below 24 (λ above. is_some (first_below 40 (q (above + 1)))) ≡ o
+        → option_and_then (in_it p) o ≡ option_and_then (in_it q) o
+    go None is = refl
+    go (Some above) is =
+        let first : ℕ → Bool = λ k. is_some (first_below 40 (q (k + 1))) in
+        let place : Option ℕ → Option (ℕ × ℕ) = option_map (λ column. (above + 1, column)) in
+        ap place (in_row above (first_below_is 24 first above is).0)
+
+-- Where none is found no cell passes. For `no_undue`.
+below_fails : (n : ℕ) (test : ℕ → Bool) → first_below n test ≡ None
+    → (k : ℕ) → k < n → test k ≡ false
+below_fails zero test none k l = absurd (omega arith)
+below_fails (suc n) test none k l = let rest = below_fails n test in grind (arith, nat_tests)
+
+some_in : (test : ℕ → ℕ → Bool) (above : ℕ) → is_some (first_below 40 (test (above + 1))) ≡ true
+    → in_it test above ≡ None → ⊥
+some_in test above some none = go (first_below 40 (test (above + 1))) some none
+  where
+    go : (o : Option ℕ) → is_some o ≡ true
+        → (let place : Option (ℕ × ℕ) = option_map (λ column. (above + 1, column)) o in
+        place ≡ None) → ⊥
+    go None some none = grind arith
+    go (Some column) some none = grind arith
+
+pub no_cell : (test : ℕ → ℕ → Bool) → first_cell test ≡ None
+    → (row column : ℕ) → IsCell row column → test row column ≡ false
+unfolding first_cell
+no_cell test none row column is = go (first_below 24 in_row) refl none
+  where
+    in_row : ℕ → Bool
+    in_row above = is_some (first_below 40 (test (above + 1)))
+
+    none_of : (o : Option ℕ) → is_some o ≡ false → o ≡ None
+    none_of None e = refl
+    none_of (Some k) e = grind arith
+
+    go : (o : Option ℕ) → first_below 24 in_row ≡ o → option_and_then (in_it test) o ≡ None
+        → test row column ≡ false
+    go (Some above) first e = absurd (some_in test above (first_below_is 24 in_row above first).1 e)
+    go None first e =
+        let at : row - 1 + 1 ≡ row = omega (arith, is.0) in
+        let none_there : first_below 40 (test row) ≡ None =
+        none_of (first_below 40 (test row))
+        (ap (λ (k : ℕ). is_some (first_below 40 (test k))) (sym at)
+        ∙ below_fails 24 in_row first (row - 1) (omega (arith, is.0, is.1))) in
+        below_fails 40 (test row) none_there column is.2
+
 -- It is found, or none passes.
 abbrev pub FindsFirst : (ℕ → ℕ → Bool) → Option (ℕ × ℕ) → Type 0
 FindsFirst test o =
@@ -168,38 +240,25 @@ earlier_found ta tb a b na nb = grind (arith, nat_tests, first_alone, first_of)
 
 -- ---- the first cell that is not right
 
-module _ (heard : List (List ℕ)) (s : Listener) (known : Knows heard s) where
+module _ (s : Listener) where
   -- It is not what is due.
   abbrev other : ℕ → ℕ → Bool
   other row column =
-      not (kept s.watched.keeps s.watched.page heard row column
-      == cell s.comparison.due row column)
+      not (cell s.comparison.page row column == cell s.comparison.due row column)
 
   -- It is text that is due, and its row did not come.
   abbrev lacks : ℕ → ℕ → Bool
   lacks row column =
-      not (cell s.comparison.due row column == space || has_row s.watched.page heard row)
+      not (cell s.comparison.due row column == space || get_or s.again (row - 1) false)
 
   -- It is not right.
   abbrev wrong : ℕ → ℕ → Bool
-  wrong row column =
-      not (is_right s.watched.keeps s.watched.page heard s.comparison.due row column)
+  wrong row column = not (is_right_kept s row column)
 
   -- So it is one of both.
-  wrong_as : (row column : ℕ) → wrong row column ≡ (other row column || lacks row column)
-  wrong_as row column = grind (arith, nat_tests)
-
-  -- A comparison of two pages finds the first that is other than due.
-  other_found : (o : Option (ℕ × ℕ))
-      → MatchOption o
-      ((row column : ℕ)
-      → IsCell row column
-      → cell s.comparison.page row column ≡ cell s.comparison.due row column)
-      (λ place. DiffersFirst s.comparison.page s.comparison.due place.0 place.1)
-      → FindsFirst other o
-  other_found o found =
-      differing_found other s.comparison.page s.comparison.due o
-      (λ row column is. let kept_is = shown_is heard s known row column is in rw kept_is refl) found
+  wrong_as : (row column : ℕ) → s.watched.keeps ≡ true
+      → wrong row column ≡ (other row column || lacks row column)
+  wrong_as row column keeps = grind (arith, nat_tests)
 
   -- Where repeats may not keep, the one is the other. For `first_wrong` and `is_known_right`.
   pub wrong_is : (o : Option (ℕ × ℕ))
@@ -209,14 +268,11 @@ module _ (heard : List (List ℕ)) (s : Listener) (known : Knows heard s) where
       → IsCell row column
       → cell s.comparison.page row column ≡ cell s.comparison.due row column)
       (λ place. DiffersFirst s.comparison.page s.comparison.due place.0 place.1)
-      → o ≡ wrong_after s.watched.keeps s.watched.page heard s.comparison.due
-  unfolding wrong_after
+      → o ≡ wrong_kept s
+  unfolding wrong_kept
   wrong_is o none found =
       first_difference wrong s.comparison.page s.comparison.due o
-      (λ row column is.
-      let kept_is = shown_is heard s known row column is in
-      let came = row_of_code s.watched.keeps s.watched.page heard row column none in
-      grind (arith, nat_tests)) found
+      (λ row column is. grind (arith, nat_tests)) found
 
   -- The page that is due, without the rows that came.
   abbrev pub IsMissing : Rows → Type 0
@@ -236,6 +292,7 @@ module _ (heard : List (List ℕ)) (s : Listener) (known : Knows heard s) where
 
   -- Where repeats may keep, the earlier of both. For `first_wrong`.
   pub wrong_keeping : (missing : Rows) (a b : Option (ℕ × ℕ))
+      → s.watched.keeps ≡ true
       → IsMissing missing
       → MatchOption a
       ((row column : ℕ)
@@ -243,9 +300,11 @@ module _ (heard : List (List ℕ)) (s : Listener) (known : Knows heard s) where
       → cell s.comparison.page row column ≡ cell s.comparison.due row column)
       (λ place. DiffersFirst s.comparison.page s.comparison.due place.0 place.1)
       → MatchOption b (missing ≡ blank) (λ place. DiffersFirst missing blank place.0 place.1)
-      → earlier a b ≡ wrong_after s.watched.keeps s.watched.page heard s.comparison.due
-  unfolding wrong_after
-  wrong_keeping missing a b cells one two =
+      → earlier a b ≡ wrong_kept s
+  unfolding wrong_kept
+  wrong_keeping missing a b keeps cells one two =
       found_first (λ row column. other row column || lacks row column) (earlier a b)
-      (earlier_found other lacks a b (other_found a one) (lacks_found missing b cells two))
-      ∙ sym (ap first_cell (λ k row column. wrong_as row column k))
+      (earlier_found other lacks a b
+      (differing_found other s.comparison.page s.comparison.due a (λ row column is. refl) one)
+      (lacks_found missing b cells two))
+      ∙ sym (ap first_cell (λ k row column. wrong_as row column keeps k))

@@ -1,4 +1,5 @@
 pub mod Comparison
+pub mod KeptPage
 pub mod Listener
 pub mod Missing
 pub mod SentAgain

@@ -74,6 +74,7 @@ struct Heard {
 }
 
 impl Listener {
+    ghost use Rattle.sub_packets.specs.KeptPage.{is_incomplete_kept};
     ghost use Rattle.sub_packets.specs.Listener.{IsPassed, Knows, KnowsLast, IsAlwaysPassed};
     ghost use Rattle.sub_packets.specs.Listener.{begins_frame};
     ghost use Rattle.sub_packets.specs.Listener.{is_passed_header, rule_set};
@@ -115,8 +116,7 @@ impl Listener {
 
     /// Whether complete pages are asked for, and the page is open.
     pub fn is_incomplete(&self) -> bool
-        ensures { (heard : List (List ℕ)) → Knows heard self.now → result
-            ≡ (self.now.watched.complete && is_open_after (kind self.now.watched.page) heard) }
+        ensures { result ≡ is_incomplete_kept self.now }
     {
         self.watched.complete && self.is_open
     }

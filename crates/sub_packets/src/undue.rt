@@ -1,17 +1,16 @@
 //! What a page shows that was not due there within the last frames.
-ghost use Rattle.std.specs.Prelude.{◌≡◌, ℕ, ◌+◌, ◌-◌, ◌<◌, ◌≤◌, ◌==◌, List, MatchOption};
+ghost use Rattle.std.specs.Prelude.{◌≡◌, ℕ, ◌+◌, ◌-◌, ◌<◌, ◌≤◌, ◌==◌, MatchOption};
 ghost use Rattle.std.specs.Prelude.{if◌then◌else◌, slice_index};
 ghost use Rattle.ttx_page.specs.Page.{AreCodes, IsCell, IsPage, IsRow, blank_row, cell};
 ghost use Rattle.sub_packets.specs.Undue.{IsLeft, unless_due};
 ghost use Rattle.sub_plan.specs.Schedule.{due_in};
-ghost use Rattle.sub_rules.specs.Events.{undue_after};
 
 use crate::listener::Listener;
 use stl_rows::Programme;
 use ttx_page::{Page, differing_columns};
 
 impl Listener {
-    ghost use Rattle.sub_packets.specs.Listener.{Knows};
+    ghost use Rattle.sub_packets.specs.KeptPage.{undue_kept};
 
     /// The first cell that shows neither a space nor a code that was due there at a frame or at
     /// one of the `within` frames before it, none of them before the frame `first`.
@@ -25,9 +24,7 @@ impl Listener {
         frame: u32,
         within: u32,
     ) -> Option<(u8, u8)>
-        ensures { (heard : List (List ℕ)) → Knows heard self.now → result
-            ≡ undue_after self.now.watched.keeps self.now.watched.page heard (due_in programme.now)
-            first frame within }
+        ensures { result ≡ undue_kept self.now (due_in programme.now) first frame within }
     {
         let shown = self.comparison.shown();
         // Most often a header has erased the page, and its rows come in a later frame.

@@ -1,24 +1,21 @@
 //! The first cell that is not right: where repeats may keep the page, rows have to come again too.
-ghost use Rattle.std.specs.Prelude.{◌≡◌, ℕ, ◌-◌, ◌==◌, List, IsTrue, None, false};
+ghost use Rattle.std.specs.Prelude.{◌≡◌, ℕ, ◌-◌, ◌==◌, IsTrue, None, false};
 ghost use Rattle.std.specs.Prelude.{if◌then◌else◌, slice_index_or};
 ghost use Rattle.ttx_page.specs.Page.{IsCell, cell, space};
 ghost use Rattle.sub_packets.specs.Missing.{earlier};
-ghost use Rattle.sub_rules.specs.Events.{wrong_after};
 
 use crate::listener::Listener;
 use crate::undue::excuse_row;
 use ttx_page::Page;
 
 impl Listener {
-    ghost use Rattle.sub_packets.specs.Listener.{Knows};
+    ghost use Rattle.sub_packets.specs.KeptPage.{wrong_kept};
 
     /// Whether it is known without looking that each cell is right: it is not where repeats may
     /// keep the page, since rows may not have come again.
     #[inline(always)]
     pub fn is_known_right(&self) -> bool
-        ensures { (heard : List (List ℕ)) → Knows heard self.now → IsTrue result
-            → wrong_after self.now.watched.keeps self.now.watched.page heard
-            self.now.comparison.due ≡ None }
+        ensures { IsTrue result → wrong_kept self.now ≡ None }
     {
         self.comparison.is_known_right() && !self.watched.keeps
     }
@@ -26,9 +23,7 @@ impl Listener {
     /// The first cell that is not right: what is kept there is not what is due; or that is text,
     /// and its row did not come since the last header of the page.
     pub fn first_wrong(&self) -> Option<(u8, u8)>
-        ensures { (heard : List (List ℕ)) → Knows heard self.now → result
-            ≡ wrong_after self.now.watched.keeps self.now.watched.page heard
-            self.now.comparison.due }
+        ensures { result ≡ wrong_kept self.now }
     {
         let differing = self.comparison.first_wrong();
         if !self.watched.keeps {

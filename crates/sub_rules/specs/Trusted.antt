@@ -27,20 +27,25 @@ use Rattle.sub_rules.specs.declared.event.Event.TheVariants.{Told, Trusted}
 use Rattle.sub_rules.specs.declared.fault.CheckFault.TheVariants as fault
 use Rattle.sub_rules.specs.declared.standing.Standing.{Standing}
 
--- What follows is told of this PES packet; this is told; the packets of a frame with this number
--- follow; what follows is told at the end of a frame, up to which the ends are unfinished since
--- this one, and which is late or is not; a frame of PES packets ends, with this number, by whether
--- it has such a header of the page and whether nothing stands broken; the file ends, by whether
--- bytes are left that may have been sent in the last frame, and whether what is trusted is told
--- whatever came before; up to the end before the frame that comes, or whose end comes, the ends are
--- unfinished since this one.
+-- A step of what comes of a file.
 pub data CheckStep : Type 0 where
+  -- What follows is told of this PES packet.
   AtPes : ℕ → CheckStep
+  -- This is told.
   Says : Event → CheckStep
+  -- The packets of a frame with this number follow.
   Begins : ℕ → CheckStep
+  -- What follows is told at the end of this frame, up to which the ends are unfinished since this
+  -- one, if they are; and whether it is late.
   AtEnd : ℕ → Option ℕ → Bool → CheckStep
+  -- A frame of PES packets ends, with this number: whether it has such a header of the page, and
+  -- whether nothing stands broken.
   Ends : ℕ → Bool → Bool → CheckStep
+  -- The file ends: whether bytes are left that may have been sent in the last frame, and whether
+  -- what is trusted is told whatever came before.
   Closes : Bool → Bool → CheckStep
+  -- Up to the end before the frame that comes, or whose end comes, the ends are unfinished since
+  -- this one, if they are.
   GoesBack : Option ℕ → CheckStep
 
 -- ---- where the file has come to

@@ -7,12 +7,21 @@ use fixtures::{Counting, Drip, every_second};
 use std::process::Abort;
 use sub_io::{BufferedSource, FailAt, MemSink, MemSource};
 use ttx_pes::{
-    Came, FailedAt, FilePieces, NumberedPieces, PartOfPieces, PesFault, PieceRange, Pieces,
+    Came, FailedAt, FilePieces, LimitedPieces, NumberedPieces, PartOfPieces, PesFault, PieceRange,
+    Pieces, PiecesAhead,
 };
 
 // A range.
 fn range(rt: &impl Abort, first: u64, last: Option<u64>) -> PieceRange {
     PieceRange::new(first, last).expect(rt, "the last one stands behind the first")
+}
+
+// Those of a range.
+fn part_of<P: Pieces>(all: &mut P, range: PieceRange) -> PartOfPieces<'_, P> {
+    PartOfPieces {
+        inner: LimitedPieces::new(all, range.most()),
+        ahead: PiecesAhead::new(range.first()),
+    }
 }
 
 // Asserts all that comes: these pieces, joined, and then this.
@@ -51,11 +60,13 @@ fn assert_gives(
     let range = range(rt, numbers.0, numbers.1);
     let case = (cut, numbers.0);
     let mut source = MemSource::new(whole);
-    let mut pieces = PartOfPieces::new(FilePieces::new(&mut source), range);
+    let mut all = FilePieces::new(&mut source);
+    let mut pieces = part_of(&mut all, range);
     assert_same_in(rt, &pieces.find_first(), &Ok(want.2), &case);
     assert_comes(rt, &mut pieces, wanted, end, &case);
     let mut drip = Drip { rest: whole };
-    let mut pieces = PartOfPieces::new(FilePieces::new(&mut drip), range);
+    let mut all = FilePieces::new(&mut drip);
+    let mut pieces = part_of(&mut all, range);
     assert_comes(rt, &mut pieces, wanted, end, &case);
 }
 
@@ -100,7 +111,8 @@ fn asks_for_nothing_behind_the_last_piece(rt: HostRuntime) {
     let file = every_second();
     // The first pull behind 368 bytes would fail.
     let mut source = FailAt::new(Drip { rest: &file }, 368);
-    let mut pieces = PartOfPieces::new(FilePieces::new(&mut source), range(&rt, 0, Some(1)));
+    let mut all = FilePieces::new(&mut source);
+    let mut pieces = part_of(&mut all, range(&rt, 0, Some(1)));
     assert_comes(&rt, &mut pieces, &file[..368], Came::End, &(368, 0));
 }
 
@@ -108,7 +120,8 @@ fn asks_for_nothing_behind_the_last_piece(rt: HostRuntime) {
 fn tells_where_it_failed_before_the_range(rt: HostRuntime) {
     let file = every_second();
     let mut source = FailAt::new(Drip { rest: &file }, 200);
-    let mut pieces = PartOfPieces::new(FilePieces::new(&mut source), range(&rt, 2, None));
+    let mut all = FilePieces::new(&mut source);
+    let mut pieces = part_of(&mut all, range(&rt, 2, None));
     assert_same(&rt, &pieces.find_first(), &Err(FailedAt { pes: 1 }));
     // Nothing is lost by it.
     assert_same(&rt, &pieces.find_first(), &Ok(2));

@@ -8,7 +8,7 @@ use crate::adaptation::pts_said;
 use crate::pes_lines::PesLines;
 use crate::pid_packets::TakesPieces;
 use crate::text::Text;
-use ttx_pes::size_of;
+use ttx_pes::{is_mark, size_of};
 
 /// What was given of a PID.
 #[derive(Drop)]
@@ -142,13 +142,4 @@ fn refusal_of(bytes: &[u8]) -> Option<u16> {
         Ok(_) => None,
         Err(fault) => Some(u16::from(fault.code().number())),
     }
-}
-
-/// Whether a PES packet is a mark: FF from byte 6 on (own).
-pub fn is_mark(pes: &[u8]) -> bool {
-    if pes.len() < 7 {
-        return false;
-    }
-    let (_, rest) = pes.split_at(6);
-    rest.iter().all(|byte| *byte == 0xFF)
 }

@@ -2,11 +2,11 @@
 ghost use Rattle.std.specs.Prelude.{◌≡◌, ◌≤◌, ℕ, length};
 
 use crate::adaptation::pts_said;
-use crate::given::is_mark;
 use crate::pes_lines::PesLines;
 use crate::text::Text;
 use std::alloc::Global;
 use ttx_packet::PageId;
+use ttx_pes::is_mark;
 
 /// How far a file of PES packets was read.
 #[derive(Drop)]

@@ -94,7 +94,8 @@ pub holds_read : (bytes : List ℕ) (r : Result ℕ PesFault)
 unfolding holds_packet
 holds_read bytes r many is = grind (arith, nat_tests)
 
--- Where the read of a packet failed, nothing was waiting. For `read_settled` of two crates.
+-- Where the read of a packet failed, nothing was waiting. For `tell_pieces` and the lister of
+-- `packets`.
 pub waits_not : (is_waiting fails ready : Bool)
     → NothingWaits is_waiting ready
     → (ready ≡ true → fails ≡ false)

@@ -75,8 +75,8 @@ abbrev pub never_ready : {P : Type 0} → P → Bool
 never_ready pieces = false
 
 -- None holds its device by a reference.
-abbrev pub lends_none : {P : Type 0} → P → Option GName
-lends_none pieces = None
+abbrev pub lends_none : {P : Type 0} → P → List GName
+lends_none pieces = []
 
 -- ---- of a source
 

@@ -73,12 +73,16 @@ has_markers b =
 
 -- All bytes are FF: from byte 6 on so it is in the mark that stands where PES packets were lost
 -- (own). Scrambled, or with such flags, no packet is that by chance.
+abbrev pub is_filled : List ℕ → Bool
+is_filled b = list_all (λ byte. byte == stuffing) b
+
+-- A piece is such a mark: it has 184 bytes.
 abbrev pub is_mark : List ℕ → Bool
-is_mark b = list_all (λ byte. byte == stuffing) b
+is_mark piece = (length piece == payload_size) && is_filled (drop 6 piece)
 
 -- What is told where byte 6 does not begin with 1000.
 abbrev pub flags_fault : List ℕ → PesFault
-flags_fault b = if is_mark b then fault.Lost else fault.Flags
+flags_fault b = if is_filled b then fault.Lost else fault.Flags
 
 -- Bytes 6 to 45: the PTS.
 unfoldable pub pts_at : List ℕ → Result ℕ PesFault

@@ -1,5 +1,6 @@
 //! The pieces of a source that gives the bytes of a PES file.
-ghost use Rattle.std.specs.Prelude.{◌≡◌, ◌≤◌, [], IfNone, IfSome, Ok, Some, length, take, true};
+ghost use Rattle.std.specs.Prelude.{◌≡◌, ◌≤◌, [], ◌∷◌, IfNone, IfSome, Ok, Some, length, take};
+ghost use Rattle.std.specs.Prelude.{true};
 ghost use Rattle.sub_io.specs.Device.{CanFail};
 ghost use Rattle.ttx_pes.specs.Advancing.{TakesPieceBy, held_then, lends_piece};
 ghost use Rattle.ttx_pes.specs.PesPacket.{payload_size};
@@ -87,7 +88,7 @@ impl<S: Source> Pieces for FilePieces<'_, S> {
 
     ghost ready = { λ f. lends_piece f.begun (S.lent f.source.now) };
 
-    ghost device = { λ f. Some f.source.ghost_name };
+    ghost device = { λ f. f.source.ghost_name ∷ [] };
 
     #[inline(always)]
     fn next<T: TakePiece>(&mut self, taker: &mut T) -> Result<Came<T::Answer>, Failed> {

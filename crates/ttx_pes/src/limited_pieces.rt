@@ -1,5 +1,5 @@
 //! So many pieces at most.
-ghost use Rattle.std.specs.Prelude.{◌≡◌, ◌<◌, ◌≤◌, OnErr, OnOk, false, is_ok, true};
+ghost use Rattle.std.specs.Prelude.{◌≡◌, ◌∷◌, ◌<◌, ◌≤◌, OnErr, OnOk, false, is_ok, true};
 ghost use Rattle.sub_io.specs.Device.{CanFail, CountsFailure};
 ghost use Rattle.ttx_pes.specs.Advancing.{Advances, HasPassed, Passes, is_over, limited_behind};
 ghost use Rattle.ttx_pes.specs.Advancing.{limited_known, limited_rest, tells_rest};
@@ -11,16 +11,18 @@ use sub_io::Failed;
 
 /// Gives so many pieces at most of those that another gives; then nothing is left.
 #[derive(Drop)]
-pub struct LimitedPieces<P> {
-    inner: P,
+pub struct LimitedPieces<'a, P> {
+    inner: &'a mut P,
     // How many may still come; all where there is no number.
     left: Option<u64>,
 }
 
-impl<P: Pieces> LimitedPieces<P> {
+impl<'a, P: Pieces> LimitedPieces<'a, P> {
     /// Those that `inner` gives, `left` at most; all of them where no number is given.
-    pub fn new(inner: P, left: Option<u64>) -> Self
-        ensures { result ≡ record { inner = inner; left = left } }
+    pub fn new(inner: &'a mut P, left: Option<u64>) -> Self
+        ensures same { result.inner.ghost_name ≡ inner.entry.ghost_name }
+        ensures now { result.inner.now ≡ inner.old }
+        ensures left { result.left ≡ left }
     {
         LimitedPieces { inner, left }
     }
@@ -28,58 +30,53 @@ impl<P: Pieces> LimitedPieces<P> {
     /// Passes over the first `n` pieces of those that are limited, or over all where there are
     /// fewer, and answers how many it passed over, and whether the device failed then.
     pub(crate) fn pass(&mut self, n: u64) -> (u64, Result<(), Failed>)
-        requires failures { CanFail (P.failure_count self.old.inner) }
+        requires failures { CanFail (P.failure_count self.old.inner.now) }
         ensures most { result.0 ≤ n }
         ensures fewer { OnErr result.1 (result.0 < n) }
         ensures passed { OnOk result.1
-            (Passes n (P.remaining self.old.inner) (P.remaining self.new.inner) result.0) }
+            (Passes n (P.remaining self.old.inner.now) (P.remaining self.new.inner.now) result.0) }
         ensures so_far { HasPassed n result.0
-            (P.remaining self.old.inner) (P.remaining self.new.inner) }
+            (P.remaining self.old.inner.now) (P.remaining self.new.inner.now) }
         ensures limit { self.new.left ≡ self.old.left }
-        ensures same { P.device self.new.inner ≡ P.device self.old.inner }
-        ensures count { CountsFailure (P.failure_count self.old.inner) result.1
-            (P.failure_count self.new.inner) }
+        ensures same { self.new.inner.ghost_name ∷ P.device self.new.inner.now
+            ≡ self.old.inner.ghost_name ∷ P.device self.old.inner.now }
+        ensures count { CountsFailure (P.failure_count self.old.inner.now) result.1
+            (P.failure_count self.new.inner.now) }
     {
-        pass_pieces(n, &mut self.inner)
-    }
-
-    /// Who gives them.
-    pub fn into_inner(self) -> P
-        ensures { result ≡ self.inner }
-    {
-        let LimitedPieces { inner, .. } = self;
-        inner
+        pass_pieces(n, self.inner)
     }
 }
 
-impl<P: Pieces> Pieces for LimitedPieces<P> {
-    ghost remaining = { λ l. limited_known l.left (P.remaining l.inner) };
+impl<P: Pieces> Pieces for LimitedPieces<'_, P> {
+    ghost remaining = { λ l. limited_known l.left (P.remaining l.inner.now) };
 
-    ghost left = { λ l. limited_behind l.left (P.remaining l.inner) (P.left l.inner) };
+    ghost left = { λ l. limited_behind l.left (P.remaining l.inner.now) (P.left l.inner.now) };
 
-    ghost failure_count = { λ l. P.failure_count l.inner };
+    ghost failure_count = { λ l. P.failure_count l.inner.now };
 
-    ghost is_rest = { λ l. limited_rest l.left (P.is_rest l.inner) };
+    ghost is_rest = { λ l. limited_rest l.left (P.is_rest l.inner.now) };
 
-    ghost ready = { λ l. P.ready l.inner };
+    ghost ready = { λ l. P.ready l.inner.now };
 
-    ghost device = { λ l. P.device l.inner };
+    ghost device = { λ l. l.inner.ghost_name ∷ P.device l.inner.now };
 
     #[inline(always)]
     fn next<T: TakePiece>(&mut self, taker: &mut T) -> Result<Came<T::Answer>, Failed>
-        requires failures { CanFail (P.failure_count self.old.inner) }
+        requires failures { CanFail (P.failure_count self.old.inner.now) }
         // Once so many have come nothing is read.
         ensures over { is_over self.old.left ≡ true → self.new ≡ self.old }
-        ensures came { Advances (limited_known self.old.left (P.remaining self.old.inner))
-            (limited_known self.new.left (P.remaining self.new.inner))
-            (limited_behind self.new.left (P.remaining self.new.inner) (P.left self.new.inner))
+        ensures came { Advances (limited_known self.old.left (P.remaining self.old.inner.now))
+            (limited_known self.new.left (P.remaining self.new.inner.now))
+            (limited_behind self.new.left (P.remaining self.new.inner.now)
+            (P.left self.new.inner.now))
             T.is_take taker.old taker.new result }
         ensures rest { tells_rest result ≡ true
-            → limited_rest self.new.left (P.is_rest self.new.inner) ≡ true }
-        ensures ready { P.ready self.old.inner ≡ true → is_ok result ≡ true }
-        ensures same { P.device self.new.inner ≡ P.device self.old.inner }
-        ensures count { CountsFailure (P.failure_count self.old.inner) result
-            (P.failure_count self.new.inner) }
+            → limited_rest self.new.left (P.is_rest self.new.inner.now) ≡ true }
+        ensures ready { P.ready self.old.inner.now ≡ true → is_ok result ≡ true }
+        ensures same { self.new.inner.ghost_name ∷ P.device self.new.inner.now
+            ≡ self.old.inner.ghost_name ∷ P.device self.old.inner.now }
+        ensures count { CountsFailure (P.failure_count self.old.inner.now) result
+            (P.failure_count self.new.inner.now) }
     {
         if is_over(self.left) {
             return Ok(Came::End);

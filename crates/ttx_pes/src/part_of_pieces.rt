@@ -1,80 +1,61 @@
 //! Some of the pieces of a file or of a recording.
-ghost use Rattle.std.specs.Prelude.{◌≡◌, ◌≤◌, ℕ, IfErr, IfOk, OnErr, OnOk, Ok, Some};
-ghost use Rattle.std.specs.Prelude.{option_map};
+ghost use Rattle.std.specs.Prelude.{◌≡◌, ◌∷◌, ◌≤◌, ℕ, IfErr, IfOk, OnErr, OnOk, Ok, Some};
 ghost use Rattle.std.specs.Io.KnownBytes.{Keeps};
 ghost use Rattle.sub_io.specs.Device.{CanFail, CountsFailure};
 ghost use Rattle.ttx_pes.specs.PartOfPieces.{part_known, part_left, part_number, part_ready};
 ghost use Rattle.ttx_pes.specs.PartOfPieces.{part_rest};
-ghost use Rattle.ttx_pes.specs.PieceRange.{first_index, in_range};
 
 use crate::limited_pieces::LimitedPieces;
 use crate::numbered_pieces::{FailedAt, NumberedPieces};
-use crate::piece_range::PieceRange;
 use crate::pieces::{Came, Pieces, REST_ROOM, TakePiece};
 use crate::pieces_ahead::PiecesAhead;
 use sub_io::Failed;
 
 /// Gives the pieces of a range of those that another gives. Where there are fewer than go up to the
 /// last one of the range, it ends as that one does. Nothing behind the last one is asked for.
+///
+/// It is made where it is used: of one that a function gives back the prover does not know what
+/// was lent, two structs deep.
 #[derive(Drop)]
-pub struct PartOfPieces<P> {
-    inner: LimitedPieces<P>,
-    ahead: PiecesAhead,
+pub struct PartOfPieces<'a, P> {
+    /// All up to the last one of the range.
+    pub inner: LimitedPieces<'a, P>,
+    /// Those before the range.
+    pub ahead: PiecesAhead,
 }
 
-impl<P: Pieces> PartOfPieces<P> {
-    /// Those of a range.
-    pub fn new(inner: P, range: PieceRange) -> Self
-        ensures told { part_known result.ahead.to_pass result.inner.left
-            (P.remaining result.inner.inner) ≡ option_map (in_range range) (P.remaining inner) }
-        ensures number { part_number result.ahead (P.remaining result.inner.inner)
-            ≡ option_map (first_index range) (P.remaining inner) }
-        ensures inner { result.inner.inner ≡ inner }
-    {
-        PartOfPieces {
-            inner: LimitedPieces::new(inner, range.most()),
-            ahead: PiecesAhead::new(range.first()),
-        }
-    }
-
-    /// Who gives them.
-    pub fn into_inner(self) -> P
-        ensures { result ≡ self.inner.inner }
-    {
-        let PartOfPieces { inner, .. } = self;
-        inner.into_inner()
-    }
-
+impl<P: Pieces> PartOfPieces<'_, P> {
     // Passes over the pieces before those that it gives.
     fn pass_others(&mut self) -> Result<u64, FailedAt>
-        requires failures { CanFail (P.failure_count self.old.inner.inner) }
+        requires failures { CanFail (P.failure_count self.old.inner.inner.now) }
         ensures kept { Keeps
             (part_known self.old.ahead.to_pass self.old.inner.left
-            (P.remaining self.old.inner.inner))
+            (P.remaining self.old.inner.inner.now))
             (part_known self.new.ahead.to_pass self.new.inner.left
-            (P.remaining self.new.inner.inner)) }
+            (P.remaining self.new.inner.inner.now)) }
         ensures first { (n : ℕ)
-            → part_number self.old.ahead (P.remaining self.old.inner.inner) ≡ Some n
+            → part_number self.old.ahead (P.remaining self.old.inner.inner.now) ≡ Some n
             → IfOk result (λ found. found ≡ n) }
         ensures before { (n : ℕ)
-            → part_number self.old.ahead (P.remaining self.old.inner.inner) ≡ Some n
+            → part_number self.old.ahead (P.remaining self.old.inner.inner.now) ≡ Some n
             → IfErr result (λ at. at.pes ≤ n) }
         ensures failed { IfErr result (λ at. at.pes ≡ self.new.ahead.passed) }
         ensures left { (n : ℕ)
-            → part_number self.old.ahead (P.remaining self.old.inner.inner) ≡ Some n
+            → part_number self.old.ahead (P.remaining self.old.inner.inner.now) ≡ Some n
             → IfErr result (λ _.
-            part_number self.new.ahead (P.remaining self.new.inner.inner) ≡ Some n) }
+            part_number self.new.ahead (P.remaining self.new.inner.inner.now) ≡ Some n) }
         ensures found { OnOk result (self.new.ahead.to_pass ≡ 0) }
         ensures unread { OnErr result (Keeps
             (part_known self.old.ahead.to_pass self.old.inner.left
-            (P.remaining self.old.inner.inner))
+            (P.remaining self.old.inner.inner.now))
             (part_left self.new.ahead.to_pass self.new.inner.left
-            (P.remaining self.new.inner.inner) (P.left self.new.inner.inner))) }
+            (P.remaining self.new.inner.inner.now) (P.left self.new.inner.inner.now))) }
         ensures none { self.old.ahead.to_pass ≡ 0
             → (self.new ≡ self.old) × (result ≡ Ok self.old.ahead.passed) }
-        ensures same { P.device self.new.inner.inner ≡ P.device self.old.inner.inner }
-        ensures count { CountsFailure (P.failure_count self.old.inner.inner) result
-            (P.failure_count self.new.inner.inner) }
+        ensures same { self.new.inner.inner.ghost_name ∷ P.device self.new.inner.inner.now
+            ≡ self.old.inner.inner.ghost_name ∷ P.device self.old.inner.inner.now }
+        ensures count { CountsFailure (P.failure_count self.old.inner.inner.now) result
+            (P.failure_count self.new.inner.inner.now) }
     {
         if self.ahead.to_pass() == 0 {
             return Ok(self.ahead.passed());
@@ -93,20 +74,20 @@ impl<P: Pieces> PartOfPieces<P> {
     }
 }
 
-impl<P: Pieces> Pieces for PartOfPieces<P> {
+impl<P: Pieces> Pieces for PartOfPieces<'_, P> {
     ghost remaining = { λ p.
-        part_known p.ahead.to_pass p.inner.left (P.remaining p.inner.inner) };
+        part_known p.ahead.to_pass p.inner.left (P.remaining p.inner.inner.now) };
 
     ghost left = { λ p. part_left p.ahead.to_pass p.inner.left
-        (P.remaining p.inner.inner) (P.left p.inner.inner) };
+        (P.remaining p.inner.inner.now) (P.left p.inner.inner.now) };
 
-    ghost failure_count = { λ p. P.failure_count p.inner.inner };
+    ghost failure_count = { λ p. P.failure_count p.inner.inner.now };
 
-    ghost is_rest = { λ p. part_rest p.ahead.to_pass p.inner.left (P.is_rest p.inner.inner) };
+    ghost is_rest = { λ p. part_rest p.ahead.to_pass p.inner.left (P.is_rest p.inner.inner.now) };
 
-    ghost ready = { λ p. part_ready p.ahead.to_pass (P.ready p.inner.inner) };
+    ghost ready = { λ p. part_ready p.ahead.to_pass (P.ready p.inner.inner.now) };
 
-    ghost device = { λ p. P.device p.inner.inner };
+    ghost device = { λ p. p.inner.inner.ghost_name ∷ P.device p.inner.inner.now };
 
     #[inline(always)]
     fn next<T: TakePiece>(&mut self, taker: &mut T) -> Result<Came<T::Answer>, Failed> {
@@ -125,8 +106,8 @@ impl<P: Pieces> Pieces for PartOfPieces<P> {
     }
 }
 
-impl<P: Pieces> NumberedPieces for PartOfPieces<P> {
-    ghost first = { λ p. part_number p.ahead (P.remaining p.inner.inner) };
+impl<P: Pieces> NumberedPieces for PartOfPieces<'_, P> {
+    ghost first = { λ p. part_number p.ahead (P.remaining p.inner.inner.now) };
 
     ghost passed = { λ p. p.ahead.passed };
 

@@ -5,7 +5,8 @@ ghost use Rattle.std.specs.Prelude.{slice_index, IfOk, IfErr};
 ghost use Rattle.ttx_pes.specs.Fault.{is_of_piece};
 ghost use Rattle.ttx_pes.specs.PesPacket.{header_size, longest_packet, payload_size};
 ghost use Rattle.ttx_pes.specs.PesPacket.{pes_packet_header, pts_bytes};
-ghost use Rattle.ttx_pes.specs.Reading.{flags_fault, is_format_fault, is_mark, is_start, pts_at};
+ghost use Rattle.ttx_pes.specs.Reading.{flags_fault, is_filled, is_format_fault, is_mark};
+ghost use Rattle.ttx_pes.specs.Reading.{is_start, pts_at};
 ghost use Rattle.ttx_pes.specs.Reading.{size_at};
 
 use crate::fault::PesFault;
@@ -92,18 +93,30 @@ pub(crate) fn pts_of(body: &[u8]) -> Result<u64, PesFault>
 fn flags_fault(body: &[u8]) -> PesFault
     ensures { result ≡ flags_fault body.now }
 {
-    if is_mark(body) {
+    if is_filled(body) {
         PesFault::Lost
     } else {
         PesFault::Flags
     }
 }
 
-// Whether all bytes are FF, as in the mark of lost packets.
-fn is_mark(body: &[u8]) -> bool
-    ensures { result ≡ is_mark body.now }
+// Whether all bytes are FF, as those of the mark of lost packets from byte 6 on.
+fn is_filled(body: &[u8]) -> bool
+    ensures { result ≡ is_filled body.now }
 {
     body.iter().all(|byte| *byte == 0xFF)
+}
+
+/// Whether a piece is the mark that stands where PES packets were lost: 184 bytes, which are FF
+/// from byte 6 on (own).
+pub fn is_mark(piece: &[u8]) -> bool
+    ensures { result ≡ is_mark piece.now }
+{
+    if piece.len() != PAYLOAD {
+        return false;
+    }
+    let (_, body) = piece.split_at(6);
+    is_filled(body)
 }
 
 // A group of 15 bits of the PTS, without the marker bit after it.

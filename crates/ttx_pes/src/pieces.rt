@@ -57,8 +57,8 @@ pub trait Pieces {
     // The next call asks no device.
     ghost ready: { Self → Bool } = { never_ready };
 
-    // By which reference it holds its device, where it holds it by one.
-    ghost device: { Self → Option GName } = { lends_none };
+    // By which references it holds its device, the outermost first.
+    ghost device: { Self → List GName } = { lends_none };
 
     /// Has a taker take the next piece, if one comes. Where none does it is not called, and nothing
     /// is taken by later calls.

@@ -5,7 +5,7 @@ use std::marker::Model;
 
 /// How many pieces were passed over, and how many are still to be. Contracts see both numbers.
 #[derive(Drop)]
-pub(crate) struct PiecesAhead {
+pub struct PiecesAhead {
     passed: u64,
     to_pass: u64,
 }
@@ -22,8 +22,8 @@ impl Model for PiecesAhead {
 }
 
 impl PiecesAhead {
-    // So many are to be passed over.
-    pub(crate) fn new(to_pass: u64) -> Self
+    /// So many are to be passed over.
+    pub fn new(to_pass: u64) -> Self
         ensures { result ≡ record { passed = 0; to_pass = to_pass } }
     {
         PiecesAhead { passed: 0, to_pass }

@@ -89,6 +89,16 @@ class ReadingLists(Case):
         self.must("counts, with no comment", counts(*them.reading("total")) == (3, 6, 2),
                   counts(*them.reading("total")))
 
+    def test_reads_from_the_top(self) -> None:
+        """What names something comes before it, in the order of the text: the higher crate
+        first."""
+        them = library(self)
+        for name, want in {
+                "total": "high.total low.pair low.size", "law": "high.IsSize high.size low.size",
+                "count": "high.total high.IsSize high.size low.pair low.size"}.items():
+            found = " ".join(f"{one.file.crate}.{one.name}" for one in them.from_the_top(name))
+            self.must(name, found == want, found)
+
     def test_holds_how_much_is_to_be_read(self) -> None:
         """As many lines as there may be, and one more."""
         library(self)

@@ -1,5 +1,5 @@
 -- A part of a source, by how it was made: all_of_source, file_of_source, stream_of_source.
-use Rattle.std.proofs.Common.{◌∙◌, ap, refl, sym}
+use Rattle.std.proofs.Common.{◌∙◌, ap, refl, rules, sym}
 use Rattle.mpeg_ts.specs.Recording.{RecordingValue}
 use Rattle.sub_answer.proofs.EndingLemmas.{ends_weaker}
 use Rattle.sub_answer.proofs.PartLemmas.{all_of_source, file_of_source, stream_of_source}
@@ -16,20 +16,20 @@ returns-then-not-reads_pieces-clause-ends g c =
 
 pub returns-in-None-clause-ends : goal.returns-in-None-clause-ends
 returns-in-None-clause-ends g c =
-    ends_weaker _ _ _ _ _ _ _ _ _ _ _ _ c.answer_file-status.ensures.ends
+    ends_weaker _ _ _ _ _ _ _ _ _ _ _ _ c.answer_range-status.ensures.ends
     (λ input is.
-    file_of_source g.S.Source.remaining g.S.Source.failure_count _ _ input c.args.part
-    c.in-None.is is)
+    file_of_source g.S.Source.remaining g.S.Source.failure_count _ _ input _ _ _ _ _ c.args.part
+    is c.in-None.is (search rules) (search rules) (search rules) (search rules))
     (λ input is. is) (λ is. is) (λ first call is. is)
 
 pub returns-in-Some-clause-ends : goal.returns-in-Some-clause-ends
 returns-in-Some-clause-ends g c =
     rw c.into_inner.ensures
-    (ends_weaker _ _ _ _ _ _ _ _ _ _ _ _ c.answer_range-status.ensures.ends
+    (ends_weaker _ _ _ _ _ _ _ _ _ _ _ _ c.answer_range-status-in-Some.ensures.ends
     (λ input is.
     stream_of_source g.S.Source.remaining g.S.Source.failure_count _ _ input _ _ _ _ _ c.args.part
-    c.in-Some.stream is c.in-Some.is c.new-pieces.ensures.carried
+    c.in-Some.stream is c.in-Some.is c.new-pieces-in-Some.ensures.carried
     (ap (λ (v : RecordingValue g.row.S.Denot). g.S.Source.failure_count v.device)
-    c.new-pieces.ensures.start)
+    c.new-pieces-in-Some.ensures.start)
     refl)
     (λ input is. is) (λ is. is) (λ first call is. is))

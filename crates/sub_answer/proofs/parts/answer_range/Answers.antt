@@ -1,21 +1,32 @@
 -- All pieces, or those of a range: all_of_pieces, range_of_pieces.
-use Rattle.std.proofs.Common.{ap, refl}
+use Rattle.std.proofs.Common.{rules}
+use Rattle.ttx_pes.proofs.PartLemmas.{number_is, part_is}
 use Rattle.sub_answer.proofs.EndingLemmas.{ends_weaker}
 use Rattle.sub_answer.proofs.PartLemmas.{all_of_pieces, range_of_pieces}
 use Rattle.sub_answer.proofs.parts.answer_range.Goals as goal
 
 pub returns-in-None-clause-ends : goal.returns-in-None-clause-ends
 returns-in-None-clause-ends g c =
-    rw c.in-None.is (ends_weaker _ _ _ _ _ _ _ _ _ _ _ _ c.answer_pieces-status.ensures.ends
+    rw c.in-None.is (ends_weaker _ _ _ _ _ _ _ _ _ _ _ _ c.answer_pieces.ensures.ends
     (λ input is. all_of_pieces _ _ _ _ _ input g.P.NumberedPieces.first g.P.NumberedPieces.passed
     c.requires.start is)
     (λ input is. is) (λ is. is) (λ first call is. is))
 
 pub returns-in-Some-clause-ends : goal.returns-in-Some-clause-ends
 returns-in-Some-clause-ends g c =
-    rw (c.in-Some.is, c.into_inner.ensures)
-    (ends_weaker _ _ _ _ _ _ _ _ _ _ _ _ c.answer_pieces-status-in-Some.ensures.ends
+    rw c.in-Some.is
+    (ends_weaker _ _ _ _ _ _ _ _ _ _ _ _ c.answer_pieces-in-Some.ensures.ends
     (λ input is.
-    range_of_pieces _ _ _ _ _ input _ c.in-Some.range is c.new-some.ensures.told
-    c.new-some.ensures.number (ap g.P.Pieces.failure_count c.new-some.ensures.inner) refl)
+    range_of_pieces _ _ _ _ _ input _ c.in-Some.range is
+    (rw (
+      c.new.ensures.now,
+      c.new.ensures.left,
+      c.new-in-Some.ensures,
+      c.most.ensures,
+      c.first.ensures,
+    )
+    (part_is c.in-Some.range _))
+    (rw (c.new.ensures.now, c.new-in-Some.ensures, c.first.ensures)
+    (number_is c.in-Some.range _))
+    (search rules) (search rules))
     (λ input is. is) (λ is. is) (λ first call is. is))

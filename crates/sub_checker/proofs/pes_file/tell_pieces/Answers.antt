@@ -3,7 +3,8 @@ use Rattle.std.proofs.Common.{◌≡◌, ◌∙◌, ◌∷◌, [], ap, refl, rul
 use Rattle.std.proofs.Common.{Ok, Option, Result, Some, ℕ, length, take}
 use Rattle.sub_checker.specs.LastEvents.{ending_fault}
 use Rattle.sub_rules.specs.declared.fault.CheckFault.{CheckFault}
-use Rattle.sub_io.proofs.HandingOnLemmas.{TellsSome-kept, holds-told}
+use Rattle.sub_io.proofs.HandingOnLemmas.{TellsSome-kept, holds-told, when_ok}
+use Rattle.ttx_pes.proofs.LentPacketLemmas.{waits_not}
 use Rattle.sub_io.proofs.TellingLemmas.{TellsSome-none, Tells-none}
 use Rattle.sub_io.specs.Telling.{Tells}
 use Rattle.ttx_pes.specs.Comparing.{ComparingValue}
@@ -19,7 +20,7 @@ use Rattle.sub_io.proofs.TellingLemmas.{TellsSome-trans}
 use Rattle.sub_rules.proofs.PieceFileLemmas.{takes_more_pieces}
 use Rattle.sub_rules.specs.PacketRules.{packets_of_units}
 use Rattle.sub_rules.specs.declared.piece.NextPiece.{NextPiece}
-use Rattle.sub_checker.proofs.NextPieceLemmas.{again_is, last_is}
+use Rattle.sub_checker.proofs.NextPieceLemmas.{again_is, given_sent, last_is}
 use Rattle.sub_checker.proofs.ReadsOnLemmas.{named_pes, packets_taken, reads_on_none}
 use Rattle.sub_checker.proofs.EventPartsLemmas.{all_same}
 use Rattle.sub_checker.proofs.pes_file.tell_pieces.Goals as goal
@@ -56,30 +57,28 @@ pieces-init g c = record {
 pub returns-then-is_source_failure-clause-exact : goal.returns-then-is_source_failure-clause-exact
 returns-then-is_source_failure-clause-exact g c = λ bytes told pieces unread reads.
     let i = c.pieces.invariant.told pieces unread bytes told reads in
-    let here = rw c.in-Err.is at c.in-Some.ensures.reads in
     let so_far =
-    c.next_followed.ensures.told.kept c.args.audience.now _ c.requires.still i.5 in
+    c.hand_on_told.ensures.told.kept c.args.audience.now _ c.requires.still i.5 in
     let at = front c.args.judging.now i.1 i.3 in
-    let device = c.next_followed.ensures.same ∙ c.pieces.invariant.same in
+    let device = c.hand_on_told.ensures.same ∙ c.pieces.invariant.same in
     let told =
     subst (λ (l : List Piece). Tells g.A.Audience.is_told c.args.audience.now
-    c.next_followed.new.latch.device.now (events_of_pieces (criteria_of_judged c.args.judging.now
+    c.hand_on_told.new.latch.device.now (events_of_pieces (criteria_of_judged c.args.judging.now
     c.args.options.now unread) l)) (sym at.1) so_far in (
       c.pieces.pes,
       at.0,
-      here.place (sym c.is_source_failure.ensures ∙ c.if-is_source_failure.true),
+      c.in-Err.ensures.place (sym c.is_source_failure.ensures ∙ c.if-is_source_failure.true),
       search rules,
     )
 
 pub returns-then-is_source_failure-clause-read : goal.returns-then-is_source_failure-clause-read
 returns-then-is_source_failure-clause-read g c = λ pes is.
-    let here = rw c.in-Err.is at c.in-Some.ensures.reads in
     let failed = sym c.is_source_failure.ensures ∙ c.if-is_source_failure.true in
-    let same = named_pes c.in-Err.fault c.pieces.pes pes (here.place failed) is in (
+    let same = named_pes c.in-Err.fault c.pieces.pes pes (c.in-Err.ensures.place failed) is in (
       record {
         behind = g.P.Pieces.remaining c.pieces.source;
         before = rw (sym same) at c.pieces.invariant.taken;
-        within = here.within failed;
+        within = c.in-Err.ensures.within failed;
       },
       λ pieces unread bytes told reads sent.
           let i = c.pieces.invariant.told pieces unread bytes told reads in
@@ -92,7 +91,7 @@ returns-then-is_source_failure-clause-read g c = λ pes is.
                 (i.1.taken (ap (λ (l : List Piece). length (frames_of l)) (sym done) ∙ sent ∙ same
                 ∙ sym i.1.count))
                 (ap (λ (l : List Piece). length (frames_of l)) (sym done) ∙ sent) told i.1.rest_is;
-            within = here.within failed;
+            within = c.in-Err.ensures.within failed;
           },
     )
 
@@ -100,14 +99,13 @@ pub returns-in-Err-clause-exact : goal.returns-in-Err-clause-exact
 returns-in-Err-clause-exact g c = λ bytes told pieces unread reads.
     let i = c.pieces.invariant.told pieces unread bytes told reads in
     let criteria = criteria_of_judged c.args.judging.now c.args.options.now unread in
-    let here = rw c.in-Err.is at c.in-Some.ensures.reads in
     let so_far =
-    c.next_followed.ensures.told.kept c.args.audience.now _ c.requires.still i.5 in
-    let end = here.exact i.1.ahead unread i.1.rest i.1.rest_is
+    c.hand_on_told.ensures.told.kept c.args.audience.now _ c.requires.still i.5 in
+    let end = c.in-Err.ensures.exact i.1.ahead unread i.1.rest i.1.rest_is
     (sym c.is_source_failure.ensures ∙ c.if-is_source_failure.false) i.1.left in
     let device =
     c.finish.ensures.same criteria (frames_sent criteria i.0) i.2 i.3.keeps
-    ∙ c.next_followed.ensures.same
+    ∙ c.hand_on_told.ensures.same
     ∙ c.pieces.invariant.same in
     let told =
     told_whole c.args.judging.now i.1 i.3 c.pieces.invariant.few end.0 _ _ _
@@ -118,25 +116,24 @@ returns-in-Err-clause-exact g c = λ bytes told pieces unread reads.
     (c.finish.ensures.counts criteria (frames_sent criteria i.0) i.2 i.3.keeps) in
     search rules
 
-pub returns-in_default-next-clause-exact : goal.returns-in_default-next-clause-exact
-returns-in_default-next-clause-exact g c = λ bytes told pieces unread reads.
+pub returns-in_default-clause-exact : goal.returns-in_default-clause-exact
+returns-in_default-clause-exact g c = λ bytes told pieces unread reads.
     let i = c.pieces.invariant.told pieces unread bytes told reads in
     let criteria = criteria_of_judged c.args.judging.now c.args.options.now unread in
-    let here = rw c.in-Ok.is at c.in-Some.ensures.reads in
     let so_far =
-    c.next_followed.ensures.told.kept c.args.audience.now _ c.requires.still i.5 in
-    let end = rw c.in_default-next.is at
-    (here.exact i.1.ahead unread i.1.rest i.1.rest_is refl i.1.left) in
+    c.hand_on_told.ensures.told.kept c.args.audience.now _ c.requires.still i.5 in
+    let end = rw c.in_default.is at
+    (c.in-Ok.ensures.exact i.1.ahead unread i.1.rest i.1.rest_is refl i.1.left) in
     let device =
-    c.finish-in_default-next.ensures.same criteria (frames_sent criteria i.0) i.2 i.3.keeps
-    ∙ c.next_followed.ensures.same
+    c.finish-in_default.ensures.same criteria (frames_sent criteria i.0) i.2 i.3.keeps
+    ∙ c.hand_on_told.ensures.same
     ∙ c.pieces.invariant.same in
     let told =
     told_whole c.args.judging.now i.1 i.3 c.pieces.invariant.few end.0 _ _ _
-    c.finish-in_default-next.result so_far
-    (c.finish-in_default-next.ensures.told criteria (frames_sent criteria i.0) i.2 i.3.keeps
+    c.finish-in_default.result so_far
+    (c.finish-in_default.ensures.told criteria (frames_sent criteria i.0) i.2 i.3.keeps
     (ap (ending_fault c.pieces.pes) (sym end.1)))
-    (c.finish-in_default-next.ensures.counts criteria (frames_sent criteria i.0) i.2 i.3.keeps) in
+    (c.finish-in_default.ensures.counts criteria (frames_sent criteria i.0) i.2 i.3.keeps) in
     search rules
 
 -- It said stop at this piece.
@@ -145,16 +142,16 @@ returns-then-reporter-clause-exact g c = λ bytes told pieces unread reads.
     let inv = c.pieces.invariant in
     let i = inv.told pieces unread bytes told reads in
     let criteria = criteria_of_judged c.args.judging.now c.args.options.now unread in
-    let here = rw (c.in-Ok.is, c.in-Some-next.is) at c.in-Some.ensures.reads in
     let so_far =
-    c.next_followed.ensures.told.kept c.args.audience.now _ c.requires.still i.5 in
+    c.hand_on_told.ensures.told.kept c.args.audience.now _ c.requires.still i.5 in
     let go = c.tell_piece-passed.ensures.told criteria (frames_sent criteria i.0) i.2 i.3.keeps
-    (again_is c.in-Some-next.piece c.pieces.passed i.2 here i.4) in
+    (again_is c.in-Some.piece c.pieces.passed i.2 c.in-Some.is c.in-Ok.ensures.again i.4) in
     let came = unlatched g.A.Audience.is_told _ _ _ go.0.told in
-    let device = came.same ∙ c.next_followed.ensures.same ∙ inv.same in
+    let device = came.same ∙ c.hand_on_told.ensures.same ∙ inv.same in
     let told =
-    told_stop c.args.judging.now i.1 i.3 c.next_followed.new.reader.frame c.in-Some-next.piece _ _ _
-    (here.exact i.1.ahead unread i.1.rest i.1.rest_is refl i.1.left) so_far came.cut in
+    told_stop c.args.judging.now i.1 i.3 c.next_piece.new.reader.frame c.in-Some.piece _ _ _
+    (rw c.in-Some.is at (c.in-Ok.ensures.exact i.1.ahead unread i.1.rest i.1.rest_is refl i.1.left))
+    so_far came.cut in
     search rules
 
 -- What came to the device with a piece, whatever the pieces are.
@@ -162,27 +159,25 @@ pub returns-then-reporter-clause-some : goal.returns-then-reporter-clause-some
 returns-then-reporter-clause-some g c =
     let inv = c.pieces.invariant in
     let k = inv.keeps in
-    let here = rw (c.in-Ok.is, c.in-Some-next.is) at c.in-Some.ensures.reads in
     let go = c.tell_piece-passed.ensures.told _ k.0 k.1 k.2
-    (again_is c.in-Some-next.piece c.pieces.passed k.1 here k.3) in
+    (again_is c.in-Some.piece c.pieces.passed k.1 c.in-Some.is c.in-Ok.ensures.again k.3) in
     let came =
     unlatched_some g.A.Audience.is_told _ _ (record { items = _; told = go.0.told }) in
-    let device = came.0 ∙ c.next_followed.ensures.same ∙ inv.same in
+    let device = came.0 ∙ c.hand_on_told.ensures.same ∙ inv.same in
     let told =
     TellsSome-trans _ _ _
-    (TellsSome-kept _ _ _ _ _ inv.some c.requires.still c.next_followed.ensures.told) came.1 in
+    (TellsSome-kept _ _ _ _ _ inv.some c.requires.still c.hand_on_told.ensures.told) came.1 in
     search rules
 
 pub returns-then-reporter-clause-stopped : goal.returns-then-reporter-clause-stopped
 returns-then-reporter-clause-stopped g c =
     let inv = c.pieces.invariant in
     let k = inv.keeps in
-    let here = rw (c.in-Ok.is, c.in-Some-next.is) at c.in-Some.ensures.reads in
     let go = c.tell_piece-passed.ensures.told _ k.0 k.1 k.2
-    (again_is c.in-Some-next.piece c.pieces.passed k.1 here k.3) in
+    (again_is c.in-Some.piece c.pieces.passed k.1 c.in-Some.is c.in-Ok.ensures.again k.3) in
     let came =
     unlatched_some g.A.Audience.is_told _ _ (record { items = _; told = go.0.told }) in
-    let device = came.0 ∙ c.next_followed.ensures.same ∙ inv.same in
+    let device = came.0 ∙ c.hand_on_told.ensures.same ∙ inv.same in
     let told = c.tell_piece-passed.new.reporter.latch.agrees ∙ c.if-reporter.true in
     search rules
 
@@ -190,25 +185,25 @@ pub pieces-preserved : goal.pieces-preserved
 pieces-preserved g c =
     let inv = c.pieces.invariant in
     let k = inv.keeps in
-    let piece = c.in-Some-next.piece in
-    let here = rw (c.in-Ok.is, c.in-Some-next.is) at c.in-Some.ensures.reads in
-    let below = here.below refl in
-    let counted = rw c.in-Ok.is at c.in-Some.ensures.count in
+    let piece = c.in-Some.piece in
+    let below = (rw c.in-Some.is at c.in-Ok.ensures.below) refl in
+    let counted = c.in-Ok.ensures.count in
     let go = c.tell_piece-passed.ensures.told _ k.0 k.1 k.2
-    (again_is piece c.pieces.passed k.1 here k.3) in
+    (again_is piece c.pieces.passed k.1 c.in-Some.is c.in-Ok.ensures.again k.3) in
     let more =
     unlatched_some g.A.Audience.is_told _ _ (record { items = _; told = go.0.told }) in
     record {
       few = omega (arith, below);
-      reading = here.progress refl;
-      taken = takes_more_pieces c.pieces.pes _ _ _ inv.taken (here.taken refl);
+      reading = (rw c.in-Some.is at c.in-Ok.ensures.progress) refl;
+      taken = takes_more_pieces c.pieces.pes _ _ _ inv.taken
+          ((rw c.in-Some.is at c.in-Ok.ensures.taken) refl);
       failures = omega (arith, counted, inv.failures);
-      device = c.next_followed.ensures.device ∙ inv.device;
+      device = c.next_piece.ensures.device ∙ inv.device;
       goes_on = c.if-reporter.false;
-      same = more.0 ∙ c.next_followed.ensures.same ∙ inv.same;
+      same = more.0 ∙ c.hand_on_told.ensures.same ∙ inv.same;
       some =
           TellsSome-trans _ _ _
-          (TellsSome-kept _ _ _ _ _ inv.some c.requires.still c.next_followed.ensures.told) more.1;
+          (TellsSome-kept _ _ _ _ _ inv.some c.requires.still c.hand_on_told.ensures.told) more.1;
       keeps = (
         _,
         _,
@@ -217,23 +212,24 @@ pieces-preserved g c =
       );
       holds = λ none.
           holds-told _ _ _ _ _ g.met.A.LiveAudience.stays_told _ _
-          (c.in-Some.ensures.holds (inv.holds none)) more.1;
+          (when_ok _ (sym c.is_err.ensures.value ∙ c.if-is_err.false)
+          (c.hand_on_told.ensures.holds (inv.holds none))) more.1;
       room = c.tell_piece-passed.ensures.room;
       told = λ pieces unread bytes told reads.
           let i = inv.told pieces unread bytes told reads in
           let criteria = criteria_of_judged c.args.judging.now c.args.options.now unread in
           let so_far =
-          c.next_followed.ensures.told.kept c.args.audience.now _ c.requires.still i.5 in
+          c.hand_on_told.ensures.told.kept c.args.audience.now _ c.requires.still i.5 in
           let all = c.tell_piece-passed.ensures.told criteria (frames_sent criteria i.0) i.2
           i.3.keeps
-          (again_is piece c.pieces.passed i.2 here i.4) in
+          (again_is piece c.pieces.passed i.2 c.in-Some.is c.in-Ok.ensures.again i.4) in
           let s =
-          step c.args.judging.now i.1 i.3 g.A.Audience.is_told _ c.next_followed.new.reader.frame
-          piece _ _ _ _ _ (here.left i.1.rest i.1.rest_is refl)
-          (here.exact i.1.ahead unread i.1.rest i.1.rest_is refl i.1.left)
+          step c.args.judging.now i.1 i.3 g.A.Audience.is_told _ c.next_piece.new.reader.frame
+          piece _ _ _ _ _ ((rw c.in-Some.is at (c.in-Ok.ensures.left i.1.rest i.1.rest_is)) refl)
+          (rw c.in-Some.is at
+          (c.in-Ok.ensures.exact i.1.ahead unread i.1.rest i.1.rest_is refl i.1.left))
           (λ sending is. (
-            here.sent sending
-                (ap (λ p. let r : Result (Option NextPiece) CheckFault = Ok (Some p) in r) is),
+            c.in-Ok.ensures.sent sending (given_sent c.in-Some.is is),
             c.tell_piece-passed.ensures.frame sending is,
           ))
           all.1 all.0.kept so_far
@@ -248,13 +244,13 @@ pieces-preserved g c =
     }
 
 -- It said stop before the next piece.
-pub returns-in_default-clause-exact : goal.returns-in_default-clause-exact
-returns-in_default-clause-exact g c = λ bytes told pieces unread reads.
+pub returns-then-is_err-clause-exact : goal.returns-then-is_err-clause-exact
+returns-then-is_err-clause-exact g c = λ bytes told pieces unread reads.
     let i = c.pieces.invariant.told pieces unread bytes told reads in
-    let device = c.next_followed.ensures.same ∙ c.pieces.invariant.same in
+    let device = c.hand_on_told.ensures.same ∙ c.pieces.invariant.same in
     let told =
     told_before c.args.judging.now i.1 i.3 _ _
-    (c.next_followed.ensures.told.kept c.args.audience.now _ c.requires.still i.5) in
+    (c.hand_on_told.ensures.told.kept c.args.audience.now _ c.requires.still i.5) in
     search rules
 
 -- ---- some was told
@@ -264,35 +260,37 @@ returns-in-Err-clause-some g c =
     let k = c.pieces.invariant.keeps in
     let device =
     c.finish.ensures.same _ k.0 k.1 k.2
-    ∙ c.next_followed.ensures.same
+    ∙ c.hand_on_told.ensures.same
     ∙ c.pieces.invariant.same in
     let told =
     TellsSome-trans _ _ _
     (TellsSome-kept _ _ _ _ _ c.pieces.invariant.some c.requires.still
-    c.next_followed.ensures.told)
+    c.hand_on_told.ensures.told)
     (c.finish.ensures.some _ k.0 k.1 k.2) in
     search rules
 
-pub returns-in_default-next-clause-some : goal.returns-in_default-next-clause-some
-returns-in_default-next-clause-some g c =
+pub returns-in_default-clause-some : goal.returns-in_default-clause-some
+returns-in_default-clause-some g c =
     let k = c.pieces.invariant.keeps in
     let device =
-    c.finish-in_default-next.ensures.same _ k.0 k.1 k.2
-    ∙ c.next_followed.ensures.same
+    c.finish-in_default.ensures.same _ k.0 k.1 k.2
+    ∙ c.hand_on_told.ensures.same
     ∙ c.pieces.invariant.same in
     let told =
     TellsSome-trans _ _ _
     (TellsSome-kept _ _ _ _ _ c.pieces.invariant.some c.requires.still
-    c.next_followed.ensures.told)
-    (c.finish-in_default-next.ensures.some _ k.0 k.1 k.2) in
+    c.hand_on_told.ensures.told)
+    (c.finish-in_default.ensures.some _ k.0 k.1 k.2) in
     search rules
 
 -- ---- what is held back where the source failed
 
 pub returns-then-is_source_failure-clause-asked : goal.returns-then-is_source_failure-clause-asked
 returns-then-is_source_failure-clause-asked g c = λ none.
-    let device = c.next_followed.ensures.same ∙ c.pieces.invariant.same in
+    let device = c.hand_on_told.ensures.same ∙ c.pieces.invariant.same in
+    let handed_on = sym c.is_err.ensures.value ∙ c.if-is_err.false in
     let told =
-    (rw c.in-Err.is at (c.in-Some.ensures.asked (c.pieces.invariant.holds none)))
-    (sym c.is_source_failure.ensures ∙ c.if-is_source_failure.true) in
+    when_ok _ handed_on (c.hand_on_told.ensures.holds (c.pieces.invariant.holds none))
+    (waits_not _ _ _ (when_ok _ handed_on c.hand_on_told.ensures.settled) c.in-Err.ensures.ready
+    (sym c.is_source_failure.ensures ∙ c.if-is_source_failure.true)) in
     search rules

@@ -3,8 +3,7 @@ use Rattle.std.proofs.Common.{◌+◌, ◌-◌, ◌<◌, ◌∙◌, ap, sym, sub
 use Rattle.sub_rules.specs.Events.{latest}
 use Rattle.sub_rules.specs.PieceEvents.{steps_of_gap}
 use Rattle.sub_checker.specs.CheckedFrames.{AfterEnd, BeforeEnd}
-use Rattle.sub_rules.specs.FrameRules.{packets_before}
-use Rattle.sub_checker.proofs.CheckedFramesLemmas.{follows_waits, gap_ended, gap_knows, gap_more}
+use Rattle.sub_checker.proofs.CheckedFramesLemmas.{follows_waits, gap_ended, gap_more}
 use Rattle.sub_checker.proofs.CheckedFramesLemmas.{gap_start, gap_steps, gap_waits}
 use Rattle.sub_checker.proofs.ReporterLemmas.{relays_nothing, relays_same, relays_two}
 use Rattle.sub_rules.proofs.EndLemmas.{gap_length-is}
@@ -38,17 +37,14 @@ loop-f-preserved g c =
           let past : latest frames n < c.loop-f.f =
           let latest_is = follows.latest_is some in omega arith in
           let due = c.end_of_frame.ensures.due in
-          let knows =
-          gap_knows criteria frames n c.loop-f.f last _ _ before.1 some past c.move_to.ensures
-          (i.latest_is ∙ follows.latest_is some) due in
-          let told = c.end_of_frame.ensures.told (packets_before frames n) knows in
+          let told = c.end_of_frame.ensures.told in
           let steps =
           gap_steps criteria frames n c.loop-f.f last _ _ before.1 some past c.move_to.ensures
           (i.latest_is ∙ follows.latest_is some) due in (
             relays_two (gap_more criteria frames n c.loop-f.f _ past refl) before.0
                 (relays_same (sym steps) told),
             subst (BeforeEnd criteria frames n _ last)
-                (sym (c.end_of_frame.ensures.ended (packets_before frames n) knows))
+                (sym c.end_of_frame.ensures.ended)
                 (gap_waits criteria frames n c.loop-f.f last _ _ before.1 some past
                 c.move_to.ensures
                 (i.latest_is ∙ follows.latest_is some) due _ refl),

@@ -1,6 +1,5 @@
 -- Whether the first frame has a header of the page, and what stands broken: by HearingLemmas.
 use Rattle.std.proofs.Common.{◌∙◌, suc, ap, map, refl, sym, subst}
-use Rattle.sub_rules.specs.FrameRules.{packets_before}
 use Rattle.sub_rules.specs.Trusted.{CheckStep}
 use Rattle.sub_rules.specs.Trusted.CheckStep.{Says}
 use Rattle.sub_checker.specs.Checker.{CheckerValue}
@@ -16,9 +15,8 @@ returns-clause-told g c = λ criteria frames n last heard there has.
     let first = first_told criteria frames n last _ here _ _ has c.lacks_first-is_told.ensures in
     let due = c.end_of_frame.ensures.due in
     let steps = ending_steps criteria frames n last _ heard due in
-    let knows = heard.known.knows.knows in
-    let told = c.end_of_frame.ensures.told (packets_before frames (suc n)) knows in
-    let ended = c.end_of_frame.ensures.ended (packets_before frames (suc n)) knows in
+    let told = c.end_of_frame.ensures.told in
+    let ended = c.end_of_frame.ensures.ended in
     let step =
     end_step criteria frames n last _ heard due _ _ _ _ (c.self-2.view_is ∙ ended) refl
     (ap (λ (v : CheckerValue). v.listener.begun) (c.self-2.view_is ∙ ended) ∙ heard.begins)

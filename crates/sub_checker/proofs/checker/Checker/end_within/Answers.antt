@@ -1,22 +1,16 @@
 -- Since when the page is not whole, and what changes is told: by EndingLemmas.
 use Rattle.std.proofs.Common.{ap, refl}
 use Rattle.sub_checker.specs.Checker.{back_steps}
-use Rattle.sub_checker.proofs.FrameEndLemmas.{within_after, within_steps}
+use Rattle.sub_checker.proofs.FrameEndLemmas.{within_steps}
 use Rattle.sub_checker.proofs.ReporterLemmas.{relays_back, relays_step, relays_told, relays_two}
 use Rattle.sub_checker.proofs.checker.Checker.end_within.Goals as goal
 
 pub returns-clause-told : goal.returns-clause-told
-returns-clause-told g c = λ heard knows.
+returns-clause-told g c =
     let end = c.end_now-end.ensures in
     relays_two
-    (within_steps heard _ c.args.self.now _ _ _ c.self.view_is c.requires.within
-    (end.standing heard knows) (end.since heard knows) (end.late heard knows))
+    (within_steps _ c.args.self.now _ _ _ c.self.view_is c.requires.within
+    (end.standing) (end.since) (end.late))
     (relays_two refl (relays_back _ _ _ (ap back_steps c.self.view_is) c.go_back.ensures.back)
     (relays_step refl c.at_end.ensures refl))
     (relays_told refl c.tell_change.ensures)
-
-pub returns-clause-ended : goal.returns-clause-ended
-returns-clause-ended g c = λ heard knows.
-    let end = c.end_now-end.ensures in
-    within_after heard _ c.args.self.now _ _ c.self.view_is c.requires.within
-    (end.standing heard knows) (end.since heard knows)

@@ -6,7 +6,7 @@ use Rattle.sub_checker.proofs.WholeLemmas.{none_undue}
 use Rattle.sub_checker.proofs.checker.Checker.first_undue.Goals as goal
 
 pub returns-then-is_none : goal.returns-then-is_none
-returns-then-is_none c = λ heard knows is.
-    none_undue heard c.args.self.now c.args.differing c.is_none.result
+returns-then-is_none c = λ is.
+    none_undue c.args.self.now c.args.differing c.is_none.result
     (subst (λ (v : CheckerValue). v.listener.comparison.due ≡ due_in v.programme v.frame)
     c.self.view_is c.self.invariant.0.due_is) c.is_none.ensures c.if-is_none.true is

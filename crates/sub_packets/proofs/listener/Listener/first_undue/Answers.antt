@@ -8,9 +8,9 @@ use Rattle.sub_packets.proofs.UndueLemmas.{undue_is, undue_none}
 use Rattle.sub_packets.proofs.listener.Listener.first_undue.Goals as goal
 
 pub returns : goal.returns
-returns c heard known =
-    undue_is heard c.args.self.now (due_in c.args.programme.now) c.args.first c.args.frame
-    c.args.within c.left_of-left.result c.first_difference.result known
+returns c =
+    undue_is c.args.self.now (due_in c.args.programme.now) c.args.first c.args.frame
+    c.args.within c.left_of-left.result c.first_difference.result
     (subst (λ page. IsLeft (due_in c.args.programme.now) c.args.first c.args.frame c.args.within
     page c.left_of-left.result) c.shown-shown.ensures c.left_of-left.ensures)
     (subst (λ (page : Rows). MatchOption c.first_difference.result (c.left_of-left.result ≡ page)
@@ -18,10 +18,10 @@ returns c heard known =
     c.first_difference.ensures)
 
 pub returns-then-cells_not_blank-eq0 : goal.returns-then-cells_not_blank-eq0
-returns-then-cells_not_blank-eq0 c heard known =
+returns-then-cells_not_blank-eq0 c =
     sym
-    (undue_none heard c.args.self.now (due_in c.args.programme.now) c.args.first c.args.frame
-    c.args.within known
+    (undue_none c.args.self.now (due_in c.args.programme.now) c.args.first c.args.frame
+    c.args.within
     (ap (differing blank) (sym c.shown-shown.ensures)
     ∙ sym c.cells_not_blank.ensures.value
     ∙ omega arith))

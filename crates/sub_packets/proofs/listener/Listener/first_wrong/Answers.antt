@@ -1,18 +1,20 @@
 -- What is kept is what the packets say: WrongCellLemmas.
-use Rattle.std.proofs.Common.{◌≡◌, ◌∙◌, MatchOption, subst}
+use Rattle.std.proofs.lemmas.Bool.Decides.{nat_tests}
+use Rattle.std.proofs.Common.{arith, ◌≡◌, ◌∙◌, MatchOption, subst}
 use Rattle.ttx_page.specs.Page.{DiffersFirst, Rows}
 use Rattle.sub_packets.proofs.WrongCellLemmas.{wrong_is, wrong_keeping}
 use Rattle.sub_packets.proofs.listener.Listener.first_wrong.Goals as goal
 
 pub returns-then-not-self : goal.returns-then-not-self
-returns-then-not-self c heard known =
-    wrong_is heard c.args.self.now known _ c.if-not-self.true c.first_wrong-differing.ensures
+returns-then-not-self c =
+    wrong_is c.args.self.now _ c.if-not-self.true c.first_wrong-differing.ensures
 
 pub returns : goal.returns
-returns c heard known =
+returns c =
+    let keeps = c.if-not-self.false in
     c.earlier.ensures
-    ∙ wrong_keeping heard c.args.self.now known c.missing-missing.result
-    c.first_wrong-differing.result c.first_difference.result c.missing-missing.ensures
+    ∙ wrong_keeping c.args.self.now c.missing-missing.result c.first_wrong-differing.result
+    c.first_difference.result (grind (arith, nat_tests)) c.missing-missing.ensures
     c.first_wrong-differing.ensures
     (subst (λ (page : Rows). MatchOption c.first_difference.result (c.missing-missing.result ≡ page)
     (λ place. DiffersFirst c.missing-missing.result page place.0 place.1)) c.blank.ensures

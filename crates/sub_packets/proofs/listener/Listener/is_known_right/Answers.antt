@@ -5,7 +5,7 @@ use Rattle.sub_packets.proofs.WrongCellLemmas.{wrong_is}
 use Rattle.sub_packets.proofs.listener.Listener.is_known_right.Goals as goal
 
 pub returns-then-is_known_right : goal.returns-then-is_known_right
-returns-then-is_known_right c heard known right =
+returns-then-is_known_right c right =
     sym
-    (wrong_is heard c.args.self.now known _ (not-true _ right)
+    (wrong_is c.args.self.now _ (not-true _ right)
     (c.is_known_right.ensures c.if-is_known_right.true))

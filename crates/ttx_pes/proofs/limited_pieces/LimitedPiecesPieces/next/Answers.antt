@@ -8,14 +8,14 @@ use Rattle.ttx_pes.proofs.limited_pieces.LimitedPiecesPieces.next.Goals as goal
 
 pub returns-then-is_over-clause-came : goal.returns-then-is_over-clause-came
 returns-then-is_over-clause-came g c =
-    let inner = c.args.self.now.inner in
+    let inner = c.args.self.now.inner.now in
     over_limited Failed g.T.TakePiece.is_take _ c.args.self.now.left (g.P.Pieces.remaining inner)
     (g.P.Pieces.left inner) (sym c.is_over.ensures ∙ c.if-is_over.true)
 
 pub returns-clause-came : goal.returns-clause-came
 returns-clause-came g c =
     let left = c.args.self.now.left in
-    let old = g.P.Pieces.remaining c.args.self.now.inner in
+    let old = g.P.Pieces.remaining c.args.self.now.inner.now in
     let new = g.P.Pieces.remaining c.next.new.self in
     let behind = g.P.Pieces.left c.next.new.self in
     subst (λ (l : Option ℕ).

@@ -1,0 +1,426 @@
+-- For `law_of_chosen_words`: the words of choices behind `check STL PES` leave what they say in the
+-- rows, `held_by`.
+use Rattle.std.proofs.Common.{◌≡◌, ◌∙◌, ℕ, Bool, true, false, List, [], ◌∷◌, Option, Some}
+use Rattle.std.proofs.Common.{None, refl, sym, ap, arith, codes, drop, subst}
+use Rattle.std.proofs.lemmas.Bool.Decides.{nat_tests}
+use Rattle.std.proofs.lemmas.List.Sums.{fold-append}
+use Rattle.std.specs.Prelude.{if◌then◌else◌, fold, unwrap_or}
+use Rattle.std.specs.Prelude.{nat_lt, length}
+use Rattle.std.specs.List.{after_first, before_first, flat_map, position_or_len}
+use Rattle.std.specs.Str.{bytes_eq}
+use Rattle.clap.specs.Lexer.{long_of}
+use Rattle.clap.specs.Walk.{Held, Row, Rule, Step, Walk, after_step, arg_by_id}
+use Rattle.clap.specs.Walk.{long_or_other}
+use Rattle.clap.specs.Walk.{plain_word, reacted, reading_by, settled, short_or_plain}
+use Rattle.clap.specs.Walk.{subcommand_or_other, walked}
+use Rattle.clap.specs.Walk.Waiting.{option}
+use Rattle.clap.specs.Walk.Step.{trailing}
+use Rattle.clap.specs.Words.{Text}
+use Rattle.clap.specs.Simple.{new_rule}
+use Rattle.clap.specs.declared.builder.value_parser.Reading.{Reading}
+use Rattle.clap.proofs.OnLiterals.{clap_on_literals}
+use Rattle.ttx_packet.specs.PacketAddress.{◌>>=◌}
+use Rattle.ttx_packet.specs.PageId.{PageIdValue, page_of_text}
+use Rattle.sub_words.specs.Commands.{subttx_app}
+use Rattle.sub_words.specs.Texts.{number_of_text}
+use Rattle.mpeg_ts.specs.declared.packet_size.PacketSize.{PacketSize}
+use Rattle.ttx_pes.specs.PieceRange.{PieceRangeValue}
+use Rattle.sub_words.specs.PesTexts.{packet_size_of_text, pid_of_text}
+use Rattle.sub_words.specs.PesTexts.{is_dash, range_of_numbers, range_of_text}
+use Rattle.sub_headline.specs.PlainOptions.Choice.{Page, Every, Origin, Complete, EveryFault}
+use Rattle.sub_headline.specs.DrawnOptions.{Look, words_for}
+use Rattle.sub_headline.specs.DrawnOptions.Look.{Letters, Lines, Of}
+use Rattle.sub_headline.specs.RecordingOptions.Portion.{Pid, Size, Numbers, Any}
+use Rattle.sub_headline.specs.PlainWords.{IsName}
+use Rattle.sub_headline.proofs.PlainWordLemmas.{at_rest, check_shape, no_dashes, no_long, no_short}
+use Rattle.sub_headline.proofs.RowLemmas.{held_at, same_id, set_other, set_row, set_same}
+
+-- ---- texts of options are values
+
+page_is_name : (text : Text) (page : PageIdValue) → page_of_text text ≡ Some page → IsName text
+unfolding page_of_text
+page_is_name [] page is = λ e. cc
+page_is_name (x ∷ []) page is = cc
+page_is_name (x ∷ y ∷ []) page is = cc
+page_is_name (x ∷ y ∷ z ∷ []) page is = grind (arith, nat_tests)
+page_is_name (x ∷ y ∷ z ∷ w ∷ more) page is = cc
+
+number_is_name : (text : Text) (n : ℕ) → number_of_text text ≡ Some n → IsName text
+unfolding number_of_text
+number_is_name [] n is = λ e. cc
+number_is_name (x ∷ xs) n is = grind (arith, nat_tests)
+
+no_pid : (xs : Text) (pid : ℕ) → pid_of_text (0x2D ∷ xs) ≡ Some pid → ⊥
+unfolding pid_of_text number_of_text
+no_pid xs pid is = grind (arith, nat_tests)
+
+pid_is_name : (text : Text) (pid : ℕ) → pid_of_text text ≡ Some pid → IsName text
+pid_is_name [] pid is = λ e. cc
+pid_is_name (x ∷ xs) pid is = λ e.
+    let at : x ≡ 0x2D = cc in
+    no_pid xs pid (subst (λ (c : ℕ). pid_of_text (c ∷ xs) ≡ Some pid) at is)
+
+no_size : (xs : Text) (size : PacketSize) → packet_size_of_text (0x2D ∷ xs) ≡ Some size → ⊥
+unfolding packet_size_of_text
+no_size xs size is = cc
+
+size_is_name : (text : Text) (size : PacketSize)
+    → packet_size_of_text text ≡ Some size
+    → IsName text
+size_is_name [] size is = λ e. cc
+size_is_name (x ∷ xs) size is = λ e.
+    let at : x ≡ 0x2D = cc in
+    no_size xs size (subst (λ (c : ℕ). packet_size_of_text (c ∷ xs) ≡ Some size) at is)
+
+no_first : (last : Text) → range_of_numbers [] last ≡ None
+unfolding number_of_text
+no_first last = refl
+
+no_range_by : (b : Bool) (first last : Text) (range : PieceRangeValue)
+    → first ≡ []
+    → (let o : Option (Text × Text) = if b then Some (first, last) else None in o)
+    >>= (λ numbers. range_of_numbers numbers.0 numbers.1)
+    ≡ Some range
+    → ⊥
+no_range_by true first last range none is =
+    let e = sym is ∙ ap (λ (f : Text). range_of_numbers f last) none ∙ no_first last in cc
+no_range_by false first last range none is = cc
+
+no_range : (xs : Text) (range : PieceRangeValue) → range_of_text (0x2D ∷ xs) ≡ Some range → ⊥
+unfolding range_of_text
+no_range xs range is =
+    no_range_by
+    (nat_lt (position_or_len is_dash (0x2D ∷ xs)) (length (0x2D ∷ xs)))
+    (before_first is_dash (0x2D ∷ xs)) (after_first is_dash (0x2D ∷ xs)) range refl is
+
+range_is_name : (text : Text) (range : PieceRangeValue)
+    → range_of_text text ≡ Some range
+    → IsName text
+range_is_name [] range is = λ e. cc
+range_is_name (x ∷ xs) range is = λ e.
+    let at : x ≡ 0x2D = cc in
+    no_range xs range (subst (λ (c : ℕ). range_of_text (c ∷ xs) ≡ Some range) at is)
+
+-- ---- a value behind its option
+
+-- Where an option waits for its value.
+abbrev at_option : Text → Held → Walk
+at_option id h = record {
+  held = h;
+  waiting = option id;
+  position = 3;
+  is_trailing = false;
+  stopped = None;
+}
+
+value_word : (c : List Rule) (id : Text) (word : Text) (h : Held)
+    → IsName word
+    → subcommand_or_other c None (option id) 3 word h ≡ plain_word c (option id) word h
+value_word c id word h name =
+    ap
+    (λ (b : Bool).
+    let met : Held × Step =
+    if b then (h, trailing 3) else long_or_other c (option id) word (long_of word) h in met)
+    (no_dashes word name)
+    ∙ ap (λ o. long_or_other c (option id) word o h) (no_long word name)
+    ∙ ap (λ o. short_or_plain c (option id) word o h) (no_short word name)
+
+value_walked : (c : List Rule) (id : Text) (h : Held) (word : Text)
+    → IsName word
+    → walked c [] (at_option id h) word
+    ≡ after_step c word (at_option id h) (plain_word c (option id) word h).0
+    (plain_word c (option id) word h).1
+unfolding walked
+value_walked c id h word name =
+    ap (λ (met : Held × Step). after_step c word (at_option id h) met.0 met.1)
+    (value_word c id word h name)
+
+-- ---- the words of a choice
+
+abbrev pub rules : List Rule
+rules = check_shape.rules
+
+-- Its argument, and the values that this has then.
+abbrev pub key : Look → Text
+key (Of (Any (Page text page is))) = codes "page"
+key (Of (Any (Every text frames is))) = codes "every"
+key (Of (Any (Origin text pts is))) = codes "origin"
+key (Of (Any Complete)) = codes "complete"
+key (Of (Any EveryFault)) = codes "all"
+key (Of (Pid text pid is)) = codes "pid"
+key (Of (Size text size is)) = codes "packet-size"
+key (Of (Numbers text range is)) = codes "pes"
+key (Letters text national name is) = codes "option"
+key (Lines text layout name is) = codes "layout"
+
+abbrev pub vals : Look → List Text
+vals (Of (Any (Page text page is))) = text ∷ []
+vals (Of (Any (Every text frames is))) = text ∷ []
+vals (Of (Any (Origin text pts is))) = text ∷ []
+vals (Of (Any Complete)) = codes "true" ∷ []
+vals (Of (Any EveryFault)) = codes "true" ∷ []
+vals (Of (Pid text pid is)) = text ∷ []
+vals (Of (Size text size is)) = text ∷ []
+vals (Of (Numbers text range is)) = text ∷ []
+vals (Letters text national name is) = text ∷ []
+vals (Lines text layout name is) = text ∷ []
+
+abbrev rule_at : Text → Rule
+rule_at id = unwrap_or (arg_by_id rules id) (new_rule [])
+
+-- What is held behind an option, its value, or a flag.
+abbrev waiting_held : Text → Held → Held
+waiting_held id h = record (settled rules h) { pending = Some (id, []) }
+
+abbrev valued_held : Text → Text → Held → Held
+valued_held id text h = record (settled rules h) { pending = Some (id, text ∷ []) }
+
+abbrev pub next : Held → Look → Held
+next h (Of (Any (Page text page is))) = valued_held (codes "page") text h
+next h (Of (Any (Every text frames is))) = valued_held (codes "every") text h
+next h (Of (Any (Origin text pts is))) = valued_held (codes "origin") text h
+next h (Of (Any Complete)) = reacted rules (rule_at (codes "complete")) [] h
+next h (Of (Any EveryFault)) = reacted rules (rule_at (codes "all")) [] h
+next h (Of (Pid text pid is)) = valued_held (codes "pid") text h
+next h (Of (Size text size is)) = valued_held (codes "packet-size") text h
+next h (Of (Numbers text range is)) = valued_held (codes "pes") text h
+next h (Letters text national name is) = valued_held (codes "option") text h
+next h (Lines text layout name is) = valued_held (codes "layout") text h
+
+page_word : (h : Held)
+    → walked rules [] (at_rest h 3) (codes "--page")
+    ≡ at_option (codes "page") (waiting_held (codes "page") h)
+unfolding subttx_app clap_on_literals
+page_word h = refl
+
+every_word : (h : Held)
+    → walked rules [] (at_rest h 3) (codes "--every")
+    ≡ at_option (codes "every") (waiting_held (codes "every") h)
+unfolding subttx_app clap_on_literals
+every_word h = refl
+
+origin_word : (h : Held)
+    → walked rules [] (at_rest h 3) (codes "--origin")
+    ≡ at_option (codes "origin") (waiting_held (codes "origin") h)
+unfolding subttx_app clap_on_literals
+origin_word h = refl
+
+complete_word : (h : Held)
+    → walked rules [] (at_rest h 3) (codes "--complete") ≡ at_rest (next h (Of (Any Complete))) 3
+unfolding subttx_app clap_on_literals
+complete_word h = refl
+
+all_word : (h : Held)
+    → walked rules [] (at_rest h 3) (codes "--all") ≡ at_rest (next h (Of (Any EveryFault))) 3
+unfolding subttx_app clap_on_literals
+all_word h = refl
+
+option_word : (h : Held)
+    → walked rules [] (at_rest h 3) (codes "--option")
+    ≡ at_option (codes "option") (waiting_held (codes "option") h)
+unfolding subttx_app clap_on_literals
+option_word h = refl
+
+option_value : (h : Held) (text : Text)
+    → IsName text
+    → walked rules [] (at_option (codes "option") (waiting_held (codes "option") h)) text
+    ≡ at_rest (valued_held (codes "option") text h) 3
+unfolding subttx_app
+option_value h text name =
+    value_walked rules (codes "option") (waiting_held (codes "option") h) text name ∙ refl
+
+layout_word : (h : Held)
+    → walked rules [] (at_rest h 3) (codes "--layout")
+    ≡ at_option (codes "layout") (waiting_held (codes "layout") h)
+unfolding subttx_app clap_on_literals
+layout_word h = refl
+
+layout_value : (h : Held) (text : Text)
+    → IsName text
+    → walked rules [] (at_option (codes "layout") (waiting_held (codes "layout") h)) text
+    ≡ at_rest (valued_held (codes "layout") text h) 3
+unfolding subttx_app
+layout_value h text name =
+    value_walked rules (codes "layout") (waiting_held (codes "layout") h) text name ∙ refl
+
+pid_word : (h : Held)
+    → walked rules [] (at_rest h 3) (codes "--pid")
+    ≡ at_option (codes "pid") (waiting_held (codes "pid") h)
+unfolding subttx_app clap_on_literals
+pid_word h = refl
+
+size_word : (h : Held)
+    → walked rules [] (at_rest h 3) (codes "--packet-size")
+    ≡ at_option (codes "packet-size") (waiting_held (codes "packet-size") h)
+unfolding subttx_app clap_on_literals
+size_word h = refl
+
+pes_word : (h : Held)
+    → walked rules [] (at_rest h 3) (codes "--pes")
+    ≡ at_option (codes "pes") (waiting_held (codes "pes") h)
+unfolding subttx_app clap_on_literals
+pes_word h = refl
+
+pid_value : (h : Held) (text : Text)
+    → IsName text
+    → walked rules [] (at_option (codes "pid") (waiting_held (codes "pid") h)) text
+    ≡ at_rest (valued_held (codes "pid") text h) 3
+unfolding subttx_app
+pid_value h text name =
+    value_walked rules (codes "pid") (waiting_held (codes "pid") h) text name ∙ refl
+
+size_value : (h : Held) (text : Text)
+    → IsName text
+    → walked rules [] (at_option (codes "packet-size") (waiting_held (codes "packet-size") h)) text
+    ≡ at_rest (valued_held (codes "packet-size") text h) 3
+unfolding subttx_app
+size_value h text name =
+    value_walked rules (codes "packet-size") (waiting_held (codes "packet-size") h) text name ∙ refl
+
+pes_value : (h : Held) (text : Text)
+    → IsName text
+    → walked rules [] (at_option (codes "pes") (waiting_held (codes "pes") h)) text
+    ≡ at_rest (valued_held (codes "pes") text h) 3
+unfolding subttx_app
+pes_value h text name =
+    value_walked rules (codes "pes") (waiting_held (codes "pes") h) text name ∙ refl
+
+page_value : (h : Held) (text : Text)
+    → IsName text
+    → walked rules [] (at_option (codes "page") (waiting_held (codes "page") h)) text
+    ≡ at_rest (valued_held (codes "page") text h) 3
+unfolding subttx_app
+page_value h text name =
+    value_walked rules (codes "page") (waiting_held (codes "page") h) text name ∙ refl
+
+every_value : (h : Held) (text : Text)
+    → IsName text
+    → walked rules [] (at_option (codes "every") (waiting_held (codes "every") h)) text
+    ≡ at_rest (valued_held (codes "every") text h) 3
+unfolding subttx_app
+every_value h text name =
+    value_walked rules (codes "every") (waiting_held (codes "every") h) text name ∙ refl
+
+origin_value : (h : Held) (text : Text)
+    → IsName text
+    → walked rules [] (at_option (codes "origin") (waiting_held (codes "origin") h)) text
+    ≡ at_rest (valued_held (codes "origin") text h) 3
+unfolding subttx_app
+origin_value h text name =
+    value_walked rules (codes "origin") (waiting_held (codes "origin") h) text name ∙ refl
+
+walk_step : (h : Held) (choice : Look)
+    → fold (walked rules []) (at_rest h 3) (words_for choice) ≡ at_rest (next h choice) 3
+walk_step h (Of (Any (Page text page is))) =
+    ap (λ (w : Walk). walked rules [] w text) (page_word h)
+    ∙ page_value h text (page_is_name text page is)
+walk_step h (Of (Any (Every text frames is))) =
+    ap (λ (w : Walk). walked rules [] w text) (every_word h)
+    ∙ every_value h text (number_is_name text frames is)
+walk_step h (Of (Any (Origin text pts is))) =
+    ap (λ (w : Walk). walked rules [] w text) (origin_word h)
+    ∙ origin_value h text (number_is_name text pts is)
+walk_step h (Of (Any Complete)) = complete_word h
+walk_step h (Of (Any EveryFault)) = all_word h
+walk_step h (Of (Pid text pid is)) =
+    ap (λ (w : Walk). walked rules [] w text) (pid_word h)
+    ∙ pid_value h text (pid_is_name text pid is)
+walk_step h (Of (Size text size is)) =
+    ap (λ (w : Walk). walked rules [] w text) (size_word h)
+    ∙ size_value h text (size_is_name text size is)
+walk_step h (Of (Numbers text range is)) =
+    ap (λ (w : Walk). walked rules [] w text) (pes_word h)
+    ∙ pes_value h text (range_is_name text range is)
+walk_step h (Letters text national name is) =
+    ap (λ (w : Walk). walked rules [] w text) (option_word h)
+    ∙ option_value h text name
+walk_step h (Lines text layout name is) =
+    ap (λ (w : Walk). walked rules [] w text) (layout_word h)
+    ∙ layout_value h text name
+
+pub walk_all : (h : Held) (choices : List Look)
+    → fold (walked rules []) (at_rest h 3) (flat_map words_for choices)
+    ≡ at_rest (fold next h choices) 3
+walk_all h [] = refl
+walk_all h (choice ∷ choices) =
+    fold-append (walked rules []) (at_rest h 3) (words_for choice) (flat_map words_for choices)
+    ∙ ap (λ (w : Walk). fold (walked rules []) w (flat_map words_for choices)) (walk_step h choice)
+    ∙ walk_all (next h choice) choices
+
+-- ---- the rows of a choice
+
+-- The rows of what is held.
+abbrev pub rows_held : Held → List Row
+rows_held h = (settled rules h).rows
+
+rows_step : (h : Held) (choice : Look)
+    → rows_held (next h choice)
+    ≡ set_row (key choice) (reading_by (rule_at (key choice))) (vals choice) (rows_held h)
+unfolding subttx_app
+rows_step h (Of (Any (Page text page is))) = refl
+rows_step h (Of (Any (Every text frames is))) = refl
+rows_step h (Of (Any (Origin text pts is))) = refl
+rows_step h (Of (Any Complete)) = refl
+rows_step h (Of (Any EveryFault)) = refl
+rows_step h (Of (Pid text pid is)) = refl
+rows_step h (Of (Size text size is)) = refl
+rows_step h (Of (Numbers text range is)) = refl
+rows_step h (Letters text national name is) = refl
+rows_step h (Lines text layout name is) = refl
+
+-- The values of an argument, by one more choice.
+abbrev pub then_held : Text → List (List Text) → Look → List (List Text)
+then_held id vs choice = if bytes_eq (key choice) id then vals choice ∷ [] else vs
+
+key_same : (choice : Look) → bytes_eq (key choice) (key choice) ≡ true
+key_same (Of (Any (Page text page is))) = refl
+key_same (Of (Any (Every text frames is))) = refl
+key_same (Of (Any (Origin text pts is))) = refl
+key_same (Of (Any Complete)) = refl
+key_same (Of (Any EveryFault)) = refl
+key_same (Of (Pid text pid is)) = refl
+key_same (Of (Size text size is)) = refl
+key_same (Of (Numbers text range is)) = refl
+key_same (Letters text national name is) = refl
+key_same (Lines text layout name is) = refl
+
+set_by : (b : Bool) (id : Text) (how : Reading) (choice : Look) (rows : List Row)
+    → bytes_eq (key choice) id ≡ b
+    → drop 1 (held_at id rows) ≡ []
+    → held_at id (set_row (key choice) how (vals choice) rows)
+    ≡ (if b then vals choice ∷ [] else held_at id rows)
+set_by true id how choice rows is short =
+    subst
+    (λ (x : Text).
+    drop 1 (held_at x rows) ≡ []
+    → held_at x (set_row (key choice) how (vals choice) rows) ≡ vals choice ∷ [])
+    (same_id (key choice) id is)
+    (set_same (key choice) (key_same choice) how (vals choice) rows) short
+set_by false id how choice rows is short =
+    set_other (key choice) id is how (vals choice) rows
+
+held_step : (id : Text) (h : Held) (choice : Look)
+    → drop 1 (held_at id (rows_held h)) ≡ []
+    → held_at id (rows_held (next h choice)) ≡ then_held id (held_at id (rows_held h)) choice
+held_step id h choice short =
+    ap (held_at id) (rows_step h choice)
+    ∙ set_by (bytes_eq (key choice) id) id (reading_by (rule_at (key choice))) choice (rows_held h)
+    refl short
+
+short_by : (b : Bool) (v : List Text) (vs : List (List Text))
+    → drop 1 vs ≡ []
+    → drop 1 (if b then v ∷ [] else vs) ≡ []
+short_by true v vs short = refl
+short_by false v vs short = short
+
+pub held_by : (id : Text) (h : Held) (choices : List Look)
+    → drop 1 (held_at id (rows_held h)) ≡ []
+    → held_at id (rows_held (fold next h choices))
+    ≡ fold (then_held id) (held_at id (rows_held h)) choices
+held_by id h [] short = refl
+held_by id h (choice ∷ choices) short =
+    let one = held_step id h choice short in
+    held_by id (next h choice) choices
+    (ap (drop 1) one
+    ∙ short_by (bytes_eq (key choice) id) (vals choice) (held_at id (rows_held h)) short)
+    ∙ ap (λ (vs : List (List Text)). fold (then_held id) vs choices) one

@@ -1,0 +1,34 @@
+-- What is on the screens of displays where complete pages were asked for.
+use Rattle.std.specs.Prelude.{◌≡◌, ◌⊎◌, ℕ, Bool, IsTrue, List, Some}
+use Rattle.ttx_packet.specs.PageId.{PageIdValue}
+use Rattle.ttx_page.specs.Screen.{Display, ShowsBy}
+use Rattle.ttx_page.specs.DroppedRows.{ExcusedBy}
+use Rattle.ttx_page.specs.LostRows.{IsHitOrLost, arrivals_of}
+use Rattle.ttx_page.specs.Page.{IsCell, Rows, cell, space}
+use Rattle.ttx_page.specs.PacketKind.{kind}
+use Rattle.ttx_page.specs.Receiver.{ReceiverClass}
+use Rattle.ttx_page.specs.Span.{holds_header}
+use Rattle.stl_file.specs.Subtitle.{SubtitleValue}
+use Rattle.sub_rules.specs.Transmission.{Transmission, first_frame, last_frame, on_air}
+use Rattle.sub_laws.specs.LostRows.{IsGot}
+use Rattle.sub_headline.specs.EnglishPage.{english_due}
+
+-- Each display of a receiver, which shows a page once it has come whole, shows a page once a header
+-- of it was sent since it was switched on, whatever it showed before; and in each cell the code of
+-- the due page or, where that is excused, a space.
+abbrev pub EachDisplayShows : PageIdValue → List SubtitleValue → Transmission → Type 0
+EachDisplayShows page subtitles transmission =
+    (class : ReceiverClass) (g j f : ℕ) (arrived : List Bool) (got : List (List ℕ))
+    (old new : Display)
+    → IsGot transmission (first_frame transmission) (last_frame transmission) g j f arrived got
+    → ShowsBy class page old got new
+    → IsTrue (holds_header (kind page) (on_air transmission g j f))
+    → (shown : Rows)
+    × (new.screen ≡ Some shown)
+    × ((row column : ℕ)
+    → IsCell row column
+    → (cell shown row column ≡ cell (english_due subtitles f) row column)
+    ⊎ ((cell shown row column ≡ space)
+    × ExcusedBy class
+    (IsHitOrLost page (on_air transmission g j f) (arrivals_of arrived got))
+    row column))

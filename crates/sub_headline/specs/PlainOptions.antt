@@ -1,0 +1,54 @@
+-- What may be written behind `check STL PES`, in any order, and the options that it makes.
+use Rattle.std.specs.Prelude.{◌≡◌, ◌<◌, ◌^◌, ℕ, Bool, true, List, [], ◌∷◌, Some, codes, fold}
+use Rattle.std.specs.List.{flat_map}
+use Rattle.clap.specs.Words.{Text}
+use Rattle.ttx_packet.specs.PageId.{PageIdValue, page_of_text}
+use Rattle.stl_file.specs.Scope.{whole}
+use Rattle.stl_rows.specs.Layout.{default_layout}
+use Rattle.stl_rows.specs.declared.national.National.TheVariants.{English}
+use Rattle.sub_plan.specs.Options.{OptionsValue}
+use Rattle.sub_request.specs.declared.request.Request.{Request}
+use Rattle.sub_words.specs.Requests.{Asked, AsksFor, asked_by}
+use Rattle.sub_words.specs.Texts.{number_of_text}
+use Rattle.sub_headline.specs.PlainWords.{IsName, default_options, whole_pes_file}
+
+-- An option and its text, which says this; or a flag.
+pub data Choice : Type 0 where
+  Page : (text : Text) → (page : PageIdValue) → page_of_text text ≡ Some page → Choice
+  Every : (text : Text) → (frames : ℕ) → number_of_text text ≡ Some frames → Choice
+  Origin : (text : Text) → (pts : ℕ) → number_of_text text ≡ Some pts → Choice
+  Complete : Choice
+  EveryFault : Choice
+
+-- Its words.
+abbrev pub choice_words : Choice → List Text
+choice_words (Page text page is) = codes "--page" ∷ text ∷ []
+choice_words (Every text frames is) = codes "--every" ∷ text ∷ []
+choice_words (Origin text pts is) = codes "--origin" ∷ text ∷ []
+choice_words Complete = codes "--complete" ∷ []
+choice_words EveryFault = codes "--all" ∷ []
+
+-- The options, with one more choice: by `--all` each fault is listed, and nothing else is asked.
+abbrev pub with_choice : OptionsValue → Choice → OptionsValue
+with_choice o (Page text page is) = record o { page = page }
+with_choice o (Every text frames is) = record o { every = frames }
+with_choice o (Origin text pts is) = record o { origin = pts }
+with_choice o Complete = record o { asks_complete = true }
+with_choice o EveryFault = o
+
+-- The options of choices: the default ones where nothing is chosen.
+abbrev pub options_by : List Choice → OptionsValue
+options_by choices = fold with_choice default_options choices
+
+-- The words `check STL PES` and choices, behind the program's name, ask for a check of these two
+-- files by their options, of which the origin is a PTS.
+abbrev pub LawOfChosenWords : Type 0
+LawOfChosenWords =
+    (program stl pes : Text) (choices : List Choice) (request : Request)
+    → IsName stl
+    → IsName pes
+    → AsksFor (program ∷ codes "check" ∷ stl ∷ pes ∷ flat_map choice_words choices) request
+    → (all : Bool)
+    × (asked_by request
+    ≡ Asked.Check stl (whole_pes_file pes) (options_by choices) English default_layout whole all)
+    × ((options_by choices).origin < 2 ^ 33)

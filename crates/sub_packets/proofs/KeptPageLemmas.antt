@@ -1,0 +1,37 @@
+-- What is found of what is kept is what the packets say: `wrong_heard`, `undue_heard`,
+-- `incomplete_heard`.
+use Rattle.std.proofs.lemmas.Bool.Decides.{nat_tests}
+use Rattle.std.proofs.Common.{◌≡◌, ℕ, ◌&&◌, List, Bool, arith, ap, refl}
+use Rattle.ttx_page.specs.Page.{Rows}
+use Rattle.ttx_page.specs.PacketKind.{kind}
+use Rattle.ttx_page.specs.Span.{is_open_after}
+use Rattle.sub_rules.specs.Events.{undue_after, wrong_after}
+use Rattle.sub_packets.specs.KeptPage.{is_incomplete_kept, undue_kept, wrong_kept}
+use Rattle.sub_packets.specs.Listener.{Knows}
+use Rattle.sub_packets.specs.declared.listener.Listener.{Listener}
+use Rattle.sub_packets.proofs.KeptLemmas.{row_of_code}
+use Rattle.sub_packets.proofs.WrongCellLemmas.{first_cell-same, shown_is}
+
+module _ (heard : List (List ℕ)) (s : Listener) (known : Knows heard s) where
+  pub wrong_heard :
+      wrong_kept s ≡ wrong_after s.watched.keeps s.watched.page heard s.comparison.due
+  unfolding wrong_kept wrong_after
+  wrong_heard =
+      first_cell-same _ _
+      (λ row column is.
+      let kept_is = shown_is heard s known row column is in
+      let came = row_of_code s.watched.keeps s.watched.page heard row column in
+      let again = known.again_is row is.0 is.1 in
+      grind (arith, nat_tests))
+
+  pub undue_heard : (due : ℕ → Rows) (first f n : ℕ)
+      → undue_kept s due first f n
+      ≡ undue_after s.watched.keeps s.watched.page heard due first f n
+  unfolding undue_kept undue_after
+  undue_heard due first f n =
+      first_cell-same _ _
+      (λ row column is. let kept_is = shown_is heard s known row column is in rw kept_is refl)
+
+  pub incomplete_heard :
+      is_incomplete_kept s ≡ (s.watched.complete && is_open_after (kind s.watched.page) heard)
+  incomplete_heard = ap (λ (opened : Bool). s.watched.complete && opened) known.open_is
