@@ -7,7 +7,7 @@ import os
 import re
 from typing import Iterator, Mapping, Optional
 
-from subtitles.core.built import read
+from subtitles.common.program import read
 from .definitions import Library, counts
 from .promises import ROW as INDEX, index_of
 from .proved import parsed

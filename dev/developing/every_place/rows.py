@@ -1,7 +1,7 @@
 """The page that a subtitle draws, or what is wrong with its text; from the tables, byte by byte."""
 from __future__ import annotations
 
-from subtitles.core.layout import Layout, Refused, drawn_lines, page_of
+from subtitles.formats.layout import Layout, Refused, drawn_lines, page_of
 from .national import CELLS
 from .reading import Record
 

@@ -13,22 +13,17 @@ from typing import Any, Callable, NamedTuple, Sequence
 
 from developing.pes import data_field, pes_packet, pts_in, teletext_packets
 from developing.stl import gsi_block, subtitle_blocks
-from subtitles.calls.claim import claimed
-from subtitles.calls.machine import object_of
-from subtitles.calls.main import parser_of
-from subtitles.calls.objects import found
-from subtitles.calls.single import Files, draw, end_pair, judge_pair, now
-from subtitles.core.stl import NEW_LINE
-from subtitles.core.times import CLOCK, TICKS
-from subtitles.qc.asked import asked_of
-from subtitles.qc.made_with import MadeWith
-from subtitles.qc.names import Names
-from subtitles.qc.pair import Pair
-from subtitles.qc.progress import Progress
-from subtitles.qc.severity import Severity
-from subtitles.qc.speech import Speech
-from subtitles.qc.typed import Typed
-from subtitles.qc.verdict import Verdict
+from subtitles.cli.main import parser_of
+from subtitles.cli.single import Files, claimed, draw, end_pair, judge_pair, now
+from subtitles.common.program import MadeWith
+from subtitles.common.times import CLOCK, TICKS
+from subtitles.formats.stl import NEW_LINE
+from subtitles.judging.pair import Pair
+from subtitles.judging.status import Severity
+from subtitles.judging.verdict import Verdict
+from subtitles.request.commands import Names, Progress, Speech, Typed
+from subtitles.request.request import asked_of
+from subtitles.results.objects import found, object_of
 from .bench import Case, packets
 from .scenario import send
 

@@ -7,15 +7,14 @@ import tempfile
 from typing import Any, Callable, Iterable, Iterator, Sequence
 from unittest import mock
 
-from subtitles.calls import single
-from subtitles.calls.channel.channel import Channel
-from subtitles.calls.channel.heard import Heard
-from subtitles.calls.channel.hearing import Hearing
-from subtitles.calls.channel.results import WORK
-from subtitles.calls.channel.segments import Begin, Read
-from subtitles.calls.objects import found_at, left_by_call, put
-from subtitles.core.teletext import Page
-from subtitles.core.times import CLOCK, FRAMES_A_SECOND, TICKS
+from subtitles.cli import single
+from subtitles.cli.channel.channel import Channel
+from subtitles.cli.channel.feed import Heard, Hearing
+from subtitles.cli.channel.recorder import Begin, Read
+from subtitles.cli.channel.results import WORK
+from subtitles.common.times import CLOCK, FRAMES_A_SECOND, TICKS
+from subtitles.formats.teletext import Page
+from subtitles.results.objects import found_at, left_by_call, put
 from .bench import Case
 from .results import result
 from .test_channel_tables import EACH, FIRST, LASTS, defaults, programme

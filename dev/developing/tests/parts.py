@@ -6,19 +6,17 @@ import os
 from typing import Sequence
 
 from developing.pes import packet
-from subtitles.core.manual import Meaning
-from subtitles.core.teletext import Page
-from subtitles.core.markup import Value, joined
-from subtitles.core.told import Told, told_of
-from subtitles.core.words import Words
-from subtitles.qc.asked import Asked, add_pair_options, asked_with
-from subtitles.qc.checking import Answer
-from subtitles.qc.clock import GIVEN, Clock, Found
-from subtitles.qc.names import Names
-from subtitles.qc.part import Part
-from subtitles.reading.packets import Packets
-from subtitles.reading.survey import survey
-from subtitles.reading.timeline import Timeline
+from subtitles.clock.start import Clock, Found, GIVEN
+from subtitles.common.command_line import Words
+from subtitles.common.markup import Value, joined
+from subtitles.formats.listing import Meaning, Told, told_of
+from subtitles.formats.teletext import Page
+from subtitles.judging.check import Answer
+from subtitles.judging.part import Part
+from subtitles.request.commands import Names
+from subtitles.request.request import Asked, add_pair_options, asked_with
+from subtitles.stream.receiver import Timeline
+from subtitles.stream.survey import Packets, survey
 from .bench import Case
 
 PAGE = (0, 0x88)

@@ -20,10 +20,10 @@ import sys
 import tempfile
 from typing import NamedTuple
 
-from subtitles.calls.claim import is_own
-from subtitles.calls.forked import Forked, ended_of, qc
-from subtitles.calls.objects import object_at
-from subtitles.core.built import TOP
+from subtitles.cli.batch import Forked, ended_of, qc
+from subtitles.cli.single import is_own
+from subtitles.common.program import TOP
+from subtitles.results.objects import object_at
 from .bench import SECONDS
 
 WATCHED = 3.0  # seconds for which a folder is watched

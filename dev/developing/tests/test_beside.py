@@ -14,14 +14,13 @@ from typing import Sequence
 from developing.every_place import due as defined
 from developing.stl import gsi_block, tti_block
 from developing.every_place.words import options_of
-from subtitles.calls.collecting import table_of
-from subtitles.calls.index_page import line_of
-from subtitles.calls.objects import row_of
-from subtitles.core.times import ALL_DAY, Between
-from subtitles.core.told import told_of
-from subtitles.qc.beside import Counts, beside_of, due_beside, is_judged_beside
-from subtitles.qc.subtitle_file import SubtitleFile
-from subtitles.reading.packets import Packets, Run
+from subtitles.cli.collection import pair_line, table_of
+from subtitles.common.times import ALL_DAY, Between
+from subtitles.formats.listing import told_of
+from subtitles.formats.stl import SubtitleFile
+from subtitles.judging.subtitles import Counts, beside_of, due_beside, is_judged_beside
+from subtitles.results.objects import row_of
+from subtitles.stream.survey import Packets, Run
 from .bench import Case, packets
 from .judged import Judged, joined, judged, late, sendings
 from .parts import answer, part_with
@@ -112,7 +111,7 @@ class Beside(Case):
         self.must("case", words in "".join(case.itertext()))
         row = row_of(known, "one")
         self.must("collected", words in "".join(table_of([row])) and
-                  words in line_of(self.folder, row).source)
+                  words in pair_line(self.folder, row).source)
         for more, counts in (((self.stl, self.pes, *WORDS), {"judged": 10, "refused": 0}),
                              ((self.stl,), {"judged": 10, "refused": 0}),
                              ((self.file(3),), None)):

@@ -8,11 +8,10 @@ import os
 import unittest
 
 from developing.pes import data_field, packet, pes_packet, pts_in, teletext_packets
-from subtitles.core.built import TOP
-from subtitles.core.national import FRENCH, OPTIONS
-from subtitles.core.teletext import CODE_WORDS
-from subtitles.qc.asked import Asked
-from subtitles.qc.warned import of_character_sets, of_option
+from subtitles.common.program import TOP
+from subtitles.formats.teletext import CODE_WORDS, FRENCH, OPTIONS
+from subtitles.recording.recording import of_character_sets, of_option
+from subtitles.request.request import Asked
 from .bench import Case, example_bytes, packets
 from .parts import packets_told
 from .test_qc import STORY, lines_of, qc

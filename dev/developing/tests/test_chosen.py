@@ -8,11 +8,10 @@ import re
 from typing import Any, Sequence
 
 from developing.pes import pes_packet
-from subtitles.core.built import TOP, read
-from subtitles.core.times import TICKS
-from subtitles.qc.asked import asked_of, option_line
-from subtitles.qc.chosen import CHOICES
-from subtitles.calls.main import parser_of
+from subtitles.cli.main import parser_of
+from subtitles.common.program import TOP, read
+from subtitles.common.times import TICKS
+from subtitles.request.request import CHOICES, asked_of, option_line
 from .bench import Case, example, tool_path
 from .judged import Judged, joined, judged, programme, sendings
 from .results import wrong_choices

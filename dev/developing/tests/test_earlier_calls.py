@@ -11,19 +11,18 @@ import os
 from typing import Any, Iterator
 from unittest import mock
 
-from subtitles.calls import watching
-from subtitles.calls.claim import claimed
-from subtitles.calls.members import ASKED
-from subtitles.calls.objects import (
+from subtitles.cli import batch
+from subtitles.cli.batch import Item, Watch, refuse_folders
+from subtitles.cli.single import claimed
+from subtitles.common.command_line import Stop
+from subtitles.common.program import MadeWith, about_program
+from subtitles.recording.feed import Stall
+from subtitles.request.commands import Typed
+from subtitles.request.request import Asked
+from subtitles.results.objects import (
     Row, found, found_at, has_had_its_turn, is_current, left_by_call, may_take, object_at,
     objects_in, row_of, unjudged)
-from subtitles.calls.pairs import Item
-from subtitles.calls.watching import Watch, refuse_folders
-from subtitles.core.words import Stop
-from subtitles.qc.asked import Asked
-from subtitles.qc.made_with import MadeWith, program_at
-from subtitles.qc.feed import Stall
-from subtitles.qc.typed import Typed
+from subtitles.results.schema import ASKED
 from .bench import Case, example_bytes
 from .parts import asked_for
 from .test_channel_tables import defaults
@@ -257,7 +256,7 @@ class Watched(Case):
         self.must("page", "4 pairs" in page and page.index("<td>a<") < page.index("<td>b<"))
         stl, ts = self.write("in/a.stl", b"1"), self.write("in/a.ts", b"1")
         item = Item("a", asked_for(stl, ts), None)
-        program = program_at(watch.calls.typed.program_path)
+        program = about_program(watch.calls.typed.program_path)
         asked = asked_for(stl, ts)
         have = result(asked=ASKED.made(asked), found=found(asked), program=program._asdict())
         other: dict[str, Any] = {"found": {**found(asked), "stl": None}}
@@ -319,11 +318,11 @@ class Watched(Case):
                 raise KeyboardInterrupt
             return due(watch, busy)
 
-        with mock.patch("signal.signal"), mock.patch.object(watching, "LOOK", 0.01), mock.patch.object(Watch, "due", look), \
-                mock.patch.object(watching, "judged_next", judged_next), \
-                mock.patch("subtitles.calls.batch.Calls.items", lambda calls: running), \
+        with mock.patch("signal.signal"), mock.patch.object(batch, "LOOK", 0.01), mock.patch.object(Watch, "due", look), \
+                mock.patch.object(batch, "judged_next", judged_next), \
+                mock.patch("subtitles.cli.batch.Calls.items", lambda calls: running), \
                 contextlib.redirect_stdout(io.StringIO()) as out:
-            status = watching.watch(self.words(program=self.bench.program, jobs=4), "tools/qc")
+            status = batch.watch(self.words(program=self.bench.program, jobs=4), "tools/qc")
         self.must("its status", status == 2, status)
         self.must("once", sorted(begun) == ["a", "b"] and len(out.getvalue().splitlines()) == 2,
                   (begun, out.getvalue()))

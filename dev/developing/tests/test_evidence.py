@@ -5,12 +5,11 @@ from __future__ import annotations
 import random
 from typing import NamedTuple, Sequence
 
-from subtitles.core.layout import PLAIN, Layout, Refused, drawn, layout_of, page_of, text_of
-from subtitles.core.national import ENGLISH
-from subtitles.qc.evidence import (
-    MOST_ITEMS, Choice, Evidence, Left, Rest, choices_of, items_in, taken_from, with_items,
+from subtitles.formats.layout import Layout, PLAIN, Refused, drawn, layout_of, page_of, text_of
+from subtitles.formats.teletext import ENGLISH
+from subtitles.stream.layout import (
+    Choice, Evidence, Left, MOST_ITEMS, Rest, Sent, choices_of, items_in, taken_from, with_items,
     without)
-from subtitles.qc.layouts import Sent
 from .bench import Case
 from .judged import Judged, judged
 from .test_as_sent import file_of

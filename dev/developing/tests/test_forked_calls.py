@@ -10,16 +10,15 @@ import time
 from typing import Any, Callable
 from unittest import mock
 
-from subtitles.calls import batch
-from subtitles.calls.batch import Calls, all_rows, kept_rows, progress_line, words_of
-from subtitles.calls.forked import Forked, ended_of, qc, signals_held
-from subtitles.calls.members import ASKED
-from subtitles.calls.main import parser_of
-from subtitles.calls.objects import Row, found, object_at, unjudged
-from subtitles.calls.pairs import Item
-from subtitles.qc.asked import asked_of
-from subtitles.qc.made_with import program_at
-from subtitles.qc.typed import Typed
+from subtitles.cli import batch
+from subtitles.cli.batch import (
+    Calls, Forked, Item, all_rows, call_words, ended_of, kept_rows, progress_line, qc, signals_held)
+from subtitles.cli.main import parser_of
+from subtitles.common.program import about_program
+from subtitles.request.commands import Typed
+from subtitles.request.request import asked_of
+from subtitles.results.objects import Row, found, object_at, unjudged
+from subtitles.results.schema import ASKED
 from .bench import SECONDS, Case
 from .channels import until
 from .parts import asked_for
@@ -107,7 +106,7 @@ class Judged(Case):
                       "--strict --allow-lost --no-complete --severity file --breaks 2 --pes 3-9",
                       "--page 1A0 --every 7 --option german"):
             asked = asked_for("a.stl", "a.ts", *words.split())
-            again = asked_of(parser_of("").parse_args(words_of(asked)))
+            again = asked_of(parser_of("").parse_args(call_words(asked)))
             self.must(words, again == asked, again)
 
     def test_one(self) -> None:
@@ -212,7 +211,7 @@ class Judged(Case):
                 if line.startswith("1 of 4 pairs: 1 accepted"):
                     raise reason
 
-            with mock.patch("subtitles.qc.progress.Progress.show", show), \
+            with mock.patch("subtitles.request.commands.Progress.show", show), \
                     mock.patch.object(batch, "ignore_signals") as ignored:
                 if isinstance(reason, KeyboardInterrupt):
                     rows = all_rows(calls, items, {}, 2)
@@ -237,7 +236,7 @@ class Judged(Case):
             until(are_over)
             raise KeyboardInterrupt
 
-        with mock.patch("subtitles.qc.progress.Progress.show", stopped), \
+        with mock.patch("subtitles.request.commands.Progress.show", stopped), \
                 mock.patch.object(batch, "ignore_signals"):
             rows = all_rows(calls, items, {}, 3)
         self.must("all", sorted(rows) == ["name0", "name1", "name2"], rows)
@@ -249,7 +248,7 @@ class Judged(Case):
         items = [self.item("accepted", name) for name in (
             "one", "two", "three", "four", "six", "seven", "eight")]
         items.append(Item("five", None, "no pair"))
-        program = program_at(self.typed.program_path)
+        program = about_program(self.typed.program_path)
         mores: list[dict[str, Any]] = [
             {}, {}, {"program": {**program._asdict(), "sha256": "1" * 64}}, {}, {"format": 2},
             {"found": None}, {"asked": None}]

@@ -7,12 +7,9 @@ import random
 
 from developing.pes import address_of
 from developing.stl import gsi_block, subtitle_blocks
-from subtitles.core.layout import (
-    PLAIN, Layout, Refused, drawn, layout_of, page_of, text_of)
-from subtitles.core.national import BY_WORD
-from subtitles.core.teletext import Page
-from subtitles.qc.evidence import Choice, choices_of
-from subtitles.qc.layouts import Sent, is_found, missed, simplicity
+from subtitles.formats.layout import Layout, PLAIN, Refused, drawn, layout_of, page_of, text_of
+from subtitles.formats.teletext import BY_WORD, Page
+from subtitles.stream.layout import Choice, Sent, choices_of, is_found, missed, simplicity
 from .. import DEV
 from ..every_place.on_air import Packet, rows_in, span_of
 from ..every_place.reading import header_of, pieces_of, sending_in

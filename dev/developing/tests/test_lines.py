@@ -1,10 +1,10 @@
 """The lines of the program as values: those of `check --all`, and those of `show`."""
 from __future__ import annotations
 
-from subtitles.core.programme import Subtitle, subtitles_shown
-from subtitles.core.told import (
+from subtitles.common.command_line import Stop
+from subtitles.formats.listing import (
     Accepted, Told, Trusted, accepted_of, count_of, number_of, told_of, trusted_of)
-from subtitles.core.words import Stop
+from subtitles.formats.stl import Subtitle, subtitles_shown
 from .bench import Case
 
 FIRST = "00001 00:00:01:00 00:00:02:00 vp 20 jc 2 text 41"

@@ -7,18 +7,18 @@ import unittest
 from types import ModuleType
 from unittest import mock
 
-from subtitles.calls import batch, collecting, main, single, watching
-from subtitles.calls.channel import call, recorder
-from subtitles.calls.main import file_in, name_in, parser_of
-from subtitles.calls.modes import (
-    TAKEN_BY, jobs_word, line_word, minutes_word, mode_of, refuse_options, seconds_word)
-from subtitles.calls.channel.planned import Planned
-from subtitles.core.built import TOP
-from subtitles.core.words import Stop
-from subtitles.qc.asked import asked_of_line
-from subtitles.qc.options import (
-    ALONE, BATCH, CHANNEL, CHANNEL_LINE, COLLECT, LINE, MODES, PAIR, RECORDER, WATCH, Mode)
-from subtitles.qc.typed import Typed
+from subtitles.cli import batch, collection, main, single
+from subtitles.cli.channel import channel, recorder
+from subtitles.cli.channel.schedule import Planned
+from subtitles.cli.main import (
+    TAKEN_BY, file_in, jobs_word, line_word, minutes_word, mode_of, name_in, parser_of,
+    refuse_options, seconds_word)
+from subtitles.common.command_line import Stop
+from subtitles.common.program import TOP
+from subtitles.request.commands import Typed
+from subtitles.request.request import (
+    ALONE, BATCH, CHANNEL, CHANNEL_LINE, COLLECT, LINE, MODES, Mode, PAIR, RECORDER, WATCH,
+    asked_of_line)
 from .bench import Case
 from .test_channel_tables import defaults
 
@@ -104,18 +104,18 @@ class Modes(Case):
              {"out": "x", "is_kept": True}),
             ([*CALLS[PAIR], "-o@x"], single, "judge", {"out": "./@x"}),
             (CALLS[BATCH], batch, "judge", {"batch": "in"}),
-            (CALLS[COLLECT], collecting, "collect", {"collect": "in"}),
-            (CALLS[WATCH], watching, "watch", {"settled": 5}),
-            ([*CALLS[WATCH], "--settled", "0"], watching, "watch", {"settled": 0}),
-            (CALLS[CHANNEL], call, "judge", {"patience": 60, "stall": 10}),
-            ([*CALLS[CHANNEL], "--patience", "1"], call, "judge", {"patience": 1}),
-            ([*CALLS[CHANNEL], "--spool", "x"], call, "judge", {"spool": "x"})]
+            (CALLS[COLLECT], collection, "collect", {"collect": "in"}),
+            (CALLS[WATCH], batch, "watch", {"settled": 5}),
+            ([*CALLS[WATCH], "--settled", "0"], batch, "watch", {"settled": 0}),
+            (CALLS[CHANNEL], channel, "judge", {"patience": 60, "stall": 10}),
+            ([*CALLS[CHANNEL], "--patience", "1"], channel, "judge", {"patience": 1}),
+            ([*CALLS[CHANNEL], "--spool", "x"], channel, "judge", {"spool": "x"})]
         for line, module, name, wanted in rows:
             with mock.patch.object(module, name, return_value=7) as called:
                 self.must(f"{line}", main.answer("", "tools/qc", line) == 7)
             words, *others = called.call_args.args
             self.must(f"{line}: words", {one: vars(words)[one] for one in wanted} == wanted and
-                      others == ["tools/qc"] * (module is not collecting), words)
+                      others == ["tools/qc"] * (module is not collection), words)
         with mock.patch.object(recorder, "record_alone", return_value=7) as called:
             self.must("a recorder", main.answer("", "tools/qc", CALLS[RECORDER]) == 7 and
                       called.call_args.args == ("-", "feed"), called.call_args)

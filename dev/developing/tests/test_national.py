@@ -7,12 +7,12 @@ import os
 import unittest
 from typing import Iterator
 
-from subtitles.core.built import TOP
-from subtitles.core.characters import letters, option_name
-from subtitles.core.national import (
+from subtitles.common.program import TOP
+from subtitles.formats.teletext import (
     BY_WORD, CZECH, ENGLISH, FRENCH, GERMAN, ITALIAN, OPTIONS, PLACES, RESERVED, SPANISH, SWEDISH,
-    character_of, codes_of, draws, letter_at, named_by, of_track, options_with)
-from subtitles.qc.option_advice import advice_of
+    character_of, codes_of, draws, letter_at, letters, named_by, of_track, option_name,
+    options_with)
+from subtitles.judging.subtitles import advice_of
 
 VECTORS = os.path.join(TOP, "dev", "vectors", "national")
 

@@ -3,8 +3,8 @@ last TCO, rows that come when the page is not open, two subtitles that are sent 
 from __future__ import annotations
 
 from developing.pes import packet
-from subtitles.core.times import TICKS
-from subtitles.reading.receiver import control_words, lines_of, national_option
+from subtitles.common.times import TICKS
+from subtitles.stream.receiver import control_words, lines_of, national_option
 from .bench import Case
 from .judged import Judged, Sent, joined, judged, late, programme, sendings
 

@@ -9,21 +9,20 @@ import json
 import os
 from typing import Any, Sequence
 
-from subtitles.calls import index_page, overview
-from subtitles.calls.objects import Row, found
-from subtitles.calls.claim import clear
-from subtitles.calls.single import Files, Output, end, end_pair, name_of, now, refuse_outputs
-from subtitles.qc.asked import Asked
-from subtitles.qc.checking import Answer
-from subtitles.qc.clock import FITTED, GIVEN, RECORDING, Clock, Found
-from subtitles.qc.made_with import program_at
-from subtitles.qc.names import Names
-from subtitles.qc.severity import Severity
-from subtitles.qc.typed import Typed
-from subtitles.qc.part import Part
-from subtitles.qc.verdict import Gap, Verdict
-from subtitles.qc.warned import Warned
-from subtitles.reading.gaps import Place
+from subtitles.cli import collection
+from subtitles.cli.single import Files, Output, clear, end, end_pair, name_of, now, refuse_outputs
+from subtitles.clock.start import Clock, FITTED, Found, GIVEN, RECORDING
+from subtitles.common.program import about_program
+from subtitles.judging.check import Answer
+from subtitles.judging.part import Part
+from subtitles.judging.status import Severity
+from subtitles.judging.verdict import Gap, Verdict
+from subtitles.recording.recording import Warned
+from subtitles.report import page as report_page
+from subtitles.request.commands import Names, Typed
+from subtitles.request.request import Asked
+from subtitles.results.objects import Row, found
+from subtitles.stream.gaps import Place
 from .bench import Case, example
 from .judged import Heard
 from .parts import answer, asked_for, in_page, part_with
@@ -330,35 +329,35 @@ class Overview(Case):
                              (2, "origin 7, given, all 2 frames late"),
                              (-1, "origin 7, given, all 1 frame early")):
             verdict.parts[0].found = Found(0, 9, Clock(7, GIVEN, delay))
-            self.must(words, overview.clock_of(verdict.parts[0]) == words)
-        table = in_page(overview.table(verdict, names))
+            self.must(words, report_page.clock_of(verdict.parts[0]) == words)
+        table = in_page(report_page.table(verdict, names))
         for number in (1, 2, 3):
             link = f'<a href="one.{number}.html">'
             self.must(f"part {number}", table.count(f"{link}part {number}</a>") == 1 and
                       table.count(link) == 2)
-        odd = in_page(overview.table(verdict, Names("50%25", self.folder, self.path("out"))))
+        odd = in_page(report_page.table(verdict, Names("50%25", self.folder, self.path("out"))))
         self.must("a name with an escaped sign", 'href="50%2525.2.html"' in odd, odd)
         self.must("faults", '<td data-name="Faults">2</td>' in table and
                   table.count('<td data-name="Faults">0</td>') == 2, table)
         self.must("between", "between 00:00:00:09 and 00:00:02:00; between 00:00:03:24 and "
-                  "00:00:04:20." in in_page(overview.between(verdict.parts)))
+                  "00:00:04:20." in in_page(report_page.between(verdict.parts)))
         for part in verdict.parts:
             part.names.given = example("story.stl")
         verdict.gaps = [gap(True), gap(False)]
         verdict.warnings = [Warned("kind", "strange")]
-        box = in_page(overview.box(verdict, "the <line>"))
+        box = in_page(report_page.box(verdict, "the <line>"))
         self.must("box", box.startswith('<div class="verdict refused">') and "the &lt;line&gt;" in
                   box and box.count("3 TS packets lost") == 1 and "warning: strange" in box, box)
-        page = in_page(overview.overview(dataclasses.replace(verdict, date="2026-01-02T03:04:05Z"),
-                                         program_at(self.bench.program), names,
-                                         Typed("tools/qc", self.bench.program)))
+        page = in_page(report_page.overview(dataclasses.replace(verdict, date="2026-01-02T03:04:05Z"),
+                                            about_program(self.bench.program), names,
+                                            Typed("tools/qc", self.bench.program)))
         self.must("its date", "2026-01-02 03:04:05 UTC" in page)
-        scope = in_page(overview.scope(verdict))
-        count = 3 * overview.subtitles_of(verdict.parts[0])
+        scope = in_page(report_page.scope(verdict))
+        count = 3 * report_page.subtitles_of(verdict.parts[0])
         self.must("scope", f"00:00:00:00 to 00:00:05:24, {count} subtitles" in scope, scope)
         verdict.asked = asked_for("piped.stl", "one.pes")  # what came through a pipe is kept
         verdict.asked.kept_stl = example("story.stl")
-        self.must("a pipe", "Programme" in scope and in_page(overview.scope(verdict)) == scope,
+        self.must("a pipe", "Programme" in scope and in_page(report_page.scope(verdict)) == scope,
                   scope)
 
     def test_pairs(self) -> None:
@@ -373,14 +372,14 @@ class Overview(Case):
                 one("c", "waived", 0, "waived: x", 1, 1),
                 one("d<", "refused", 1, "refused 72", 9, 7, "a hint"),
                 one("e", "lost", 1, "not accepted")]
-        self.must("order", [row.name for row in sorted(rows, key=index_page.rank)] ==
+        self.must("order", [row.name for row in sorted(rows, key=collection.rank)] ==
                   ["d<", "e", "b", "c", "a"])
         for name in ("a.html", "a.json", "b.json", "b.txt"):
             self.write(name, b"")
-        page = index_page.page_of(self.folder, rows, "now").decode()
+        page = collection.page_of(self.folder, rows, "now").decode()
         self.must("counts", page.count("5 pairs: 1 accepted, 1 lost, 1 not judged, 1 refused, "
                                        "1 waived") == 2, page[:900])
-        lines = {row.name: index_page.line_of(self.folder, row).source for row in rows}
+        lines = {row.name: collection.pair_line(self.folder, row).source for row in rows}
         self.must("links", [lines[name].count("<a ") for name in "abc"] == [2, 2, 0] and
                   ">list</a>" in lines["b"] and ">report</a>" in lines["a"])
         self.must("why", "why<br/>more<br/>and<" in lines["b"] and "four" not in lines["b"] and

@@ -5,11 +5,11 @@ from __future__ import annotations
 from typing import NamedTuple, Sequence
 
 from developing.pes import pes_packet
-from subtitles.core.times import CLOCK, TICKS
-from subtitles.reading.pace import (
-    BY_EVERY, FEW, IRREGULAR, LEAST, PAUSED, REGULAR, TOO_FEW, Pauses, each_of, pace_of, pauses_of,
+from subtitles.common.times import CLOCK, TICKS
+from subtitles.stream.gaps import (
+    BY_EVERY, FEW, IRREGULAR, LEAST, PAUSED, Pauses, REGULAR, TOO_FEW, each_of, pace_of, pauses_of,
     rows_of)
-from subtitles.reading.packets import Packets, Run
+from subtitles.stream.survey import Packets, Run
 from .bench import Case
 from .judged import Judged, Sent, in_pipe, joined, judged, programme, sendings
 from .muxed import TELETEXT_PID

@@ -3,7 +3,7 @@ from __future__ import annotations
 
 import json
 
-from subtitles.core.stl import MOST_STL
+from subtitles.formats.stl import MOST_STL
 from .bench import Case, Done, example, example_bytes, tool_path
 from .judged import in_pipe
 

@@ -2,15 +2,15 @@
 from __future__ import annotations
 
 from developing.pes import address_of, header_of, packet, pts_in
-from subtitles.core.teletext import CODE_WORDS
-from subtitles.core.times import TICKS
-from subtitles.qc.causes import EVEN, IN_PARTS, UNSEEN, Namer
-from subtitles.qc.due_pages import DuePages
-from subtitles.qc.pes_header import first_of, header_words
-from subtitles.reading.finding import other_words
-from subtitles.reading.gaps import Place, places_of, what_of
-from subtitles.reading.packets import Clocked, Mark, Packets, Run
-from subtitles.reading.subcodes import subcode_of, turns_of
+from subtitles.clock.origin import other_words
+from subtitles.common.times import TICKS
+from subtitles.formats.teletext import CODE_WORDS
+from subtitles.judging.causes import EVEN, IN_PARTS, Namer, UNSEEN
+from subtitles.judging.transmissions import DuePages
+from subtitles.recording.recording import first_of, header_words
+from subtitles.stream.gaps import Place, places_of, what_of
+from subtitles.stream.receiver import subcode_of, turns_of
+from subtitles.stream.survey import Clocked, Mark, Packets, Run
 from .bench import Case, packets
 from .judged import Sent, in_pipe, joined, judged, programme, sendings
 from .muxed import AHEAD, TELETEXT_PID, Maker, components, put_teletext

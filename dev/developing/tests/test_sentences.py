@@ -4,15 +4,12 @@ from __future__ import annotations
 import re
 import unittest
 
-from subtitles.core.manual import meanings
-from subtitles.core.national import OPTIONS
-from subtitles.core.told import told_of
-from subtitles.qc.causes import IN_PAUSE, NAMES, Cause
-from subtitles.qc.fault_words import WORDS
-from subtitles.qc.headers import control_words
-from subtitles.qc.sentence import SAID, Facts, of_causes, sentence_of
-from subtitles.qc.severity import REFUSALS
-from subtitles.qc.status import ACCEPTED, LOST, NOT_JUDGED, REFUSED, WAIVED, WARNED
+from subtitles.formats.listing import meanings, told_of
+from subtitles.formats.teletext import OPTIONS
+from subtitles.judging.causes import Cause, IN_PAUSE, NAMES
+from subtitles.judging.sentence import Facts, SAID, WORDS, of_causes, sentence_of
+from subtitles.judging.status import ACCEPTED, LOST, NOT_JUDGED, REFUSALS, REFUSED, WAIVED, WARNED
+from subtitles.judging.transmissions import control_words
 from .test_tables_of_faults import cause, causes_of
 
 OF_PACKETS = {3, 4}  # refusals of `normal`, which `check` does not have

@@ -14,9 +14,9 @@ from typing import Callable
 from xml.etree import ElementTree as tree
 
 from developing.looks import browser
-from subtitles.calls.index_page import page_of
-from subtitles.calls.objects import Row
-from subtitles.core.markup import POLICY
+from subtitles.cli.collection import page_of
+from subtitles.common.markup import POLICY
+from subtitles.results.objects import Row
 from .. import DEV
 from .bench import Case, example, example_bytes, tool_path
 

@@ -4,14 +4,13 @@ line of a list asks.
 from __future__ import annotations
 
 from developing.stl import gsi_block, subtitle_blocks
-from subtitles.core.times import FRAMES_OF_A_DAY
-from subtitles.core.told import told_of
-from subtitles.core.words import Stop, Words
-from subtitles.qc.asked import add_pair_options, asked_of_line
-from subtitles.qc.checking import Answer
-from subtitles.qc.midnight import AT_MIDNIGHT, falls_at_midnight, midnight_words
-from subtitles.qc.subtitle_file import SubtitleFile
-from subtitles.qc.unclear import Unclear
+from subtitles.common.command_line import Stop, Words
+from subtitles.common.times import FRAMES_OF_A_DAY
+from subtitles.formats.listing import told_of
+from subtitles.formats.stl import SubtitleFile
+from subtitles.judging.check import Answer
+from subtitles.judging.subtitles import AT_MIDNIGHT, falls_at_midnight, midnight_words
+from subtitles.request.request import Unclear, add_pair_options, asked_of_line
 from .bench import Case
 from .parts import asked_for
 

@@ -11,22 +11,19 @@ from typing import Any
 from unittest import mock
 
 from developing.pes import packet, pes_packet
-from subtitles.core.programme import Subtitle
-from subtitles.core.spans import Span
-from subtitles.core.times import CLOCK, TICKS
-from subtitles.core.told import told_of
-from subtitles.qc.causes import (
-    ATTRIBUTE, EARLY, LATE, NEVER, NOT_ERASED, OTHER, TEXT, UNKNOWN, Cause, Faulty, Namer)
-from subtitles.qc.cells import place_of
-from subtitles.qc.due_pages import DuePages, asked_of
-from subtitles.qc.hints import gap_words, hints_of
-from subtitles.qc.made_with import proved_line
-from subtitles.qc.progress import CLEAR, Progress
-from subtitles.qc.sentence import Facts, of_causes, what_is_wrong
-from subtitles.qc.speech import Speech
-from subtitles.qc.unclear import Unclear
-from subtitles.qc.why import tell
-from subtitles.reading.receiver import BLANK_PAGE, OLD
+from subtitles.common.program import proved_line
+from subtitles.common.times import CLOCK, Span, TICKS
+from subtitles.formats.listing import told_of
+from subtitles.formats.stl import Subtitle
+from subtitles.judging.causes import (
+    ATTRIBUTE, Cause, EARLY, Faulty, LATE, NEVER, NOT_ERASED, Namer, OTHER, TEXT, UNKNOWN)
+from subtitles.judging.faults import gap_words, hints_of, place_of
+from subtitles.judging.part import tell
+from subtitles.judging.sentence import Facts, of_causes, what_is_wrong
+from subtitles.judging.transmissions import DuePages, asked_of
+from subtitles.request.commands import CLEAR, Progress, Speech
+from subtitles.request.request import Unclear
+from subtitles.stream.receiver import BLANK_PAGE, OLD
 from .bench import Case
 from .judged import Heard
 from .parts import (
@@ -264,7 +261,7 @@ class Words(Case):
                 speech.end(line)
             speech.end("a")
         self.must("the last line once", out.getvalue() == "a\nb\na\n", out.getvalue())
-        with mock.patch("subtitles.qc.why.Wording") as wording:
+        with mock.patch("subtitles.judging.part.Wording") as wording:
             wording.return_value.line = lambda one: f"cause {one}"
             for count in (0, 40, 41, 45):
                 heard = Heard()

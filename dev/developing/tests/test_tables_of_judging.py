@@ -11,25 +11,20 @@ from unittest import mock
 
 from developing.pes import pes_packet
 from developing.stl import gsi_block, subtitle_blocks, tti_block
-from subtitles.core.times import CLOCK, TICKS
-from subtitles.qc.causes import (
-    ATTRIBUTE, EARLY, LATE, NEVER, NOT_ERASED, OTHER, PLACE, TEXT, UNKNOWN, Cause)
-from subtitles.qc.chosen import Chosen
-from subtitles.qc.clock import GIVEN, RECORDING, Clock, Found
-from subtitles.qc.clocks import found_in
-from subtitles.qc.off_frame import most_off, off_words
-from subtitles.qc.start import start_frame
-from subtitles.qc.subtitle_file import SubtitleFile
-from subtitles.qc.unclear import Unclear
-from subtitles.qc.warned import (
+from subtitles.clock.origin import OfPart, Origin
+from subtitles.clock.start import Clock, Found, GIVEN, RECORDING, most_off, off_words, start_frame
+from subtitles.common.times import CLOCK, TICKS
+from subtitles.formats.stl import SubtitleFile
+from subtitles.judging.causes import (
+    ATTRIBUTE, Cause, EARLY, LATE, NEVER, NOT_ERASED, OTHER, PLACE, TEXT, UNKNOWN)
+from subtitles.judging.pair import (
+    NOTHING, found_in, is_accepted, is_delay, least_of, may_be, same_part, within_line)
+from subtitles.recording.recording import (
     Warned, length_words, of_character_sets, of_counts, of_jumps, of_pauses, of_repeat, of_tables,
     there_are)
-from subtitles.qc.within import (
-    NOTHING, is_accepted, is_delay, least_of, line_of, may_be, same_part)
-from subtitles.reading.finding import OfPart, Origin
-from subtitles.reading.gaps import ClockJump
-from subtitles.reading.packets import Packets
-from subtitles.reading.survey import Announced
+from subtitles.request.request import Chosen, Unclear
+from subtitles.stream.gaps import ClockJump
+from subtitles.stream.survey import Announced, Packets
 from .bench import Case
 from .parts import CLOSING, HEADER, PAGE, asked_for, packets_told
 from .test_character_sets import naming
@@ -107,7 +102,7 @@ class Within(unittest.TestCase):
                          [Found(3, 9, Clock(5, RECORDING, evidence=told), (1, 2))])
 
     def test_words(self) -> None:
-        self.assertEqual(line_of(3), "within 3 it is accepted: --within 3")
+        self.assertEqual(within_line(3), "within 3 it is accepted: --within 3")
         for line, status, wanted in (
                 (ACCEPTED[0], 0, True), (ACCEPTED[0], 1, False), (ACCEPTED[0], 2, False),
                 (ACCEPTED[0], -9, False), (LATER[0], 0, False), (LATER[0], 1, False),
@@ -129,7 +124,7 @@ class Warnings(Case):
             jumps = [ClockJump(None, 90_000), *(ClockJump((origin + TICKS * frame) % CLOCK, ticks)
                                            for frame, ticks in (
                 (9, 1), (10, 90_000), (15, -90_000), (20, 8_640_000), (21, 5)))]
-            with mock.patch("subtitles.qc.warned.jumps_of", lambda packets: jumps):
+            with mock.patch("subtitles.recording.recording.jumps_of", lambda packets: jumps):
                 found = [(one.kind, one.time, one.line.partition(" at ")[0])
                          for one in of_jumps(Packets(1), origin, 10, 20)]
             self.assertEqual(found, [

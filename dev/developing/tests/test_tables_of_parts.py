@@ -9,19 +9,18 @@ from unittest import mock
 
 from developing.pes import pes_packet
 from developing.stl import gsi_block, tti_block
-from subtitles.core.words import HIDDEN
-from subtitles.qc.headers import control_words
-from subtitles.qc.lettering import (
-    ATTRIBUTES, attribute_words, code_words, is_moved, is_part, place_words, text_of, words_on)
-from subtitles.qc.names import (
-    Names, NamesOfList, again, files_in, pair_name, part_name)
-from subtitles.qc.option_advice import OptionAdvice
-from subtitles.qc.recording import is_recording
-from subtitles.qc.subtitle_file import SubtitleFile
-from subtitles.qc.typed import Typed, line_of
-from subtitles.reading import repeat
-from subtitles.reading.receiver import BLANK_PAGE
-from subtitles.reading.repeat import FEWEST, NEAR, are_usual, longest_gap, measured
+from subtitles.common.command_line import HIDDEN
+from subtitles.formats.stl import SubtitleFile
+from subtitles.judging.subtitles import OptionAdvice
+from subtitles.judging.transmissions import (
+    ATTRIBUTES, attribute_words, code_words, control_words, is_moved, is_part, place_words, text_of,
+    words_on)
+from subtitles.recording.recording import is_recording
+from subtitles.request.commands import (
+    Names, NamesOfList, Typed, again, files_in, line_of, pair_name, part_name)
+from subtitles.stream import gaps
+from subtitles.stream.gaps import FEWEST, NEAR, are_usual, longest_gap, measured
+from subtitles.stream.receiver import BLANK_PAGE
 from .bench import Case
 from .parts import asked_for
 
@@ -250,7 +249,7 @@ class Repeats(unittest.TestCase):
                 ([0, 10, 20, 30, 50, 90], [], 20)]
         for frames, edges, every in of_frames:
             self.assertEqual(measured(frames, edges), every, (frames, edges))
-        with mock.patch.object(repeat, "sum", side_effect=sum, create=True) as summed:
+        with mock.patch.object(gaps, "sum", side_effect=sum, create=True) as summed:
             self.assertEqual(measured(range(1000), []), 1)
         self.assertLess(summed.call_count, 3)  # not once for each sending
         self.assertEqual(FEWEST, 3)

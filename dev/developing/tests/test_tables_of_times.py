@@ -8,16 +8,14 @@ import unittest
 from types import SimpleNamespace
 from typing import Any, Sequence
 
-from subtitles.core.spans import Spans, joined
-from subtitles.core.times import CLOCK, TICKS
-from subtitles.qc.clock import RECORDING, Clock, Found
-from subtitles.qc.clocks import last_time
-from subtitles.reading.cutting import cut_of
-from subtitles.reading.gaps import SECOND, ClockJump, Place, jumps_of, line_of, places_of, what_of
-from subtitles.reading.packets import Clocked, Mark, Packets, Run
-from subtitles.reading.stretches import LACKED, Stretch, by_breaks
-from subtitles.reading.survey import Survey
-from subtitles.reading.timing import strange_of
+from subtitles.clock.alignment import LACKED, Stretch, by_breaks
+from subtitles.clock.start import Clock, Found, RECORDING
+from subtitles.common.times import CLOCK, Spans, TICKS, joined_spans
+from subtitles.judging.pair import last_time
+from subtitles.stream.gaps import (
+    ClockJump, Place, SECOND, jumps_of, line_of, places_of, strange_of, what_of)
+from subtitles.stream.ranges import cut_of
+from subtitles.stream.survey import Clocked, Mark, Packets, Run, Survey
 from .parts import asked_for
 
 
@@ -59,10 +57,10 @@ class Times(unittest.TestCase):
                 span for span in spans if span[1] >= begin and span[0] < end])
             self.assertEqual(list(spans.without([*several[1], *several[2]])),
                              runs_of(one - other - third))
-            self.assertEqual(list(joined(several)), runs_of(one | other | third))
+            self.assertEqual(list(joined_spans(several)), runs_of(one | other | third))
         falling = Spans([(7, 9), (1, 3), (4, 8)])
         self.assertEqual((list(falling), falling.is_rising()), ([(7, 9), (1, 8)], False))
-        self.assertEqual(list(joined([falling])), [(1, 9)])
+        self.assertEqual(list(joined_spans([falling])), [(1, 9)])
 
     def test_bases(self) -> None:
         """PTS may go on over 2^33; two in a row before the two that came before begin a base, also
