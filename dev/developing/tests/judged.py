@@ -21,8 +21,8 @@ from subtitles.formats.stl import NEW_LINE
 from subtitles.judging.pair import Pair
 from subtitles.judging.status import Severity
 from subtitles.judging.verdict import Verdict
-from subtitles.request.commands import Names, Progress, Speech, Typed
-from subtitles.request.request import asked_of
+from subtitles.request.commands import CommandWords, Names, Progress, Speech
+from subtitles.request.request import request_of
 from subtitles.results.objects import found, object_of
 from .bench import Case, packets
 from .scenario import send
@@ -88,7 +88,7 @@ def judged_by(program: str, *words: str, heard: Heard | None = None) -> Judged:
     """A pair judged by the words of a command line, by a program."""
     heard = heard or Heard()
     known = parser_of("").parse_args(["-p", program, *words])
-    asked, typed = asked_of(known), Typed("tools/qc", program)
+    asked, typed = request_of(known), CommandWords("tools/qc", program)
     verdict = Verdict(asked, Severity(asked.severity, asked.is_loss_allowed), now())
     with tempfile.TemporaryDirectory() as folder, claimed(known.out, "one"):
         names = Names("one", folder, known.out)

@@ -9,12 +9,12 @@ from developing.pes import packet
 from subtitles.clock.start import Clock, Found, GIVEN
 from subtitles.common.command_line import Words
 from subtitles.common.markup import Value, joined
-from subtitles.formats.listing import Meaning, Told, told_of
+from subtitles.formats.listing import FaultLine, Meaning, fault_of_line
 from subtitles.formats.teletext import Page
 from subtitles.judging.check import Answer
 from subtitles.judging.part import Part
 from subtitles.request.commands import Names
-from subtitles.request.request import Asked, add_pair_options, asked_with
+from subtitles.request.request import Request, add_pair_options, request_with
 from subtitles.stream.receiver import Timeline
 from subtitles.stream.survey import Packets, survey
 from .bench import Case
@@ -30,9 +30,9 @@ def row(number: int, text: bytes) -> bytes:
     return packet(0, number, (), b"\x0b\x0b" + text.ljust(38))
 
 
-def fault_of(line: str) -> Told:
+def fault_of(line: str) -> FaultLine:
     """A line of `check --all` that tells a fault."""
-    told = told_of(line)
+    told = fault_of_line(line)
     assert told, line
     return told
 
@@ -60,12 +60,12 @@ def part_with(begin: int | None, end: int | None, origin: int | None,
     return part
 
 
-def asked_for(stl: str, recording: str | None, *words: str) -> Asked:
+def asked_for(stl: str, recording: str | None, *words: str) -> Request:
     """What is asked of two files, by the words of a command line."""
     parser = Words("")
     add_pair_options(parser)
     options: argparse.Namespace = parser.parse_args(words)
-    return asked_with(stl, recording, options)
+    return request_with(stl, recording, options)
 
 
 def packets_told(case: Case, data: bytes, page: Page = PAGE) -> Packets:

@@ -12,7 +12,7 @@ from types import SimpleNamespace
 from typing import Any
 
 from subtitles.common.times import Span, Spans, time_of
-from subtitles.formats.listing import told_of
+from subtitles.formats.listing import fault_of_line
 from subtitles.formats.stl import Subtitle
 from subtitles.judging.causes import Causes
 from subtitles.judging.transmissions import DuePages
@@ -54,7 +54,7 @@ def steady(held: Timeline) -> None:
 
 def told(spans: list[tuple[int, int]], *edges: tuple[int, int]) -> Any:
     """What `check` told: frames at which the content is refused, and others by number and frame."""
-    firsts = {number: told_of(f"refused {number} Edge frame {time_of(frame)}")
+    firsts = {number: fault_of_line(f"refused {number} Edge frame {time_of(frame)}")
               for number, frame in edges}
     return SimpleNamespace(firsts=firsts, marks={72: Spans(spans)})
 

@@ -44,7 +44,7 @@ class Collected(Case):
             self.write(os.path.basename(path), json.dumps(have).encode())
         out, told = io.StringIO(), io.StringIO()
         with contextlib.redirect_stdout(out), contextlib.redirect_stderr(told):
-            status = collection.end(words, self.ROWS, paths)
+            status = collection.write_collection(words, self.ROWS, paths)
         return status, out.getvalue(), told.getvalue()
 
     def test_outputs(self) -> None:
@@ -52,7 +52,7 @@ class Collected(Case):
         table = "".join(f"{line}\n" for line in collection.table_of(self.ROWS))
         self.must("none", self.end() == (2, table, ""), self.end())
         for name in ("csv", "junit", "json"):
-            with mock.patch.object(collection, "put"):
+            with mock.patch.object(collection, "put_file"):
                 self.must(f"{name} to -", self.end(**{name: "-"}) == (2, "", table))
         status, out, told = self.end(csv=self.path("no/x"), junit=self.path("no/y"))
         self.must("failed", status == 2 and out == f"{table.rstrip()}; not all was written\n" and len(told.splitlines()) == 2 and
@@ -77,7 +77,7 @@ class Collected(Case):
         words = argparse.Namespace(csv=self.path("lines"), junit=None, json=None)
         with mock.patch.object(collection, "silence") as silenced, \
                 contextlib.redirect_stdout(Gone()) as out:
-            status = collection.end(words, self.ROWS[:2], [self.path("a"), self.path("b")])
+            status = collection.write_collection(words, self.ROWS[:2], [self.path("a"), self.path("b")])
         self.must("status", status == 1 and os.path.exists(self.path("lines")) and
                   silenced.call_args == mock.call(out), silenced)
 
@@ -114,15 +114,15 @@ class Collected(Case):
         for data in (None, b"[]", b"{"):
             if data is not None:
                 self.write("gone.json", data)
-            have = json.loads(collection.text_of(path))
+            have = json.loads(collection.fitting_text(path))
             self.must("gone", have["verdict"] == "not judged" and have["name"] == "gone", have)
         known = result(faults=[FAULT])
         self.write("gone.json", b'{"status": 0, ' + json.dumps(known, indent=3).encode()[1:])
-        self.must("as it was read", json.loads(collection.text_of(path)) == known)
-        self.must("lines", len(b"".join(collection.lines_of([path, path])).splitlines()) == 5)
+        self.must("as it was read", json.loads(collection.fitting_text(path)) == known)
+        self.must("lines", len(b"".join(collection.csv_lines([path, path])).splitlines()) == 5)
         known["left_out"]["faults"] = 7
         self.write("gone.json", json.dumps(known).encode())
         with contextlib.redirect_stderr(io.StringIO()) as told:
-            self.must("lines of some", len(list(collection.lines_of([path]))) == 3)
+            self.must("lines of some", len(list(collection.csv_lines([path]))) == 3)
         self.must("told", told.getvalue().endswith(
             f": {path} leaves out 7 faults, and so do the lines\n"), told.getvalue())

@@ -15,12 +15,12 @@ from subtitles.clock.start import Clock, Found, RECORDING, START
 from subtitles.common.command_line import Words
 from subtitles.common.times import Between, Span, TICKS
 from subtitles.formats.stl import NamedSubtitle, Subtitle, SubtitleFile
-from subtitles.judging.pair import unclear, with_delay
+from subtitles.judging.pair import unclear_origin, with_delay
 from subtitles.judging.part import parted, refuse_others
 from subtitles.judging.verdict import frames_until
 from subtitles.recording.recording import of_page
-from subtitles.request.commands import Typed
-from subtitles.request.request import Unclear, add_pair_options, asked_of_line
+from subtitles.request.commands import CommandWords
+from subtitles.request.request import Unclear, add_pair_options, request_of_line
 from subtitles.results.objects import hint_in
 from subtitles.results.schema import ASKED, total
 from subtitles.stream.receiver import BLANK_PAGE, FEW, Rows, Timeline
@@ -65,7 +65,7 @@ class Objects(Case):
         every = [word for one in options if one[0] != "--start" for word in one]
         for words in [list[str](), *options, every]:
             asked = asked_for("one.stl", "one.pes", *words)
-            again = asked_of_line(call_words(asked), defaults)
+            again = request_of_line(call_words(asked), defaults)
             self.must(f"{words}", ASKED.made(again) == ASKED.made(asked), again)
 
 
@@ -117,7 +117,7 @@ class Folders(Case):
             os.mkdir(self.path(name))
         words = argparse.Namespace(watch=self.path("in"), out=self.path("out"), settled=10,
                                    is_kept=False, **vars(defaults()))
-        watch = Watch(words, Typed("tools/qc", self.bench.program))
+        watch = Watch(words, CommandWords("tools/qc", self.bench.program))
         for name in ("in/one.stl", "in/one.ts"):
             self.write(name, b"1")
 
@@ -148,7 +148,7 @@ class Folders(Case):
             os.mkdir(self.path(name))
         words = argparse.Namespace(watch=self.path("in"), out=self.path("out"), settled=0,
                                    is_kept=False, **vars(defaults()))
-        watch = Watch(words, Typed("tools/qc", self.bench.program))
+        watch = Watch(words, CommandWords("tools/qc", self.bench.program))
 
         def told(now: float) -> int:
             with contextlib.redirect_stderr(io.StringIO()) as told:
@@ -245,7 +245,7 @@ class Fitted(Case):
         """With several runs, or other breaks than were said, the lines alone are the reason."""
         for runs, breaks, is_alone in ((0, None, False), (2, None, True), (0, 0, True),
                                        (0, 2, True), (3, 2, True)):
-            why = unclear(Origin(runs=[(0, 9)] * runs, breaks=breaks, told=["one"]), [])
+            why = unclear_origin(Origin(runs=[(0, 9)] * runs, breaks=breaks, told=["one"]), [])
             self.must(f"{runs} {breaks}", (why.reason == "one") == is_alone)
 
 

@@ -17,11 +17,11 @@ from subtitles.cli.single import claimed
 from subtitles.common.command_line import Stop
 from subtitles.common.program import MadeWith, about_program
 from subtitles.recording.feed import Stall
-from subtitles.request.commands import Typed
-from subtitles.request.request import Asked
+from subtitles.request.commands import CommandWords
+from subtitles.request.request import Request
 from subtitles.results.objects import (
     Row, found, found_at, has_had_its_turn, is_current, left_by_call, may_take, object_at,
-    objects_in, row_of, unjudged)
+    objects_in, row_of_object, unjudged)
 from subtitles.results.schema import ASKED
 from .bench import Case, example_bytes
 from .parts import asked_for
@@ -112,21 +112,21 @@ class Objects(Case):
         faults = [{**FAULT, "line": f"refused {number}", "number": 5, "name": "X"}
                   for number in range(120)]
         causes = {"late": 2, "early": 1}
-        found_row = row_of(result(faults=faults, fault_count=7, seconds=1.5,
-                                  cause_counts={**causes, "never": 0}, hints=["72: a hint"]),
-                           "name")
+        found_row = row_of_object(result(faults=faults, fault_count=7, seconds=1.5,
+                                         cause_counts={**causes, "never": 0}, hints=["72: a hint"]),
+                                  "name")
         self.must("all", found_row == Row(
             "name", "one.stl one.ts", "refused", 1, "refused 72 Content", 7,
             {**causes, "5 X": 120}, [f"refused {number}" for number in range(100)], 1.5, "a hint"),
             found_row)
-        self.must("none", row_of(unjudged("name", "why"), "name") == Row(
+        self.must("none", row_of_object(unjudged("name", "why"), "name") == Row(
             "name", "name", "not judged", 2, "why", 0, {}, [], 0.0, ""))
         none: dict[str, Any] = {"format": 5, "verdict": "not judged", "status": 2, "name": "a",
                                 "reason": "why"}
         self.must("not judged", unjudged("a", "why") == none and
                   unjudged("a", "why", True) == {**none, "open": True})
-        self.must("reason", row_of(result("not judged"), "x").line == "why")
-        self.must("judged", row_of(result(), "x").is_judged and not row_of(
+        self.must("reason", row_of_object(result("not judged"), "x").line == "why")
+        self.must("judged", row_of_object(result(), "x").is_judged and not row_of_object(
             unjudged("x", "why"), "x").is_judged)
 
     def test_shape(self) -> None:
@@ -182,7 +182,7 @@ class Objects(Case):
         one = result(asked=ASKED.made(asked), found=found(asked))
         nothing, longer = ({**found(asked), "stl": size and {**size, "size": 2}}
                            for size in (None, found_at(stl)))
-        rows: list[tuple[str, dict[str, Any], Asked | None, bool]] = [
+        rows: list[tuple[str, dict[str, Any], Request | None, bool]] = [
                 ("judged", one, asked, True), ("of another file", one, other, False),
                 ("no programme now", one, None, False),
                 ("nothing found", {**one, "found": nothing}, asked, False),
@@ -244,7 +244,7 @@ class Watched(Case):
         for name in ("old", "older"):
             self.write(f"out/{name}.json", json.dumps(result("accepted")).encode())
         self.write("out/x.json", b"[]")
-        watch = Watch(self.words(), Typed("tools/qc", self.bench.program))
+        watch = Watch(self.words(), CommandWords("tools/qc", self.bench.program))
         self.must("rows", list(watch.rows) == ["old", "older"])
         out = io.StringIO()
         with contextlib.redirect_stdout(out):
@@ -268,7 +268,7 @@ class Watched(Case):
         """One whose files another call was writing is told once, and judged again at each look."""
         for name in ("in", "out"):
             os.mkdir(self.path(name))
-        watch = Watch(self.words(), Typed("tools/qc", self.bench.program))
+        watch = Watch(self.words(), CommandWords("tools/qc", self.bench.program))
         item = Item("a", asked_for(self.write("in/a.stl", b"1"), self.write("in/a.ts", b"1")), None)
         out = io.StringIO()
         with contextlib.redirect_stdout(out), claimed(self.path("out"), "a"):
@@ -285,7 +285,7 @@ class Watched(Case):
         """It is told once, and again where its reason is another one."""
         for name in ("in", "out"):
             os.mkdir(self.path(name))
-        watch = Watch(self.words(), Typed("tools/qc", self.bench.program))
+        watch = Watch(self.words(), CommandWords("tools/qc", self.bench.program))
         told = io.StringIO()
         with contextlib.redirect_stderr(told):
             for reason in ("first", "first", "second", "second", "first"):

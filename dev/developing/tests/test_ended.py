@@ -286,14 +286,14 @@ class Mistakes(Story):
                       AssertionError("never"), IndexError("far"), OSError("read"), Stop("stopped")):
             with self.subTest(error=error):
                 self.failing("judging.pair.Pair.judge", error)
-        for place in ("judging.pair.check_alone", "judging.pair.find", "judging.pair.end",
+        for place in ("judging.pair.check_alone", "judging.pair.find", "judging.pair.end_part",
                       "judging.part.Part.is_read", "judging.check.Answer.take"):
             with self.subTest(place):
                 self.failing(place, ValueError("odd"))
 
     def test_what_is_outside_of_the_steps(self) -> None:
         """An error before judging, while words are read, and while a file is made."""
-        for place in ("cli.main.parser_of", "cli.single.asked_of", "cli.single.Typed",
+        for place in ("cli.main.parser_of", "cli.single.request_of", "cli.single.CommandWords",
                       "cli.single.found", "results.objects.listed", "results.objects.fitting",
                       "cli.single.about_program"):
             with self.subTest(place):

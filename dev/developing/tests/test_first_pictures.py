@@ -4,7 +4,7 @@ from __future__ import annotations
 import unittest
 from typing import Sequence
 
-from subtitles.clock.start import First, NoFirst, PATIENCE, first_of, is_known, left_out
+from subtitles.clock.start import First, NoFirst, PATIENCE, first_picture, is_known, left_out
 from subtitles.common.times import CLOCK, TICKS
 from subtitles.stream.survey import Survey
 from .muxed import H_264, HEVC, MPEG_2
@@ -40,7 +40,7 @@ class Pictures(unittest.TestCase):
 
     def said(self, lines: Sequence[str], is_whole: bool = True) -> str | First:
         try:
-            return first_of(surveyed(lines, is_whole), TELETEXT)
+            return first_picture(surveyed(lines, is_whole), TELETEXT)
         except NoFirst as reason:
             return str(reason)
 

@@ -15,8 +15,8 @@ from subtitles.cli.batch import (
     Calls, Forked, Item, all_rows, call_words, ended_of, kept_rows, progress_line, qc, signals_held)
 from subtitles.cli.main import parser_of
 from subtitles.common.program import about_program
-from subtitles.request.commands import Typed
-from subtitles.request.request import asked_of
+from subtitles.request.commands import CommandWords
+from subtitles.request.request import request_of
 from subtitles.results.objects import Row, found, object_at, unjudged
 from subtitles.results.schema import ASKED
 from .bench import SECONDS, Case
@@ -60,7 +60,7 @@ class Judged(Case):
         path = self.write_program("call", CALL.replace("SECONDS", f"{SECONDS}"))
         for verdict in ("accepted", "refused", "not judged"):
             self.write(verdict, json.dumps(result(verdict, notes=TOLD)).encode())
-        self.typed = Typed("tools/qc", self.bench.program)
+        self.typed = CommandWords("tools/qc", self.bench.program)
 
         def execute(words: list[str]) -> int:
             for file in os.listdir("/proc/self/fd"):  # that it goes on is known by one of them
@@ -106,7 +106,7 @@ class Judged(Case):
                       "--strict --allow-lost --no-complete --severity file --breaks 2 --pes 3-9",
                       "--page 1A0 --every 7 --option german"):
             asked = asked_for("a.stl", "a.ts", *words.split())
-            again = asked_of(parser_of("").parse_args(call_words(asked)))
+            again = request_of(parser_of("").parse_args(call_words(asked)))
             self.must(words, again == asked, again)
 
     def test_one(self) -> None:

@@ -5,13 +5,13 @@ from typing import Sequence
 
 from developing.pes import packet, pes_packet
 from subtitles.common.times import Span, TICKS, time_of
-from subtitles.formats.listing import CONTENT, told_of
+from subtitles.formats.listing import CONTENT, fault_of_line
 from subtitles.formats.stl import Subtitle
 from subtitles.judging.causes import Namer, REPEATED
 from subtitles.judging.check import Answer, End, NO_END
 from subtitles.judging.transmissions import (
     DuePages, Headed, Kept, LeftOut, REPEATS, control_words, headed, judged_by, kept_in, left_at,
-    left_by, rows_words, unerased_words)
+    left_by, left_rows_words, unerased_words)
 from subtitles.stream.receiver import BLANK_PAGE, Rows, TUNED, Timeline
 from subtitles.stream.survey import Run
 from .bench import Case
@@ -131,7 +131,7 @@ class Counted(Case):
                 ([20, 22], 20, 5, "row 20"), ([18, 20, 22], 20, 1, "row 20 and 1 more"),
                 ([18, 20, 22], 20, -1, "rows 18, 20 and 22")]
         for rows, told, came, wanted in cases:
-            found = rows_words(rows, told, came)
+            found = left_rows_words(rows, told, came)
             self.must(f"{rows} {told} {came}", found == wanted, found)
 
 
@@ -210,7 +210,7 @@ class RowsLeftOut(Case):
                 ("refused 72 Content frame 00:00:00:03 row 20 column 0", NO_END, []),
                 ("refused 73 Gap frame 00:00:01:00", NO_END, []),
                 ("refused 72 Content", NO_END, [])):
-            told = told_of(line)
+            told = fault_of_line(line)
             assert told
             said = answer([line, "1 faults"], path=self.path("list"))
             found = [tuple(one) for one in left_by(told, end, said, held, lambda frame: due)]

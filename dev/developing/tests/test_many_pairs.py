@@ -16,7 +16,7 @@ from subtitles.cli import batch
 from subtitles.cli.batch import Calls, Item, all_rows, at_line, kept_rows, no_file, pairs_at, qc
 from subtitles.common import files
 from subtitles.common.command_line import Stop
-from subtitles.results.objects import Row, row_of
+from subtitles.results.objects import Row, row_of_object
 from .bench import Case
 from .results import result
 from .test_channel_tables import defaults
@@ -24,7 +24,7 @@ from .test_channel_tables import defaults
 
 def row(name: str, verdict: str, line: str = "", hint: str = "", faults: int = 0) -> Row:
     """A row of a table."""
-    made = row_of(result(verdict, fault_count=faults), name)
+    made = row_of_object(result(verdict, fault_count=faults), name)
     return made._replace(line=line, hint=hint)
 
 
@@ -147,7 +147,7 @@ class Batches(Case):
         out, told = io.StringIO(), io.StringIO()
         with mock.patch.object(batch, "all_rows", all_rows), contextlib.redirect_stdout(out), \
                 contextlib.redirect_stderr(told):
-            status = batch.judge(words, "tools/qc")
+            status = batch.judge_batch(words, "tools/qc")
         return status, out.getvalue().splitlines(), told.getvalue().splitlines()
 
     def setUp(self) -> None:

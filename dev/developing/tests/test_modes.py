@@ -15,10 +15,10 @@ from subtitles.cli.main import (
     refuse_options, seconds_word)
 from subtitles.common.command_line import Stop
 from subtitles.common.program import TOP
-from subtitles.request.commands import Typed
+from subtitles.request.commands import CommandWords
 from subtitles.request.request import (
     ALONE, BATCH, CHANNEL, CHANNEL_LINE, COLLECT, LINE, MODES, Mode, PAIR, RECORDER, WATCH,
-    asked_of_line)
+    request_of_line)
 from .bench import Case
 from .test_channel_tables import defaults
 
@@ -47,7 +47,7 @@ def refusal(mode: Mode, name: str, folder: str) -> str | None:
     """What is said of an option that is given with a mode; `None` where it is taken."""
     try:
         if mode is LINE:
-            asked_of_line(["a.stl", "a.ts", *words_of(name)], defaults())
+            request_of_line(["a.stl", "a.ts", *words_of(name)], defaults())
         elif mode is CHANNEL_LINE:
             Planned(os.path.join(folder, "list"), defaults()).asked_of(["a.stl", *words_of(name)])
         else:
@@ -98,18 +98,18 @@ class Modes(Case):
         """Each call by its own function, with what is taken where nothing is said, and 0 as it is.
         """
         rows: list[tuple[list[str], ModuleType, str, dict[str, object]]] = [
-            (CALLS[PAIR], single, "judge", {"recording": "a.ts", "out": None}),
-            (CALLS[ALONE], single, "judge", {"stl": "a.stl", "recording": None}),
-            ([*CALLS[PAIR], "-o", "x", "--keep"], single, "judge",
+            (CALLS[PAIR], single, "judge_call", {"recording": "a.ts", "out": None}),
+            (CALLS[ALONE], single, "judge_call", {"stl": "a.stl", "recording": None}),
+            ([*CALLS[PAIR], "-o", "x", "--keep"], single, "judge_call",
              {"out": "x", "is_kept": True}),
-            ([*CALLS[PAIR], "-o@x"], single, "judge", {"out": "./@x"}),
-            (CALLS[BATCH], batch, "judge", {"batch": "in"}),
+            ([*CALLS[PAIR], "-o@x"], single, "judge_call", {"out": "./@x"}),
+            (CALLS[BATCH], batch, "judge_batch", {"batch": "in"}),
             (CALLS[COLLECT], collection, "collect", {"collect": "in"}),
             (CALLS[WATCH], batch, "watch", {"settled": 5}),
             ([*CALLS[WATCH], "--settled", "0"], batch, "watch", {"settled": 0}),
-            (CALLS[CHANNEL], channel, "judge", {"patience": 60, "stall": 10}),
-            ([*CALLS[CHANNEL], "--patience", "1"], channel, "judge", {"patience": 1}),
-            ([*CALLS[CHANNEL], "--spool", "x"], channel, "judge", {"spool": "x"})]
+            (CALLS[CHANNEL], channel, "judge_channel", {"patience": 60, "stall": 10}),
+            ([*CALLS[CHANNEL], "--patience", "1"], channel, "judge_channel", {"patience": 1}),
+            ([*CALLS[CHANNEL], "--spool", "x"], channel, "judge_channel", {"spool": "x"})]
         for line, module, name, wanted in rows:
             with mock.patch.object(module, name, return_value=7) as called:
                 self.must(f"{line}", main.answer("", "tools/qc", line) == 7)
@@ -169,7 +169,7 @@ class Modes(Case):
                     ("/some/tools/qc", "/some/tools/text", "/some/subttx"),
                     ("/some/subttx-qc", "/some/subttx-text", "/some/subttx"),
                     (self.path("subttx-qc"), "subttx-text", "subttx")):
-                typed = Typed(called, program)
+                typed = CommandWords(called, program)
                 self.must(called, (typed.tool("text"), typed.beside()) == (tool, beside), (
                     typed.tool("text"), typed.beside()))
 

@@ -25,7 +25,7 @@ from subtitles.judging.verdict import Gap
 from subtitles.results.objects import Row, modified, unjudged
 from subtitles.results.schema import ASKED, GAP, JUDGED_PART, PartOf
 from subtitles.results.tables import (
-    TestCase, cell_words, junit_file as junit_of, of_part, said, table_lines as csv_of)
+    TestCase, cell_words, junit_file as junit_of, part_columns, said, table_lines as csv_of)
 from subtitles.stream.gaps import Place
 from .bench import Case
 from .parts import asked_for, part_with
@@ -141,7 +141,7 @@ class Statuses(Case):
         words = argparse.Namespace(csv=None, junit=None, json=None)
         vars(words).update(outputs)
         with contextlib.redirect_stdout(io.StringIO()), contextlib.redirect_stderr(io.StringIO()):
-            return collection.end(words, [self.ROW], [self.path("one.json")], is_stopped)
+            return collection.write_collection(words, [self.ROW], [self.path("one.json")], is_stopped)
 
     def test_outputs_that_fail(self) -> None:
         """Each of the three, whether others are written or not."""
@@ -233,7 +233,7 @@ class Members(unittest.TestCase):
         nothing: dict[str, object] = {}
         for end, number, wanted in ((1, None, first), (2, None, nothing), (2, 1, first),
                                     (2, 2, second), (2, 3, nothing), (0, None, nothing)):
-            self.assertEqual(of_part(parts[:end], number), wanted)
+            self.assertEqual(part_columns(parts[:end], number), wanted)
         for code, letter, words in (("41", "A", "41 A"), ("00", "", "00")):
             self.assertEqual(cell_words({"code": code, "character": letter}), words)
         self.assertEqual(said("a\nb\x07"), "a\n" + shown("b\x07"))

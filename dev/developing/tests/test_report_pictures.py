@@ -282,9 +282,9 @@ class Blocks(Case):
                 ("refused 56 X block 6", (f"<mark>{begin}</mark>", end)),
                 ("refused 57 X block 6", (f"<mark>{begin}</mark>", end)),
                 ("refused 20 X block 6", (begin, end)), ("refused 50 X block 6", (begin, end))):
-            self.must(line, (*map(in_page, page.times_of(one, [fault_of(line)])),) == wanted)
+            self.must(line, (*map(in_page, page.marked_times(one, [fault_of(line)])),) == wanted)
         wrong = one._replace(begin="99:00:00:00")
-        told = [*map(in_page, page.times_of(wrong, [fault_of("refused 20 X block 6")]))]
+        told = [*map(in_page, page.marked_times(wrong, [fault_of("refused 20 X block 6")]))]
         self.must("no time", told == ["<mark>99:00:00:00</mark>", end])
         first, last = "00:00:03:00", "00:00:03:24"
         for line, words in (("refused 56 X block 6", f"<mark>{first}</mark></td><td>{last}"),

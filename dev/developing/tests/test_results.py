@@ -22,7 +22,7 @@ from subtitles.common.files import Inputs
 from subtitles.common.program import MadeWith, TOP, read
 from subtitles.common.shapes import Integer, Listed
 from subtitles.formats.listing import SILENT, UNDECIDED
-from subtitles.request.commands import Typed
+from subtitles.request.commands import CommandWords
 from subtitles.results import objects
 from subtitles.results.objects import has_had_its_turn, object_at, object_of, unjudged
 from subtitles.results.schema import FAULT as ROWS_OF_FAULT, FORMAT, LISTS, VERDICT, misfit, schema
@@ -193,7 +193,7 @@ class ReadBack(Case):
 
     def all_read(self) -> list[dict[str, Any]]:
         """What each mode that reads results says of those in a folder; the names of all."""
-        words, typed = self.words(), Typed("tools/qc", self.bench.program)
+        words, typed = self.words(), CommandWords("tools/qc", self.bench.program)
         with contextlib.redirect_stdout(io.StringIO()), contextlib.redirect_stderr(io.StringIO()):
             status = collection.collect(words)
             rows = Watch(words, typed).rows

@@ -4,7 +4,7 @@ from __future__ import annotations
 import re
 import unittest
 
-from subtitles.formats.listing import meanings, told_of
+from subtitles.formats.listing import fault_of_line, meanings
 from subtitles.formats.teletext import OPTIONS
 from subtitles.judging.causes import Cause, IN_PAUSE, NAMES
 from subtitles.judging.sentence import Facts, SAID, WORDS, of_causes, sentence_of
@@ -55,8 +55,8 @@ class Sentences(unittest.TestCase):
 
     def test_words(self) -> None:
         """Each verdict, whatever is known."""
-        fault, packet = told_of("refused 73 Gap frame 10:00:00:00"), told_of("refused 34 Pts pes 7")
-        block = told_of("refused 24 Unfinished block 12")
+        fault, packet = fault_of_line("refused 73 Gap frame 10:00:00:00"), fault_of_line("refused 34 Pts pes 7")
+        block = fault_of_line("refused 24 Unfinished block 12")
         for seen, wanted in (
                 (Facts(NOT_JUDGED, 0, reason="no\nmore"), "Not judged: no."),
                 (Facts(NOT_JUDGED, 0), "Not judged: check was not answered."),
@@ -93,7 +93,7 @@ class Sentences(unittest.TestCase):
             for place, begin in (("frame 10:00:00:00", "at 10:00:00:00"),
                                  ("pes 7", "in PES packet 7"), ("block 12", "in block 12"),
                                  ("", "")):
-                told = told_of(f"refused {number} Name {place}".rstrip())
+                told = fault_of_line(f"refused {number} Name {place}".rstrip())
                 found = sentence_of(Facts(REFUSED, 1, first=told, faults=1))
                 with self.subTest(number=number, place=place):
                     self.assertEqual(found, " ".join(["Refused:", *begin.split(), words]) + ".")

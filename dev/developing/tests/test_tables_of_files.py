@@ -139,13 +139,13 @@ class Lines(unittest.TestCase):
         for word, number, place in itertools.product(
                 ("refused", "ended", "fault", "usage"), self.NUMBERS, places):
             line = f"{word} {number} Name{place}"
-            found = listing.told_of(line)
+            found = listing.fault_of_line(line)
             assert found
             self.assertEqual((found.word, found.number, found.name, found.is_fault),
                              (word, number, "Name", word == "refused"))
             self.assertEqual(listing.number_of(line), number if word == "refused" else None)
             parts = line.split(" ")
-            self.assertEqual(listing.words_of(line), parts[:5] + [" ".join(parts[5:])] * (
+            self.assertEqual(listing.line_words(line), parts[:5] + [" ".join(parts[5:])] * (
                 len(parts) > 5))
             if found.time:
                 self.assertEqual(found.frame, listing.frame_of_place(found.time))

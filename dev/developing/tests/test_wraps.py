@@ -11,7 +11,7 @@ import unittest
 from subtitles.cli.channel.feed import FeedClock
 from subtitles.clock.start import Clock, Found, RECORDING
 from subtitles.common.times import CLOCK, FRAMES_OF_A_DAY, Span, TICKS
-from subtitles.judging.losses import is_in, time_at
+from subtitles.judging.losses import is_in, place_time
 from subtitles.judging.part import reach, unseen
 from subtitles.report.transmission import place_of_pts
 from subtitles.stream.gaps import Place, SECOND
@@ -35,7 +35,7 @@ class Frames(unittest.TestCase):
             for ticks, time in ((0, "00:00:00:00"), (25 * TICKS, "00:00:01:00"), (-TICKS, None),
                                 (TICKS * FRAMES_OF_A_DAY, None)):
                 with self.subTest(shift=shift, ticks=ticks):
-                    self.assertEqual(time_at(shifted(ticks, shift), shift), time)
+                    self.assertEqual(place_time(shifted(ticks, shift), shift), time)
 
 
 class Order(unittest.TestCase):

@@ -19,11 +19,11 @@ from ..common.files import Inputs, Line, NOTHING, kind_of, lines_in, list_at, te
 from ..common.program import TOP, about_program
 from ..judging.status import ACCEPTED, NOT_JUDGED, WAIVED
 from ..report import page, report, transmission
-from ..request.commands import NamesOfList, Progress, Typed, pair_name
-from ..request.request import AUTO, Asked, asked_of_line, asked_with, option_words
+from ..request.commands import CommandWords, NamesOfList, Progress, pair_name
+from ..request.request import AUTO, Request, option_words, request_of_line, request_with
 from ..results.objects import (
-    ENDING, Row, found, in_order, is_current, left_by_call, object_at, put, row_of, rows_in,
-    unjudged)
+    ENDING, Row, found, in_order, is_current, left_by_call, object_at, put_object, row_of_object,
+    rows_in, unjudged)
 from . import collection
 from .main import main
 from .single import (
@@ -43,7 +43,7 @@ class Item(NamedTuple):
     that it names."""
 
     name: str
-    asked: Asked | None
+    asked: Request | None
     reason: str | None
     files: Sequence[str | None] = ()
 
@@ -81,7 +81,7 @@ def no_file(path: str) -> str | None:
 def item_of(name: str, stl: str, recording: str, defaults: argparse.Namespace) -> Item:
     """The pair of two files, or why it can't be judged."""
     try:
-        asked = asked_with(stl, recording, defaults)
+        asked = request_with(stl, recording, defaults)
     except Stop as reason:
         return Item(name, None, str(reason), (stl, recording))
     return with_files(Item(name, asked, None))
@@ -135,7 +135,7 @@ def of_list(path: str, lines: Iterable[Line], defaults: argparse.Namespace) -> I
         try:
             if line.fault:
                 raise Stop(line.fault)
-            asked = asked_of_line(line.words, defaults)
+            asked = request_of_line(line.words, defaults)
         except (Stop, ValueError) as reason:
             yield Item(names.line(line.number), None, f"{path}, line {line.number}: {reason}")
             continue
@@ -299,7 +299,7 @@ class Calls:
     Objects stand in the folder `out`, with reports and lists, or in one that is temporary.
     """
 
-    def __init__(self, typed: Typed, folder: str, out: str | None, is_kept: bool) -> None:
+    def __init__(self, typed: CommandWords, folder: str, out: str | None, is_kept: bool) -> None:
         self.typed, self.folder, self.out, self.is_kept = typed, folder, out, is_kept
         self.running: dict[Forked, Begun] = {}
         self.inputs = NOTHING  # of all pairs
@@ -331,7 +331,7 @@ class Calls:
             if isinstance(reason, InUse):
                 self.in_use.add(item.name)
             self.unwritten[item.name] = known = unjudged(item.name, error_line(reason))
-            return row_of(known, item.name)
+            return row_of_object(known, item.name)
         finally:
             claim.close()  # unless it goes on with the call
 
@@ -368,7 +368,7 @@ class Calls:
                 return self.leave(item, "a file was written to while it was judged")
             known = left_by_call(self.path(item), item.name, status, told)
             return self.leave(item, known["reason"]) if "asked" not in known else \
-                row_of(known, item.name)
+                row_of_object(known, item.name)
         finally:
             claim.close()
 
@@ -377,10 +377,10 @@ class Calls:
         known = unjudged(item.name, reason)
         try:
             if not self.is_stopped:
-                put(self.path(item), known)
+                put_object(self.path(item), known)
         except OSError as error:
             self.unwritten[item.name] = known = unjudged(item.name, f"{reason}; {error_line(error)}")
-        return row_of(known, item.name)
+        return row_of_object(known, item.name)
 
     def stop(self) -> None:
         """Ends the calls that run; their pairs have no object."""
@@ -394,7 +394,7 @@ class Calls:
                     os.unlink(self.path(one.item))
 
 
-def call_words(asked: Asked) -> list[str]:
+def call_words(asked: Request) -> list[str]:
     """A pair as the words of a call, which looks for itself what the subtitle file names."""
     option = asked.option if asked.language is None else AUTO
     words = option_words(dataclasses.replace(asked, option=option))
@@ -407,9 +407,9 @@ def inputs_of(items: Iterable[Item], *more: str) -> Inputs:
     return Inputs(*more, *(name for item in items for name in item.files))
 
 
-def judge(words: argparse.Namespace, called: str) -> int:
+def judge_batch(words: argparse.Namespace, called: str) -> int:
     """Judges all pairs; answers the status."""
-    typed = Typed(called, words.program)
+    typed = CommandWords(called, words.program)
     if words.is_resumed and words.out is None:
         raise Stop("--resume goes with -o, where the results of an earlier call are")
     if words.line is None:
@@ -427,7 +427,7 @@ def judge(words: argparse.Namespace, called: str) -> int:
         known = all_rows(calls, items, kept, words.jobs or os.cpu_count() or 1)
         done = [item for item in items if item.name in known]
         rows = [known[item.name] for item in done]
-        status = collection.end(words, rows, [
+        status = collection.write_collection(words, rows, [
             calls.unwritten.get(item.name) or calls.path(item) for item in done],
             calls.is_stopped, of_all)
         if calls.is_stopped:
@@ -444,7 +444,7 @@ def kept_rows(calls: Calls, items: list[Item]) -> dict[str, Row]:
         known = object_at(path) if item.asked and os.path.exists(path) else None
         if item.asked and known and known["verdict"] != NOT_JUDGED \
                 and is_current(known, item.asked, program):
-            rows[item.name] = row_of(known, item.name)
+            rows[item.name] = row_of_object(known, item.name)
     return rows
 
 
@@ -511,7 +511,7 @@ class Sighting(NamedTuple):
 class Watch:
     """The folder, what was seen in it, and what is judged."""
 
-    def __init__(self, words: argparse.Namespace, typed: Typed) -> None:
+    def __init__(self, words: argparse.Namespace, typed: CommandWords) -> None:
         self.words, self.folder, self.out = words, words.watch, words.out
         self.calls = Calls(typed, words.out, words.out, words.is_kept)
         self.program = about_program(typed.program_path)
@@ -591,7 +591,7 @@ def watch(words: argparse.Namespace, called: str) -> int:
     """Judges what comes, until a signal ends that; answers the status 2. Pairs that are judged then
     have no result, and are judged after a new start."""
     refuse_folders(words)
-    watching = Watch(words, Typed(called, words.program))
+    watching = Watch(words, CommandWords(called, words.program))
     heed_signals()
     calls, waiting, next_look = watching.calls, collections.deque[Item](), 0.0
     try:

@@ -14,7 +14,7 @@ from ..common.markup import BREAK, HEAD, Markup, joined, markup
 from ..judging.status import ACCEPTED, NOT_JUDGED, of_all
 from ..request.commands import index_in
 from ..results import tables
-from ..results.objects import ENDING, Row, object_at, objects_in, row_of, unjudged
+from ..results.objects import ENDING, Row, object_at, objects_in, row_of_object, unjudged
 from ..results.schema import FORMAT
 from .single import now, refuse_files_of_all
 
@@ -51,7 +51,7 @@ PAGE_HEADS = ("Verdict", "Pair", "Faults", "First fault, or why it was not judge
 MOST_CAUSES = 6
 
 
-def page_of(folder: str, rows: Sequence[Row], date: str) -> bytes:
+def index_page(folder: str, rows: Sequence[Row], date: str) -> bytes:
     """The page."""
     verdicts = [row.verdict for row in rows]
     counts = ", ".join(f"{verdicts.count(one)} {one}" for one in dict.fromkeys(sorted(verdicts)))
@@ -118,16 +118,16 @@ def collect(words: argparse.Namespace) -> int:
             tell(f"{path} is no JSON result of a pair, and is skipped")
             continue
         name = os.path.basename(path).removesuffix(ENDING)
-        rows.append(row_of(known, name))
+        rows.append(row_of_object(known, name))
         paths.append(path)
     if not rows:
         raise Stop(f"{folder} has no JSON result of a pair")
     refuse_names(words, Inputs(*paths), folder)
-    return end(words, rows, paths, folder=folder)
+    return write_collection(words, rows, paths, folder=folder)
 
 
-def end(words: argparse.Namespace, rows: Sequence[Row], places: Sequence[Place],
-        is_stopped: bool = False, folder: str | None = None) -> int:
+def write_collection(words: argparse.Namespace, rows: Sequence[Row], places: Sequence[Place],
+                     is_stopped: bool = False, folder: str | None = None) -> int:
     """Writes the page over a folder, and the files for machines, by the objects, and prints the
     table; answers the status, which is 2 where others were to be judged too, or a file could not be
     written. The object comes last, and knows of that."""
@@ -137,9 +137,9 @@ def end(words: argparse.Namespace, rows: Sequence[Row], places: Sequence[Place],
         return of_all((row.verdict for row in rows), is_stopped or bool(failed))
 
     written: list[Callable[[], None]] = [
-        lambda: write_index(folder, rows), lambda: put(words.csv, lambda: lines_of(places)),
-        lambda: put(words.junit, lambda: testcases(rows, date)),
-        lambda: put(words.json, lambda: objects(places, status(), date))]
+        lambda: write_index(folder, rows), lambda: put_file(words.csv, lambda: csv_lines(places)),
+        lambda: put_file(words.junit, lambda: testcases(rows, date)),
+        lambda: put_file(words.json, lambda: objects(places, status(), date))]
     for write in written:
         try:
             write()
@@ -175,7 +175,7 @@ def write_index(folder: str | None, rows: Sequence[Row]) -> None:
     if folder is None:
         return
     with result_file(index_in(folder)) as file:
-        file.write(page_of(folder, rows, now()))
+        file.write(index_page(folder, rows, now()))
 
 
 def table_of(rows: Sequence[Row], why: str = "") -> Iterator[str]:
@@ -202,7 +202,7 @@ def first_fault(row: Row) -> str:
     return (f"{line}: {row.hint}" if row.hint else line) + more
 
 
-def put(path: str | None, pieces: Callable[[], Iterator[bytes]]) -> None:
+def put_file(path: str | None, pieces: Callable[[], Iterator[bytes]]) -> None:
     """Writes a file whole, or not at all."""
     if path is not None:
         with whole_file(path) as file:
@@ -216,12 +216,12 @@ def objects(places: Sequence[Place], status: int, date: str) -> Iterator[bytes]:
     yield json.dumps(head, indent=1).removesuffix("\n}").encode() + b',\n "pairs": ['
     before = b"\n"
     for place in places:
-        yield before + text_of(place)
+        yield before + fitting_text(place)
         before = b",\n"
     yield b"]\n}\n"
 
 
-def text_of(place: Place) -> bytes:
+def fitting_text(place: Place) -> bytes:
     """An object, as it was read and fits."""
     return json.dumps(known_at(place)).encode()
 
@@ -234,7 +234,7 @@ def known_at(place: Place) -> dict[str, Any]:
     return object_at(place) or unjudged(name, "its JSON result is gone: judge it again")
 
 
-def lines_of(places: Sequence[Place]) -> Iterator[bytes]:
+def csv_lines(places: Sequence[Place]) -> Iterator[bytes]:
     """The lines of all pairs under one head."""
     yield from tables.table_lines(map(all_told, places))
 

@@ -178,7 +178,7 @@ def write_testcase(path: str, known: dict[str, Any]) -> None:
 def write_object(path: str, known: dict[str, Any]) -> None:
     """The object of a pair."""
     with whole_file(path) as file:
-        file.write(objects.text_of(known))
+        file.write(objects.object_text(known))
 
 
 WRITERS = {"--json": write_object, "--csv": write_table, "--junit": write_testcase}
@@ -217,16 +217,16 @@ def answer(text: str, called: str, line: list[str]) -> int:
         return collection.collect(words)
     if words.batch is not None:
         from . import batch
-        return batch.judge(words, called)
+        return batch.judge_batch(words, called)
     if words.watch is not None:
         from . import batch
         return batch.watch(words, called)
     if words.channel is not None:
         from .channel import channel
-        return channel.judge(words, called)
+        return channel.judge_channel(words, called)
     if words.spool is not None:
         from .channel import recorder
         return recorder.record_alone(words.stl, words.spool)
     if words.stl is None:
         raise Stop("give a subtitle file, and a recording; --help lists all options")
-    return single.judge(words, called)
+    return single.judge_call(words, called)

@@ -28,11 +28,11 @@ from ..judging.verdict import Gap, Verdict
 from ..recording.recording import Recording, size_of
 from ..report.page import overview
 from ..request.commands import (
-    LOCK, Names, Progress, Speech, Typed, files_in, index_in, lock_of, pair_name)
-from ..request.request import AUTO_OF_FEED, Asked, Unclear, asked_of, keep_stl
+    CommandWords, LOCK, Names, Progress, Speech, files_in, index_in, lock_of, pair_name)
+from ..request.request import AUTO_OF_FEED, Request, Unclear, keep_stl, request_of
 from ..results import objects, tables
-from ..results.objects import found, text_of, unjudged
-from ..stream.gaps import first_of
+from ..results.objects import found, object_text, unjudged
+from ..stream.gaps import first_lines
 
 
 # The files of a pair in a folder of results: they belong to one call at a time, and whatever else
@@ -53,16 +53,16 @@ def refuse_files_of(folder: str, name: str, inputs: Inputs) -> None:
     """`Stop` where a call for a pair would write over an input, or over what no call has written,
     or take that away: nothing is done yet."""
     for path in [*files_in(folder, name), lock_of(folder, name)]:
-        refuse(path, inputs)
+        refuse_file(path, inputs)
 
 
 def refuse_files_of_all(folder: str, inputs: Inputs) -> None:
     """The same of the files over all pairs of a folder."""
     for path in (index_in(folder), lock_of(folder, "")):
-        refuse(path, inputs)
+        refuse_file(path, inputs)
 
 
-def refuse(path: str, inputs: Inputs) -> None:
+def refuse_file(path: str, inputs: Inputs) -> None:
     """`Stop` where a file of a folder is an input, or nothing that these tools have written; a link
     is taken away, and not what it leads to."""
     inputs.refuse(path, False)
@@ -167,15 +167,15 @@ def now() -> str:
     return time.strftime("%Y-%m-%dT%H:%M:%SZ", time.gmtime())
 
 
-def judge(words: argparse.Namespace, called: str) -> int:
+def judge_call(words: argparse.Namespace, called: str) -> int:
     """Judges the pair of a command line; answers its status."""
-    asked = asked_of(words)
+    asked = request_of(words)
     refuse_auto(asked)
     out, here = words.out or None, words.here or words.out or None
     is_output_taken = any(path in OWN_OUTPUT for path in (words.json, words.csv, words.junit))
     speech = Speech(Progress(), is_output_taken)
     speech.at_end = ignore_signals  # what stands last is that of the status
-    typed = Typed(called, words.program)
+    typed = CommandWords(called, words.program)
     verdict = Verdict(asked, Severity(asked.severity, asked.is_loss_allowed), now(),
                       was_fitted=words.is_fitted)
     verdict.is_kept = words.is_kept
@@ -199,7 +199,7 @@ def judge(words: argparse.Namespace, called: str) -> int:
     return verdict.status
 
 
-def refuse_outputs(words: argparse.Namespace, asked: Asked, out: str | None, name: str) -> None:
+def refuse_outputs(words: argparse.Namespace, asked: Request, out: str | None, name: str) -> None:
     """`Stop` where a file that is asked for can't be written, or is an input; nothing is done yet.
     """
     inputs = Inputs(asked.stl, asked.recording, asked.severity)
@@ -211,7 +211,7 @@ def refuse_outputs(words: argparse.Namespace, asked: Asked, out: str | None, nam
         refuse_files_of(out, name, inputs)
 
 
-def refuse_auto(asked: Asked) -> None:
+def refuse_auto(asked: Request) -> None:
     """A layout is looked for in a recording that is there, and in no feed."""
     if not asked.is_layout_sought:
         return
@@ -268,12 +268,12 @@ def judge_pair(pair: Pair, files: Files) -> None:
 def end_pair(verdict: Verdict, speech: Speech, files: Files) -> None:
     """Says the verdict; where that fails it is not judged, in all files too."""
     try:
-        end(verdict, speech)
+        say_verdict(verdict, speech)
     except KeyboardInterrupt as reason:
         ignore_signals()
         verdict.failed.append(error_line(reason))
         files.write_again()
-        end(verdict, speech)
+        say_verdict(verdict, speech)
     except Exception as reason:
         verdict.failed.append(error_line(reason))
         files.write_again()
@@ -295,7 +295,7 @@ def ignore_signals() -> None:
         signal.signal(one, signal.SIG_IGN)
 
 
-def end(verdict: Verdict, speech: Speech) -> None:
+def say_verdict(verdict: Verdict, speech: Speech) -> None:
     """Says the verdict, after what was lost and what is not clear."""
     if verdict.line is not None:
         speech.say(verdict.sentence)
@@ -304,8 +304,8 @@ def end(verdict: Verdict, speech: Speech) -> None:
         speech.say(count_line(causes))
     for line in verdict.lines():
         speech.say(line)
-    for line in first_of([gap.line() + ("" if gap.is_judged else ", outside of what is judged")
-                          for gap in verdict.gaps]):
+    for line in first_lines([gap.line() + ("" if gap.is_judged else ", outside of what is judged")
+                             for gap in verdict.gaps]):
         speech.tell(line)
     if verdict.is_lost and not verdict.asked.is_loss_allowed:
         would = "; --allow-lost accepts the recording without it" if verdict.is_lost_alone else ""
@@ -355,7 +355,7 @@ class Output(NamedTuple):
 class Files:
     """The files that are asked for."""
 
-    def __init__(self, words: argparse.Namespace, verdict: Verdict, typed: Typed,
+    def __init__(self, words: argparse.Namespace, verdict: Verdict, typed: CommandWords,
                  names: Names) -> None:
         self.words, self.verdict, self.typed, self.names = words, verdict, typed, names
         self.written: list[Output] = []
@@ -389,7 +389,7 @@ class Files:
             self.verdict.failed.append(error_line(reason))
             if output.is_object and not isinstance(reason, (Stop, OSError)):
                 known = unjudged(self.names.name, self.verdict.why_not or "")
-                self.put(output._replace(pieces=lambda: iter([text_of(known)])))
+                self.put(output._replace(pieces=lambda: iter([object_text(known)])))
             return False
         return True
 
@@ -427,7 +427,7 @@ class Files:
     def testcase(self) -> Iterator[bytes]:
         """The file for a CI."""
         verdict = self.verdict
-        case = tables.TestCase(name_of(verdict.asked), verdict.word, verdict.status,
+        case = tables.TestCase(pair_title(verdict.asked), verdict.word, verdict.status,
                                verdict.lead or verdict.why_not or "", self.lines(), verdict.seconds,
                                verdict.counts.words() if verdict.counts else "")
         yield tables.junit_file([case], verdict.date)
@@ -440,9 +440,9 @@ class Files:
 
     def table_lines(self) -> Iterator[bytes]:
         """The lines of the CSV file: the names of the columns, the pair, its faults."""
-        return map(str.encode, tables.lines_of(itertools.chain(
-            [tables.of_pair(self.verdict)], (tables.of_fault(self.verdict, fault)
-                                             for fault in faults_of(self.verdict)))))
+        return map(str.encode, tables.column_lines(itertools.chain(
+            [tables.pair_columns(self.verdict)], (tables.fault_columns(self.verdict, fault)
+                                                  for fault in faults_of(self.verdict)))))
 
     @staticmethod
     def put(output: Output) -> None:
@@ -458,6 +458,6 @@ def as_bytes(text: str) -> bytes:
     return ESCAPED.sub(lambda found: "\\" + escaped(found[0]), text).encode()
 
 
-def name_of(asked: Asked) -> str:
+def pair_title(asked: Request) -> str:
     """A pair as a line of a table names it."""
     return " ".join([asked.stl, *([asked.recording] if asked.recording else [])])

@@ -345,10 +345,10 @@ def find_row(bases: Sequence[Base]) -> list[Stretch]:
         if not track.within or not any(one.base == track.base and abs(
                 one.start - track.start) <= track.within for one in found):
             found.append(track)
-    return row_of(bases[0].edges, found[:TRIED]) if found else []
+    return best_row(bases[0].edges, found[:TRIED]) if found else []
 
 
-def row_of(edges: Sequence[Edge], tracks: Sequence[Track]) -> list[Stretch]:
+def best_row(edges: Sequence[Edge], tracks: Sequence[Track]) -> list[Stretch]:
     """The row of tracks with the most points, where another one is begun by five edges that agree;
     what is nearer is taken of two that are as good."""
     Way = tuple[int, int, tuple[tuple[int, int], ...]]  # points, nearness, tracks from edges on
@@ -495,7 +495,7 @@ def runs_of(bases: Sequence[Base]) -> list[Airing]:
     windows = [((-1, 0), found[0].first), (found[0].last, (1 << 40, 0))]
     while windows:
         low, high = windows.pop()
-        others_in = between(bases, low, high)
+        others_in = sent_between(bases, low, high)
         some = sightings(find_row(others_in)) if any(one.changes for one in others_in) else {}
         if is_again(bases, first, some):
             run = Airing(min(some.values()), max(some.values()))
@@ -520,7 +520,7 @@ def is_again(bases: Sequence[Base], first: dict[int, Place], some: dict[int, Pla
         sum(at in first for at in texts) * 2 >= len(texts)
 
 
-def between(bases: Sequence[Base], low: Place, high: Place) -> list[Base]:
+def sent_between(bases: Sequence[Base], low: Place, high: Place) -> list[Base]:
     """What is sent between two places."""
     return [base.limited(base.edges,
                          -1 if number > low[0] else low[1] if number == low[0] else base.length + 1,

@@ -8,7 +8,7 @@ from ..common.command_line import Stop, counted, range_words
 from ..common.times import (
     ALL_DAY, Between, FRAMES_A_SECOND, FRAMES_OF_A_DAY, TICKS, frame_in, pts_of, ticks_between,
     ticks_within, time_of, wrapped)
-from ..formats.stl import letters_on_page, readable, stl_bytes, times_of
+from ..formats.stl import letters_on_page, readable, stl_bytes, subtitle_times
 from ..formats.teletext import Page, page_name
 from ..stream.receiver import subcode_words, turns_of
 from ..stream.survey import Packets, Range, STRAY
@@ -84,12 +84,12 @@ class Origin:
     told: list[str] = dataclasses.field(default_factory=list)
 
 
-def subtitles_of(path: str, option: str, between: Between,
-                 left_out: Collection[int] = ()) -> list[Shown]:
+def subtitles_between(path: str, option: str, between: Between,
+                      left_out: Collection[int] = ()) -> list[Shown]:
     """The subtitles of a file that come in some frames, and go within the day."""
     found = []
     for place, one in enumerate(readable(path, stl_bytes(path)), 1):
-        begin, end = times_of(one)
+        begin, end = subtitle_times(one)
         is_one = begin is not None and between.has(begin) and place not in left_out
         if is_one and begin is not None and end is not None and begin < end:
             found.append(Shown(begin, end, (one.row, one.justify, one.text),
@@ -102,7 +102,7 @@ def subtitles_of(path: str, option: str, between: Between,
 def find(asked: Sought, packets: Packets) -> Origin:
     """The origin of a recording, or why it is not clear."""
     origin = Origin()
-    subtitles = subtitles_of(asked.stl, asked.option, asked.between, asked.left_out)
+    subtitles = subtitles_between(asked.stl, asked.option, asked.between, asked.left_out)
     if not is_sent(packets, asked, origin.told):
         return origin
     bases = bases_of(subtitles, packets, asked.within, asked.inside)
@@ -169,7 +169,7 @@ def take_one(origin: Origin, asked: Sought, bases: Sequence[Base],
         origin.shifts = shift_lines(row, parts,
                                     part.origin if asked.origin is None else asked.origin)
         origin.told += origin.shifts
-    first, last = (time_at(pts, part.origin) for pts in part.sent.sent)
+    first, last = (time_of_pts(pts, part.origin) for pts in part.sent.sent)
     origin.told.append(f"subtitles due from {time_of(edges[0].frame)} to "
                        f"{time_of(edges[-1].frame)}, page sent from {first} to {last}")
 
@@ -238,7 +238,7 @@ def other_words(packets: Packets, page: Page) -> Iterator[str]:
         yield subcode_words(subcodes, name)
 
 
-def time_at(pts: int, origin: int) -> str:
+def time_of_pts(pts: int, origin: int) -> str:
     """The time of the day of a PTS, or that it is of none."""
     frame = frame_in(pts, origin)
     return time_of(frame) if frame < FRAMES_OF_A_DAY else "outside of the day"

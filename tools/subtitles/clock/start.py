@@ -10,7 +10,7 @@ from ..common.times import (
     ALL_DAY, Between, EARLY, TICKS, frame_in, frame_of, frame_of_code, ticks_between, time_of,
     wrapped)
 from ..formats.stl import GSI
-from ..request.request import Asked, Chosen, ORIGIN_CHOICE, Unclear
+from ..request.request import ORIGIN_CHOICE, Request, Selection, Unclear
 from ..stream.ranges import Stage
 from ..stream.survey import Packets, Range, Survey
 
@@ -35,11 +35,11 @@ class Clock(NamedTuple):
     origin: int
     source: str
     delay_frames: int | None = None
-    evidence: Chosen | None = None
+    evidence: Selection | None = None
 
-    def chosen(self, part: int | None) -> Chosen | None:
+    def chosen(self, part: int | None) -> Selection | None:
         """It as what is chosen for a part; `None` where it was given."""
-        evidence = self.evidence or Chosen(ORIGIN_CHOICE, str(self.origin), FITTED)
+        evidence = self.evidence or Selection(ORIGIN_CHOICE, str(self.origin), FITTED)
         return evidence._replace(part=part) if self.is_fitted else None
 
     @property
@@ -137,7 +137,7 @@ def video_of(survey: Survey, teletext: int) -> tuple[int, int]:
     return pid, kind
 
 
-def first_of(survey: Survey, teletext: int) -> First:
+def first_picture(survey: Survey, teletext: int) -> First:
     """The first picture of the programme whose PMT names a Teletext PID: the one with the smallest
     PTS from the first with random_access_indicator to the next such one."""
     pid, kind = video_of(survey, teletext)
@@ -196,7 +196,7 @@ def after_frame(packets: Packets, pts: int, within: int) -> int:
     return (near if within and near else known)[0]
 
 
-def start_frame(asked: Asked) -> int:
+def start_frame(asked: Request) -> int:
     """The frame of the first picture, as it was given or as the GSI block has it."""
     if asked.start != TCP:
         frame = frame_of(asked.start or "")
@@ -210,9 +210,9 @@ def start_frame(asked: Asked) -> int:
     return found
 
 
-def began(asked: Asked, survey: Survey, packets: Packets) -> Began:
+def began(asked: Request, survey: Survey, packets: Packets) -> Began:
     """The clock, moved to the PTS of the Teletext by less than half a frame."""
-    first, frame = first_of(survey, packets.pid), start_frame(asked)
+    first, frame = first_picture(survey, packets.pid), start_frame(asked)
     after = after_frame(packets, first.pts, asked.within)
     if after * 2 == TICKS:
         raise Unclear(f"{first.line()}. The PTS of the Teletext are half a frame after it: the "
@@ -228,7 +228,7 @@ def began(asked: Asked, survey: Survey, packets: Packets) -> Began:
                  frame)
 
 
-def refuse_outside(asked: Asked, one: Began, begin: int, end: int, last: int | None) -> None:
+def refuse_outside(asked: Request, one: Began, begin: int, end: int, last: int | None) -> None:
     """Subtitles that lie outside of a recording which begins with the programme's first picture;
     `last` is its last PTS."""
     if begin < one.frame:

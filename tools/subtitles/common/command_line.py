@@ -282,10 +282,10 @@ def error_line(reason: BaseException) -> str:
         return text
     if os.environ.get("SUBTTX_DEBUG") == "1":
         traceback.print_exception(reason)
-    return f"a mistake of this tool, {type(reason).__name__} in {place_of(reason)}: {text}"
+    return f"a mistake of this tool, {type(reason).__name__} in {error_place(reason)}: {text}"
 
 
-def place_of(reason: BaseException) -> str:
+def error_place(reason: BaseException) -> str:
     """The file and the line that an error comes from."""
     trace = reason.__traceback__
     while trace and trace.tb_next:

@@ -152,13 +152,13 @@ def items_of(layout: Layout) -> list[str]:
     return sorted(items)
 
 
-def text_of(layout: Layout) -> str:
+def layout_text(layout: Layout) -> str:
     """The TEXT of a layout, empty where all of it is as it is where it is left out."""
     return ",".join(items_of(layout))
 
 
 @functools.lru_cache(maxsize=KEPT)
-def lines_of(text: bytes, option: NationalOption, strip: bytes = b"") -> tuple[bytes, ...] | Refused:
+def cell_lines(text: bytes, option: NationalOption, strip: bytes = b"") -> tuple[bytes, ...] | Refused:
     """The lines of a text, each as the cells that its bytes give; or the first that gives none."""
     lines = [bytearray()]
     for at, byte, cell in cells_in(text, option):
@@ -211,7 +211,7 @@ def column_of(cells: bytes, justify: int, layout: Layout) -> int:
     return min(max(start_of(cells, justify, layout), 0), COLUMNS - len(cells))
 
 
-def rows_of(lines: Sequence[bytes], first: int, layout: Layout) -> list[int]:
+def placed_rows(lines: Sequence[bytes], first: int, layout: Layout) -> list[int]:
     """The row of each prepared line, where the vertical position (VP) is `first`."""
     places, place = [], 0
     for number, line in enumerate(lines):
@@ -225,7 +225,7 @@ def rows_of(lines: Sequence[bytes], first: int, layout: Layout) -> list[int]:
 def drawn(text: bytes, first: int, justify: int, layout: Layout, option: NationalOption
           ) -> list[DrawnLine] | Refused:
     """The lines of a subtitle's text that are not empty, as they are drawn; or its first fault."""
-    cells = lines_of(text, option, layout.strip)
+    cells = cell_lines(text, option, layout.strip)
     return cells if isinstance(cells, Refused) else drawn_lines(cells, first, justify, layout)
 
 
@@ -235,7 +235,7 @@ def drawn_lines(cells: Sequence[bytes], first: int, justify: int, layout: Layout
     lines = [prepared(one, layout) for one in cells]
     found: list[DrawnLine] = []
     above = b""  # the line that is numbered before this one
-    for number, (line, row) in enumerate(zip(lines, rows_of(lines, first, layout))):
+    for number, (line, row) in enumerate(zip(lines, placed_rows(lines, first, layout))):
         is_under = DOUBLE in above and not layout.double
         above = above if layout.pack and not line else line
         if not line:
@@ -250,7 +250,7 @@ def drawn_lines(cells: Sequence[bytes], first: int, justify: int, layout: Layout
     return found
 
 
-def page_of(lines: Sequence[DrawnLine]) -> tuple[bytes, ...]:
+def page_rows(lines: Sequence[DrawnLine]) -> tuple[bytes, ...]:
     """Rows 1 to 24 of the page that shows drawn lines."""
     rows = [b" " * COLUMNS] * 24
     for line in lines:
@@ -261,7 +261,7 @@ def page_of(lines: Sequence[DrawnLine]) -> tuple[bytes, ...]:
 def letters_of_text(text: bytes, option: NationalOption) -> bytes | None:
     """The cells over 20 that a text's bytes give, in their order; None where one has no cell. No
     layout changes them."""
-    lines = lines_of(text, option, bytes(range(0x20)))
+    lines = cell_lines(text, option, bytes(range(0x20)))
     return None if isinstance(lines, Refused) else bytes(
         cell for line in lines for cell in line if cell > SPACE)
 

@@ -49,7 +49,7 @@ INCOMPLETE = 77
 ON_SCREEN = {*WITH_CAUSE, INCOMPLETE, UNDECIDED}  # what a viewer sees, or does not see
 
 
-class Told(NamedTuple):
+class FaultLine(NamedTuple):
     """A line `refused`, `ended`, `fault` or `usage`: its number, its name and its place."""
 
     line: str
@@ -89,14 +89,14 @@ class Trusted(NamedTuple):
     last: str
 
 
-def told_of(line: str) -> Told | None:
+def fault_of_line(line: str) -> FaultLine | None:
     """A line with a number; `None` for another one."""
     found = PLACED.fullmatch(line)
     if not found:
         return None
     word, number, name, block, at, pes, time, packet, row, column = found.groups()
-    return Told(line, word, int(number), name, known(block), known(at), known(pes), time,
-                known(packet), known(row), known(column))
+    return FaultLine(line, word, int(number), name, known(block), known(at), known(pes), time,
+                     known(packet), known(row), known(column))
 
 
 def known(digits: str | None) -> int | None:
@@ -124,13 +124,13 @@ def count_of(line: str) -> int | None:
 
 def is_line(line: str) -> bool:
     """Whether it is one of these lines."""
-    return any(one(line) is not None for one in (told_of, trusted_of, accepted_of, count_of))
+    return any(one(line) is not None for one in (fault_of_line, trusted_of, accepted_of, count_of))
 
 
 # A list may have a line for each frame of a day. Whoever needs few of its words takes these, which
 # cost a fraction of `told_of`.
 
-def words_of(line: str) -> list[str]:
+def line_words(line: str) -> list[str]:
     """The word, the number, the name, and the place: what it is, its value, and the rest."""
     return line.split(" ", 5)
 

@@ -10,7 +10,7 @@ from typing import Collection, Iterable, Iterator, NamedTuple, Sequence
 from ..common.command_line import Stop, tell
 from ..common.files import Damaged, first_bytes
 from ..common.times import ALL_DAY, Between, FRAMES_OF_A_DAY, frame_of, frame_of_code, time_of_code
-from .listing import told_of
+from .listing import fault_of_line
 from .teletext import ACCENTS, BY_WORD, codes_of, letters_of
 
 
@@ -66,7 +66,7 @@ def subtitles_in(data: bytes) -> Iterator[StoredSubtitle]:
         raise Damaged(f"the subtitle of block {block} has no last block")
 
 
-def times_of(subtitle: StoredSubtitle) -> tuple[int | None, int | None]:
+def subtitle_times(subtitle: StoredSubtitle) -> tuple[int | None, int | None]:
     """The frames of the day of a subtitle's TCI and TCO, `None` for what is no time of the day."""
     return frame_of_code(subtitle.begin), frame_of_code(subtitle.end)
 
@@ -141,10 +141,10 @@ class Subtitle:
     @property
     def name(self) -> str:
         """It as all tools name it: its place, and its SN where that is another number."""
-        return name_of(self.index, self.number)
+        return subtitle_name(self.index, self.number)
 
 
-def name_of(position: int, number: int) -> str:
+def subtitle_name(position: int, number: int) -> str:
     """A subtitle by its place in the file, from 1, and its SN where that is another number."""
     return f"subtitle {position}" if number == position else f"subtitle {position} (SN {number})"
 
@@ -154,7 +154,7 @@ def subtitles_shown(lines: Sequence[str]) -> list[Subtitle]:
     refused: then they are those before."""
     found = [subtitle_of(index, line) for index, line in enumerate(lines[:-1], 1)]
     last = "".join(lines[-1:])
-    told = told_of(last)
+    told = fault_of_line(last)
     if not (told and told.is_fault) and last.split(" ")[0] != str(len(found)):
         raise Stop(f"show was not answered: {last or 'it printed nothing'}")
     return found
@@ -164,7 +164,7 @@ def subtitles_read(data: bytes) -> list[Subtitle]:
     """The subtitles of a file's bytes that come and go within a day, as they stand."""
     found: list[Subtitle] = []
     for index, one in enumerate(subtitles_in(data), 1):
-        begin, end = times_of(one)
+        begin, end = subtitle_times(one)
         if begin is not None and end is not None and begin < end:
             found.append(Subtitle(index, one.number, begin, end, one.row, one.justify, one.text))
     return found

@@ -177,7 +177,7 @@ def codes_of(text: bytes, option: NationalOption) -> list[int | None]:
     return [cell for _, _, cell in cells_in(text, option)]
 
 
-def draws(text: bytes, option: NationalOption) -> bool:
+def has_characters(text: bytes, option: NationalOption) -> bool:
     """Whether the option has each character of a text; new lines and what gives no cell aside."""
     shown = bytes(byte for byte in text if byte not in range(0x80, 0x90))
     return None not in codes_of(shown, option)

@@ -15,7 +15,8 @@ from ..stream.receiver import BLANK_PAGE, HIT, LEAST, Rows, Timeline, subcode_wo
 from ..stream.survey import HEADER
 from .check import Answer
 from .transmissions import (
-    DuePages, Sendings, attribute_words, is_moved, is_part, left_at, place_words, text_of, words_on)
+    DuePages, Sendings, attribute_words, is_moved, is_part, left_at, moved_words, page_text,
+    words_on)
 
 
 # Why a page is held otherwise than it is due: of each subtitle with such frames one cause.
@@ -183,7 +184,7 @@ class Namer(Sendings):
                 return self.of_other(place, other, one.end)._replace(sent=sent)
             return Cause(place, TEXT, None, sent, None, self.subcode_words, one.end)
         if is_moved(due, sent):
-            return Cause(place, PLACE, None, sent, None, place_words(due, sent), one.end)
+            return Cause(place, PLACE, None, sent, None, moved_words(due, sent), one.end)
         return Cause(place, ATTRIBUTE, None, sent, None, attribute_words(due, sent), one.end)
 
     def of_other(self, place: int, other: int, known: int) -> Cause:
@@ -435,7 +436,7 @@ class Wording:
             "subtitle": {"position": one.index, "number": one.number,
                          "begin": time_of(one.begin), "end": time_of(one.end)},
             "cause": cause.name, "frames": cause.frames, "text": self.due_text(cause),
-            "sent": None if cause.sent is None else text_of(cause.sent, self.option),
+            "sent": None if cause.sent is None else page_text(cause.sent, self.option),
             "other": None if other is None else other.number,
             "other_position": None if other is None else other.index,
             "words": self.said(cause),
@@ -443,7 +444,7 @@ class Wording:
 
     def due_text(self, cause: Cause) -> str:
         """The text that is due of the subtitle of a cause."""
-        return text_of(self.pages[cause.place], self.option)
+        return page_text(self.pages[cause.place], self.option)
 
     def line(self, cause: Cause) -> str:
         """The line of a cause."""
@@ -468,7 +469,7 @@ class Wording:
         elif cause.words:
             words += f": {cause.words}"
         if has_text and cause.sent not in (None, self.pages[cause.place]):
-            sent = text_of(cause.sent or (), self.option)
+            sent = page_text(cause.sent or (), self.option)
             if sent != self.due_text(cause):
                 words += f', sent: "{sent}"'
         if cause.other is not None:

@@ -12,8 +12,8 @@ from typing import BinaryIO, Callable, Iterator, NamedTuple
 from ..common.files import naming, pieces_of
 from ..common.times import FRAMES_OF_A_DAY, Spans
 from ..formats.listing import (
-    ENDED, ON_SCREEN, PASSED_OVER, REFUSED, STL_FAULTS, Told, UNDECIDED, accepted_of, count_of,
-    frame_of_place, is_line, number_of, told_of, trusted_of, words_of)
+    ENDED, FaultLine, ON_SCREEN, PASSED_OVER, REFUSED, STL_FAULTS, UNDECIDED, accepted_of, count_of,
+    fault_of_line, frame_of_place, is_line, line_words, number_of, trusted_of)
 from ..request.request import Unclear
 from .status import NOT_JUDGED, Said, UNSAID, word_of
 
@@ -32,7 +32,7 @@ class End(NamedTuple):
 NO_END = End(None, None)
 
 
-class Counted:
+class FaultCounts:
     """The faults of a list. `first` is the first, which is the line of `check` without `--all`, and
     `last_told` the last one. By number, `counts` are how many there are, `firsts` the first of
     each, and `marks` the frames at which it is told, or stands; `ends` are by the number of a fault
@@ -48,8 +48,8 @@ class Counted:
         """No fault was told."""
         self.count = 0
         self.counts: collections.Counter[int] = collections.Counter()
-        self.firsts: dict[int, Told] = {}
-        self.first: Told | None = None
+        self.firsts: dict[int, FaultLine] = {}
+        self.first: FaultLine | None = None
         self.last_told = ""
         self.marks: dict[int, Spans] = {}
         self.ends: dict[int, End] = {}
@@ -67,7 +67,7 @@ class Counted:
         """A line `refused`."""
         number, place = int(words[1]), words[3:5]
         if number not in self.counts:
-            told = told_of(line)
+            told = fault_of_line(line)
             if told:
                 self.firsts[number] = told
             self.first = self.first or told
@@ -99,7 +99,7 @@ class Counted:
                 self.passed.add(self.passed.ends[-1], int(value))
 
     @property
-    def leading(self) -> Told | None:
+    def leading(self) -> FaultLine | None:
         """The first fault of those that a viewer sees, or else the first one; where the subtitle
         file is refused it is that."""
         if self.first is None or self.first.number in STL_FAULTS:
@@ -108,7 +108,7 @@ class Counted:
                     self.first)
 
     @property
-    def first_sent(self) -> Told | None:
+    def first_sent(self) -> FaultLine | None:
         """The first fault of the transmission, beside subtitles that are refused."""
         return next((told for number, told in self.firsts.items()
                      if number not in STL_FAULTS | {UNDECIDED}), None)
@@ -125,7 +125,7 @@ class Counted:
 TIME = re.compile(r"\d\d:\d\d:\d\d:\d\d")
 
 
-class Answer(Counted):
+class Answer(FaultCounts):
     """What `check --all` printed, line by line; all its lines stand in the file at `path`."""
 
     def __init__(self, path: str) -> None:
@@ -143,7 +143,7 @@ class Answer(Counted):
         with naming(self.path):
             self.file.write(line.encode() + b"\n")
         self.last, self.is_accepted = line, False
-        words = words_of(line)
+        words = line_words(line)
         if words[0] == REFUSED and words[1:] and words[1].isascii() and words[1].isdecimal():
             self.take_fault(line, words)
         elif words[0] == ENDED and is_line(line):
@@ -244,9 +244,9 @@ class Answer(Counted):
             for line in file:
                 yield line.rstrip("\n")
 
-    def told(self) -> Iterator[tuple[Told, End]]:
+    def told(self) -> Iterator[tuple[FaultLine, End]]:
         """The faults in order, each with where it ended."""
-        faults = (told for told in map(told_of, self.lines()) if told and told.is_fault)
+        faults = (told for told in map(fault_of_line, self.lines()) if told and told.is_fault)
         return ((told, self.ends.get(index, NO_END)) for index, told in enumerate(faults))
 
 

@@ -9,12 +9,12 @@ from ..common.command_line import MOST_EVERY, counted, pid_name
 from ..common.shapes import Members
 from ..common.times import frame_at, time_of
 from ..formats.listing import (
-    BEGIN, CHARACTER, CONTENT, CONTROL, DISPLAY, EMPTY_TIME, END, GAP, LETTERS, OFF_FRAME,
-    OUT_OF_ORDER, PASSED_OVER, SILENT, STL_FAULTS, Told, WITH_CAUSE, meanings, plain)
+    BEGIN, CHARACTER, CONTENT, CONTROL, DISPLAY, EMPTY_TIME, END, FaultLine, GAP, LETTERS,
+    OFF_FRAME, OUT_OF_ORDER, PASSED_OVER, SILENT, STL_FAULTS, WITH_CAUSE, meanings, plain)
 from ..formats.stl import NamedSubtitle, SubtitleFile
 from ..formats.teletext import BY_WORD, letters
-from ..request.request import Asked, NONE, PACE
-from ..stream.gaps import are_usual, edges_of, longest_gap, measured, rows_of, why_refused
+from ..request.request import NONE, PACE, Request
+from ..stream.gaps import are_usual, edges_of, frame_rows, longest_gap, repeat_distance, why_refused
 from ..stream.layout import BY_LAYOUT, left_lines
 from ..stream.receiver import OLD, Rows, Timeline
 from ..stream.survey import HEADER, Packets, Run
@@ -42,8 +42,8 @@ class FaultPlace(NamedTuple):
 NOWHERE = FaultPlace(None, None, None)
 
 
-def place_of(fault: Told, packets: Packets, held: Timeline | None,
-             due: Rows | None = None) -> FaultPlace:
+def fault_place(fault: FaultLine, packets: Packets, held: Timeline | None,
+                due: Rows | None = None) -> FaultPlace:
     """The place of a fault of a transmission; of a cell that is not as it is due."""
     if fault.pes is not None:
         return FaultPlace(fault.pes, packets.pts_at(fault.pes), None)
@@ -69,7 +69,7 @@ def member_of(members: Sequence[Run], packet: int) -> Run:
     return next((one for one, end in zip(members, ends) if packet < end), members[-1])
 
 
-def code_of(fault: Told, rows: Rows) -> int | None:
+def code_of(fault: FaultLine, rows: Rows) -> int | None:
     """The code of the cell that a fault names, where it names one."""
     return None if fault.row is None or fault.column is None else \
         code_at(rows, fault.row, fault.column)
@@ -107,7 +107,7 @@ def hints_of_part(part: Part, verdict: Verdict) -> Iterator[str]:
             yield f"{number}: {words}"
 
 
-def hint_words(told: Told, part: Part, verdict: Verdict) -> str:
+def hint_words(told: FaultLine, part: Part, verdict: Verdict) -> str:
     """What is to be said of such a fault; nothing where it is not known."""
     asked = verdict.asked
     if told.number == CHARACTER:
@@ -138,7 +138,7 @@ def hint_words(told: Told, part: Part, verdict: Verdict) -> str:
                          part.answer.numbers, times, part.is_lost)
     if part.kept:
         return part.kept.words()
-    return header_words(place_of(told, part.packets, part.held).headers, asked, part.better)
+    return header_words(fault_place(told, part.packets, part.held).headers, asked, part.better)
 
 
 def end_words(number: int, part: Part, page: str) -> str:
@@ -160,19 +160,19 @@ def open_words(subtitles: SubtitleFile) -> str:
     return f"its DSC is {kind}: --open takes it" if kind else ""
 
 
-def silent_words(told: Told, part: Part) -> str:
+def silent_words(told: FaultLine, part: Part) -> str:
     """From when on, and for how long, no PES packet came; and what does not ask for one."""
     asked, pes, origin = part.asked, part.pes, part.origin
     if asked is None or asked.pace is None or pes is None or origin is None or told.frame is None:
         return ""
     before = told.frame - asked.pace
-    after = next((frame for row in rows_of(part.packets, pes, origin, asked.within)
+    after = next((frame for row in frame_rows(part.packets, pes, origin, asked.within)
                   for frame in row if frame > before), None)
     return "" if after is None else f"none for {counted(after - before - 1, 'frame')} from " \
         f"{time_of(before + 1)} on; where nothing was sent then, {PACE} {NONE} does not ask for it"
 
 
-def gap_words(sent: tuple[Sequence[int], Sequence[int]], origin: int, asked: Asked,
+def gap_words(sent: tuple[Sequence[int], Sequence[int]], origin: int, asked: Request,
               numbers: set[int], times: Sequence[tuple[int, int]], is_lost: bool) -> str:
     """The longest gap between headers of the page, or behind the last one, where all that was sent
     can be read; and the repeat bound that accepts it, where nothing else is refused, nothing is
@@ -188,7 +188,7 @@ def gap_words(sent: tuple[Sequence[int], Sequence[int]], origin: int, asked: Ask
     if numbers == {GAP} and not is_lost and gap <= MOST_EVERY and \
             are_usual(headers, times, asked.every, end):
         return f"{words}: --every {gap} accepts it"
-    usual = measured(headers, edges_of(times))
+    usual = repeat_distance(headers, edges_of(times))
     return f"{words}, and {usual} are usual" if usual and usual <= asked.every else words
 
 
@@ -210,12 +210,12 @@ class PartFaults:
     def __iter__(self) -> Iterator[Members]:
         return itertools.starmap(self.fault, self.part.answer.told())
 
-    def fault(self, told: Told, end: End) -> Members:
+    def fault(self, told: FaultLine, end: End) -> Members:
         """All that is known of a fault."""
         is_stl = told.number in STL_FAULTS
         due = self.part.due().page_at(told.frame) if told.number == CONTENT and \
             told.frame is not None else None
-        place = NOWHERE if is_stl else place_of(told, self.part.packets, self.part.held, due)
+        place = NOWHERE if is_stl else fault_place(told, self.part.packets, self.part.held, due)
         byte, character = self.subtitles.letter(told.block, told.at) \
             if told.number in LETTERS and told.block and told.at is not None else (None, None)
         subtitle = self.subtitle_of(told)
@@ -242,14 +242,14 @@ class PartFaults:
             "cause": self.cause_of(told),
         }
 
-    def cause_of(self, told: Told) -> Members | None:
+    def cause_of(self, told: FaultLine) -> Members | None:
         """The cause of the subtitle whose fault a 63, 72 or 74 is."""
         if self.wording is None or told.number not in WITH_CAUSE or told.frame is None:
             return None
         cause = self.wording.causes.of(told.number, told.frame)
         return self.wording.values(cause) if cause else None
 
-    def subtitle_of(self, told: Told) -> NamedSubtitle | None:
+    def subtitle_of(self, told: FaultLine) -> NamedSubtitle | None:
         """The subtitle of a block, or the one that is due at a frame."""
         if told.block is not None:
             return self.subtitles.at_block(told.block)
@@ -262,11 +262,11 @@ class PartFaults:
         frame = frame_at(pts, self.part.origin, self.asked.within)
         return None if frame is None else time_of(frame)
 
-    def held_cell(self, told: Told, place: FaultPlace) -> Members | None:
+    def held_cell(self, told: FaultLine, place: FaultPlace) -> Members | None:
         """The cell of a 72 as it is held."""
         return self.cell(place.rows, told) if told.number == CONTENT else None
 
-    def cell(self, rows: Rows | None, told: Told) -> Members | None:
+    def cell(self, rows: Rows | None, told: FaultLine) -> Members | None:
         """The cell that a fault names."""
         if told.row is None or told.column is None:
             return None

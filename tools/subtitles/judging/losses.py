@@ -14,8 +14,8 @@ from ..request import request
 from ..request.commands import Speech
 from ..request.request import NONE, PACE
 from ..stream.gaps import (
-    BY_EVERY, IRREGULAR, PAUSED, Pace, Place, REGULAR, TOO_FEW, each_of, pace_of, pauses_of,
-    rows_of, what_of)
+    BY_EVERY, IRREGULAR, PAUSED, Pace, Place, REGULAR, TOO_FEW, each_of, frame_rows, pace_of,
+    pauses_of, what_of)
 from ..stream.survey import PACKET, Range, jumps_at
 from .part import Part
 from .verdict import Gap, Verdict
@@ -26,7 +26,7 @@ from .verdict import Gap, Verdict
 
 def gap_of(place: Place, origin: int, is_judged: bool) -> Gap:
     """A place at which TS packets are missing, with its times."""
-    times = time_at(place.before, origin), time_at(place.after, origin)
+    times = place_time(place.before, origin), place_time(place.after, origin)
     return Gap(*times, what_of(place), place, is_judged)
 
 
@@ -86,7 +86,7 @@ def lacks(part: Part, places: Sequence[Place]) -> bool:
     return bool(LOSSES & part.answer.numbers) or any(is_in(place, part) for place in places)
 
 
-def time_at(pts: int | None, origin: int) -> str | None:
+def place_time(pts: int | None, origin: int) -> str | None:
     """The time of a PTS, to the frame before it."""
     if pts is None:
         return None
@@ -114,7 +114,7 @@ def set_pace(part: Part, pes: Range, verdict: Verdict, speech: Speech,
     """Asks for the pace of the PES packets that are judged, where they are regular and none is
     asked for, by the frames of the subtitles. Where holes may be unseen the verdict has notes."""
     asked, recording = part.asked, part.recorded[0]
-    pace = measured(part, pes, times)
+    pace = measured_pace(part, pes, times)
     notes = [jump_words(take_jumps(part, pes, pace), recording)]
     if PACE in asked.passed_on:
         notes.append(clock_words(recording) if asked.passed_on[PACE] == NONE else "")
@@ -124,15 +124,15 @@ def set_pace(part: Part, pes: Range, verdict: Verdict, speech: Speech,
             speech.choose(chosen_of(pace, recording.is_stream, part.number))
             part.asked = asked.paced(pace.frames)
         elif note:  # which is told with the verdict
-            speech.chosen.append(request.Chosen(request.PACE_CHOICE, None, note, part=part.number))
+            speech.chosen.append(request.Selection(request.PACE_CHOICE, None, note, part=part.number))
     verdict.notes += [note for note in notes if note and note not in verdict.notes]
 
 
-def measured(part: Part, pes: Range, times: Sequence[tuple[int, int]]) -> Pace:
+def measured_pace(part: Part, pes: Range, times: Sequence[tuple[int, int]]) -> Pace:
     """How far apart the PES packets of a part come."""
     packets, asked, (recording, found) = part.packets, part.asked, part.recorded
     size = None if recording.is_stream else os.path.getsize(recording.path)
-    return pace_of(rows_of(packets, pes, found.origin, asked.within),
+    return pace_of(frame_rows(packets, pes, found.origin, asked.within),
                    each_of(packets, pes, size), asked.every, pauses_of(times), recording.is_stream)
 
 
@@ -156,10 +156,10 @@ def jump_words(count: int, recording: Recording) -> str:
         if count else ""
 
 
-def chosen_of(pace: Pace, is_stream: bool, part: int) -> request.Chosen:
+def chosen_of(pace: Pace, is_stream: bool, part: int) -> request.Selection:
     """A pace that is asked for, by at how many places a loss takes longer, of all that there are."""
-    return request.Chosen(request.PACE_CHOICE, str(pace.frames), regular_words(pace, is_stream),
-                          pace.among - pace.closer, pace.among, part)
+    return request.Selection(request.PACE_CHOICE, str(pace.frames), regular_words(pace, is_stream),
+                             pace.among - pace.closer, pace.among, part)
 
 
 def regular_words(pace: Pace, is_stream: bool) -> str:

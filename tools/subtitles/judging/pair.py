@@ -12,18 +12,18 @@ from ..clock.start import Clock, Found, GIVEN, NoFirst, RECORDING, TCP, began, r
 from ..common.command_line import Stop, counted, error_line
 from ..common.files import file_of
 from ..common.times import ALL_DAY, FRAMES_OF_A_DAY, Span, TICKS, time_of
-from ..formats.layout import PLAIN, layout_of, text_of
+from ..formats.layout import PLAIN, layout_of, layout_text
 from ..formats.listing import (
-    CONTENT, CONTROL, EMPTY, LOSSES, STL_FAULTS, WITH_CAUSE, accepted_of, told_of)
+    CONTENT, CONTROL, EMPTY, LOSSES, STL_FAULTS, WITH_CAUSE, accepted_of, fault_of_line)
 from ..formats.stl import Subtitle, SubtitleFile
 from ..formats.teletext import BY_WORD
 from ..recording import recording as recording_recording
 from ..recording.feed import Ending
-from ..recording.recording import Recording, Warned, refuse_files
+from ..recording.recording import Notice, Recording, refuse_files
 from ..request import commands, request
-from ..request.commands import Names, Speech, Typed
+from ..request.commands import CommandWords, Names, Speech
 from ..request.request import (
-    Asked, Chosen, FROM, LAYOUT, MOST_TRIED, ORIGIN_CHOICE, PES_CHOICE, Unclear, option_line)
+    FROM, LAYOUT, MOST_TRIED, ORIGIN_CHOICE, PES_CHOICE, Request, Selection, Unclear, option_line)
 from ..stream.layout import (
     BY_LAYOUT, choices_of, layout_line, left_lines, otherwise, otherwise_words, sent_in, why_none)
 from ..stream.ranges import Cut, cut_of
@@ -33,7 +33,7 @@ from .causes import Cause, EARLY, ERASED, IN_PART, IN_PAUSE, LATE, NOT_ERASED, N
 from .check import Answer, check
 from .faults import OF_HEADERS, hint_words
 from .losses import gap_of, gaps_in, is_in, lacks, set_pace, unsent_in
-from .part import Part, causes_of, moves_told, parted, refuse_others, tell, unseen
+from .part import Part, moves_told, part_causes, parted, refuse_others, tell_causes, unseen
 from .status import ACCEPTED, REFUSED, Said, UNSAID, word_of
 from .subtitles import beside_of, due_beside, is_judged_beside, title_words
 from .transmissions import DuePages, due_pages_of, judged_by, kept_in, subtitles_in
@@ -64,7 +64,7 @@ def say_alone(pair: Pair) -> None:
                         *pair.asked.check_words(True), "--all")
 
 
-def part_options(part: Part, asked: Asked, pes: Range | None = None, origin: int | None = None) \
+def part_options(part: Part, asked: Request, pes: Range | None = None, origin: int | None = None) \
         -> list[str]:
     """The options by which the program judges a part by what is asked; where they are given by
     other PES packets, and another origin."""
@@ -90,8 +90,8 @@ def check_part(pair: Pair, part: Part) -> None:
     pair.speech.end_list(part.answer.last)
 
 
-def tried(pair: Pair, part: Part, asked: Asked,
-          look: Callable[[Answer], None] = lambda answer: None) -> Answer | None:
+def try_part(pair: Pair, part: Part, asked: Request,
+             look: Callable[[Answer], None] = lambda answer: None) -> Answer | None:
     """What `check --all` tells of a part where something else is asked, which is looked at line by
     line; `None` where it is not answered."""
     answer = Answer(pair.names.temporary("tried.txt"))
@@ -110,7 +110,7 @@ def better_options(pair: Pair, part: Part) -> list[str]:
             raise Enough
 
     return [option for option in sorted(part.options_sent()) if option != pair.asked.option and
-            tried(pair, part, dataclasses.replace(part.asked, option=option), look)]
+            try_part(pair, part, dataclasses.replace(part.asked, option=option), look)]
 
 
 def first_within(pair: Pair, part: Part, pes: Range, origin: int, within: int) -> tuple[str, int]:
@@ -130,20 +130,20 @@ SAID = "origin: "  # before what is said of it
 def parts_of(pair: Pair, recording: Recording) -> list[Found]:
     """The parts with their clocks; the first one has the one that was given, or that the first
     picture tells."""
-    given = given_to(pair) or by_start(pair, recording)
+    given = given_clock(pair) or by_start(pair, recording)
     if pair.is_cut and given and not recording.stages:
         pair.inside = last_time(recording.packets, pair.whole._replace(clock=given), pair.asked)
-    origin = fitted(pair, recording, given)
+    origin = fitted_origin(pair, recording, given)
     if origin.runs and recording.is_feed:
         pair.inside = run = run_of(pair, recording, given, origin.runs)
         which = "first run" if run == origin.runs[0] else "run at the origin that was given"
         pair.verdict.notes.append(f"{runs_line(len(origin.runs))}: of a feed the {which} is judged")
-        origin = fitted(pair, recording, given)
+        origin = fitted_origin(pair, recording, given)
     pair.verdict.notes += origin.shifts
     pair.is_shifted = bool(origin.shifts)
     found = found_in(origin, pair.whole)
     if not found and (given is None or pair.asked.breaks or origin.runs):
-        raise unclear(origin, to_type(pair, recording, origin))
+        raise unclear_origin(origin, clock_options(pair, recording, origin))
     found = found or [pair.whole]
     if given:
         clock, notes = with_delay(given, origin)
@@ -154,7 +154,7 @@ def parts_of(pair: Pair, recording: Recording) -> list[Found]:
 
 # What is known before.
 
-def given_to(pair: Pair) -> Clock | None:
+def given_clock(pair: Pair) -> Clock | None:
     """The clock that was given, `None` where it is to be found."""
     origin = pair.asked.origin
     source = RECORDING if pair.verdict.was_fitted else GIVEN
@@ -196,7 +196,7 @@ def origin_in(packets: Packets, asked: Sought) -> Origin:
         return Origin(2, told=[error_line(reason)])
 
 
-def fitted(pair: Pair, recording: Recording, clock: Clock | None) -> Origin:
+def fitted_origin(pair: Pair, recording: Recording, clock: Clock | None) -> Origin:
     """What is found of the clock, also compared with one that is known, which is said."""
     origin = origin_in(recording.packets, search_in(pair, recording, clock))
     for line in [*origin.printed, *(SAID + line for line in origin.told)]:
@@ -208,13 +208,13 @@ def found_in(origin: Origin, whole: Found) -> list[Found]:
     """The parts that are clear, as they were found; none where that is not clear."""
     if origin.status:
         return []
-    return [Found(*(part.frames or (whole.begin, whole.end)), fitted_to(part), part.packets)
+    return [Found(*(part.frames or (whole.begin, whole.end)), fitted_clock(part), part.packets)
             for part in origin.parts]
 
 
-def fitted_to(part: OfPart) -> Clock:
+def fitted_clock(part: OfPart) -> Clock:
     """The clock that was found for a part."""
-    return Clock(part.origin, RECORDING, evidence=Chosen(
+    return Clock(part.origin, RECORDING, evidence=Selection(
         ORIGIN_CHOICE, str(part.origin), f"{SAID}{part.line}", part.agree, part.among))
 
 
@@ -236,7 +236,7 @@ def with_delay(clock: Clock, origin: Origin) -> tuple[Clock, list[str]]:
     return clock, [f"{where} subtitles are {words} {'early' if sign < 0 else 'late'}"]
 
 
-def unclear(origin: Origin, again: Iterable[str]) -> Unclear:
+def unclear_origin(origin: Origin, again: Iterable[str]) -> Unclear:
     """Why the origin is not clear, with what there is; `again` is what to type then."""
     is_said = origin.runs or origin.breaks is not None
     told = "\n".join(origin.told) if is_said else \
@@ -244,7 +244,7 @@ def unclear(origin: Origin, again: Iterable[str]) -> Unclear:
     return Unclear(told, *again)
 
 
-def to_type(pair: Pair, recording: Recording, origin: Origin) -> Iterator[str]:
+def clock_options(pair: Pair, recording: Recording, origin: Origin) -> Iterator[str]:
     """What a person may type where the origin is not clear."""
     if origin.runs and recording.stages:  # they are numbered on no PID
         yield from (pair.again("--pid", f"0x{one.pid:X}") for one in recording.stages)
@@ -263,23 +263,23 @@ def to_type(pair: Pair, recording: Recording, origin: Origin) -> Iterator[str]:
 
 # What is taken of the recording.
 
-def taken(pair: Pair, recording: Recording, found: Found, within: int) -> Cut:
+def cut_within(pair: Pair, recording: Recording, found: Found, within: int) -> Cut:
     """The PES packets of the time of the subtitles, within so many frames."""
     return cut_of(recording.packets, found.begin, found.end, found.origin, pair.asked.every,
                   within, found.packets or pair.inside)
 
 
-def cut(pair: Pair, part: Part) -> Range:
+def cut_part(pair: Pair, part: Part) -> Range:
     """The same of a part by their numbers, which is said."""
     recording, found = part.recorded
-    one, damage = taken(pair, recording, found, pair.asked.within), recording.packets.damage
+    one, damage = cut_within(pair, recording, found, pair.asked.within), recording.packets.damage
     line = f"cut: {one.told()}"
     if one.range is None:
         pair.speech.say(line)
     else:
         first, last = one.range
-        pair.speech.choose(Chosen(PES_CHOICE, f"{first}-{last}", line, last - first + 1, one.read,
-                                  part.number))
+        pair.speech.choose(Selection(PES_CHOICE, f"{first}-{last}", line, last - first + 1, one.read,
+                                     part.number))
     if damage and not one.is_over:
         pair.speech.say(f"cut: {recording.shown}: {damage}; it was read up to there")
     if one.range is None:
@@ -290,12 +290,12 @@ def cut(pair: Pair, part: Part) -> Range:
 
 def run_of(pair: Pair, recording: Recording, given: Clock | None, runs: Sequence[Range]) -> Range:
     """The run that is at the origin that was given; without one, or where none is, the first."""
-    own = taken(pair, recording, pair.whole._replace(clock=given),
-                pair.asked.within).range if given else None
+    own = cut_within(pair, recording, pair.whole._replace(clock=given),
+                     pair.asked.within).range if given else None
     return next((run for run in runs if own and run[0] <= own[0] and own[1] <= run[1]), runs[0])
 
 
-def last_time(packets: Packets, whole: Found, asked: Asked) -> Range | None:
+def last_time(packets: Packets, whole: Found, asked: Request) -> Range | None:
     """Of what was cut out of a feed the PES packets of about the time of the subtitles, the last
     time that this comes."""
     more = max(LEAST, asked.every) + asked.within
@@ -323,22 +323,22 @@ def within_line(least: int) -> str:
     return f"within {least} it is accepted: --within {least}"
 
 
-def least(pair: Pair, part: Part, count: int) -> int | None:
+def least_within(pair: Pair, part: Part, count: int) -> int | None:
     """The least such number of a part that is refused, one of so many; `None` where there is none.
     Each one is tried as --within N would judge it."""
     clock, causes = part.recorded[1].clock, part.causes
     if not may_be(part.answer.numbers, causes.named.values() if causes else (), clock.is_fitted):
         return None
-    latest = clocked(pair, part, count, MOST_TRIED)
+    latest = clock_within(pair, part, count, MOST_TRIED)
     if latest is None:
         return None
-    found = least_of(part.asked.within + 1, checked(pair, part, latest))
+    found = least_of(part.asked.within + 1, check_within(pair, part, latest))
     if found is None or found == MOST_TRIED:
         return found
     # The clock is the same within so few frames, or accepted by too.
-    other = clocked(pair, part, count, found)
+    other = clock_within(pair, part, count, found)
     is_accepted_by = other is not None and (
-        other.origin == latest.origin or is_accepted(*checked(pair, part, other)(found)))
+        other.origin == latest.origin or is_accepted(*check_within(pair, part, other)(found)))
     return found if is_accepted_by else None
 
 
@@ -355,7 +355,7 @@ def is_delay(cause: Cause, is_fitted: bool) -> bool:
     return cause.name in (NOT_ERASED, IN_PART, ERASED, IN_PAUSE, NOT_RECEIVED, UNKNOWN)
 
 
-def clocked(pair: Pair, part: Part, count: int, within: int) -> Found | None:
+def clock_within(pair: Pair, part: Part, count: int, within: int) -> Found | None:
     """A part by its clock; one that was fitted is fitted within so many frames."""
     recording, found = part.recorded
     if not found.clock.is_fitted:
@@ -371,9 +371,9 @@ def same_part(parts: Sequence[Found], number: int, count: int, found: Found) -> 
     return other if other and other[:2] == found[:2] else None
 
 
-def checked(pair: Pair, part: Part, found: Found) -> Check:
+def check_within(pair: Pair, part: Part, found: Found) -> Check:
     """What `check` says by a clock, within any number of frames."""
-    pes = taken(pair, part.recorded[0], found, MOST_TRIED).range
+    pes = cut_within(pair, part.recorded[0], found, MOST_TRIED).range
     return lambda within: first_within(pair, part, pes, found.origin, within) if pes else NOTHING
 
 
@@ -384,7 +384,7 @@ def least_of(first: int, check: Check) -> int | None:
         line, status = check(within)
         if is_accepted(line, status):
             return within
-        told = told_of(line) if status == 1 else None
+        told = fault_of_line(line) if status == 1 else None
         if told is None or told.number not in OF_ENDS:
             return None
     return None
@@ -398,18 +398,18 @@ def is_accepted(line: str, status: int) -> bool:
 # A part judged: the PES packets of its time, what `check` says of them, and what follows of it.
 
 
-def judge(pair: Pair, part: Part, count: int) -> None:
+def judge_part(pair: Pair, part: Part, count: int) -> None:
     """Judges a part, one of so many."""
-    begin(pair, part)
+    begin_part(pair, part)
     check_part(pair, part)
     pair.verdict.parts.append(part)
-    end(pair, part, count)
+    end_part(pair, part, count)
 
 
-def begin(pair: Pair, part: Part) -> None:
+def begin_part(pair: Pair, part: Part) -> None:
     """Takes the PES packets of a part, the pace by which they are judged, and what is due then."""
     recording, asked = part.recorded[0], part.asked
-    part.pes = cut(pair, part)
+    part.pes = cut_part(pair, part)
     if pair.is_summed and recording.is_piped:
         part.judged = file_of(recording.path, recording.shown)
     part.due = functools.cache(lambda: due_of(pair, part))
@@ -430,7 +430,7 @@ def due_of(pair: Pair, part: Part) -> DuePages:
                         asked.between, asked.words_of_pages(), asked.is_open)
 
 
-def end(pair: Pair, part: Part, count: int) -> None:
+def end_part(pair: Pair, part: Part, count: int) -> None:
     """Takes what `check` said of a part, one of so many."""
     asked, answer, verdict = pair.asked, part.answer, pair.verdict
     recording, found = part.recorded
@@ -439,20 +439,20 @@ def end(pair: Pair, part: Part, count: int) -> None:
         place for place in recording.places() if place.mark is None and is_in(place, part)],
         found.origin, asked.within, False))
     if answer.numbers & WITH_CAUSE:
-        part.causes = causes_of(part)
+        part.causes = part_causes(part)
     if part.causes:
-        tell(pair.speech, part.causes, asked.option)
+        tell_causes(pair.speech, part.causes, asked.option)
         if CONTENT in answer.numbers and LAYOUT not in asked.passed_on:
             option = BY_WORD[asked.option]
             part.otherwise = otherwise(sent_in(part.due().subtitles, part.causes.held, option),
                                        option)
         elif verdict.layout:
             part.otherwise = otherwise_words(left_lines(verdict.layout))
-    measure(pair, part, count)
+    measure_part(pair, part, count)
     part.was_read = part.is_read()
     if CONTROL in answer.numbers:
         part.better = better_options(pair, part)
-        look_at_headers(pair, part)
+        judge_headers(pair, part)
     if OF_HEADERS & answer.numbers:
         part.of_header = recording.header_words(part.packets)
     if answer.leading:
@@ -464,16 +464,16 @@ def end(pair: Pair, part: Part, count: int) -> None:
                                                  [(one.begin, one.end) for one in pair.judged])])
 
 
-def look_at_headers(pair: Pair, part: Part) -> None:
+def judge_headers(pair: Pair, part: Part) -> None:
     """Takes what is known of headers that keep the page, where they alone are refused, and what
     `check` tells where they may."""
     kept = None if part.asked.may_keep else kept_in(part.headers_sent(), part.asked.option)
     if kept and part.held:
-        part.kept = judged_by(kept, tried(pair, part, part.asked.keeping()), part.held,
+        part.kept = judged_by(kept, try_part(pair, part, part.asked.keeping()), part.held,
                               part.due().page_at)
 
 
-def measure(pair: Pair, part: Part, count: int) -> None:
+def measure_part(pair: Pair, part: Part, count: int) -> None:
     """Takes after how many frames the subtitles of a part were whole, and of one that is refused
     within how many it would be accepted."""
     answer, asked, (recording, found) = part.answer, pair.asked, part.recorded
@@ -484,7 +484,7 @@ def measure(pair: Pair, part: Part, count: int) -> None:
                                 asked.is_complete)
     part.is_lost = lacks(part, recording.places())
     if part.is_refused and not (recording.is_feed or part.is_lost or found.stage):
-        part.accepted_within = least(pair, part, count)
+        part.accepted_within = least_within(pair, part, count)
 
 
 # A pair judged: from a recording to a verdict, step by step.
@@ -504,7 +504,7 @@ class Pair:
     """A pair that is judged step by step; what is known so far stands in the verdict. `draw` draws
     the report of a part, where that is asked for."""
 
-    def __init__(self, verdict: Verdict, typed: Typed, names: Names, speech: Speech,
+    def __init__(self, verdict: Verdict, typed: CommandWords, names: Names, speech: Speech,
                  is_summed: bool) -> None:
         self.verdict, self.asked = verdict, verdict.asked
         self.typed, self.names, self.speech = typed, names, speech
@@ -529,7 +529,7 @@ class Pair:
         asked = self.asked
         refuse_files(asked)
         if asked.language is not None:
-            self.speech.choose(Chosen(request.OPTION_CHOICE, asked.option, option_line(asked)))
+            self.speech.choose(Selection(request.OPTION_CHOICE, asked.option, option_line(asked)))
         if self.is_summed:
             self.verdict.stl = file_of(asked.stl_path, asked.stl)
         answer = self.check_alone()
@@ -543,7 +543,7 @@ class Pair:
         if is_judged_beside(answer.numbers):
             answer = self.take_beside(answer)
         subtitles = SubtitleFile(self.names.given)
-        self.verdict.warnings += recording_recording.of_counts(subtitles)
+        self.verdict.warnings += recording_recording.count_notices(subtitles)
         if FROM not in asked.passed_on and (title := title_words(subtitles)):
             self.verdict.notes.append(title)
         is_refused = answer.numbers != {EMPTY}
@@ -626,13 +626,13 @@ class Pair:
             timeline_near(heard.recording.packets, asked.page, part.origin, asked.within,
                           Span(part.begin, part.end), asked.every, part.packets), option)]
         closest, choice = choices_of(sent, option)
-        text = text_of(closest.layout)
+        text = layout_text(closest.layout)
         if not choice.is_clear:
             raise Unclear(why_none(closest, choice, sent, option), *(
                 [self.again(LAYOUT, text)] if text and closest.drawn else []))
-        asked.found_layout, self.verdict.layout = text_of(choice.layout), choice
-        self.speech.choose(Chosen(request.LAYOUT_CHOICE, asked.found_layout, layout_line(choice),
-                                  choice.drawn, choice.found))
+        asked.found_layout, self.verdict.layout = layout_text(choice.layout), choice
+        self.speech.choose(Selection(request.LAYOUT_CHOICE, asked.found_layout, layout_line(choice),
+                                     choice.drawn, choice.found))
         for line in left_lines(choice):
             self.speech.say(line)
 
@@ -645,7 +645,7 @@ class Pair:
         if not subtitles:
             raise Unclear(f"{asked.stl} has no subtitle")
         self.whole = Found(subtitles[0].begin, subtitles[-1].end,
-                           given_to(self) or NO_CLOCK)
+                           given_clock(self) or NO_CLOCK)
         recording = Recording(asked, self.typed, self.names, self.speech, self.stalled_after)
         self.recording, recording.is_cut = recording, self.is_cut
         ending = Ending(asked, self.whole.begin, self.whole.end, lambda packets: origin_in(
@@ -694,7 +694,7 @@ class Pair:
                                      self.asked.within))
         for part in parts:
             self.recording, its = part.recorded
-            judge(self, part, len(parts))
+            judge_part(self, part, len(parts))
             self.draw(part, [gap_of(place, its.origin, True) for place in self.recording.places()
                              if is_in(place, part)], len(parts))
         self.recording = recording
@@ -706,7 +706,7 @@ class Pair:
 
     def warn(self, recording: Recording, origin: int, part: Found) -> None:
         """Takes what is strange of a recording, or of what is on a PID."""
-        found, packets, survey = list[Warned](), recording.packets, recording.survey
+        found, packets, survey = list[Notice](), recording.packets, recording.survey
         found += recording.strange()
         if recording.is_stream:
             found += [*recording_recording.of_timing(packets, origin),

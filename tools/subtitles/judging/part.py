@@ -14,11 +14,11 @@ from ..common.times import (
 from ..formats.listing import EMPTY, PASSED_OVER, STL_FAULTS
 from ..formats.stl import Subtitle, SubtitleFile
 from ..formats.teletext import BY_BITS, RESERVED
-from ..recording.recording import Recording, Warned
+from ..recording.recording import Notice, Recording
 from ..request.commands import MOST_LINES, Names, Speech
-from ..request.request import Asked, Unclear
+from ..request.request import Request, Unclear
 from ..stream.gaps import Place
-from ..stream.ranges import Stage, part_inside, up_to, words_of
+from ..stream.ranges import Stage, move_words, part_inside, up_to
 from ..stream.receiver import Timeline, national_option, timeline_near
 from ..stream.survey import PES, Packets, Range
 from .causes import Causes, Wording
@@ -40,7 +40,7 @@ class Part:
     """
 
     number: int
-    asked: Asked
+    asked: Request
     names: Names
     found: Found | None = None
     recording: Recording | None = None
@@ -191,7 +191,7 @@ def linked(parts: Sequence[Found], place: int, found: Found) -> Found:
         goes=None if is_last else parts[place + 1].pid)
 
 
-def moves_told(parts: Sequence[Found], page: str, within: int) -> Iterator[Warned]:
+def moves_told(parts: Sequence[Found], page: str, within: int) -> Iterator[Notice]:
     """What is said of each move between PIDs of which something is judged."""
     for one, other in zip(parts, parts[1:]):
         if one.pid is None or one.goes is None or one.goes != other.pid:
@@ -203,7 +203,7 @@ def moves_told(parts: Sequence[Found], page: str, within: int) -> Iterator[Warne
         if begun < first:
             where += f"; what {pid_name(one.goes)} carries from {time_of(begun)} up to then is " \
                 "not judged"
-        yield Warned(PID, f"{words_of(page, one.pid, one.goes)} {where}",
+        yield Notice(PID, f"{move_words(page, one.pid, one.goes)} {where}",
                      time_of(max(last, first)))
 
 
@@ -242,7 +242,7 @@ def refuse_others(parts: Sequence[Found], subtitles: Sequence[Subtitle], stl: st
 # Why the content of a part is refused: its causes, by what is held of the recording around it.
 
 
-def causes_of(part: Part) -> Causes | None:
+def part_causes(part: Part) -> Causes | None:
     """The causes of a part that was judged; `None` where there are none."""
     asked, (recording, found) = part.asked, part.recorded
     held = timeline_near(part.packets, asked.page, found.origin, asked.within,
@@ -274,7 +274,7 @@ def unseen(places: Sequence[Place], origin: int, within: int, is_with_next: bool
                    FRAMES_OF_A_DAY if last is None else last - (not is_with_next))
 
 
-def tell(speech: Speech, causes: Causes, option: str) -> None:
+def tell_causes(speech: Speech, causes: Causes, option: str) -> None:
     """Says the first causes, and how many more there are."""
     wording, every = Wording(causes, option), causes.all()
     for cause in every[:MOST_LINES]:

@@ -6,14 +6,14 @@ from typing import NamedTuple, Sequence
 
 from ..common.command_line import counted, range_words
 from ..common.times import time_of
-from ..formats.listing import CONTROL, GAP, LOST_PACKETS, OFF_FRAME, Told, WITH_CAUSE
+from ..formats.listing import CONTROL, FaultLine, GAP, LOST_PACKETS, OFF_FRAME, WITH_CAUSE
 from ..formats.stl import Subtitle
 from ..formats.teletext import BY_WORD
 from .causes import (
     ATTRIBUTE, Cause, Causes, EARLY, ERASED, IN_PART, IN_PAUSE, LATE, NEVER, NOT_ERASED,
     NOT_RECEIVED, OTHER, PLACE, TEXT, UNKNOWN)
 from .status import ACCEPTED, LOST, NOT_JUDGED, REFUSED, WAIVED, WARNED
-from .transmissions import text_of
+from .transmissions import page_text
 
 
 # A fault of each number as a sentence: what stands behind `Refused: at TIME`.
@@ -107,7 +107,7 @@ class Facts(NamedTuple):
 
     word: str
     subtitles: int
-    first: Told | None = None
+    first: FaultLine | None = None
     faults: int = 0
     hint: str = ""
     causes: Causes | None = None
@@ -182,12 +182,12 @@ def what_is_wrong(seen: Facts) -> str:
             words += f"; the first of {counted(seen.faults, 'fault')} is {told.number} " \
                 f"{told.name}{place}"
     else:
-        words = of_fault(seen)
+        words = fault_clause(seen)
     is_said = seen.accepted_within is None or f"--within {seen.accepted_within}" in words
     return words if is_said else f"{words}; --within {seen.accepted_within} accepts it"
 
 
-def of_fault(seen: Facts) -> str:
+def fault_clause(seen: Facts) -> str:
     """The first fault, with its place, in the words for it alone or those of the manual."""
     told = seen.first
     if told is None:
@@ -226,8 +226,8 @@ def of_one(cause: Cause, causes: Causes, option: str) -> str:
     one = causes.programme.subtitles[cause.place]
     if cause.name == IN_PAUSE:
         return f"another text was sent in a pause, {cause.words}" + (
-            f', "{text_of(cause.sent, BY_WORD[option].bits)}"' if cause.sent else "")
-    text = text_of(causes.programme.pages[cause.place], BY_WORD[option].bits)
+            f', "{page_text(cause.sent, BY_WORD[option].bits)}"' if cause.sent else "")
+    text = page_text(causes.programme.pages[cause.place], BY_WORD[option].bits)
     said = f"is {counted(cause.frames or 0, 'frame')} {cause.name}" \
         if cause.name in (LATE, EARLY) else SAID[cause.name][0]
     more = f" ({cause.words})" if cause.words else ""

@@ -6,12 +6,13 @@ from typing import Iterable, Iterator, NamedTuple, Sequence
 
 from ..common.command_line import counted
 from ..common.times import FRAMES_A_SECOND, FRAMES_OF_A_DAY, TICKS, frame_of_code, time_of
-from ..formats.layout import Layout, PLAIN, Refused, drawn, page_of
+from ..formats.layout import Layout, PLAIN, Refused, drawn, page_rows
 from ..formats.listing import (
-    CHARACTER, EMPTY, EMPTY_TIME, LETTERS, Meaning, OUT_OF_ORDER, STL_FAULTS, Told, meanings, plain)
-from ..formats.stl import NamedSubtitle, Subtitle, SubtitleFile, name_of, subtitles_read
+    CHARACTER, EMPTY, EMPTY_TIME, FaultLine, LETTERS, Meaning, OUT_OF_ORDER, STL_FAULTS, meanings,
+    plain)
+from ..formats.stl import NamedSubtitle, Subtitle, SubtitleFile, subtitle_name, subtitles_read
 from ..formats.teletext import (
-    BY_WORD, NationalOption, OPTIONS, Page, character_of, draws, letter_at, options_with)
+    BY_WORD, NationalOption, OPTIONS, Page, character_of, has_characters, letter_at, options_with)
 from ..request.commands import MOST_LINES
 from ..stream.receiver import BLANK_PAGE, Rows, Timeline
 from ..stream.survey import PES, Packets, Run
@@ -27,7 +28,7 @@ TCI, TCO = slice(5, 9), slice(9, 13)  # of a TTI block
 AT_MIDNIGHT = "midnight: cut the file there"
 
 
-def midnight_words(told: Told, subtitles: SubtitleFile) -> str:
+def midnight_words(told: FaultLine, subtitles: SubtitleFile) -> str:
     """What to do about times that fall from over 23:00 to under 01:00; nothing where others do."""
     if told.block is None or told.number not in (EMPTY_TIME, OUT_OF_ORDER):
         return ""
@@ -72,7 +73,7 @@ class OptionAdvice:
         """The other options that have each letter of the whole file."""
         texts = {self.subtitles.text(block) for block in self.subtitles.lasts()}
         return [one for one in OPTIONS if one.word != self.asked
-                and all(draws(text, one) for text in texts)]
+                and all(has_characters(text, one) for text in texts)]
 
     def of(self, block: int, at: int) -> str:
         """What to do about the byte at a place of the text whose last block that is."""
@@ -130,14 +131,14 @@ class RefusedSubtitle(NamedTuple):
     refused, and what to do."""
 
     subtitle: NamedSubtitle
-    told: Told
+    told: FaultLine
     letter: str
     do: str
 
     def name(self) -> str:
         """It as all tools name it, with its time."""
         one = self.subtitle
-        return f"{name_of(one.position, one.number)} at {one.begin}"
+        return f"{subtitle_name(one.position, one.number)} at {one.begin}"
 
     def why(self) -> str:
         """The number and the name of its fault, its letter, or what that means, and what to do."""
@@ -150,7 +151,7 @@ class RefusedSubtitle(NamedTuple):
         return f"undecided: {self.name()}, to {self.subtitle.end}, is refused by {self.why()}"
 
 
-class Beside(NamedTuple):
+class JudgedBeside(NamedTuple):
     """The subtitles that are judged, and those that are refused, by their places in the file."""
 
     judged: list[Subtitle]
@@ -180,9 +181,9 @@ def is_judged_beside(numbers: set[int]) -> bool:
     return EMPTY in numbers and bool(numbers & STL_FAULTS)
 
 
-def beside_of(file: SubtitleFile, faults: Iterable[Told], option: str) -> Beside:
+def beside_of(file: SubtitleFile, faults: Iterable[FaultLine], option: str) -> JudgedBeside:
     """What is judged of a file beside what is told of it."""
-    told: dict[int, list[Told]] = {}
+    told: dict[int, list[FaultLine]] = {}
     for one in faults:
         subtitle = file.at_block(one.block) if one.block is not None else None
         if subtitle and one.number in STL_FAULTS:
@@ -195,8 +196,8 @@ def beside_of(file: SubtitleFile, faults: Iterable[Told], option: str) -> Beside
                   one.number for one in told.get(after, ())} & COMPARED)}
     advice, known = OptionAdvice(file, option), meanings()
     refused = [refused_of(file, told[place][0], advice, known) for place in sorted(told)]
-    return Beside([one for one in subtitles_read(file.data) if one.index in judged], refused,
-                  frozenset(asked_for) - judged)
+    return JudgedBeside([one for one in subtitles_read(file.data) if one.index in judged], refused,
+                        frozenset(asked_for) - judged)
 
 
 def positions_in(file: SubtitleFile) -> Iterator[int]:
@@ -207,7 +208,7 @@ def positions_in(file: SubtitleFile) -> Iterator[int]:
             yield place
 
 
-def refused_of(file: SubtitleFile, told: Told, advice: OptionAdvice, known: dict[int, Meaning]) \
+def refused_of(file: SubtitleFile, told: FaultLine, advice: OptionAdvice, known: dict[int, Meaning]) \
         -> RefusedSubtitle:
     """A subtitle by the first line that names it."""
     assert told.block is not None
@@ -240,7 +241,7 @@ def page_drawn(one: Subtitle, option: str, layout: Layout) -> Rows:
     """The page of a subtitle."""
     lines = drawn(one.text, one.row, one.justify, layout, BY_WORD[option])
     assert not isinstance(lines, Refused)
-    return page_of(lines)
+    return page_rows(lines)
 
 
 def send(packets: Packets, frame: int, rows: Rows, page: Page, option: str) -> None:

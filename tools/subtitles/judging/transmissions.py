@@ -10,12 +10,12 @@ from typing import Callable, Collection, Iterator, Mapping, NamedTuple, Sequence
 from ..common.command_line import counted
 from ..common.files import temporary_folder
 from ..common.times import ALL_DAY, Between, Span, time_of
-from ..formats.listing import CHANGED, CONTENT, CONTROL, Told, frame_of_place
+from ..formats.listing import CHANGED, CONTENT, CONTROL, FaultLine, frame_of_place
 from ..formats.stl import Subtitle, SubtitleList, stl_bytes, subtitles_read, subtitles_shown
 from ..formats.teletext import (
     BY_BITS, BY_WORD, ERASE, INHIBIT, NEWSFLASH, Page, RESERVED, SUBTITLE, SUPPRESS, has_bit,
     letters, page_name)
-from ..request.request import Asked, KEEPING, Unclear
+from ..request.request import KEEPING, Request, Unclear
 from ..stream.receiver import BLANK_PAGE, LEAST, Rows, State, Timeline, national_option, subcode_of
 from ..stream.survey import CLOSED, HEADER, PES, Packets, Run, survey
 from .check import Answer, End
@@ -69,7 +69,7 @@ def keeps(header: bytes) -> bool:
     return not has_bit(header, ERASE)
 
 
-def unerased_words(one: Headed, asked: Asked) -> str:
+def unerased_words(one: Headed, asked: Request) -> str:
     """Why a header has to erase the page and does not; nothing where it need not, or does."""
     if not keeps(one.numbers):
         return ""
@@ -99,7 +99,7 @@ def control_words(header: bytes, option: str, better: Collection[str] = (),
     return found
 
 
-def header_words(headers: Sequence[Headed], asked: Asked, better: Collection[str]) -> str:
+def header_words(headers: Sequence[Headed], asked: Request, better: Collection[str]) -> str:
     """What is wrong with the control bits of the first header of some of which something is."""
     wrong = (control_words(one.numbers, asked.option, better, unerased_words(one, asked))
              for one in headers)
@@ -170,7 +170,7 @@ def judged_by(kept: Kept, answer: Answer | None, held: Timeline, due: Callable[[
                          is_accepted=answer.is_accepted)
 
 
-def left_by(told: Told, end: End, answer: Answer, held: Timeline, due: Callable[[int], Rows]
+def left_by(told: FaultLine, end: End, answer: Answer, held: Timeline, due: Callable[[int], Rows]
             ) -> Iterator[LeftOut]:
     """The headers behind which rows are left out, by a fault that stands up to an end."""
     if told.number != CONTENT or told.frame is None:
@@ -200,11 +200,11 @@ def left_at(held: Timeline, due: Rows, frame: int, answer: Answer | None) -> str
     runs = [run for one in range(sent, min(frame, sent + held.within) + 1)
             for run in held.members(one)]
     came = sum(run.units - run.does.count(HEADER) - run.does.count(CLOSED) for run in runs)
-    return rows_words([number for number, cells in enumerate(due, 1) if cells.strip(b" ")],
-                      answer.row_at(frame) if answer else None, came)
+    return left_rows_words([number for number, cells in enumerate(due, 1) if cells.strip(b" ")],
+                           answer.row_at(frame) if answer else None, came)
 
 
-def rows_words(rows: Sequence[int], row: int | None, came: int) -> str:
+def left_rows_words(rows: Sequence[int], row: int | None, came: int) -> str:
     """Which of the rows with text are left out, where so many packets came beside headers: all, or
     the one that is told, and how many more there are at least."""
     if not rows:
@@ -240,7 +240,7 @@ class LetteredRow(NamedTuple):
 
 
 @functools.lru_cache(maxsize=1 << 12)
-def lines_of(rows: Rows) -> tuple[LetteredRow, ...]:
+def lettered_rows(rows: Rows) -> tuple[LetteredRow, ...]:
     """The rows of a page that have letters."""
     found = []
     for number, row in enumerate(rows, 1):
@@ -254,14 +254,14 @@ def lines_of(rows: Rows) -> tuple[LetteredRow, ...]:
 
 def words_on(rows: Rows) -> str:
     """The words of a page, wherever they stand."""
-    return " ".join(b" ".join(line.words for line in lines_of(rows)).decode("latin-1").split())
+    return " ".join(b" ".join(line.words for line in lettered_rows(rows)).decode("latin-1").split())
 
 
-def text_of(rows: Rows, option: int) -> str:
+def page_text(rows: Rows, option: int) -> str:
     """The words of a page as a person reads them, row after row."""
     table = letters(option)
     return " / ".join("".join(table[code & 0x7F] for code in line.words)
-                      for line in lines_of(rows))
+                      for line in lettered_rows(rows))
 
 
 def code_words(code: int) -> str:
@@ -271,14 +271,14 @@ def code_words(code: int) -> str:
     return ATTRIBUTES[code] if code < SPACE else f"{code:02X}"
 
 
-def place_words(due: Rows, sent: Rows) -> str:
+def moved_words(due: Rows, sent: Rows) -> str:
     """In what place words are sent, beside the one where they are due: the first that differs."""
-    for one, other in zip(lines_of(due), lines_of(sent)):
+    for one, other in zip(lettered_rows(due), lettered_rows(sent)):
         if one.row != other.row:
             return f"row {other.row} instead of {one.row}"
         if one.column != other.column:
             return f"row {one.row} from column {other.column} instead of {one.column}"
-    return f"{len(lines_of(sent))} rows instead of {len(lines_of(due))}"
+    return f"{len(lettered_rows(sent))} rows instead of {len(lettered_rows(due))}"
 
 
 def attribute_words(due: Rows, sent: Rows) -> str:
@@ -313,7 +313,7 @@ def columns_words(what: str, columns: int) -> str:
 def is_moved(due: Rows, sent: Rows) -> bool:
     """Whether pages with the same words have these in other places, and not since one has another
     attribute: that takes a cell too."""
-    one, other = lines_of(due), lines_of(sent)
+    one, other = lettered_rows(due), lettered_rows(sent)
     if [line.row for line in one] != [line.row for line in other]:
         return True
     same = [line.attributes for line in one] == [line.attributes for line in other]
@@ -359,7 +359,7 @@ class DuePages(SubtitleList):
         return self.pages[count - 1] if is_due else blank
 
 
-def asked_of(program: str, *words: str) -> list[str]:
+def program_answer(program: str, *words: str) -> list[str]:
     """What the program at a path answers."""
     done = subprocess.run([program, *words], stdin=subprocess.DEVNULL, check=False,
                           stdout=subprocess.PIPE, encoding="utf-8", errors="replace")
@@ -375,7 +375,7 @@ def subtitles_in(program: str, stl: str, between: Between = ALL_DAY,
     file or none, and no open one: where another subtitle is refused they are read here."""
     try:
         found = subtitles_read(stl_bytes(stl)) if is_open else \
-            subtitles_shown(asked_of(program, "show", "--", stl))
+            subtitles_shown(program_answer(program, "show", "--", stl))
     except Unclear:
         if between == ALL_DAY:
             raise
@@ -392,8 +392,8 @@ def due_pages_of(program: str, stl: str, page: Page, option: str, between: Betwe
         return DuePages([], [])
     with temporary_folder("subttx-qc-") as folder:
         path = os.path.join(folder, "due.pes")
-        asked_of(program, "schedule", "--page", page_name(*page), "--option", option, "--every",
-                 EVERY, *between.words(), *words, "--", stl, path)
+        program_answer(program, "schedule", "--page", page_name(*page), "--option", option, "--every",
+                       EVERY, *between.words(), *words, "--", stl, path)
         packets = survey(program, path, page).by_pid.get(PES, Packets(PES))
     due = Timeline(packets, page, 0)
     return DuePages(subtitles, [due.page_at(one.begin) for one in subtitles], due)

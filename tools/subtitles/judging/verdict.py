@@ -9,15 +9,15 @@ from ..common.command_line import range_words
 from ..common.files import SummedFile
 from ..formats.listing import LOSSES, ON_SCREEN, STL_FAULTS
 from ..formats.stl import Subtitle
-from ..recording.recording import Warned
-from ..request.request import Asked, Chosen
+from ..recording.recording import Notice
+from ..request.request import Request, Selection
 from ..stream.gaps import Place
 from ..stream.layout import Choice
 from ..stream.receiver import Rows, Timeline
 from .part import Part
 from .sentence import Facts, sentence_of
 from .status import Decision, Grounds, LOST, NOT_JUDGED, REFUSED, Severity, WAIVED, WARNED, decide
-from .subtitles import Beside, Counts
+from .subtitles import Counts, JudgedBeside
 from .transmissions import DuePages
 
 
@@ -110,16 +110,16 @@ class Verdict:
     were like when judging began, `seconds` how long it took. `was_fitted`: the origin that is given
     was found in the recording, by who calls this tool."""
 
-    asked: Asked
+    asked: Request
     severity: Severity
     date: str
     parts: list[Part] = dataclasses.field(default_factory=list)
     gaps: list[Gap] = dataclasses.field(default_factory=list)
-    warnings: list[Warned] = dataclasses.field(default_factory=list)
+    warnings: list[Notice] = dataclasses.field(default_factory=list)
     notes: list[str] = dataclasses.field(default_factory=list)
     hints: list[str] = dataclasses.field(default_factory=list)
     commands: list[str] = dataclasses.field(default_factory=list)
-    chosen: list[Chosen] = dataclasses.field(default_factory=list)
+    chosen: list[Selection] = dataclasses.field(default_factory=list)
     stl: SummedFile | None = None
     recording: SummedFile | None = None
     is_kept: bool = False  # what was judged stays in the folder
@@ -132,7 +132,7 @@ class Verdict:
     was_fitted: bool = False
     count: int = 0  # of the subtitles
     layout: Choice | None = None  # that was found
-    beside: Beside | None = None  # where some subtitles are refused, and others are judged
+    beside: JudgedBeside | None = None  # where some subtitles are refused, and others are judged
 
     @property
     def is_lost(self) -> bool:
@@ -145,7 +145,7 @@ class Verdict:
         numbers = {number for part in self.parts for number in part.answer.numbers}
         return self.word == LOST or self.word == REFUSED and numbers <= LOSSES
 
-    def warn(self, found: Iterable[Warned]) -> None:
+    def warn(self, found: Iterable[Notice]) -> None:
         """Takes warnings that are not known yet."""
         self.warnings += [one for one in dict.fromkeys(found) if one not in self.warnings]
 
@@ -202,7 +202,7 @@ class Verdict:
             said = said._replace(first=first, hint=refused.hint, causes=refused.causes)
         return sentence_of(said)
 
-    def sent_beside(self, said: Facts, beside: Beside) -> Facts:
+    def sent_beside(self, said: Facts, beside: JudgedBeside) -> Facts:
         """What the sentence is made of where subtitles are refused: that of the transmission, of
         the first part of which something is."""
         answers = [part.answer for part in self.parts]

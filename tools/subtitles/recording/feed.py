@@ -18,10 +18,10 @@ from ..common.files import Input, STANDARD, SummedFile, naming
 from ..common.times import FRAMES_OF_A_DAY, TICKS, frame_in, ticks_between, wrapped
 from ..formats.teletext import Page
 from ..request.commands import Speech
-from ..request.request import Asked
+from ..request.request import Request
 from ..stream.gaps import late_of, why_refused
 from ..stream.ranges import Cut, cut_of, joined_stages, stages_of
-from ..stream.survey import Lines, Packets, Survey, words_of
+from ..stream.survey import Lines, Packets, Survey, survey_call
 
 
 # The bytes of a feed as they come, handed on at the pace of those that hear them.
@@ -77,7 +77,7 @@ WAIT, AGAIN = 5.0, 8  # seconds between two looks for the origin, and times as l
 class Ending:
     """Follows a feed from the first TCI to the last TCO; `find` looks for the origin."""
 
-    def __init__(self, asked: Asked, begin: int, end: int,
+    def __init__(self, asked: Request, begin: int, end: int,
                  find: Callable[[Packets], Origin]) -> None:
         self.asked, self.begin, self.end, self.find = asked, begin, end, find
         self.origin, self.inside = asked.origin, None if asked.origin is None else (0, LAST)
@@ -159,7 +159,7 @@ class Listening:
 
     def __init__(self, program: str, heard: Survey, page: Page, pid: int | None) -> None:
         self.heard = heard
-        self.process = subprocess.Popen(words_of(program, STANDARD_INPUT, page, pid),
+        self.process = subprocess.Popen(survey_call(program, STANDARD_INPUT, page, pid),
                                         stdin=subprocess.PIPE, stdout=subprocess.PIPE,
                                         bufsize=0, start_new_session=True)
         assert self.process.stdin and self.process.stdout
@@ -227,8 +227,8 @@ def followed(source: Source, call: Listening, keep: Callable[[bytes], None]) \
         yield still, is_ready and not ready and still >= PATIENCE
 
 
-def read(name: str, path: str, asked: Asked, program: str, survey: Survey, ending: Ending | None,
-         speech: Speech, stalled_after: int) -> SummedFile:
+def read_feed(name: str, path: str, asked: Request, program: str, survey: Survey, ending: Ending | None,
+              speech: Speech, stalled_after: int) -> SummedFile:
     """Reads a feed as long as more is needed, or to its end, and keeps it at a path; what was
     read."""
     stall, digest, count = Stall(stalled_after, speech.tell), hashlib.sha256(), 0
@@ -251,7 +251,7 @@ def read(name: str, path: str, asked: Asked, program: str, survey: Survey, endin
             if speech.progress.is_due():
                 speech.show(f"{shown}: {count / 1e6:,.1f} MB"
                             + (f"  nothing for {still:.0f} s" if still >= PATIENCE else ""))
-            if ending and not source.is_over and is_over(survey, asked, ending, is_still):
+            if ending and not source.is_over and is_feed_over(survey, asked, ending, is_still):
                 source.is_over = True
                 call.hand(b"")
         status = call.process.wait()
@@ -260,7 +260,7 @@ def read(name: str, path: str, asked: Asked, program: str, survey: Survey, endin
     return SummedFile(name, count, digest.hexdigest())
 
 
-def is_over(survey: Survey, asked: Asked, ending: Ending, is_still: bool) -> bool:
+def is_feed_over(survey: Survey, asked: Request, ending: Ending, is_still: bool) -> bool:
     """Whether nothing more of a feed is needed: also where a second PID carries the page, unless it
     goes there."""
     found = [one for one in survey.by_pid.values() if one.has_page]

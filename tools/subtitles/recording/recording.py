@@ -14,11 +14,11 @@ from ..common.files import SummedFile, Sums, first_bytes, pieces_of
 from ..common.times import FRAMES_OF_A_DAY, NO_FRAME, frame_in, frames_at, ticks_between, time_of
 from ..formats.stl import SubtitleFile
 from ..formats.teletext import BY_WORD, OTHER_REGIONS, START, as_sent, of_track
-from ..request.commands import KEPT, KEPT_STREAM, Names, Speech, Typed, again
-from ..request.request import Asked, Chosen, LC, PID_CHOICE, Unclear
+from ..request.commands import CommandWords, KEPT, KEPT_STREAM, Names, Speech, again
+from ..request.request import LC, PID_CHOICE, Request, Selection, Unclear
 from ..stream.gaps import (
-    Place, SAID, SECOND, edges_of, jumps_of, marks_told, measured, places_of, reach_of, strange_of,
-    why_refused)
+    Place, SAID, SECOND, edges_of, jumps_of, marks_told, places_of, reach_of, repeat_distance,
+    strange_of, why_refused)
 from ..stream.ranges import Stage, joined_stages, stages_of
 from ..stream.receiver import FEW, PAUSE
 from ..stream.survey import (
@@ -32,7 +32,7 @@ from .feed import Ending
 TNB, TNS = slice(238, 243), slice(243, 248)  # of a GSI block: how many TTI blocks and subtitles
 
 
-class Warned(NamedTuple):
+class Notice(NamedTuple):
     """A warning: what it is about, as a word for machines, its line, and its time."""
 
     kind: str
@@ -44,24 +44,24 @@ class Warned(NamedTuple):
         return f"warning: {self.line}"
 
 
-def of_timing(packets: Packets, origin: int) -> Iterator[Warned]:
+def of_timing(packets: Packets, origin: int) -> Iterator[Notice]:
     """Where PTS and PCR do not go together."""
     for one in strange_of(packets):
         frame = frame_in(one.pts, origin)
         time = time_of(frame) if frame < FRAMES_OF_A_DAY else None
         where = f"from {time} on" if time else f"from PTS {one.pts} on"
-        yield Warned(f"pts_{one.kind}", f"{where} PTS of the Teletext {SAID[one.kind]}, by up to "
+        yield Notice(f"pts_{one.kind}", f"{where} PTS of the Teletext {SAID[one.kind]}, by up to "
                      f"{abs(one.worst) / SECOND:.2f} s: {one.number} of {one.among} that were "
                      "looked at", time)
 
 
-def of_jumps(packets: Packets, origin: int, first: int, last: int) -> Iterator[Warned]:
+def of_jumps(packets: Packets, origin: int, first: int, last: int) -> Iterator[Notice]:
     """Where the clock goes on elsewhere, and no packet is missing, from a frame to another one."""
     for jump in jumps_of(packets):
         frame = FRAMES_OF_A_DAY if jump.before is None else frame_in(jump.before, origin)
         if first <= frame <= last:
             way = "by" if jump.ticks > 0 else "back by"
-            yield Warned("clock_jump", f"the clock jumps {way} {length_words(abs(jump.ticks))} at "
+            yield Notice("clock_jump", f"the clock jumps {way} {length_words(abs(jump.ticks))} at "
                          f"{time_of(frame)}: an encoder that was started anew? --breaks 1",
                          time_of(frame))
 
@@ -74,7 +74,7 @@ def length_words(ticks: int) -> str:
     return f"{seconds // 3600}:{seconds // 60 % 60:02}:{seconds % 60:02}"
 
 
-def of_tables(survey: Survey, pid: int, asked: Asked) -> Iterator[Warned]:
+def of_tables(survey: Survey, pid: int, asked: Request) -> Iterator[Notice]:
     """Where the PMT announces something else than was asked for."""
     programmes = survey.programmes_of(pid)
     if not programmes:
@@ -83,32 +83,32 @@ def of_tables(survey: Survey, pid: int, asked: Asked) -> Iterator[Warned]:
     own = [one for one in announced if one.page == asked.page]
     name = asked.page_name
     if not announced:
-        yield Warned("page", f"the PMT announces no page of {pid_name(pid)}: receivers do not find "
+        yield Notice("page", f"the PMT announces no page of {pid_name(pid)}: receivers do not find "
                      f"page {name}")
     elif not own:
-        yield Warned("page", f"the PMT announces {listed(announced)}, and not page {name}")
+        yield Notice("page", f"the PMT announces {listed(announced)}, and not page {name}")
     else:
         yield from of_page(own, asked)
 
 
-def of_page(own: list[Announced], asked: Asked) -> Iterator[Warned]:
+def of_page(own: list[Announced], asked: Request) -> Iterator[Notice]:
     """The same of what is announced of the page."""
     name = asked.page_name
     if not any(one.kind in SUBTITLE_KINDS for one in own):
         kinds = " and ".join(dict.fromkeys(KINDS.get(one.kind, "of an unknown kind")
                                            for one in own))
-        yield Warned("type", f"the PMT announces page {name} as {kinds}, and not as subtitles")
+        yield Notice("type", f"the PMT announces page {name} as {kinds}, and not as subtitles")
     code = language_of(asked.stl_path)
     wanted = {*names_of(code)}
     languages = dict.fromkeys(one.language.lower() for one in own)
     if wanted and not (wanted | ANY) & languages.keys():
-        yield Warned("language", f"the PMT announces page {name} in "
+        yield Notice("language", f"the PMT announces page {name} in "
                      f"{' and '.join(map(shown, languages))}; the LC of the GSI block is {code}, "
                      f"{' or '.join(names_of(code))}")
     yield from of_option([*languages], asked)
 
 
-def of_option(languages: list[str], asked: Asked) -> Iterator[Warned]:
+def of_option(languages: list[str], asked: Request) -> Iterator[Notice]:
     """Where no language that a PMT has for the page may be of the national option: receivers may
     take the letters of that language."""
     options = [of_track(one) for one in languages]
@@ -118,12 +118,12 @@ def of_option(languages: list[str], asked: Asked) -> Iterator[Warned]:
         return
     words = list(dict.fromkeys(f"--option {one.word}" if one else "another region"
                                for one in options))
-    yield Warned("option", f"the PMT announces page {asked.page_name} in "
+    yield Notice("option", f"the PMT announces page {asked.page_name} in "
                  f"{' and '.join(languages)}, which is of {' and '.join(words)}; it was judged by "
                  f"--option {asked.option}")
 
 
-def of_character_sets(packets: Packets, asked: Asked) -> Iterator[Warned]:
+def of_character_sets(packets: Packets, asked: Request) -> Iterator[Notice]:
     """Where packets name another character set than that of the national option."""
     for number, designation, region, option in packets.sets:
         if region is None or option is None:
@@ -132,7 +132,7 @@ def of_character_sets(packets: Packets, asked: Asked) -> Iterator[Warned]:
             named = f"character set {option:03b} of region {region:04b}"
         else:
             continue
-        yield Warned("character_set", f"packet {asked.page_name[0]}/{number}/{designation} "
+        yield Notice("character_set", f"packet {asked.page_name[0]}/{number}/{designation} "
                      f"names {named}: receivers above level 1 may show other letters")
 
 
@@ -146,17 +146,17 @@ def language_of(stl: str) -> str:
     return first_bytes(stl, LC.stop)[LC].decode("latin-1")
 
 
-def of_counts(subtitles: SubtitleFile) -> Iterator[Warned]:
+def count_notices(subtitles: SubtitleFile) -> Iterator[Notice]:
     """Where the GSI block counts other blocks or subtitles than there are, as in a file that was
     cut at the end of a block. A count that is no number tells nothing; comments may be counted."""
     told = stated(subtitles.data[TNB])
     there = subtitles.count()
     if told is not None and told != there:
-        yield Warned("blocks", f"the GSI block counts {counted(told, 'TTI block')} (TNB), and "
+        yield Notice("blocks", f"the GSI block counts {counted(told, 'TTI block')} (TNB), and "
                      f"{there_are(there)}: is the subtitle file whole?")
     told, known = stated(subtitles.data[TNS]), subtitles.ended()
     if told is not None and told not in known:
-        yield Warned("subtitles", f"the GSI block counts {counted(told, 'subtitle')} (TNS), and "
+        yield Notice("subtitles", f"the GSI block counts {counted(told, 'subtitle')} (TNS), and "
                      f"{there_are(known[0])}: is the subtitle file whole?")
 
 
@@ -170,23 +170,23 @@ def there_are(count: int) -> str:
     return "there is 1" if count == 1 else f"there are {count:,}"
 
 
-def of_pauses(pts: Sequence[int], asked: Asked, origin: int) -> Iterator[Warned]:
+def of_pauses(pts: Sequence[int], asked: Request, origin: int) -> Iterator[Notice]:
     """Where no PES packet came for some frames, of what else sends one in each frame but few."""
     frames = [frame for frame in frames_at([*pts], origin, asked.within) if frame != NO_FRAME]
     pauses = [(first + 1, second) for first, second in zip(frames, frames[1:])
               if second - first - 1 > PAUSE]
     if len(pauses) * FEW <= len(frames):
         for first, second in pauses:
-            yield Warned("pause", f"no PES packet for {counted(second - first, 'frame')} from "
+            yield Notice("pause", f"no PES packet for {counted(second - first, 'frame')} from "
                          f"{time_of(first)} on", time_of(first))
 
 
-def of_repeat(headers: Sequence[int], asked: Asked, origin: int, times: list[tuple[int, int]]) \
-        -> Iterator[Warned]:
+def of_repeat(headers: Sequence[int], asked: Request, origin: int, times: list[tuple[int, int]]) \
+        -> Iterator[Notice]:
     """Where the page is repeated so often that `--every` would not see a repeat that is missing."""
-    every = measured((frame_in(pts, origin, asked.within) for pts in headers), edges_of(times))
+    every = repeat_distance((frame_in(pts, origin, asked.within) for pts in headers), edges_of(times))
     if every is not None and every * 2 < asked.every:
-        yield Warned("repeat", f"the page is repeated each "
+        yield Notice("repeat", f"the page is repeated each "
                      f"{'frame' if every == 1 else counted(every, 'frame')}; --every {every} would "
                      "hold it to that")
 
@@ -200,7 +200,7 @@ OUTPUT = "/dev/stdout"  # as the program opens it
 LENGTH_AT, FIXED, TELETEXT = 8, 9, 0x24
 
 
-def first_of(program: str, path: str, pid: int, size: int) -> bytes:
+def header_bytes(program: str, path: str, pid: int, size: int) -> bytes:
     """The first bytes of what `extract` gives of a PID."""
     words = [program, "extract", *stream_words(pid, size), "--", path, OUTPUT]
     with subprocess.Popen(words, stdin=subprocess.DEVNULL, stdout=subprocess.PIPE,
@@ -211,7 +211,7 @@ def first_of(program: str, path: str, pid: int, size: int) -> bytes:
     return begun
 
 
-def header_words(begun: bytes, pid: int) -> str:
+def pes_header_words(begun: bytes, pid: int) -> str:
     """What is wrong with the PES header of a PID whose first PES packet begins so; nothing where it
     is one of Teletext, or none."""
     if not begun.startswith(START[:3]) or begun[LENGTH_AT:FIXED] in (b"", bytes([TELETEXT])):
@@ -233,7 +233,7 @@ def is_recording(path: str) -> bool:
         head[at:at + size + 1:size] == b"GG" for at in (0, 4) for size in PACKET_SIZES)
 
 
-def refuse_files(asked: Asked) -> None:
+def refuse_files(asked: Request) -> None:
     """Files that are not there, or stand in the place of each other, are told before anything is
     judged."""
     if not os.path.isfile(asked.stl_path):
@@ -251,7 +251,7 @@ def size_of(name: str) -> int | None:
     return about.st_size if stat.S_ISREG(about.st_mode) else None
 
 
-def refuse(survey: Survey, name: str) -> None:
+def refuse_stream(survey: Survey, name: str) -> None:
     """What is no recording of Teletext is told so."""
     head = survey.head
     if not head:
@@ -275,7 +275,7 @@ class Recording:
     where it moves to another one, and `packets` then stand for all of them. What is judged is a
     range of the recording itself; what comes through a pipe is kept in a file, at `path`."""
 
-    def __init__(self, asked: Asked, typed: Typed, names: Names, speech: Speech,
+    def __init__(self, asked: Request, typed: CommandWords, names: Names, speech: Speech,
                  stalled_after: int) -> None:
         assert asked.recording is not None
         self.asked, self.typed, self.names, self.speech = asked, typed, names, speech
@@ -298,7 +298,7 @@ class Recording:
                 self.read_file(is_summed)
         except NoFirst as reason:
             raise self.without_first(reason) from None
-        refuse(self.survey, self.name)
+        refuse_stream(self.survey, self.name)
         self.packets = self.chosen()
         self.say_read()
 
@@ -316,8 +316,8 @@ class Recording:
 
     def read_feed(self, ending: Ending | None) -> None:
         """Takes what comes through a pipe, as long as more is needed."""
-        self.file = feed.read(self.name, self.path, self.asked, self.typed.program_path,
-                              self.survey, ending, self.speech, self.stalled_after)
+        self.file = feed.read_feed(self.name, self.path, self.asked, self.typed.program_path,
+                                   self.survey, ending, self.speech, self.stalled_after)
 
     def chosen(self) -> Packets:
         """The only PID that carries the page, or the one that was asked for."""
@@ -353,7 +353,7 @@ class Recording:
         begun = sum(1 for _ in packets.pts(does=HEADER))
         line = f"{pid_name(packets.pid)}: page {self.asked.page_name} has a header in {begun} of " \
             f"{counted(packets.count, 'PES packet')}, and {why}"
-        self.speech.choose(Chosen(PID_CHOICE, f"0x{packets.pid:X}", line, begun, packets.count))
+        self.speech.choose(Selection(PID_CHOICE, f"0x{packets.pid:X}", line, begun, packets.count))
 
     def why_nothing(self) -> list[str]:
         """Why nothing is given of each PID that should carry Teletext: scrambled, or not as it is.
@@ -365,9 +365,9 @@ class Recording:
         """What is wrong with the PES header of a PID."""
         if packets.pid != PES and not packets.packets:
             return ""
-        begun = self.survey.head if packets.pid == PES else first_of(
+        begun = self.survey.head if packets.pid == PES else header_bytes(
             self.typed.program_path, self.path, packets.pid, self.survey.size or 0)
-        return header_words(begun, packets.pid)
+        return pes_header_words(begun, packets.pid)
 
     def say_read(self) -> None:
         """Says what was read, and where something is missing."""
@@ -448,20 +448,20 @@ class Recording:
         return max(known, default=None, key=functools.partial(ticks_between, known[0])) \
             if known else None
 
-    def strange(self) -> list[Warned]:
+    def strange(self) -> list[Notice]:
         """Where it grew while it was read, or ends too early."""
-        found, now = list[Warned](), size_of(self.name)
+        found, now = list[Notice](), size_of(self.name)
         if None not in (self.size, now) and self.size != now:
             word = "grew" if (now or 0) > (self.size or 0) else "became shorter"
-            found.append(Warned("grew", f"{shown(self.name)} {word} while it was read, from "
+            found.append(Notice("grew", f"{shown(self.name)} {word} while it was read, from "
                                 f"{self.size:,} bytes to {now:,}: judge it again when it is "
                                 "complete"))
         is_cut = self.packets.is_cut and not self.packets.refusal
         if self.is_stream and is_cut and not self.is_feed:
-            found.append(Warned("cut", f"{shown(self.name)} ends within a PES packet of the page's "
+            found.append(Notice("cut", f"{shown(self.name)} ends within a PES packet of the page's "
                                 "PID, which is left out"))
         if self.packets.damage and not self.is_feed:
-            found.append(Warned("cut", f"{shown(self.name)}: {self.packets.damage}; it was read up "
+            found.append(Notice("cut", f"{shown(self.name)}: {self.packets.damage}; it was read up "
                                 "to there"))
         return found
 

@@ -6,7 +6,7 @@ from typing import Iterable, TYPE_CHECKING
 from ..common.markup import BREAK, Markup, NO_MARKUP, Value, joined, markup
 from ..common.times import Spans, frame_of, joined_spans, time_of
 from ..formats.listing import (
-    CONTENT, ENDS_READING, Told, UNDECIDED, WITH_CAUSE, marked_up, number_link, told_of)
+    CONTENT, ENDS_READING, FaultLine, UNDECIDED, WITH_CAUSE, fault_of_line, marked_up, number_link)
 from ..formats.stl import SubtitleList
 from ..judging.check import Answer, End
 from ..judging.subtitles import midnight_words
@@ -30,11 +30,11 @@ class Entry:
     `end` is where the last one ended, where it stood for some time.
     """
 
-    def __init__(self, index: int, told: Told) -> None:
+    def __init__(self, index: int, told: FaultLine) -> None:
         self.index, self.first, self.last = index, told, told
         self.count, self.end = 1, End(None, None)
 
-    def add(self, told: Told) -> None:
+    def add(self, told: FaultLine) -> None:
         """One more of them."""
         self.count += 1
         self.last = told
@@ -56,7 +56,7 @@ class Faults:
                                   if number != UNDECIDED)
         self.undecided = answer.marks.get(UNDECIDED, Spans())
         self.entries: list[Entry] = []
-        self.of_blocks: list[Told] = []
+        self.of_blocks: list[FaultLine] = []
         self.entry_count = 0
         self.first_entries: dict[int, int] = {}
         last: tuple[object, ...] = ()  # what the last entry has in common
@@ -77,9 +77,9 @@ class Faults:
                 self.first_entries.setdefault(told.number, self.entry_count)
             entry.end, last = end, of_entry
 
-    def ending(self) -> Told | None:
+    def ending(self) -> FaultLine | None:
         """The last fault, where it is that the recording can't be read on."""
-        last = told_of(self.answer.last_told)
+        last = fault_of_line(self.answer.last_told)
         return last if last and last.number in ENDS_READING else None
 
     def mark(self, spans: Iterable[tuple[int, int]]) -> None:
@@ -97,14 +97,14 @@ def heads(*names: str) -> Markup:
     return joined(markup('<th scope="col">{}</th>', name) for name in names)
 
 
-def row_of(head: Value, columns: Iterable[str], cells: Iterable[Value], name: Value = "") -> Markup:
+def table_row(head: Value, columns: Iterable[str], cells: Iterable[Value], name: Value = "") -> Markup:
     """A row of a table, each cell with the head of its column."""
     named = joined(markup('<td data-name="{}">{}</td>', column, cell)
                    for column, cell in zip(columns, cells))
     return markup('<tr{}><th scope="row">{}</th>{}</tr>', name, head, named)
 
 
-def place_words(fault: Told) -> str:
+def fault_place_words(fault: FaultLine) -> str:
     """The place of a fault: its time, or what it names; the name of the fault where it has none."""
     if fault.frame is not None:
         return time_of(fault.frame)
@@ -147,7 +147,7 @@ def numbers_table(report: Report) -> Markup:
         else:
             name = markup(' id="n{}"', number)
             cells += means_and_do(report, number) or ("", "")
-        rows.append(row_of(f"{number} {first.name}", COLUMNS, cells, name))
+        rows.append(table_row(f"{number} {first.name}", COLUMNS, cells, name))
     return markup('<table class="numbers"><thead><tr>{}</tr></thead><tbody>{}</tbody></table>',
                   heads("Number", *COLUMNS), joined(rows))
 
@@ -182,7 +182,7 @@ class FaultList:
             return markup('<a href="#s{}">{}</a>', one.index, one.name)
         return one.name
 
-    def cell_words(self, fault: Told) -> Markup:
+    def cell_words(self, fault: FaultLine) -> Markup:
         """What is due and what is held in the cell that a fault names."""
         assert fault.frame is not None and fault.row is not None and fault.column is not None
         state = self.held.state_at(fault.frame)
@@ -232,7 +232,7 @@ class FaultList:
 
     def item(self, entry: Entry) -> Markup:
         fault, frame = entry.first, self.looks.entries.frame_of(entry)
-        when: Value = place_words(fault)
+        when: Value = fault_place_words(fault)
         if entry.index <= MOST_PICTURED:
             when = markup('<a href="#{}">{}</a>', section_name(entry), when)
         words = [markup("<b>{}</b> <code>{}</code>", when, number_link(fault.line))]
@@ -250,7 +250,7 @@ class FaultList:
         """How many faults an entry has, and up to where it reaches."""
         last, words = entry.last, []
         if entry.count > 1:
-            words.append(f"{entry.count:,} faults, the last at {place_words(last)}")
+            words.append(f"{entry.count:,} faults, the last at {fault_place_words(last)}")
         if entry.end.pes is not None:
             words.append(f"up to PES packet {entry.end.pes}")
         until = frame_of(entry.end.time) if entry.end.time else None

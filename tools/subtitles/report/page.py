@@ -11,7 +11,7 @@ from ..common.files import SummedFile
 from ..common.markup import BREAK, HEAD, Markup, NO_MARKUP, Value, joined, markup, own_style
 from ..common.program import MadeWith
 from ..common.times import frame_of, time_of
-from ..formats.listing import STL_FAULTS, Told, number_link, told_of
+from ..formats.listing import FaultLine, STL_FAULTS, fault_of_line, number_link
 from ..formats.stl import COMMENT, GSI, LAST, NamedSubtitle, SubtitleFile, TTI, USER_DATA, titles_in
 from ..formats.teletext import page_name
 from ..judging.causes import count_line, names_line
@@ -19,9 +19,9 @@ from ..judging.faults import HINTED
 from ..judging.part import Part
 from ..judging.status import ACCEPTED, LOST, NOT_JUDGED, REFUSED, WAIVED, WARNED
 from ..judging.verdict import Verdict, spread_of
-from ..request.commands import Names, Typed
-from ..request.request import Asked
-from .faults import heads, meaning_of_verdict, numbers_table, row_of
+from ..request.commands import CommandWords, Names
+from ..request.request import Request
+from .faults import heads, meaning_of_verdict, numbers_table, table_row
 from .report import Looks, Report, Scope, names_block
 from .transmission import Seen, place_of_pts
 
@@ -46,7 +46,7 @@ DRAWN_BESIDE = "It is drawn as undecided: what was sent from the subtitle before
 class Blocks:
     """The blocks of a file, and the subtitles that they are of."""
 
-    def __init__(self, file: SubtitleFile, told: Iterable[Told]) -> None:
+    def __init__(self, file: SubtitleFile, told: Iterable[FaultLine]) -> None:
         self.file = file
         self.count = len(self.file.firsts) - 1
         self.passed_over = {one.block for one in told if one.number in OF_FIRST_BLOCK}
@@ -82,7 +82,7 @@ class Blocks:
                 return self.subtitle(number)
         return None
 
-    def field(self, fault: Told) -> Markup:
+    def field(self, fault: FaultLine) -> Markup:
         """The field that a fault is about, with its bytes marked; nothing for another fault."""
         if fault.number not in FIELDS or fault.block is None:
             return NO_MARKUP
@@ -110,15 +110,15 @@ def block_place(report: Report, blocks: Blocks) -> Markup:
     return joined([*parts, markup("</section>")])
 
 
-def refused_subtitle(blocks: Blocks, subtitle: NamedSubtitle, fault: Told) -> Markup:
+def refused_subtitle(blocks: Blocks, subtitle: NamedSubtitle, fault: FaultLine) -> Markup:
     """The first refused subtitle, in tables."""
     assert fault.block is not None
     text = blocks.text(fault.block)
-    parts = [markup("<h3>{}</h3>", name_of(subtitle, fault.block))]
+    parts = [markup("<h3>{}</h3>", block_name(subtitle, fault.block))]
     if fault.number in ORDER_FAULTS:
         parts.append(two_times(blocks, subtitle, fault))
     else:
-        parts.append(markup("<p>{}</p>", joined(times_of(subtitle, [fault]), " to ")))
+        parts.append(markup("<p>{}</p>", joined(marked_times(subtitle, [fault]), " to ")))
     if fault.number in BYTE_FAULTS:
         return joined([*parts, byte_table(text, fault.at)])
     if fault.number in ROW_FAULTS:
@@ -128,7 +128,7 @@ def refused_subtitle(blocks: Blocks, subtitle: NamedSubtitle, fault: Told) -> Ma
     return joined([*parts, markup("<p>{}</p>", marked_text(text, []))])
 
 
-def name_of(subtitle: NamedSubtitle, block: int) -> str:
+def block_name(subtitle: NamedSubtitle, block: int) -> str:
     return f"SN {subtitle.number}, block {block}"
 
 
@@ -136,7 +136,7 @@ def mark(text: Value) -> Markup:
     return markup("<mark>{}</mark>", text)
 
 
-def times_of(subtitle: NamedSubtitle, faults: list[Told]) -> tuple[Value, Value]:
+def marked_times(subtitle: NamedSubtitle, faults: list[FaultLine]) -> tuple[Value, Value]:
     """TCI and TCO of a subtitle, marked where a fault is about them."""
     numbers = {one.number for one in faults}
     is_begin, is_end = (20 in numbers and frame_of(time) is None or 21 in numbers
@@ -164,22 +164,22 @@ def refused_blocks(report: Report, blocks: Blocks) -> Markup:
 
 def end_of_reading(report: Report, blocks: Blocks) -> Value:
     """Where reading ended."""
-    last = told_of(report.part.answer.last_told)
+    last = fault_of_line(report.part.answer.last_told)
     if last is None or last.number not in ENDS:
         return f"The file was read to its end, {counted(blocks.count, 'block')}."
     return markup("<b>Reading ended at block {}</b>, with {} {}: nothing is known of what comes "
                   "after it.", last.block or 0, last.number, last.name)
 
 
-def refused_item(blocks: Blocks, index: int, block: int | None, faults: list[Told]) -> Markup:
+def refused_item(blocks: Blocks, index: int, block: int | None, faults: list[FaultLine]) -> Markup:
     """A block with what is told of it, and its subtitle with its text."""
     lines = [markup("<code>{}</code> {}", number_link(one.line), blocks.field(one))
              for one in faults]
     subtitle = blocks.subtitle(block)
     if not subtitle or block is None:
         return markup('<li id="e{}">{}</li>', index, joined(lines, BREAK))
-    words = markup("<b>{}</b> {}", name_of(subtitle, block),
-                   joined(times_of(subtitle, faults), " to "))
+    words = markup("<b>{}</b> {}", block_name(subtitle, block),
+                   joined(marked_times(subtitle, faults), " to "))
     before = blocks.before(block)
     if before and any(one.number in ORDER_FAULTS for one in faults):
         words += markup(" after {} to {}, SN {}", before.begin, before.end, before.number)
@@ -187,7 +187,7 @@ def refused_item(blocks: Blocks, index: int, block: int | None, faults: list[Tol
     return markup('<li id="e{}">{}</li>', index, joined([words, *lines, text], BREAK))
 
 
-def marked_text(text: bytes, faults: list[Told]) -> Markup:
+def marked_text(text: bytes, faults: list[FaultLine]) -> Markup:
     """The lines of a text with the byte or the line marked that a fault names."""
     marked = {(one.number in BYTE_FAULTS, one.at) for one in faults if one.number in ROW_FAULTS}
     lines, begin = [], 0
@@ -221,9 +221,9 @@ def lines_block(lines: list[str]) -> Markup:
     return markup('<pre class="lines">{}</pre>', chr(10).join(lines))
 
 
-def two_times(blocks: Blocks, subtitle: NamedSubtitle, fault: Told) -> Markup:
+def two_times(blocks: Blocks, subtitle: NamedSubtitle, fault: FaultLine) -> Markup:
     """The times of a subtitle and the one before; those that the refusal is about are marked."""
-    rows = [(subtitle.number, *times_of(subtitle, [fault]))]
+    rows = [(subtitle.number, *marked_times(subtitle, [fault]))]
     before = blocks.before(fault.block or 0)
     if before:
         is_begin = fault.number == 56
@@ -300,7 +300,7 @@ COMPLETE = (". Receivers of complete pages have it on the screen then; of their 
             "promised in between")
 
 
-def promised(asked: Asked) -> str:
+def promised(asked: Request) -> str:
     """What is promised within 1 frame and more."""
     within = asked.within
     words = PROMISED.format("one" if within == 1 else within, within + 1)
@@ -519,7 +519,7 @@ def pages_table(report: Report, seen: Seen) -> Markup:
         for pts in (known.first, known.last):
             cells += ["", ""] if pts is None else [
                 str(pts), place_of_pts(pts, report.origin, report.asked.within)]
-        rows.append(row_of(f"{page_name(*page)}{words}", PAGE_COLUMNS, [*cells, bits]))
+        rows.append(table_row(f"{page_name(*page)}{words}", PAGE_COLUMNS, [*cells, bits]))
     if rows:
         parts.append(markup('<table class="pages"><thead><tr>{}</tr></thead><tbody>{}</tbody>'
                             "</table>", heads("Page", *PAGE_COLUMNS), joined(rows)))
@@ -574,7 +574,7 @@ def subtitles_words(report: Report, looks: Looks) -> Markup:
 PART_COLUMNS = ("From", "To", "Verdict", "Faults", "Causes", "Clock")
 
 
-def overview(verdict: Verdict, program: MadeWith, names: Names, typed: Typed) -> Markup:
+def overview(verdict: Verdict, program: MadeWith, names: Names, typed: CommandWords) -> Markup:
     """The page."""
     asked = verdict.asked
     line = verdict.lead or f"{NOT_JUDGED}: {verdict.why_not}"
@@ -588,7 +588,7 @@ def overview(verdict: Verdict, program: MadeWith, names: Names, typed: Typed) ->
     return document(line, title, [
         box(verdict, line), scope(verdict),
         markup('<h2 id="parts">{} parts</h2>', len(verdict.parts)),
-        table(verdict, names), between(verdict.parts),
+        table(verdict, names), times_between(verdict.parts),
         made_from(files, verdict.date.replace("T", " ").replace("Z", " UTC"), program, words)])
 
 
@@ -612,12 +612,12 @@ def scope(verdict: Verdict) -> Markup:
     recording = verdict.recording
     one = Scope(titles_in(verdict.asked.stl_path), recording,
                 frame_of(min(begins)) or 0, frame_of(max(ends)) or 0,
-                sum(subtitles_of(part) for part in verdict.parts), None, bool(verdict.fitted),
+                sum(subtitle_count(part) for part in verdict.parts), None, bool(verdict.fitted),
                 True)
     return one.box()
 
 
-def subtitles_of(part: Part) -> int:
+def subtitle_count(part: Part) -> int:
     """How many subtitles a part has."""
     return len(part.subtitle_file().begins)
 
@@ -632,7 +632,7 @@ def table(verdict: Verdict, names: Names) -> Markup:
             begin or "", end or "", markup('<a href="{}">{}</a>', page, part.answer.lead),
             f"{part.answer.count:,}", names_line([part.causes]) if part.causes else "none",
             clock_of(part)]
-        rows.append(row_of(markup('<a href="{}">part {}</a>', page, part.number), PART_COLUMNS, cells))
+        rows.append(table_row(markup('<a href="{}">part {}</a>', page, part.number), PART_COLUMNS, cells))
     return markup('<table class="pages parts"><thead><tr>{}</tr></thead><tbody>{}</tbody></table>',
                   heads("Part", *PART_COLUMNS), joined(rows))
 
@@ -646,7 +646,7 @@ def clock_of(part: Part) -> str:
     return words
 
 
-def between(parts: Sequence[Part]) -> Markup:
+def times_between(parts: Sequence[Part]) -> Markup:
     """The times between the parts, at which nobody looked."""
     times = [part.times() for part in parts]
     gaps = [f"{end} and {begin}" for (_, end), (begin, _) in zip(times, times[1:])]

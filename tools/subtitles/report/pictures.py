@@ -12,7 +12,7 @@ from ..common.markup import Markup, NO_MARKUP, Value, joined, markup
 from ..common.times import time_of
 from ..formats.teletext import NEWSFLASH, SUBTITLE, has_bit, letters, option_name
 from ..stream.receiver import (
-    BLANK_PAGE, HIT, OLD, Rows, State, Timeline, control_bits, lines_of, national_option)
+    BLANK_PAGE, HIT, OLD, Rows, State, Timeline, control_bits, national_option, printed_rows)
 from .transmission import Seen
 
 
@@ -113,7 +113,7 @@ def grouped(spans: Iterable[CellStyle], key: Callable[[CellStyle], Key]) \
         column += len(letters_)
 
 
-def text_of(look: Look, column: int, letters_: str) -> Markup:
+def look_text(look: Look, column: int, letters_: str) -> Markup:
     """The letters of neighbours with one look; nothing where they are spaces."""
     column += len(letters_) - len(letters_.lstrip(" "))
     letters_ = letters_.strip(" ")
@@ -139,7 +139,7 @@ def row_drawing(row: bytes, number: int, option: int, is_boxed_page: bool) -> tu
             parts.append(markup('<rect class="p{}" x="{}" width="{}" height="{}"/>', paper,
                                 column * WIDTH, len(letters_) * WIDTH, height))
     for look, column, letters_ in grouped(spans, look_of):
-        parts.append(text_of(look, column, letters_))
+        parts.append(look_text(look, column, letters_))
     for found in MARKED.finditer(row):
         name, (begin, end) = "hit" if found[0][0] == HIT else "old", found.span()
         parts.append(markup('<rect class="{}" x="{}" y="1" width="{}" height="13"/>', name,
@@ -307,7 +307,7 @@ class Figures:
             seen.append(state.screen[0])
         cut = cut_of(seen, place[0] if place else None)
         parts = [figure("due", f"Due at {time}", option_name(national_option(header)),
-                        picture(due, header, cut, (), place), lines_of(due))]
+                        picture(due, header, cut, (), place), printed_rows(due))]
         held = f"A receiver at the end of {time}"
         if state is None:
             parts.append(figure("held", held, NOT_READ, empty_picture("not known", cut), []))
@@ -344,7 +344,7 @@ def page_figure(kind: str, caption: str, told: str, due: Rows, page: tuple[Rows,
     cells = markup("<b>{}</b>", "1 cell differs" if count == 1 else f"{count} cells differ")
     words = joined([cells if count else "no cell differs", *marks_words(header, rows)], ", ")
     return figure(kind, caption, words, picture(rows, header, cut, different, place),
-                  lines_of(rows), f"{told}; {header_words(header)}")
+                  printed_rows(rows), f"{told}; {header_line(header)}")
 
 
 def marks_words(header: bytes, rows: Rows) -> list[str]:
@@ -358,7 +358,7 @@ def marks_words(header: bytes, rows: Rows) -> list[str]:
     return words
 
 
-def header_words(header: bytes) -> str:
+def header_line(header: bytes) -> str:
     """The control bits and the letters of the page's last header."""
     return ", ".join([" ".join(control_bits(header)) or "no control bit",
                       option_name(national_option(header))])

@@ -10,16 +10,16 @@ from ..common.files import SummedFile
 from ..common.markup import Markup, Value, joined, markup
 from ..common.program import about_program
 from ..common.times import FRAMES_OF_A_DAY, time_of
-from ..formats.listing import Told, UNDECIDED, meanings
+from ..formats.listing import FaultLine, UNDECIDED, meanings
 from ..formats.stl import SubtitleList, titles_in
 from ..formats.teletext import BY_WORD, page_name
 from ..judging.causes import Cause, Causes, Wording, names_line
 from ..judging.part import Part
 from ..judging.verdict import Verdict
-from ..stream.gaps import first_of
+from ..stream.gaps import first_lines
 from ..stream.layout import layout_line
 from ..stream.receiver import Timeline
-from .faults import FaultList, Faults, heads, place_words, row_of
+from .faults import FaultList, Faults, fault_place_words, heads, table_row
 from .pictures import Figures
 from .strips import Entries, Strips, looked_at
 from .transmission import NoReport, Program, Seen
@@ -128,7 +128,7 @@ class Reasons:
         sent = "nothing" if known["sent"] is None else known["sent"]
         cells = [self.wording.said(cause, has_text=False), known["text"],
                  "the same" if sent == known["text"] else sent]
-        return row_of(self.link(cause), COLUMNS, cells)
+        return table_row(self.link(cause), COLUMNS, cells)
 
 
 # All that a page is made of: a verdict on a part, and what there is to see of it.
@@ -187,7 +187,7 @@ class Report:
                            "is drawn beside it")
         self.faults = Faults(answer, due)
         self.meanings = meanings()
-        self.lost = first_of([gap.line() for gap in subject.judged.gaps])
+        self.lost = first_lines([gap.line() for gap in subject.judged.gaps])
         unread = [self.asked.recording] if self.asked.recording and self.part.pes is None else []
         self.notes = [*(f"{shown(one)} was not read" for one in unread), *subject.judged.notes,
                       *(one.said() for one in subject.judged.warnings),
@@ -221,10 +221,10 @@ class Report:
         return next((entry.first.line for entry in self.faults.entries
                      if entry.first.frame == broken), "")
 
-    def first_link(self, fault: Told) -> Value:
+    def first_link(self, fault: FaultLine) -> Value:
         """The place of the first fault of a number, as a link where the list has it."""
         entry = self.faults.first_entries.get(fault.number)
-        words = place_words(fault)
+        words = fault_place_words(fault)
         return markup('<a href="#e{}">{}</a>', entry, words) if entry else words
 
 

@@ -13,9 +13,9 @@ from ..common.markup import Markup, Value, joined, markup
 from ..common.times import (
     FRAMES_OF_A_DAY, NO_FRAME, Span, Spans, TICKS, frame_at, pts_of, ticks_between, time_of,
     wrapped)
-from ..formats.listing import Told
+from ..formats.listing import FaultLine
 from ..formats.teletext import CODE_WORDS, NUMBER, is_odd, page_name
-from ..stream.receiver import HIT, PRINTED, STORED, State, Timeline, control_words, subcode_of
+from ..stream.receiver import HIT, PRINTED, STORED, State, Timeline, control_text, subcode_of
 from ..stream.survey import HEADER
 
 if TYPE_CHECKING:
@@ -112,7 +112,7 @@ def packet_lines(data: bytes) -> list[str]:
         return ["refused 4 BadHeader"]
     page = header[0] + 16 * header[1]
     return [*lines, f"page {page:02X} subcode {subcode_of(header)} control "
-            f"{control_words(header)}", text_line(data[HEADER_BYTES.stop:])]
+            f"{control_text(header)}", text_line(data[HEADER_BYTES.stop:])]
 
 
 def text_line(data: bytes) -> str:
@@ -139,7 +139,7 @@ class Seen:
     """A timeline of what is judged, with the PES packets that `check` passed over and the fault
     that ended reading, where one did."""
 
-    def __init__(self, held: Timeline, passed: Spans, ending: Told | None) -> None:
+    def __init__(self, held: Timeline, passed: Spans, ending: FaultLine | None) -> None:
         self.held, self.passed, self.ending = held, passed, ending
         self.sendings, self.falls = held.sendings, held.falls
         self.page, self.within, self.halt = held.page, held.within, held.halt
@@ -211,7 +211,7 @@ class Seen:
             bits: collections.Counter[str] = collections.Counter()
             for run in runs:
                 for control in run.control.split("+"):
-                    bits[control_words(bytes(int(digit, 16) for digit in control))] += run.length
+                    bits[control_text(bytes(int(digit, 16) for digit in control))] += run.length
             found[self.page] = PageCount(sum(bits.values()), runs[0].pts, runs[-1].last, bits)
         for name, count in sorted(packets.sent.items(), key=lambda item: -item[1]):
             page = page_in(name)
@@ -245,7 +245,7 @@ def place_of_pts(pts: int, origin: int, within: int) -> str:
     return time if ticks % TICKS == 0 else f"none: {time} is {ticks % TICKS} ticks before"
 
 
-def pes_words(fault: Told, until: int | None, report: Report, seen: Seen) -> Markup:
+def pes_words(fault: FaultLine, until: int | None, report: Report, seen: Seen) -> Markup:
     """What is known of the PES packet that a fault names, up to another one where it is given."""
     number, packets = fault.pes, report.part.packets
     assert number is not None
@@ -253,7 +253,7 @@ def pes_words(fault: Told, until: int | None, report: Report, seen: Seen) -> Mar
     if span is not None:
         them = (number,) if until is None else (number, until)
         return markup("<p>{} {}</p>", passed_words(fault, them, report),
-                      between(seen, span, until))
+                      packets_between(seen, span, until))
     pts = packets.pts_at(number)
     if seen.halt == number and pts is not None:
         words = f"PES packet {number} has the PTS {pts}. Its frame: " \
@@ -268,7 +268,7 @@ def pes_words(fault: Told, until: int | None, report: Report, seen: Seen) -> Mar
     return markup("<p>PES packet {} can't be read, and nothing after it.</p>", number)
 
 
-def passed_words(fault: Told, them: tuple[int, ...], report: Report) -> str:
+def passed_words(fault: FaultLine, them: tuple[int, ...], report: Report) -> str:
     """What is known of PES packets that were passed over, the first and the last of some in a row.
     """
     which = " to ".join(map(str, them))
@@ -290,7 +290,7 @@ def times_around(held: Seen, span: int) -> tuple[str | None, str | None]:
     return before, after
 
 
-def between(held: Seen, span: int, until: int | None) -> str:
+def packets_between(held: Seen, span: int, until: int | None) -> str:
     """Where PES packets stand that were passed over: one, or some in a row."""
     it, puts = ("it", "it puts") if until is None else ("them", "they put")
     before, after = times_around(held, span)

@@ -14,13 +14,13 @@ from typing import Callable, TextIO
 from ..common.command_line import HIDDEN, INSTALLED, Stop, quoted, shown, silence, tell
 from ..common.files import is_utf_8
 from ..common.program import TOP, behind_script
-from .request import Asked, Chosen, option_words
+from .request import Request, Selection, option_words
 
 
 # Commands as they would be typed: the tools and the program by the names that the caller uses.
 
 
-class Typed:
+class CommandWords:
     """The names of the tools beside the one that was called as `called`, and of the program."""
 
     def __init__(self, called: str, program: str | None) -> None:
@@ -56,7 +56,7 @@ class Typed:
         return [sys.executable, os.path.join(TOP, "tools", name)]
 
 
-def line_of(*words: str) -> str:
+def shell_line(*words: str) -> str:
     """A command line for a shell; `>` and `|` stay as they are."""
     line = " ".join(word if word in (">", "|") else quoted(word) for word in words)
     return line.replace(" > ", " >")
@@ -195,13 +195,13 @@ class Names:
         return path
 
 
-def again(asked: Asked, typed: Typed, *more: str) -> str:
+def again(asked: Request, typed: CommandWords, *more: str) -> str:
     """The call of this tool for the pair, with more words, or with others of an option."""
     words = [typed.tool("qc"), asked.stl, *([asked.recording] if asked.recording else [])]
     options = option_words(asked)
     instead = {"--origin": ["--origin", "--start"]}.get(more[0], [more[0]]) if more else []
     words += [word for option in options if not set(option[:1]) & set(instead) for word in option]
-    return line_of(*words, *more)
+    return shell_line(*words, *more)
 
 
 # A line on the terminal that rewrites itself, and shows how much is done.
@@ -250,7 +250,7 @@ class Speech:
         self.progress = progress
         self.out = sys.stderr if is_output_taken else sys.stdout
         self.commands: list[str] = []
-        self.chosen: list[Chosen] = []
+        self.chosen: list[Selection] = []
         self.last, self.listed = "", 0
         self.at_end: Callable[[], None] = lambda: None  # what is done before the verdict's line
         self.lock = threading.RLock()  # a feed is heard beside the program that judges it
@@ -287,11 +287,11 @@ class Speech:
 
     def command(self, *words: str) -> None:
         """A command, as it would be typed."""
-        self.commands.append(line_of(*words))
+        self.commands.append(shell_line(*words))
         self.listed = 0
         self.say(f"+ {self.commands[-1]}")
 
-    def choose(self, one: Chosen) -> None:
+    def choose(self, one: Selection) -> None:
         """A choice, and why it is made."""
         self.say(one.line)
         self.chosen.append(one)

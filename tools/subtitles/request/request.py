@@ -286,7 +286,7 @@ KEPT = "subtitles.stl"  # in the temporary folder
 
 
 @dataclasses.dataclass
-class Asked:
+class Request:
     """A pair and its options, by their table; `page` is the magazine, 0 for 8, and the number.
 
     `start` is the time code of the recording's first picture, or `tcp`: the GSI block has it.
@@ -328,7 +328,7 @@ class Asked:
         begin, end = (frame_of(self.passed_on.get(name, "")) for name in (FROM, TO))
         return Between(begin or 0, FRAMES_OF_A_DAY if end is None else end)
 
-    def of_part(self, begin: int, end: int) -> Asked:
+    def of_part(self, begin: int, end: int) -> Request:
         """The same of the subtitles that come from one frame on and before another."""
         return dataclasses.replace(self, passed_on={
             **self.passed_on, FROM: time_of(begin), TO: time_of(end)})
@@ -348,11 +348,11 @@ class Asked:
         """Whether headers that repeat the page may keep it."""
         return KEEPING in self.passed_on
 
-    def keeping(self) -> Asked:
+    def keeping(self) -> Request:
         """The same, and they may."""
         return dataclasses.replace(self, passed_on={**self.passed_on, KEEPING: ""})
 
-    def paced(self, frames: int) -> Asked:
+    def paced(self, frames: int) -> Request:
         """The same, and PES packets come in so many frames at most."""
         return dataclasses.replace(self, passed_on={**self.passed_on, PACE: str(frames)})
 
@@ -388,21 +388,21 @@ def add_pair_options(parser: Words) -> None:
 
 def pair_options() -> list[str]:
     """The names of those options in `Asked`."""
-    return [field.name for field in dataclasses.fields(Asked)][2:-2]
+    return [field.name for field in dataclasses.fields(Request)][2:-2]
 
 
-def asked_of(words: argparse.Namespace) -> Asked:
+def request_of(words: argparse.Namespace) -> Request:
     """The pair of a command line."""
-    return asked_with(words.stl, words.recording, words)
+    return request_with(words.stl, words.recording, words)
 
 
-def asked_with(stl: str, recording: str | None, options: argparse.Namespace) -> Asked:
+def request_with(stl: str, recording: str | None, options: argparse.Namespace) -> Request:
     """A pair, and options that are read."""
     named = recording and (recording if recording == "-" else plain_name(recording))
     if options.origin is not None and options.start is not None:
         raise Stop("--start tells the origin: --origin is too many")
-    asked = Asked(plain_name(stl), named,
-                  **{name: getattr(options, name) for name in pair_options()})
+    asked = Request(plain_name(stl), named,
+                    **{name: getattr(options, name) for name in pair_options()})
     if asked.option == AUTO and not is_pipe(asked.stl):  # else it is known once that is read
         take_option(asked)
     return asked
@@ -413,7 +413,7 @@ def is_pipe(name: str) -> bool:
     return os.path.exists(name) and stat.S_ISFIFO(os.stat(name).st_mode)
 
 
-def keep_stl(asked: Asked, folder: str) -> None:
+def keep_stl(asked: Request, folder: str) -> None:
     """Keeps what comes through a pipe as the subtitle file, up to what a whole one has."""
     if not is_pipe(asked.stl):
         return
@@ -425,7 +425,7 @@ def keep_stl(asked: Asked, folder: str) -> None:
         take_option(asked)
 
 
-def take_option(asked: Asked) -> None:
+def take_option(asked: Request) -> None:
     """Takes the national option of a subtitle file, by its language (GSI block, field LC)."""
     language = b""
     with contextlib.suppress(Stop, OSError):  # that it is none is told later
@@ -433,7 +433,7 @@ def take_option(asked: Asked) -> None:
     asked.option, asked.language = named_by(language).word, language.decode("latin-1")
 
 
-def option_line(asked: Asked) -> str:
+def option_line(asked: Request) -> str:
     """The option that the language of the subtitle file names."""
     language = f"the language of the file (LC) is {shown(asked.language)}" if asked.language else \
         "the file names no language (LC)"
@@ -450,14 +450,14 @@ def line_parser() -> Words:
     return parser
 
 
-def asked_of_line(line: Sequence[str], defaults: argparse.Namespace) -> Asked:
+def request_of_line(line: Sequence[str], defaults: argparse.Namespace) -> Request:
     """The pair of a line of a list, with the options that hold for all where it has none."""
     known = {name: getattr(defaults, name) for name in pair_options()}
     given = {word.partition("=")[0] for word in line}
     for one, other in (("origin", "start"), ("start", "origin")):
         if f"--{one}" in given:
             known[other] = None  # a line that tells its origin takes none of the call
-    asked = asked_of(line_parser().parse_args(line, argparse.Namespace(**known)))
+    asked = request_of(line_parser().parse_args(line, argparse.Namespace(**known)))
     if asked.recording == "-":
         raise Stop("- is no recording of a list: give a file")
     return asked
@@ -472,7 +472,7 @@ LAYOUT_CHOICE, PACE_CHOICE, OPTION_CHOICE = "layout", "pace", "option"
 CHOICES = (PID_CHOICE, ORIGIN_CHOICE, PES_CHOICE, LAYOUT_CHOICE, PACE_CHOICE, OPTION_CHOICE)
 
 
-class Chosen(NamedTuple):
+class Selection(NamedTuple):
     """A choice: the option that would say it, with the value to type, `None` where nothing is asked
     for; the line that was printed; how many agree, among how many; and the part that it is of,
     `None` where it is of all."""

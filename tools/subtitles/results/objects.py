@@ -14,7 +14,7 @@ from ..common.shapes import Listed, Member, Shape
 from ..judging.status import NOT_JUDGED, STATUSES, is_of_call
 from ..judging.subtitles import Counts
 from ..judging.verdict import Verdict
-from ..request.request import Asked
+from ..request.request import Request
 from .schema import ASKED, FORMAT, LEFT_OUT, LISTS, NO_PAIR, TOGETHER, VERDICT, Writing, misfit
 
 
@@ -115,7 +115,7 @@ def unjudged(name: str, reason: str, is_open: bool = False) -> dict[str, Any]:
     return made
 
 
-def has_had_its_turn(known: dict[str, Any], asked: Asked | None) -> bool:
+def has_had_its_turn(known: dict[str, Any], asked: Request | None) -> bool:
     """Whether an object is one of a programme of a channel, by its subtitle file as it is now, and
     no call need look for it once more."""
     if "asked" not in known:
@@ -132,15 +132,15 @@ def may_take(path: str, begins: bytes = b"{") -> bool:
     return first_bytes(path, len(begins)) in (begins, b"")
 
 
-def text_of(known: dict[str, Any]) -> bytes:
+def object_text(known: dict[str, Any]) -> bytes:
     """Such an object as the text of a file."""
     return json.dumps(known).encode() + b"\n"
 
 
-def put(path: str, known: dict[str, Any]) -> None:
+def put_object(path: str, known: dict[str, Any]) -> None:
     """Writes such an object into a folder of results."""
     with result_file(path) as file:
-        file.write(text_of(known))
+        file.write(object_text(known))
 
 
 def object_at(path: str) -> dict[str, Any] | None:
@@ -168,15 +168,15 @@ def object_at(path: str) -> dict[str, Any] | None:
 def value_at(path: str) -> object:
     """What a file holds as JSON."""
     data = bounded_bytes(path, MOST_READ, is_followed=False)
-    return json.loads(data.decode("utf-8"), parse_int=number_in, parse_constant=refuse)
+    return json.loads(data.decode("utf-8"), parse_int=number_in, parse_constant=refuse_constant)
 
 
 def number_in(digits: str) -> int:
     """A whole number, of which a machine knows the greatest."""
-    return int(digits) if len(digits) <= MOST_DIGITS else refuse(digits)
+    return int(digits) if len(digits) <= MOST_DIGITS else refuse_constant(digits)
 
 
-def refuse(text: str) -> int:
+def refuse_constant(text: str) -> int:
     """No number of a result."""
     raise ValueError(f"{text[:MOST_DIGITS]} is no number of a result")
 
@@ -197,7 +197,7 @@ def left_by_call(path: str, name: str, ended: int, told: Sequence[str]) -> dict[
     return unjudged(name, told[-1].partition(": ")[2] if is_told else "it did not end by itself")
 
 
-def row_of(known: dict[str, Any], name: str) -> Row:
+def row_of_object(known: dict[str, Any], name: str) -> Row:
     """A row by an object."""
     if "asked" not in known:
         return Row(name, name, known["verdict"], known["status"], known["reason"], 0, {}, [], 0.0,
@@ -241,7 +241,7 @@ def objects_in(folder: str) -> Iterator[tuple[str, dict[str, Any] | None]]:
 def rows_in(folder: str) -> dict[str, Row]:
     """The rows of a folder, by their names."""
     known = {os.path.basename(path).removesuffix(ENDING): one for path, one in objects_in(folder)}
-    return {name: row_of(one, name) for name, one in known.items() if one is not None}
+    return {name: row_of_object(one, name) for name, one in known.items() if one is not None}
 
 
 def in_order(rows: dict[str, Row]) -> list[Row]:
@@ -265,13 +265,13 @@ def found_at(path: str | None) -> dict[str, Any] | None:
     return {"size": about.st_size, "modified": modified(about)}
 
 
-def found(asked: Asked) -> dict[str, Any]:
+def found(asked: Request) -> dict[str, Any]:
     """Both files of a pair as they are found."""
     return {"stl": found_at(asked.stl), "recording": found_at(asked.recording),
             "severity": found_at(asked.severity)}
 
 
-def is_current(known: dict[str, Any], asked: Asked, program: MadeWith) -> bool:
+def is_current(known: dict[str, Any], asked: Request, program: MadeWith) -> bool:
     """Whether a pair would be judged with the same words, by the same program and tools, on files
     of the same size and time."""
     return "asked" in known and known["asked"] == ASKED.made(asked) \

@@ -10,7 +10,7 @@ from ..common.shapes import (
     COUNT, Flag, Integer, Listed, MOST_NUMBER, Maybe, Member, Number, OneOf, PID, PTS, Record,
     Rules, Schema, TIME, Text, definitions, named)
 from ..common.times import FRAMES_OF_A_DAY, time_of
-from ..formats.layout import text_of
+from ..formats.layout import layout_text
 from ..judging.causes import NAMES, Wording, counts_of
 from ..judging.faults import faults_of, words_of_subtitle
 from ..judging.part import Part
@@ -236,7 +236,7 @@ LAYOUT_LEFT = Record(
 LAYOUT = Record(
     "layout", "The layout that --layout auto found; text is empty where it is that without an "
     "option.",
-    Member("text", Text(), of=lambda choice: text_of(choice.layout)),
+    Member("text", Text(), of=lambda choice: layout_text(choice.layout)),
     Member("drawn", COUNT, "How many subtitles it draws as they were sent."),
     Member("found", COUNT, "How many were sent with their letters."),
     Member("items", Listed(LAYOUT_ITEM, MOST_ITEMS),
@@ -295,7 +295,7 @@ def trusted_of(known: Writing) -> Iterator[dict[str, Value]]:
             yield {"part": part.number, "from": time_of(begin), "to": time_of(end)}
 
 
-def causes_of(known: Writing) -> Iterator[dict[str, Value]]:
+def cause_rows(known: Writing) -> Iterator[dict[str, Value]]:
     """The causes of all parts, in the order of the subtitles."""
     for part in known.verdict.parts:
         if part.causes:
@@ -304,7 +304,7 @@ def causes_of(known: Writing) -> Iterator[dict[str, Value]]:
                 yield {"part": part.number, **wording.values(cause)}
 
 
-def subtitles_of(known: Writing) -> Iterator[dict[str, Value]]:
+def subtitle_rows(known: Writing) -> Iterator[dict[str, Value]]:
     """The subtitles of all parts, each with the number of frames after which it was whole."""
     for part in known.verdict.parts:
         if part.delays:
@@ -364,9 +364,9 @@ LISTS = (
            lambda known: faults_of(known.verdict)),
     Member("causes", Listed(LISTED_CAUSE, MOST_LISTED), "Of each subtitle whose content is refused "
            "(72) one cause, in the order of the subtitles; of the first one that is 63 and the last "
-           "one that is 74 too, where the recording goes on there.", causes_of),
+           "one that is 74 too, where the recording goes on there.", cause_rows),
     Member("subtitles", Listed(WHOLE, MOST_SUBTITLES),
-           "The subtitles of what was judged to its end.", subtitles_of))
+           "The subtitles of what was judged to its end.", subtitle_rows))
 LEFT_OUT = Record("left_out", "How many items of each list are left out, since there are so many.", *(
     Member(one.name, COUNT) for one in LISTS))
 

@@ -40,28 +40,28 @@ def cell_words(cell: Members | None) -> str:
     return f"{code} {cell['character']}" if cell["character"] else code
 
 
-def of_pair(verdict: Verdict) -> Known:
+def pair_columns(verdict: Verdict) -> Known:
     """The columns of a pair, which its faults have too; `line` is that of the verdict."""
     return {"stl": verdict.asked.stl, "recording": verdict.asked.recording,
             "verdict": verdict.word, "status": verdict.status, "reason": verdict.why_not,
             "line": verdict.line, "sentence": verdict.sentence,
-            **of_counts(verdict.counts and verdict.counts._asdict()),
-            **of_part([*map(words_of, verdict.parts)], None)}
+            **count_columns(verdict.counts and verdict.counts._asdict()),
+            **part_columns([*map(part_words, verdict.parts)], None)}
 
 
-def of_counts(counts: dict[str, Any] | None) -> Known:
+def count_columns(counts: dict[str, Any] | None) -> Known:
     """The columns of how many subtitles were judged, and how many are refused."""
     return {column: counts[name] for column, name in COUNTS.items()} if counts else {}
 
 
-def words_of(part: Part) -> dict[str, Any]:
+def part_words(part: Part) -> dict[str, Any]:
     """What is judged of the recording with a part, as its object has it."""
     pid, packet_size = part.stream or (None, None)
     return {"part": part.number, "pid": pid, "packet_size": packet_size,
             "pes": part.pes_name}
 
 
-def of_part(parts: Sequence[dict[str, Any]], number: int | None) -> Known:
+def part_columns(parts: Sequence[dict[str, Any]], number: int | None) -> Known:
     """The columns of what is judged with a part, by its number; with the only one where none is
     given."""
     found = [one for one in parts if one["part"] == number or number is None]
@@ -79,19 +79,19 @@ def of_object(known: dict[str, Any]) -> Known:
         return {"stl": known["name"], **pair}
     return {"stl": known["asked"]["stl"], "recording": known["asked"]["recording"], **pair,
             "line": known["line"], "sentence": known["sentence"],
-            **of_counts(known["subtitle_counts"]), **of_part(known["parts"], None)}
+            **count_columns(known["subtitle_counts"]), **part_columns(known["parts"], None)}
 
 
-def of_fault(verdict: Verdict, fault: Members) -> Known:
+def fault_columns(verdict: Verdict, fault: Members) -> Known:
     """The columns of a fault."""
-    return with_fault(of_pair(verdict), [*map(words_of, verdict.parts)], fault)
+    return with_fault(pair_columns(verdict), [*map(part_words, verdict.parts)], fault)
 
 
 def with_fault(pair: Known, parts: Sequence[dict[str, Any]], fault: Members) -> Known:
     """The columns of a fault of a pair with these parts."""
     subtitle, cause = fault["subtitle"], fault["cause"]
     known: Known = {
-        **pair, **of_part(parts, fault["part"]), **fault,
+        **pair, **part_columns(parts, fault["part"]), **fault,
         "subtitle": subtitle and subtitle["number"],
         "position": subtitle and subtitle["position"], "begin": subtitle and subtitle["begin"],
         "end": subtitle and subtitle["end"], "due": cell_words(fault["due"]),
@@ -105,7 +105,7 @@ def with_fault(pair: Known, parts: Sequence[dict[str, Any]], fault: Members) -> 
     return known
 
 
-def lines_of(rows: Iterable[Known]) -> Iterator[str]:
+def column_lines(rows: Iterable[Known]) -> Iterator[str]:
     """The names of the columns, then a line for each row, in which a column is empty where it does
     not apply."""
     text = io.StringIO()
@@ -131,10 +131,10 @@ def said(value: object) -> object:
 
 def table_lines(objects: Iterable[dict[str, Any]]) -> Iterator[bytes]:
     """The lines of many pairs and of their faults, by their objects, under one head."""
-    return (line.encode() for line in lines_of(row for known in objects for row in rows_of(known)))
+    return (line.encode() for line in column_lines(row for known in objects for row in column_rows(known)))
 
 
-def rows_of(known: dict[str, Any]) -> Iterator[Known]:
+def column_rows(known: dict[str, Any]) -> Iterator[Known]:
     """The columns of a pair, and of each of its faults, by its object."""
     pair = of_object(known)
     yield pair

@@ -110,7 +110,7 @@ def what_of(place: Place) -> str:
     return ", ".join(said) or "a break in the stream"
 
 
-def line_of(place: Place, first: int | None) -> str:
+def place_line(place: Place, first: int | None) -> str:
     """What a place is told as."""
     known = [pts for pts in (place.before, place.after) if pts is not None]
     names = " and ".join(map(str, known))
@@ -119,7 +119,7 @@ def line_of(place: Place, first: int | None) -> str:
     return (f"{where} PTS {names}, {times} on: " if known else "") + what_of(place)
 
 
-def first_of(lines: Sequence[str]) -> list[str]:
+def first_lines(lines: Sequence[str]) -> list[str]:
     """A line for each place; where they are many the first, and how many more there are."""
     more = len(lines) - TOLD
     return [*lines[:TOLD], *([f"and at {counted(more, 'more place')}"] if more > 0 else [])]
@@ -128,7 +128,7 @@ def first_of(lines: Sequence[str]) -> list[str]:
 def marks_told(packets: Packets) -> list[str]:
     """A line for each place with a mark, the last of them for all that are too many."""
     first = next(packets.pts(), None)
-    lines = [line_of(place, first) for place in places_of(packets) if place.mark is not None]
+    lines = [place_line(place, first) for place in places_of(packets) if place.mark is not None]
     if len(lines) > TOLD:
         lines[TOLD - 1:] = [f"and at {counted(len(lines) - TOLD + 1, 'more place')}"]
     return lines
@@ -253,7 +253,7 @@ def repeats_of(frames: Iterable[int], edges: Sequence[int]) -> list[int]:
                   == bisect.bisect_right(edges, second + NEAR))
 
 
-def measured(frames: Iterable[int], edges: Sequence[int]) -> int | None:
+def repeat_distance(frames: Iterable[int], edges: Sequence[int]) -> int | None:
     """The frames from one repeat to the next at most times, `None` where there are too few. Where
     each is sent twice in a row, most of the time lies between two pairs of them."""
     found = repeats_of(frames, edges)
@@ -404,7 +404,7 @@ def silences_in(row: Sequence[int], lost: int, steps: int) -> Iterator[Lull]:
 
 # ---- of a recording
 
-def rows_of(packets: Packets, inside: Range, origin: int, within: int) -> list[Sequence[int]]:
+def frame_rows(packets: Packets, inside: Range, origin: int, within: int) -> list[Sequence[int]]:
     """The frames of those of some PES packets that `check` hears: a row up to each mark, each one
     that is refused or has no frame, and wherever frames go back."""
     found, pts = [], list[int]()

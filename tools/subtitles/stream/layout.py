@@ -8,8 +8,8 @@ from typing import Iterable, Iterator, NamedTuple, Sequence, TypeVar
 from ..common.command_line import counted, quoted
 from ..formats.layout import (
     COLOURS, COLUMNS, DOUBLE, DRAWN_CODES, Layout, MOST_AFTER, MOST_BEFORE, MOST_SHIFT, NEW_LINE,
-    PLAIN, Refused, SPACE, START_BOX, WHITE, column_of, drawn, items_of, leading, letters_of_text,
-    letters_on, page_of, prepared, rows_of, start_of, text_of)
+    PLAIN, Refused, SPACE, START_BOX, WHITE, column_of, drawn, items_of, layout_text, leading,
+    letters_of_text, letters_on, page_rows, placed_rows, prepared, start_of)
 from ..formats.stl import Subtitle
 from ..formats.teletext import COMMON, NationalOption, cells_in
 from .receiver import Rows, Timeline
@@ -69,16 +69,16 @@ def raw_lines(text: bytes, option: NationalOption) -> list[bytes]:
     return [bytes(line) for line in lines]
 
 
-def letters(cells: bytes) -> bytes:
+def letter_cells(cells: bytes) -> bytes:
     """The cells of a line over 20."""
     return bytes(cell for cell in cells if cell > SPACE)
 
 
 def pairs_of(place: int, lines: Sequence[bytes], rows: Sequence[bytes]) -> list[SentLine]:
     """The lines with letters of a found subtitle; none where they are other lines on the page."""
-    said = [(number, line) for number, line in enumerate(lines) if letters(line)]
-    shown = [(number, row) for number, row in enumerate(rows, 1) if letters(row)]
-    if [letters(line) for _, line in said] != [letters(row) for _, row in shown]:
+    said = [(number, line) for number, line in enumerate(lines) if letter_cells(line)]
+    shown = [(number, row) for number, row in enumerate(rows, 1) if letter_cells(row)]
+    if [letter_cells(line) for _, line in said] != [letter_cells(row) for _, row in shown]:
         return []
     return [SentLine(place, number, line, row, sent)
             for (number, line), (row, sent) in zip(said, shown)]
@@ -184,7 +184,7 @@ def ways_to_prepare(pairs: Sequence[SentLine]) -> list[Layout]:
 
 def simplicity(layout: Layout) -> tuple[int, int, str]:
     """By this the simplest layout comes first."""
-    text = text_of(layout)
+    text = layout_text(layout)
     return text.count(",") + bool(text), len(text), text
 
 
@@ -203,7 +203,7 @@ def placed(layout: Layout, pairs: Sequence[SentLine], all_lines: Sequence[Sequen
     lines = [[prepared(stripped(line, layout.strip), layout) for line in one] for one in all_lines]
     for double, pack, last in itertools.product((False, True), repeat=3):
         shape = layout._replace(double=double, pack=pack, last=last)
-        rows = {pair.place: rows_of(lines[pair.place], found[pair.place].row, shape)
+        rows = {pair.place: placed_rows(lines[pair.place], found[pair.place].row, shape)
                 for pair in pairs}
         votes = Counter(pair.row - rows[pair.place][pair.number] for pair in pairs)
         for shift in {0, *most(votes, 2)}:
@@ -250,7 +250,7 @@ def justified(layout: Layout, pairs: Sequence[SentLine], found: Sequence[Sent]
 def draws(layout: Layout, one: Sent, option: NationalOption) -> bool:
     """Whether a layout draws a subtitle as it was sent."""
     lines = drawn(one.text, one.row, one.justify, layout, option)
-    return not isinstance(lines, Refused) and page_of(lines) == one.rows
+    return not isinstance(lines, Refused) and page_rows(lines) == one.rows
 
 
 def missed(layout: Layout, found: Sequence[Sent], option: NationalOption, most: int) -> int:
@@ -392,9 +392,9 @@ def with_items(layout: Layout, group: Iterable[LayoutItem], other: Layout) -> La
     return layout._replace(**{name: getattr(other, name) for name in SINGLE if name in names})
 
 
-def words_of(group: Iterable[LayoutItem], layout: Layout) -> str:
+def items_text(group: Iterable[LayoutItem], layout: Layout) -> str:
     """Items of a layout as a TEXT."""
-    return text_of(with_items(PLAIN, group, layout))
+    return layout_text(with_items(PLAIN, group, layout))
 
 
 def taken_from(layout: Layout) -> Group:
@@ -416,7 +416,7 @@ class Evidence:
     def page(self, one: Sent, layout: Layout) -> Page:
         """What a layout draws of a subtitle; None where it can't."""
         lines = drawn(one.text, one.row, one.justify, layout, self.option)
-        return None if isinstance(lines, Refused) else page_of(lines)
+        return None if isinstance(lines, Refused) else page_rows(lines)
 
     def pages(self, layout: Layout) -> list[Page]:
         """What it draws of each."""
@@ -431,7 +431,7 @@ class Evidence:
     def rest(self, layout: Layout, group: Iterable[LayoutItem], is_enough: bool = False) -> Rest:
         """On what some items of a layout rest; or on enough to say that they are seen, where it is
         enough to know that."""
-        less, text = without(layout, group), words_of(group, layout)
+        less, text = without(layout, group), items_text(group, layout)
         right = [page == one.rows for page, one in zip(self.pages(layout), self.found)]
         decides = told = 0
         for is_right in (False, True):
@@ -477,14 +477,14 @@ class Evidence:
         they draw most together."""
         count, found = self.count(layout), list[Left]()
         for group in gone:
-            other, text = with_items(layout, group, whole), words_of(group, whole)
+            other, text = with_items(layout, group, whole), items_text(group, whole)
             more = self.count(other) - count
             if more > 0 and all(one.text != text for one in found):
-                found.append(Left(text, more, text_of(other)))
+                found.append(Left(text, more, layout_text(other)))
         together = self.count(whole) - count
         if together > max((one.more for one in found), default=0):
             items = [item for group in gone for item in group]
-            found.append(Left(words_of(items, whole), together, text_of(whole)))
+            found.append(Left(items_text(items, whole), together, layout_text(whole)))
         return found
 
 
@@ -580,7 +580,7 @@ def otherwise(sent: Sequence[Sent], option: NationalOption) -> str:
     words = left_lines(choice)
     if choice.is_clear and choice.layout != PLAIN:
         words.insert(0, f"{words_of_layout(choice.layout)}: --layout "
-                        f"{quoted(text_of(choice.layout))} draws {counts_words(choice)}")
+                     f"{quoted(layout_text(choice.layout))} draws {counts_words(choice)}")
     return otherwise_words(words)
 
 
@@ -597,7 +597,7 @@ def left_lines(choice: Choice) -> list[str]:
 
 def layout_line(choice: Choice) -> str:
     """The layout that is taken, and on how many subtitles each of its items rests."""
-    text = text_of(choice.layout)
+    text = layout_text(choice.layout)
     rests = ", ".join(f"{one.text} rests on {one.decides}" for one in choice.items)
     return f"layout: {text or 'as it is without --layout'}, {counts_words(choice)}" + \
         f"; {rests}" * bool(rests)
@@ -609,24 +609,24 @@ def why_none(closest: Choice, choice: Choice, sent: Sequence[Sent], option: Nati
     if closest.found < FEWEST:
         return (f"--layout auto guesses nothing: {counted(closest.found, 'subtitle')} with their "
                 f"letters were found, and {FEWEST} say how a house draws")
-    text = text_of(closest.layout)
+    text = layout_text(closest.layout)
     lines = [f"--layout auto guesses nothing: the closest, {text or 'no --layout'}, draws "
              f"{counts_words(closest)}, and {TENTHS} in 10 have to be"]
     if closest.is_clear:
         lines = [f"--layout auto guesses nothing: what is seen in {FEWEST} subtitles at least, and "
-                 f"takes nothing from a page, {text_of(choice.layout) or 'no --layout'}, draws "
+                 f"takes nothing from a page, {layout_text(choice.layout) or 'no --layout'}, draws "
                  f"{counts_words(choice)}, and {TENTHS} in 10 have to be", *left_lines(choice)]
     layout = choice.layout if closest.is_clear else closest.layout
     other = next((one for one in sent if not draws(layout, one, option)), None)
     if other:
         found = drawn(other.text, other.row, other.justify, layout, option)
-        page = f"refused {found.number}" if isinstance(found, Refused) else rows_words(
-            page_of(found))
-        lines += [f"sent: {rows_words(other.rows)}", f"drawn: {page}"]
+        page = f"refused {found.number}" if isinstance(found, Refused) else cells_text(
+            page_rows(found))
+        lines += [f"sent: {cells_text(other.rows)}", f"drawn: {page}"]
     return "\n".join(lines)
 
 
-def rows_words(rows: Rows) -> str:
+def cells_text(rows: Rows) -> str:
     """The rows of a page that have cells: codes in hexadecimal, letters as they are."""
     found = []
     for number, row in enumerate(rows, 1):

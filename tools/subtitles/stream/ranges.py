@@ -102,7 +102,7 @@ def cut_of(packets: Packets, begin: int, end: int, origin: int, every: int | Non
         kept_last = frame
         if has_end is False and frame >= end:
             has_end = HEADER in does if not within else frame >= end + within or \
-                is_over(own, first)
+                is_page_over(own, first)
             high = frame if has_end and not within else high
     return made(own, first, kept_to, kept_last, read or packets.count, came, has_end, False)
 
@@ -146,7 +146,7 @@ def begin_of(own: list[One], begin: int, within: int) -> int | None:
     return found if found is not None else now.number if HEADER in now.does else None
 
 
-def is_over(own: list[One], first: int) -> bool:
+def is_page_over(own: list[One], first: int) -> bool:
     """Whether the page is blank, and has ended where it did before."""
     taken = [one for one in own if one.number >= first]
     return BLANK in taken[-1].does and not (
@@ -261,7 +261,7 @@ def announced_in(one: ProgramMap, page: Page) -> set[int]:
     return {pid for pid, pages in one.pages.items() if any(known.page == page for known in pages)}
 
 
-def words_of(page: str, before: int, pid: int) -> str:
+def move_words(page: str, before: int, pid: int) -> str:
     """What the PMT says where a page moves from one PID to another."""
     return f"the PMT moves page {page} from {pid_name(before)} to {pid_name(pid)}"
 

@@ -49,7 +49,7 @@ def control_bits(header: bytes) -> list[str]:
 
 
 @functools.lru_cache(maxsize=1 << 12)
-def control_words(header: bytes) -> str:
+def control_text(header: bytes) -> str:
     """The same, or that there are none."""
     return " ".join(control_bits(header)) or "none"
 
@@ -59,7 +59,7 @@ def national_option(header: bytes) -> int:
     return header[7] >> 1
 
 
-def lines_of(rows: Rows) -> list[str]:
+def printed_rows(rows: Rows) -> list[str]:
     """The rows as `listen` prints them."""
     return [f"row {number:02} |{row.translate(PRINTED).decode()}|"
             for number, row in enumerate(rows, 1) if row != BLANK_PAGE[0]
@@ -307,14 +307,14 @@ class Timeline(Order, Held):
         is_erased = any(ERASE in run.does for run in self.packets.inside(0, first - 1))
         earlier = [texts for number, texts in self.packets.held if number < first]
         if earlier:
-            self.told = rows_of(earlier[-1], is_erased)
+            self.told = held_rows(earlier[-1], is_erased)
         stray: Texts = ()
         for run in self.packets.inside(first, last):
             is_erased = is_erased or ERASE in run.does
             stray = strays.get(run.first, stray)
             is_told = run.first in held
             if is_told:
-                self.told = rows_of(held[run.first], is_erased)
+                self.told = held_rows(held[run.first], is_erased)
             if run.pts is None or run.fault:
                 self.pass_over(run, is_told)
                 continue
@@ -415,7 +415,7 @@ def part_of(run: Run, frames: Sequence[int], begin: int, end: int) -> HeardRun:
                  frames[begin:end])
 
 
-def rows_of(texts: Texts, is_erased: bool) -> Rows:
+def held_rows(texts: Texts, is_erased: bool) -> Rows:
     """A page by the rows that are told; of others nobody sent a cell before the page was erased."""
     rows = list(BLANK_PAGE if is_erased else OLD_PAGE)
     for row, cells in texts:

@@ -215,7 +215,7 @@ class Video:
     is_cut: bool = False
 
 
-def line_of(packets: Packets, programmes: Iterable[ProgramMap]) -> str:
+def pid_line(packets: Packets, programmes: Iterable[ProgramMap]) -> str:
     """What is announced of a PID, and sent."""
     announced = dict.fromkeys(f"{page.line()} in programme {one.number}" for one in programmes
                               for page in one.pages.get(packets.pid, []))
@@ -383,7 +383,7 @@ class Survey:
 
     def lines(self) -> list[str]:
         """A line for each PID with Teletext."""
-        return [line_of(self.by_pid[pid], self.programmes_of(pid)) for pid in sorted(self.by_pid)]
+        return [pid_line(self.by_pid[pid], self.programmes_of(pid)) for pid in sorted(self.by_pid)]
 
     def refuse(self, status: int) -> None:
         """`Stop` where the program could not tell it all."""
@@ -392,8 +392,8 @@ class Survey:
                        f"{status}")
 
 
-def words_of(program: str, name: str, page: Page, pid: int | None = None,
-             packet_size: int | None = None) -> list[str]:
+def survey_call(program: str, name: str, page: Page, pid: int | None = None,
+                packet_size: int | None = None) -> list[str]:
     """The call, of a file or of standard input."""
     size = [] if packet_size is None else ["--packet-size", str(packet_size)]
     return [program, "survey", "--page", page_name(*page), *stream_words(pid), *size, "--", name]
@@ -403,7 +403,7 @@ def survey(program: str, name: str, page: Page, pid: int | None = None,
            packet_size: int | None = None, look: Callable[[], None] = lambda: None) -> Survey:
     """A recording that is a file, or standard input; after each line there is a look around."""
     found = Survey()
-    words = words_of(program, name, page, pid, packet_size)
+    words = survey_call(program, name, page, pid, packet_size)
     with subprocess.Popen(words, stdout=subprocess.PIPE, encoding="ascii",
                           errors="replace") as process:
         assert process.stdout

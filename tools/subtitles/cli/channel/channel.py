@@ -17,9 +17,9 @@ from ...common.files import Inputs, temporary_folder
 from ...common.times import FRAMES_OF_A_DAY, TICKS, time_of
 from ...judging.status import NOT_JUDGED, of_all
 from ...recording.feed import Ending, Stall
-from ...request.commands import Progress, Typed
-from ...request.request import AUTO, AUTO_OF_FEED, Asked, LAYOUT, Unclear
-from ...results.objects import ENDING, Row, in_order, row_of, rows_in, unjudged
+from ...request.commands import CommandWords, Progress
+from ...request.request import AUTO, AUTO_OF_FEED, LAYOUT, Request, Unclear
+from ...results.objects import ENDING, Row, in_order, row_of_object, rows_in, unjudged
 from .. import collection, single
 from ..single import locking, refuse_files_of_all
 from . import results
@@ -50,7 +50,7 @@ class Channel:
                                self.call_command)
         self.queue = Queue(Planned(words.channel, words, Journal(os.path.join(folder, "list")),
                                    self.results.result), self.patience)
-        self.hearing = Hearing(Typed(called, words.program).program_path, words.pid,
+        self.hearing = Hearing(CommandWords(called, words.program).program_path, words.pid,
                                self.segments.begun(), self.segments.before)
         self.machine = results.Machine(words.out)
         self.running: OnAir | None = None
@@ -272,12 +272,12 @@ class Channel:
                 lambda into: self.judge_in(running, asked, into), name, parts)
         over = min(running.end, self.now)
         self.running = None
-        hint = row_of(known, name).hint
+        hint = row_of_object(known, name).hint
         more = (f"; {hint}" if hint else "") + f"; {FITTED_SHORT}" * running.is_fitted
         self.end(name, known, folder, over, more)
         self.queue.wait_anew(over, over)
 
-    def judge_in(self, running: OnAir, asked: Asked, folder: str) -> int:
+    def judge_in(self, running: OnAir, asked: Request, folder: str) -> int:
         """Judges what is read on standard input; what is written has its place in a folder now."""
         tempfile.tempdir = folder
         words = argparse.Namespace(**{**vars(self.words), **vars(asked)})
@@ -287,7 +287,7 @@ class Channel:
         if words.out is None:
             words.here = None
             words.json = os.path.join(folder, words.name + ENDING)
-        return single.judge(words, self.called)
+        return single.judge_call(words, self.called)
 
     def unjudged(self, name: str, reason: str, is_open: bool = False) -> None:
         """A programme is not judged."""
@@ -297,7 +297,7 @@ class Channel:
             ) -> None:
         """A programme has its result: kept, told, and written where it is wanted."""
         self.results.keep(name, known, folder, over)
-        row = self.rows[name] = row_of(known, name)
+        row = self.rows[name] = row_of_object(known, name)
         self.verdicts.append(row.verdict)
         line = row.line.splitlines()[0] if row.line else row.verdict
         self.say(f"{name}  " + (line + more if row.is_judged else f"{NOT_JUDGED}: {line}"))
@@ -366,7 +366,7 @@ class Channel:
 # A call that judges a channel: where its files are, and how it ends.
 
 
-def judge(words: argparse.Namespace, called: str) -> int:
+def judge_channel(words: argparse.Namespace, called: str) -> int:
     """Judges the programmes of a channel until the feed has ended, or a signal ends it."""
     if words.passed_on.get(LAYOUT) == AUTO:
         raise Stop(AUTO_OF_FEED)

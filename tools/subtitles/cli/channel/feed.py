@@ -10,11 +10,11 @@ from ...clock.alignment import Edge, REPEATED, Shown, edges_of
 from ...common.command_line import Stop, counted, pid_name
 from ...common.times import (
     ALL_DAY, Between, EARLY, FRAMES_A_SECOND, TICKS, pts_of, ticks_between, time_of, wrapped)
-from ...formats.stl import letters_on_page, readable, stl_bytes, times_of
+from ...formats.stl import letters_on_page, readable, stl_bytes, subtitle_times
 from ...formats.teletext import Page, page_name
 from ...recording.feed import Listening, SOON
-from ...recording.recording import refuse
-from ...request.request import Asked
+from ...recording.recording import refuse_stream
+from ...request.request import Request
 from ...stream import ranges
 from ...stream.gaps import Place, hole_of, overlap, what_of
 from ...stream.survey import HEADER, PES, Packets, Run, Survey
@@ -142,7 +142,7 @@ class Awaited:
     def __init__(self, stl: str, option: str, since: int, until: int, within: int = 0,
                  between: Between = ALL_DAY) -> None:
         self.room = TICKS * within
-        shown = list(subtitles_of(stl, option, between))
+        shown = list(subtitles_between(stl, option, between))
         self.first, self.last = span_of(shown, stl)
         self.edges: Sequence[Edge] = edges_of(shown)
         self.since = self.looked = since  # those before the second were looked at
@@ -196,7 +196,7 @@ class Timed:
 
     def __init__(self, stl: str, option: str, origin: int, since: int,
                  between: Between = ALL_DAY) -> None:
-        self.first, self.last = span_of(list(subtitles_of(stl, option, between)), stl)
+        self.first, self.last = span_of(list(subtitles_between(stl, option, between)), stl)
         self.origin, self.since = origin, since
 
     def midnight(self, clock: FeedClock) -> int | None:
@@ -214,10 +214,10 @@ def span_of(shown: Sequence[Shown], stl: str) -> tuple[int, int]:
     return min(one.begin for one in shown), max(one.end for one in shown)
 
 
-def subtitles_of(stl: str, option: str, between: Between) -> Iterator[Shown]:
+def subtitles_between(stl: str, option: str, between: Between) -> Iterator[Shown]:
     """The subtitles of a file that come in some frames, and go within the day."""
     for one in readable(stl, stl_bytes(stl)):
-        begin, end = times_of(one)
+        begin, end = subtitle_times(one)
         if begin is not None and end is not None and begin < end and between.has(begin):
             yield Shown(begin, end, (one.row, one.justify, one.text),
                         letters_on_page(one.text, option))
@@ -459,7 +459,7 @@ class Heard(Survey):
         before, self.pid = self.pid, ranges.way_of(self.programmes, self.page, self.pid or 0)[-1]
         if self.pid == before:
             return
-        self.moved = ranges.words_of(page_name(*self.page), before or 0, self.pid)
+        self.moved = ranges.move_words(page_name(*self.page), before or 0, self.pid)
         self.moves.append(self.clock.now)
         alive = self.silence.alive
         for run in self.packets.runs:
@@ -509,7 +509,7 @@ class Hearing:
         self.calls: list[Listening] = []
         self.anew = 0
 
-    def of(self, asked: Asked) -> Heard:
+    def of(self, asked: Request) -> Heard:
         """What is heard of the page of a programme."""
         return self.by_page[asked.page]
 
@@ -612,7 +612,7 @@ class Hearing:
     def refuse(self, name: str) -> None:
         """`Stop` or `Unclear` where the feed has ended since it could not be read on."""
         heard = next(iter(self.by_page.values()))
-        refuse(heard, name)
+        refuse_stream(heard, name)
         self.calls[0].refuse(heard.packets)
 
     def close(self) -> None:

@@ -14,10 +14,10 @@ from typing import Any, Callable, Sequence
 from ...common.command_line import Stop, counted, ended, error_line
 from ...common.files import Inputs, new_name, result_file
 from ...request.commands import CHANNEL
-from ...results.objects import ENDING, Row, left_by_call, object_at, put, unjudged, value_at
+from ...results.objects import ENDING, Row, left_by_call, object_at, put_object, unjudged, value_at
 from ...results.schema import FORMAT, misfit
 from ..batch import Forked, INPUT, beside, ended_of, signals_held
-from ..single import now, refuse
+from ..single import now, refuse_file
 from .feed import SECOND
 from .recorder import Journal, Read, Segments, bytes_of, numbers_in, size_in
 
@@ -96,7 +96,7 @@ class Results:
                 folder = new_name(self.folder, WORK)
                 os.mkdir(folder)
             if "asked" not in known:
-                put(os.path.join(folder, name + ENDING), known)
+                put_object(os.path.join(folder, name + ENDING), known)
             self.journal.add(name, over)
             os.makedirs(self.done, exist_ok=True)
             shutil.rmtree(os.path.join(self.done, name), ignore_errors=True)
@@ -128,8 +128,8 @@ class Results:
         folder, path = os.path.join(self.done, name), os.path.join(self.out, name + ENDING)
         os.makedirs(self.out, exist_ok=True)
         if name in self.kept:
-            refuse(path, self.inputs)
-            put(path, self.kept.pop(name))
+            refuse_file(path, self.inputs)
+            put_object(path, self.kept.pop(name))
         else:
             for file in sorted(os.listdir(folder), key=lambda one: one == name + ENDING):
                 move(os.path.join(folder, file), os.path.join(self.out, file), self.inputs)
@@ -153,7 +153,7 @@ def result_at(path: str) -> dict[str, Any] | None:
 
 def move(source: str, target: str, inputs: Inputs) -> None:
     """Gives a file its place in the folder of results; on another disk it is copied."""
-    refuse(target, inputs)
+    refuse_file(target, inputs)
     try:
         os.replace(source, target)
     except OSError as error:

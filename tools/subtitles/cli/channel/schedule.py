@@ -12,7 +12,7 @@ from ...common.times import FRAMES_OF_A_DAY, TICKS, time_of
 from ...recording.feed import Ending
 from ...request.commands import NamesOfList
 from ...request.request import (
-    AUTO_OF_FEED, Asked, CHANNEL_LINE, add_pair_options, asked_of, pair_options)
+    AUTO_OF_FEED, CHANNEL_LINE, Request, add_pair_options, pair_options, request_of)
 from ...results.objects import has_had_its_turn
 from ..main import refuse_options
 from .feed import Awaited, Heard, Hearing, MINUTE, Timed
@@ -31,7 +31,7 @@ class Programme:
 
     name: str
     line: Line
-    asked: Asked | None
+    asked: Request | None
     reason: str | None
     has_ended: bool = False
 
@@ -180,7 +180,7 @@ class Planned:
             if has_had_its_turn(known, asked):
                 return Programme(name, line, asked, reason, True)
 
-    def read_line(self, line: Line) -> tuple[Asked | None, str | None]:
+    def read_line(self, line: Line) -> tuple[Request | None, str | None]:
         """What a line asks, or why that is nothing."""
         fault = line.fault
         try:
@@ -190,13 +190,13 @@ class Planned:
             fault = str(reason)
         return None, f"{self.path}, line {line.number}: {fault}"
 
-    def asked_of(self, line: list[str]) -> Asked:
+    def asked_of(self, line: list[str]) -> Request:
         """What the words of a line ask."""
         refuse_options(line_parser(), line, CHANNEL_LINE)
         parser = line_parser()
         parser.set_defaults(recording="-", **{name: getattr(self.defaults, name)
                                               for name in pair_options()})
-        asked = asked_of(parser.parse_args(line))
+        asked = request_of(parser.parse_args(line))
         if asked.is_layout_sought:
             raise Stop(AUTO_OF_FEED)
         return asked
@@ -234,7 +234,7 @@ class Waiting:
         self.reason = programme.reason
 
     @property
-    def asked(self) -> Asked:
+    def asked(self) -> Request:
         """What is asked of it, where it is a programme."""
         assert self.programme.asked
         return self.programme.asked
@@ -344,7 +344,7 @@ class OnAir:
     of its first TCI and its last TCO."""
 
     programme: Programme
-    asked: Asked
+    asked: Request
     midnight: int
     first: int
     last: int
