@@ -14,7 +14,7 @@ from typing import Any, Callable, NamedTuple, Sequence
 from developing.pes import data_field, pes_packet, pts_in, teletext_packets
 from developing.stl import gsi_block, subtitle_blocks
 from subtitles.cli.main import parser_of
-from subtitles.cli.single import Files, claimed, draw, end_pair, judge_pair, now
+from subtitles.cli.single import Files, PairCall, claimed, draw, end_pair, judge_pair, now
 from subtitles.common.program import MadeWith
 from subtitles.common.times import CLOCK, TICKS
 from subtitles.formats.stl import NEW_LINE
@@ -93,7 +93,8 @@ def judged_by(program: str, *words: str, heard: Heard | None = None) -> Judged:
     with tempfile.TemporaryDirectory() as folder, claimed(known.out, "one"):
         names = Names("one", folder, known.out)
         names.give(asked.stl)
-        files = Files(known, verdict, typed, names)
+        files = Files(PairCall(program, known.out, known.is_kept, known.json, known.csv,
+                               known.junit), verdict, typed, names)
         verdict.found = found(asked)
         pair = Pair(verdict, typed, names, heard, True)
         if known.out:
@@ -144,9 +145,9 @@ def late(by: int, first: int = 0, last: int = 1 << 40) -> Change:
     return lambda sent: [(pts + by * TICKS * (first <= pts <= last), some) for pts, some in sent]
 
 
-def in_pipe(case: Case, data: bytes) -> str:
+def in_pipe(case: Case, data: bytes, path: str = "") -> str:
     """A pipe into which somebody writes these bytes."""
-    path = case.path(f"feed{len(os.listdir(case.folder))}")
+    path = path or case.path(f"feed{len(os.listdir(case.folder))}")
     os.mkfifo(path)
     threading.Thread(target=send, args=(path, data), daemon=True).start()
     return path

@@ -123,9 +123,11 @@ class Told(Channel):
                ) -> tuple[str, dict[str, Any]]:
         """Stands for another process that judges."""
         folder = tempfile.mkdtemp(dir=self.folder, prefix=WORK)
-        with mock.patch.object(single, "judge_call") as judge, mock.patch.object(tempfile, "tempdir"):
+        with mock.patch.object(single, "judge_request") as judge, \
+                mock.patch.object(tempfile, "tempdir"):
             call(folder)
-        return folder, Judging(judge.call_args.args[0]).leave(folder)
+        asked, called, _ = judge.call_args.args
+        return folder, Judging(argparse.Namespace(**vars(asked), **called._asdict())).leave(folder)
 
     def say(self, line: str) -> None:
         self.said.append(line)

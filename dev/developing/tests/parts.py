@@ -2,19 +2,22 @@
 from __future__ import annotations
 
 import argparse
+import itertools
 import os
 from typing import Sequence
 
 from developing.pes import packet
+from subtitles.cli.main import main
 from subtitles.clock.start import Clock, Found, GIVEN
-from subtitles.common.command_line import Words
+from subtitles.common.command_line import Words, ended
 from subtitles.common.markup import Value, joined
+from subtitles.common.program import TOP
 from subtitles.formats.listing import FaultLine, Meaning, fault_of_line
 from subtitles.formats.teletext import Page
 from subtitles.judging.check import Answer
 from subtitles.judging.part import Part
 from subtitles.request.commands import Names
-from subtitles.request.request import Request, add_pair_options, request_with
+from subtitles.request.request import Request, add_options, option_words, request_with
 from subtitles.stream.receiver import Timeline
 from subtitles.stream.survey import Packets, survey
 from .bench import Case
@@ -63,9 +66,20 @@ def part_with(begin: int | None, end: int | None, origin: int | None,
 def asked_for(stl: str, recording: str | None, *words: str) -> Request:
     """What is asked of two files, by the words of a command line."""
     parser = Words("")
-    add_pair_options(parser)
+    add_options(parser)
     options: argparse.Namespace = parser.parse_args(words)
     return request_with(stl, recording, options)
+
+
+def call_words(asked: Request) -> list[str]:
+    """A pair as the words of a call."""
+    return [*itertools.chain(*option_words(asked)), "--", asked.stl,
+            *([asked.recording] if asked.recording else [])]
+
+
+def qc(words: Sequence[str]) -> int:
+    """What tools/qc does with these words; its status."""
+    return ended(lambda line: main("", os.path.join(TOP, "tools", "qc"), line), words)
 
 
 def packets_told(case: Case, data: bytes, page: Page = PAGE) -> Packets:

@@ -20,11 +20,12 @@ import sys
 import tempfile
 from typing import NamedTuple
 
-from subtitles.cli.batch import Forked, ended_of, qc
+from subtitles.cli.batch import Forked, ended_of
 from subtitles.cli.single import is_own
 from subtitles.common.program import TOP
 from subtitles.results.objects import object_at
 from .bench import SECONDS
+from .parts import qc
 
 WATCHED = 3.0  # seconds for which a folder is watched
 OLD = '{"format": 5, "verdict": "not judged", "status": 2, "name": "old", "reason": "old"}\n'

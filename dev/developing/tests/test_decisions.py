@@ -9,7 +9,7 @@ from dataclasses import replace
 
 from developing.pes import pes_packet
 from developing.stl import gsi_block, tti_block
-from subtitles.cli.batch import Sighting, Watch, call_words, of_folder
+from subtitles.cli.batch import Sighting, Watch, of_folder
 from subtitles.clock.origin import Agreement, Origin
 from subtitles.clock.start import Clock, Found, RECORDING, START
 from subtitles.common.command_line import Words
@@ -20,13 +20,13 @@ from subtitles.judging.part import parted, refuse_others
 from subtitles.judging.verdict import frames_until
 from subtitles.recording.recording import of_page
 from subtitles.request.commands import CommandWords
-from subtitles.request.request import Unclear, add_pair_options, request_of_line
+from subtitles.request.request import Unclear, add_options, request_of_line
 from subtitles.results.objects import hint_in
 from subtitles.results.schema import ASKED, total
 from subtitles.stream.receiver import BLANK_PAGE, FEW, Rows, Timeline
 from subtitles.stream.survey import Announced, Packets
 from .bench import Case
-from .parts import CLOSING, HEADER, PAGE, asked_for, packets_told, row, timeline_of
+from .parts import CLOSING, HEADER, PAGE, asked_for, call_words, packets_told, row, timeline_of
 
 
 class Objects(Case):
@@ -60,7 +60,7 @@ class Objects(Case):
                    ["--start", "10:00:00:00"], ["--severity", "file"], ["--no-complete"],
                    ["--allow-lost"]]
         parser = Words("")
-        add_pair_options(parser)
+        add_options(parser)
         defaults = parser.parse_args([])
         every = [word for one in options if one[0] != "--start" for word in one]
         for words in [list[str](), *options, every]:
@@ -171,7 +171,7 @@ def subtitle(index: int, begin: int) -> Subtitle:
 def defaults() -> argparse.Namespace:
     """The options of a call that has none."""
     parser = Words("")
-    add_pair_options(parser)
+    add_options(parser)
     return parser.parse_args([])
 
 

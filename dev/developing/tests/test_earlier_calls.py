@@ -63,9 +63,10 @@ class EarlierCalls(Case):
         none = dataclasses.replace(asked, severity=None)
         self.must("no severity", not is_current(known, none, PROGRAM))
         names = {field.name for field in dataclasses.fields(asked)}
-        self.must("all words", names == {*OTHERS, "stl", "recording", "severity", "passed_on",
+        self.must("all words", names == {*OTHERS, "stl", "recording", "severity", "from_time",
+                                             "to_time", "layout", "is_open", "may_keep", "pace_word",
                                              "found_layout", "kept_stl", "language"},
-                  names)  # those that are passed on: test_options
+                  names)  # those that are left out here: test_options
 
     def test_object_of_another_program(self) -> None:
         asked, known = self.known()

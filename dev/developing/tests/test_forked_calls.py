@@ -10,18 +10,19 @@ import time
 from typing import Any, Callable
 from unittest import mock
 
+from subtitles.cli.single import PairCall
 from subtitles.cli import batch
 from subtitles.cli.batch import (
-    Calls, Forked, Item, all_rows, call_words, ended_of, kept_rows, progress_line, qc, signals_held)
+    Calls, Forked, Item, all_rows, ended_of, kept_rows, progress_line, signals_held)
 from subtitles.cli.main import parser_of
 from subtitles.common.program import about_program
 from subtitles.request.commands import CommandWords
-from subtitles.request.request import request_of
+from subtitles.request.request import Request, request_of
 from subtitles.results.objects import Row, found, object_at, unjudged
 from subtitles.results.schema import ASKED
 from .bench import SECONDS, Case
 from .channels import until
-from .parts import asked_for
+from .parts import asked_for, call_words, qc
 from .results import result
 from .test_many_pairs import row
 
@@ -62,13 +63,16 @@ class Judged(Case):
             self.write(verdict, json.dumps(result(verdict, notes=TOLD)).encode())
         self.typed = CommandWords("tools/qc", self.bench.program)
 
-        def execute(words: list[str]) -> int:
+        def execute(asked: Request, call: PairCall) -> int:
+            kept = ["-o", call.out] if call.out else ["--json", call.json or ""]
+            words = [f"--name={call.name}", *["--claimed"] * call.is_claimed, *kept,
+                     *["--keep"] * call.is_kept, "-p", call.program or "", *call_words(asked)]
             for file in os.listdir("/proc/self/fd"):  # that it goes on is known by one of them
                 with contextlib.suppress(OSError):
                     os.set_inheritable(int(file), True)
             os.execv(path, [path, *words])
 
-        asking = mock.patch.object(batch, "qc", execute)
+        asking = mock.patch.object(batch, "judge_alone", execute)
         asking.start()
         self.addCleanup(asking.stop)
         os.mkdir(self.path("temporary"))
@@ -150,7 +154,7 @@ class Judged(Case):
             ("a signal", lambda: signal.raise_signal(signal.SIGTERM), "it did not end by itself")]
         for name, does, reason in kinds:
             calls = Calls(self.typed, self.path("temporary"), self.path("out"), False)
-            with mock.patch.object(batch, "qc", lambda words: does()):
+            with mock.patch.object(batch, "judge_alone", lambda *_: does()):
                 calls.begin(self.item("accepted", "dies"))
             calls.begin(self.item("accepted", "other"))
             rows: dict[str, Row] = {}

@@ -34,7 +34,6 @@ VALUES = {"--page": "801", "--every": "25", "--within": "1", "--option": "german
           "--to": "00:00:02:00", "--layout": "fit", "--pace": "9", "--spool": "feed",
           "--on-result": "true"}
 MANUAL = os.path.join(TOP, "docs", "manual", "qc.md")
-HIDDEN = {"--name", "--claimed", "--fitted", "--cut"}  # of calls that other ones make
 ASKING = {"--batch", "--watch", "--channel", "--collect", "--help", "-h", "--version"}
 
 
@@ -127,7 +126,7 @@ class Modes(Case):
     def test_names_all_options(self) -> None:
         """The table has each option that the parser has."""
         names = {name for action in parser_of("")._actions for name in action.option_strings}
-        self.must("all", names - HIDDEN - ASKING == set(TAKEN_BY), names ^ set(TAKEN_BY))
+        self.must("all", names - ASKING == set(TAKEN_BY), names ^ set(TAKEN_BY))
 
     def test_modes_of_words(self) -> None:
         """What is asked for, by the words; two at once are refused."""

@@ -68,11 +68,10 @@ OWN: dict[str, dict[str, object]] = {
     "cli.channel.results": {"HOOK_SECONDS": 10, "CHANNEL_FORMAT": 1, "EACH": 10.0,
                             "JUDGING_SECONDS": 60.0, "SLOWEST": 2_000_000},
     "cli.channel.channel": {"AROUND": 50, "OVERLAP": 54_000_000, "PATIENCE": 1.0, "LOOK": 0.05}}
-NONE = ("batch", "channel", "collect", "csv", "found_layout", "here", "json", "junit", "jobs",
-        "line", "name", "on_result", "origin", "out", "pes", "pid", "program", "recording", "severity",
-        "spool", "start", "stl", "watch")
-FALSE = ("is_claimed", "is_cut", "is_fitted", "is_kept", "is_loss_allowed", "is_resumed",
-         "is_strict")
+NONE = ("batch", "channel", "collect", "csv", "from_time", "json", "junit", "jobs",
+        "layout", "line", "on_result", "origin", "out", "pace_word", "pes", "pid", "program", "recording",
+        "severity", "spool", "start", "stl", "to_time", "watch")
+FALSE = ("is_kept", "is_loss_allowed", "is_open", "is_resumed", "is_strict", "may_keep")
 
 
 class Numbers(unittest.TestCase):
@@ -87,4 +86,4 @@ class Numbers(unittest.TestCase):
         self.assertEqual(vars(parser_of("").parse_args([])), {
             **dict.fromkeys(NONE), **dict.fromkeys(FALSE, False), "page": (0, 0x88), "every": 250,
             "option": "english", "is_complete": True, "within": 0, "breaks": 0, "stall": 10,
-            "settled": 5, "patience": 60, "passed_on": {}})
+            "settled": 5, "patience": 60})

@@ -11,7 +11,7 @@ from typing import Any, Sequence
 
 from subtitles.cli import collection
 from subtitles.cli.single import (
-    Files, Output, clear, end_pair, now, pair_title, refuse_outputs, say_verdict)
+    Files, Output, PairCall, clear, end_pair, now, pair_title, refuse_outputs, say_verdict)
 from subtitles.clock.start import Clock, FITTED, Found, GIVEN, RECORDING
 from subtitles.common.program import about_program
 from subtitles.judging.check import Answer
@@ -143,8 +143,7 @@ class Writes(Case):
         self.write("one.pes", b"")
 
     def files(self, verdict: Verdict, **words: Any) -> Files:
-        known = argparse.Namespace(json=None, csv=None, junit=None, out=None, is_kept=False)
-        vars(known).update(words)
+        known = PairCall(None, **words)
         names = Names("one", self.folder, known.out)
         return Files(known, verdict, CommandWords("tools/qc", self.bench.program), names)
 
@@ -165,10 +164,9 @@ class Writes(Case):
         made.parts = [self.part(1, lines)]
         return made
 
-    def refused(self, asked: Request, **words: str) -> str:
+    def refused(self, asked: Request, **words: Any) -> str:
         """Why the outputs of a call for a pair are refused."""
-        known = argparse.Namespace(json=None, csv=None, junit=None)
-        vars(known).update(words)
+        known = PairCall(None, **words)
         return refused(lambda: refuse_outputs(known, asked, words.get("out"), "one"))
 
     def test_before(self) -> None:

@@ -8,30 +8,31 @@ import re
 import sys
 from typing import Any
 
-from subtitles.cli.batch import call_words
 from subtitles.common.command_line import Words
 from subtitles.common.shapes import Flag, Text
 from subtitles.request.commands import CommandWords, again
 from subtitles.request.request import (
-    ALONE, CHANNEL_LINE, JUDGED, LINE, OPTIONS, Option, add_pair_options, option_words as
+    ALONE, CHANNEL_LINE, JUDGED, LINE, OPTIONS, Option, add_options, option_words as
     options_of, plain, request_of_line, request_with)
 from subtitles.results.schema import ASKED
 from .. import DEV
 from .bench import Case
-from .parts import asked_for
+from .parts import asked_for, call_words
 
 # Adds two options to the table before anything is made of it, and prints what then is made.
 ADDED = """
-import json, sys, developing
+import dataclasses, json, sys, developing
 from subtitles.common.shapes import Flag, Maybe, Text
 from subtitles.request import request as options
 options.OPTIONS = (*options.OPTIONS, options.Option(
-    "--new-one", "K", "a [new](x.md) `one`", options.JUDGED, "`none`", of_check=None, of_pages=True,
+    "--new-one", "K", "a [new](x.md) `one`", options.JUDGED, "`none`", "new_one", of_check=None, of_pages=True,
     shape=Maybe(Text()), said="What is new."), options.Option(
-    "--newer", None, "it is newer", options.PAIRS, default=False, of_check=False, shape=Flag()))
+    "--newer", None, "it is newer", options.PAIRS, "", "newer", default=False, of_check=False, shape=Flag()))
+options.Request = dataclasses.make_dataclass("Request", [
+    ("new_one", object, None), ("newer", bool, False)], bases=(options.Request,))
 from developing import pages
 from developing.tests.test_channel_tables import defaults
-from subtitles.cli.batch import call_words
+from developing.tests.parts import call_words
 from subtitles.cli.channel.schedule import Planned
 from subtitles.cli.main import parser_of
 from subtitles.results.schema import ASKED
@@ -131,7 +132,7 @@ class Rows(Case):
         names = [one.name for one in OPTIONS]
         self.must("all", {*names} == {"--complete", *(name for name, _, _ in ROWS)})
         parser = Words("")
-        add_pair_options(parser)
+        add_options(parser)
         plain_words = parser.parse_args([])
         without = ASKED.made(asked_for("one.stl", "one.pes"))
         for name, value, member in ROWS:

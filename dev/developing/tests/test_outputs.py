@@ -199,9 +199,7 @@ class Members(unittest.TestCase):
         for asked in (own, dataclasses.replace(own, is_loss_allowed=False, is_strict=True)):
             self.assertEqual(ASKED.made(asked), {**words, "strict": asked.is_strict,
                                                   "allow_lost": not asked.is_strict})
-        drawn = dataclasses.replace(own, passed_on={
-            "--layout": "auto", "--open": "", "--to": "10:00:00:00"},
-            found_layout="fit")
+        drawn = dataclasses.replace(own, layout="auto", is_open=True, found_layout="fit")
         self.assertEqual(ASKED.made(drawn), {**words, "layout": "auto", "open": True})
 
     def test_part(self) -> None:

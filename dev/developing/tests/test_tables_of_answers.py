@@ -10,7 +10,7 @@ from subtitles.formats.listing import fault_of_line
 from subtitles.formats.stl import SubtitleFile
 from subtitles.judging.check import Answer
 from subtitles.judging.subtitles import AT_MIDNIGHT, falls_at_midnight, midnight_words
-from subtitles.request.request import Unclear, add_pair_options, request_of_line
+from subtitles.request.request import Unclear, add_options, request_of_line
 from .bench import Case
 from .parts import asked_for
 
@@ -135,7 +135,7 @@ class Asked(Case):
         """A line that tells its origin, or its first picture, takes neither of the call; the other
         options stay, where it has none of its own."""
         parser = Words("")
-        add_pair_options(parser)
+        add_options(parser)
         for call, line, wanted in (
                 ("", "", (None, None, 250)), ("--origin 7 --every 50", "", (7, None, 50)),
                 ("--origin 7", "--origin 9", (9, None, 250)),

@@ -4,10 +4,8 @@ from __future__ import annotations
 import argparse
 import collections
 import contextlib
-import dataclasses
 import fcntl
 import gc
-import itertools
 import os
 import select
 import signal
@@ -15,20 +13,20 @@ import time
 from typing import Any, Callable, Collection, Iterable, Iterator, NamedTuple, NoReturn, Sequence
 
 from ..common.command_line import Stop, counted, ended, error_line, say, tell
-from ..common.files import Inputs, Line, NOTHING, kind_of, lines_in, list_at, temporary_folder
+from ..common.files import Inputs, IsInput, Line, NOTHING, kind_of, lines_in, list_at, temporary_folder
 from ..common.program import TOP, about_program
 from ..judging.status import ACCEPTED, NOT_JUDGED, WAIVED
 from ..report import page, report, transmission
 from ..request.commands import CommandWords, NamesOfList, Progress, pair_name
-from ..request.request import AUTO, Request, option_words, request_of_line, request_with
+from ..request.request import Request, request_of_line, request_with, take_option
 from ..results.objects import (
     ENDING, Row, found, in_order, is_current, left_by_call, object_at, put_object, row_of_object,
     rows_in, unjudged)
 from . import collection
-from .main import main
+from .main import leave
 from .single import (
-    InUse, SIGNALS, claimed, claimed_for_batch, clear, heed_signals, ignore_signals,
-    refuse_files_of, refuse_files_of_all)
+    InUse, PairCall, SIGNALS, claimed, claimed_for_batch, clear, heed_signals, ignore_signals,
+    judge_request, refuse_files_of, refuse_files_of_all)
 
 
 # The pairs of a folder, by their names, and those of a list, by its lines.
@@ -165,9 +163,20 @@ INPUT, OUTPUT, ERRORS = range(3)
 FILES = "/proc/self/fd"  # those that this process has open
 
 
-def qc(words: Sequence[str]) -> int:
-    """What tools/qc does with these words; its status."""
-    return ended(lambda line: main("", os.path.join(TOP, "tools", "qc"), line), words)
+def judge_alone(asked: Request, call: PairCall) -> int:
+    """What a process does that is there for a pair; its status. Where that ends early, its object
+    says why. The national option that the subtitle file names is looked for anew."""
+    def judge(_: Sequence[str]) -> int:
+        try:
+            if asked.language is not None:
+                take_option(asked)
+            return judge_request(asked, call, os.path.join(TOP, "tools", "qc"))
+        except (Exception, KeyboardInterrupt) as reason:
+            if not isinstance(reason, IsInput):
+                leave(call.name or "", {"--json": call.json}, error_line(reason))
+            raise
+
+    return ended(judge, ())
 
 
 class Forked:
@@ -341,15 +350,14 @@ class Calls:
             clear(self.out, item.name)
         if item.asked is None:
             return self.leave(item, item.reason or "")
-        kept = ["-o", self.out, *["--keep"] * self.is_kept] if self.out else \
-            ["--json", self.path(item)]
-        words = [f"--name={item.name}", "--claimed", *kept, "-p", self.typed.program_path,
-                 *call_words(item.asked)]
-        before = found(item.asked)
+        asked, call = item.asked, PairCall(self.typed.program_path, name=item.name, is_claimed=True)
+        call = call._replace(out=self.out, is_kept=self.is_kept) if self.out else \
+            call._replace(json=self.path(item))
+        before = found(asked)
         try:
             with signals_held():
-                call = Forked(lambda: qc(words))
-                self.running[call] = Begun(item, before, claim.pop_all())
+                process = Forked(lambda: judge_alone(asked, call))
+                self.running[process] = Begun(item, before, claim.pop_all())
         except Stop as reason:
             return self.leave(item, str(reason))
         return None
@@ -392,14 +400,6 @@ class Calls:
             if not self.end(call).is_judged:  # else it ended by itself
                 with contextlib.suppress(OSError):
                     os.unlink(self.path(one.item))
-
-
-def call_words(asked: Request) -> list[str]:
-    """A pair as the words of a call, which looks for itself what the subtitle file names."""
-    option = asked.option if asked.language is None else AUTO
-    words = option_words(dataclasses.replace(asked, option=option))
-    return [*itertools.chain(*words), "--", asked.stl,
-            *([asked.recording] if asked.recording else [])]
 
 
 def inputs_of(items: Iterable[Item], *more: str) -> Inputs:

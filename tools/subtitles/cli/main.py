@@ -10,8 +10,7 @@ from typing import Any, Callable, Sequence
 from ..common.command_line import Stop, Words, error_line
 from ..common.files import IsInput, plain_name, whole_file
 from ..request.request import (
-    ALONE, BATCH, CHANNEL, COLLECT, Mode, OPTIONS, Option, PAIR, RECORDER, WATCH, add_options,
-    add_pair_options)
+    ALONE, BATCH, CHANNEL, COLLECT, Mode, OPTIONS, Option, PAIR, RECORDER, WATCH, add_options)
 from ..results import objects, tables
 from . import single
 
@@ -125,15 +124,8 @@ def parser_of(text: str) -> Words:
     parser.add_argument("stl", metavar="STL", nargs="?", help="the subtitle file")
     parser.add_argument("recording", metavar="RECORDING", nargs="?",
                         help="the recording, - for standard input")
-    add_pair_options(parser)
+    add_options(parser)
     add_options(parser, [*ASKING, *OF_CALL])
-    # For the calls that other ones make.
-    parser.add_argument("--name", help=argparse.SUPPRESS)
-    parser.add_argument("--claimed", dest="is_claimed", action="store_true",
-                        help=argparse.SUPPRESS)
-    parser.add_argument("--fitted", dest="is_fitted", action="store_true", help=argparse.SUPPRESS)
-    parser.add_argument("--cut", dest="is_cut", action="store_true", help=argparse.SUPPRESS)
-    parser.set_defaults(here=None)
     return parser
 
 
@@ -146,18 +138,17 @@ def main(text: str, called: str, line: list[str]) -> int:
         return status
     except (Exception, KeyboardInterrupt) as reason:
         if not isinstance(reason, IsInput):
-            leave(line, error_line(reason))
+            leave(name_in(line), {one: file_in(line, one) for one in WRITERS}, error_line(reason))
         raise
 
 
-def leave(line: Sequence[str], reason: str) -> None:
+def leave(name: str, paths: dict[str, str | None], reason: str) -> None:
     """Writes the files that are asked for, each with one entry that is not judged."""
-    known = objects.unjudged(name_in(line), reason)
-    for option, write in WRITERS.items():
-        path = file_in(line, option)
+    known = objects.unjudged(name, reason)
+    for option, path in paths.items():
         with contextlib.suppress(Stop, OSError):
             if path is not None and objects.may_take(path, BEGINS[option]):
-                write(path, known)
+                WRITERS[option](path, known)
 
 
 def write_table(path: str, known: dict[str, Any]) -> None:

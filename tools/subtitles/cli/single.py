@@ -167,31 +167,58 @@ def now() -> str:
     return time.strftime("%Y-%m-%dT%H:%M:%SZ", time.gmtime())
 
 
+class PairCall(NamedTuple):
+    """A call for a pair, beside what is asked of it: the program, and the files that are written. `name`
+    is that of the pair, where it is not that of its subtitle file, and `here` the folder in which
+    its files stand until somebody gives them their place. `is_claimed`: its files are the caller's;
+    `is_fitted`: its origin was found by the caller; `is_cut`: all that is read may be judged.
+    """
+
+    program: str | None
+    out: str | None = None
+    is_kept: bool = False
+    json: str | None = None
+    csv: str | None = None
+    junit: str | None = None
+    stall: int = 10
+    name: str | None = None
+    here: str | None = None
+    is_claimed: bool = False
+    is_fitted: bool = False
+    is_cut: bool = False
+
+
 def judge_call(words: argparse.Namespace, called: str) -> int:
     """Judges the pair of a command line; answers its status."""
-    asked = request_of(words)
+    return judge_request(request_of(words), PairCall(
+        words.program, words.out or None, words.is_kept, words.json, words.csv, words.junit,
+        words.stall), called)
+
+
+def judge_request(asked: Request, call: PairCall, called: str) -> int:
+    """Judges a pair; answers its status."""
     refuse_auto(asked)
-    out, here = words.out or None, words.here or words.out or None
-    is_output_taken = any(path in OWN_OUTPUT for path in (words.json, words.csv, words.junit))
+    out, here = call.out, call.here or call.out
+    is_output_taken = any(path in OWN_OUTPUT for path in (call.json, call.csv, call.junit))
     speech = Speech(Progress(), is_output_taken)
     speech.at_end = ignore_signals  # what stands last is that of the status
-    typed = CommandWords(called, words.program)
+    typed = CommandWords(called, call.program)
     verdict = Verdict(asked, Severity(asked.severity, asked.is_loss_allowed), now(),
-                      was_fitted=words.is_fitted)
-    verdict.is_kept = words.is_kept
-    name = words.name or pair_name(asked.stl)
-    refuse_outputs(words, asked, here, name)
+                      was_fitted=call.is_fitted)
+    verdict.is_kept = call.is_kept
+    name = call.name or pair_name(asked.stl)
+    refuse_outputs(call, asked, here, name)
     with temporary_folder("subttx-qc-") as folder, claimed(
-            None if words.is_claimed else here, name):
+            None if call.is_claimed else here, name):
         if here is not None:
             clear(here, name)
         names = Names(name, folder, out, here)
         keep_stl(asked, folder)
         names.give(asked.stl_path)
-        files = Files(words, verdict, typed, names)
+        files = Files(call, verdict, typed, names)
         verdict.found = found(asked)
         pair = Pair(verdict, typed, names, speech, files.are_any())
-        pair.stalled_after, pair.is_cut = words.stall, words.is_cut
+        pair.stalled_after, pair.is_cut = call.stall, call.is_cut
         if out is not None:
             pair.draw = functools.partial(draw, pair)
         judge_pair(pair, files)
@@ -199,11 +226,11 @@ def judge_call(words: argparse.Namespace, called: str) -> int:
     return verdict.status
 
 
-def refuse_outputs(words: argparse.Namespace, asked: Request, out: str | None, name: str) -> None:
+def refuse_outputs(call: PairCall, asked: Request, out: str | None, name: str) -> None:
     """`Stop` where a file that is asked for can't be written, or is an input; nothing is done yet.
     """
     inputs = Inputs(asked.stl, asked.recording, asked.severity)
-    for path in (words.json, words.csv, words.junit):
+    for path in (call.json, call.csv, call.junit):
         if path:
             inputs.refuse(path, True)
             refuse_name(path)
@@ -355,15 +382,14 @@ class Output(NamedTuple):
 class Files:
     """The files that are asked for."""
 
-    def __init__(self, words: argparse.Namespace, verdict: Verdict, typed: CommandWords,
+    def __init__(self, call: PairCall, verdict: Verdict, typed: CommandWords,
                  names: Names) -> None:
-        self.words, self.verdict, self.typed, self.names = words, verdict, typed, names
+        self.call, self.verdict, self.typed, self.names = call, verdict, typed, names
         self.written: list[Output] = []
 
     def are_any(self) -> bool:
         """Whether something is written that has the sums of the inputs."""
-        words = self.words
-        return bool(words.out or words.json or words.csv)
+        return bool(self.call.out or self.call.json or self.call.csv)
 
     def write(self, recording: Recording | None = None) -> None:
         """Writes what is asked for. What could not be written stands in the verdict: so what was
@@ -395,11 +421,11 @@ class Files:
 
     def wanted(self, recording: Recording | None) -> list[Output]:
         """What is asked for."""
-        words, verdict, names = self.words, self.verdict, self.names
-        wanted = [Output(words.csv, self.table_lines)] if words.csv else []
-        wanted += [Output(words.junit, self.testcase)] if words.junit else []
+        call, verdict, names = self.call, self.verdict, self.names
+        wanted = [Output(call.csv, self.table_lines)] if call.csv else []
+        wanted += [Output(call.junit, self.testcase)] if call.junit else []
         wanted += self.raw(recording) if names.out else []
-        if not words.json and not names.machine:
+        if not call.json and not names.machine:
             return wanted
         program = about_program(self.typed.program_path)
 
@@ -411,7 +437,7 @@ class Files:
 
         if names.out and len(verdict.parts) > 1:
             wanted.append(Output(names.report, page, True))
-        wanted += [Output(words.json, members, is_object=True)] if words.json else []
+        wanted += [Output(call.json, members, is_object=True)] if call.json else []
         wanted += [Output(names.machine, members, True, True)] if names.machine else []
         return wanted
 
@@ -420,7 +446,7 @@ class Files:
         lists = [Output(part.names.placed("txt"), part.answer.raw, True, is_raw=True)
                  for part in self.verdict.parts]
         ending = recording and recording.packets.count and recording.kept_ending
-        if self.words.is_kept and recording and ending:
+        if self.call.is_kept and recording and ending:
             lists.append(Output(self.names.placed(ending), recording.kept, True, is_raw=True))
         return lists
 

@@ -13,7 +13,7 @@ from ..formats.listing import (
     OFF_FRAME, OUT_OF_ORDER, PASSED_OVER, SILENT, STL_FAULTS, WITH_CAUSE, meanings, plain)
 from ..formats.stl import NamedSubtitle, SubtitleFile
 from ..formats.teletext import BY_WORD, letters
-from ..request.request import NONE, PACE, Request
+from ..request.request import Request
 from ..stream.gaps import are_usual, edges_of, frame_rows, longest_gap, repeat_distance, why_refused
 from ..stream.layout import BY_LAYOUT, left_lines
 from ..stream.receiver import OLD, Rows, Timeline
@@ -169,7 +169,7 @@ def silent_words(told: FaultLine, part: Part) -> str:
     after = next((frame for row in frame_rows(part.packets, pes, origin, asked.within)
                   for frame in row if frame > before), None)
     return "" if after is None else f"none for {counted(after - before - 1, 'frame')} from " \
-        f"{time_of(before + 1)} on; where nothing was sent then, {PACE} {NONE} does not ask for it"
+        f"{time_of(before + 1)} on; where nothing was sent then, --pace none does not ask for it"
 
 
 def gap_words(sent: tuple[Sequence[int], Sequence[int]], origin: int, asked: Request,

@@ -12,7 +12,7 @@ from ..formats.listing import LOSSES
 from ..recording.recording import Recording
 from ..request import request
 from ..request.commands import Speech
-from ..request.request import NONE, PACE
+from ..request.request import NONE
 from ..stream.gaps import (
     BY_EVERY, IRREGULAR, PAUSED, Pace, Place, REGULAR, TOO_FEW, each_of, frame_rows, pace_of,
     pauses_of, what_of)
@@ -116,13 +116,13 @@ def set_pace(part: Part, pes: Range, verdict: Verdict, speech: Speech,
     asked, recording = part.asked, part.recorded[0]
     pace = measured_pace(part, pes, times)
     notes = [jump_words(take_jumps(part, pes, pace), recording)]
-    if PACE in asked.passed_on:
-        notes.append(clock_words(recording) if asked.passed_on[PACE] == NONE else "")
+    if asked.pace_word is not None:
+        notes.append(clock_words(recording) if asked.pace_word == NONE else "")
     else:
         notes.append(note := unseen_words(pace, recording))
         if pace.frames:
             speech.choose(chosen_of(pace, recording.is_stream, part.number))
-            part.asked = asked.paced(pace.frames)
+            part.asked = dataclasses.replace(asked, pace_word=str(pace.frames))
         elif note:  # which is told with the verdict
             speech.chosen.append(request.Selection(request.PACE_CHOICE, None, note, part=part.number))
     verdict.notes += [note for note in notes if note and note not in verdict.notes]
@@ -166,7 +166,7 @@ def regular_words(pace: Pace, is_stream: bool) -> str:
     """What PES packets are like that are regular, and the pace that comes of it."""
     lost = f", and in {pace.lost} at best where 16 TS packets are lost" if is_stream else ""
     return f"pace: a PES packet comes within {counted(pace.apart, 'frame')} of the one before" \
-        f"{lost}: {PACE} {pace.frames}"
+        f"{lost}: --pace {pace.frames}"
 
 
 def unseen_words(pace: Pace, recording: Recording) -> str:

@@ -23,7 +23,7 @@ from ..recording.recording import Notice, Recording, refuse_files
 from ..request import commands, request
 from ..request.commands import CommandWords, Names, Speech
 from ..request.request import (
-    FROM, LAYOUT, MOST_TRIED, ORIGIN_CHOICE, PES_CHOICE, Request, Selection, Unclear, option_line)
+    MOST_TRIED, ORIGIN_CHOICE, PES_CHOICE, Request, Selection, Unclear, option_line)
 from ..stream.layout import (
     BY_LAYOUT, choices_of, layout_line, left_lines, otherwise, otherwise_words, sent_in, why_none)
 from ..stream.ranges import Cut, cut_of
@@ -424,7 +424,7 @@ def due_of(pair: Pair, part: Part) -> DuePages:
     asked = part.asked
     if pair.verdict.beside:
         found = [one for one in pair.judged if asked.between.has(one.begin)]
-        layout = layout_of(asked.handed_on.get(LAYOUT, "")) or PLAIN
+        layout = layout_of(asked.layout_text) or PLAIN
         return due_beside(found, asked.page, asked.option, layout)
     return due_pages_of(pair.typed.program_path, pair.names.given, asked.page, asked.option,
                         asked.between, asked.words_of_pages(), asked.is_open)
@@ -442,7 +442,7 @@ def end_part(pair: Pair, part: Part, count: int) -> None:
         part.causes = part_causes(part)
     if part.causes:
         tell_causes(pair.speech, part.causes, asked.option)
-        if CONTENT in answer.numbers and LAYOUT not in asked.passed_on:
+        if CONTENT in answer.numbers and asked.layout is None:
             option = BY_WORD[asked.option]
             part.otherwise = otherwise(sent_in(part.due().subtitles, part.causes.held, option),
                                        option)
@@ -469,7 +469,7 @@ def judge_headers(pair: Pair, part: Part) -> None:
     `check` tells where they may."""
     kept = None if part.asked.may_keep else kept_in(part.headers_sent(), part.asked.option)
     if kept and part.held:
-        part.kept = judged_by(kept, try_part(pair, part, part.asked.keeping()), part.held,
+        part.kept = judged_by(kept, try_part(pair, part, dataclasses.replace(part.asked, may_keep=True)), part.held,
                               part.due().page_at)
 
 
@@ -544,7 +544,7 @@ class Pair:
             answer = self.take_beside(answer)
         subtitles = SubtitleFile(self.names.given)
         self.verdict.warnings += recording_recording.count_notices(subtitles)
-        if FROM not in asked.passed_on and (title := title_words(subtitles)):
+        if asked.from_time is None and (title := title_words(subtitles)):
             self.verdict.notes.append(title)
         is_refused = answer.numbers != {EMPTY}
         if asked.recording is None or is_refused and not self.verdict.beside:
@@ -629,7 +629,7 @@ class Pair:
         text = layout_text(closest.layout)
         if not choice.is_clear:
             raise Unclear(why_none(closest, choice, sent, option), *(
-                [self.again(LAYOUT, text)] if text and closest.drawn else []))
+                [self.again("--layout", text)] if text and closest.drawn else []))
         asked.found_layout, self.verdict.layout = layout_text(choice.layout), choice
         self.speech.choose(Selection(request.LAYOUT_CHOICE, asked.found_layout, layout_line(choice),
                                      choice.drawn, choice.found))

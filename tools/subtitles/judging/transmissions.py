@@ -15,7 +15,7 @@ from ..formats.stl import Subtitle, SubtitleList, stl_bytes, subtitles_read, sub
 from ..formats.teletext import (
     BY_BITS, BY_WORD, ERASE, INHIBIT, NEWSFLASH, Page, RESERVED, SUBTITLE, SUPPRESS, has_bit,
     letters, page_name)
-from ..request.request import KEEPING, Request, Unclear
+from ..request.request import Request, Unclear
 from ..stream.receiver import BLANK_PAGE, LEAST, Rows, State, Timeline, national_option, subcode_of
 from ..stream.survey import CLOSED, HEADER, PES, Packets, Run, survey
 from .check import Answer, End
@@ -134,7 +134,7 @@ class Kept(NamedTuple):
     def words(self) -> str:
         """It in words."""
         head = f"{CLEAR} in {self.keeping} of {counted(self.headers, 'header')}"
-        judges = f"{KEEPING} {'accepts that' if self.is_accepted else 'judges by it'}"
+        judges = f"--keeping {'accepts that' if self.is_accepted else 'judges by it'}"
         if self.refused:
             judges += f", and refuses {self.refused} of these: the sub-code is another one than " \
                 "before, or the page was still open"

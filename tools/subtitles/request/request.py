@@ -24,9 +24,9 @@ from ..formats.teletext import WORDS, named_by, page_name
 # The table of the options of a pair: a row for each.
 #
 # Of it are made how an option is read and its help, so the man page and completion; the manual's
-# table; the words of a call for a pair, printed or forked, and those of `check`; which calls and
-# lines of a list take it; the member of a JSON result, so the schema, and what --resume compares. A
-# new one is a row here; a field of `Asked` beside it where the tools themselves look at its value.
+# table; the words of a call for a pair, and those of `check`; which calls and lines of a list take
+# it; the member of a JSON result, so the schema, and what --resume compares. A new one is a row here
+# and a field of `Request`.
 
 
 class Mode(NamedTuple):
@@ -59,10 +59,9 @@ class Option(NamedTuple):
 
     `metavar` is what its value is called, None where it has none; `means` what it is, with links for
     the manual, and `without` what holds where it is left out. `modes` are the calls and lines that
-    take it, `field` where `Asked`, or the words of a call, have its value: that of one without a
-    field stands in `passed_on`, as it was typed. `read` takes the word, or says by
-    `ArgumentTypeError` why it is none, and `write` makes it again; `sets` is what one without a
-    value sets. `of_check` is what `check` takes where the same option is left out. One `of_pages`
+    take it, `field` where `Request`, or the words of a call, have its value. `read` takes the word,
+    or says by `ArgumentTypeError` why it is none, and `write` makes it again; `sets` is what one
+    without a value sets. `of_check` is what `check` takes where the same option is left out. One `of_pages`
     changes the pages that are due, so `schedule` takes it. `shape`, `said` and `in_result` are its
     member of a JSON result: what it may be, what it means, and what it is of the value.
     """
@@ -105,9 +104,7 @@ class Option(NamedTuple):
 
     def value_in(self, asked: Any) -> Any:
         """Its value in what is asked."""
-        if self.field:
-            return getattr(asked, self.field)
-        return asked.passed_on.get(self.name) if self.metavar else self.name in asked.passed_on
+        return getattr(asked, self.field)
 
     def words(self, value: Any, default: Any) -> list[str]:
         """The words that give a value, none for that which is taken without them."""
@@ -133,9 +130,8 @@ def time_text(text: str) -> str:
     return text
 
 
-FROM, TO, LAYOUT, OPEN, KEEPING = "--from", "--to", "--layout", "--open", "--keeping"
 AUTO = "auto"  # what is found takes the place of this word
-PACE, NONE = "--pace", "none"  # none: no pace is looked for either
+NONE = "none"  # in the place of a pace: none is looked for either
 
 
 def layout_word(text: str) -> str:
@@ -204,48 +200,36 @@ OPTIONS: tuple[Option, ...] = (
     Option("--strict", None, "[warnings](#warnings) about the recording count, also that the clock "
            "was fitted", JUDGED, "they change nothing", field="is_strict", default=False,
            shape=Flag(), said="Whether warnings count."),
-    Option(FROM, "TIME", "only the subtitles whose TCI is at TIME or later", JUDGED, "all",
-           read=time_text, of_check=None, shape=Maybe(TIME),
+    Option("--from", "TIME", "only the subtitles whose TCI is at TIME or later", JUDGED, "all",
+           field="from_time", read=time_text, of_check=None, shape=Maybe(TIME),
            said="Only the subtitles whose TCI is then or later were judged."),
-    Option(TO, "TIME", "only the subtitles whose TCI is before TIME", JUDGED, "all", read=time_text,
-           of_check=None, shape=Maybe(TIME),
+    Option("--to", "TIME", "only the subtitles whose TCI is before TIME", JUDGED, "all",
+           field="to_time", read=time_text, of_check=None, shape=Maybe(TIME),
            said="Only the subtitles whose TCI is before were judged."),
-    Option(LAYOUT, "TEXT|auto", "how the house draws its subtitles; `auto`: [the layout]"
+    Option("--layout", "TEXT|auto", "how the house draws its subtitles; `auto`: [the layout]"
            "(#the-layout) that draws them as they were sent", JUDGED, "as of `check`",
-           read=layout_or_auto, of_check=None, of_pages=True, shape=Maybe(Text()),
+           field="layout", read=layout_or_auto, of_check=None, of_pages=True, shape=Maybe(Text()),
            said="How pages are drawn that are due; auto: as they were sent, see layout."),
-    Option(OPEN, None, "take a file of open subtitles too", JUDGED, "it is refused",
-           default=False, of_check=False, of_pages=True, shape=Flag(),
+    Option("--open", None, "take a file of open subtitles too", JUDGED, "it is refused",
+           field="is_open", default=False, of_check=False, of_pages=True, shape=Flag(),
            said="Whether open subtitles are taken too."),
-    Option(KEEPING, None, "headers that repeat the page may keep it, with C4 (erase page) clear",
-           TRANSMISSIONS, "they may not", default=False, of_check=False, shape=Flag(),
+    Option("--keeping", None, "headers that repeat the page may keep it, with C4 (erase page) clear",
+           TRANSMISSIONS, "they may not", field="may_keep", default=False, of_check=False, shape=Flag(),
            said="Whether headers that repeat the page may keep it."),
-    Option(PACE, "K|none", "the frames from a PES packet to the next one at most, its [pace]"
-           "(#the-pace); `none`: ask for none", TRANSMISSIONS, "it is measured", read=pace_or_none,
-           of_check=None, shape=Maybe(Text(r"(none|[1-9][0-9]{0,6})")),
+    Option("--pace", "K|none", "the frames from a PES packet to the next one at most, its [pace]"
+           "(#the-pace); `none`: ask for none", TRANSMISSIONS, "it is measured",
+           field="pace_word", read=pace_or_none, of_check=None, shape=Maybe(Text(r"(none|[1-9][0-9]{0,6})")),
            said="How many frames apart PES packets may be at most; none: not asked; null where it "
            "was to be found: the one that was used is in the part."),
 )
 
 
-class Keep(argparse.Action):
-    """Keeps the word of an option without a field, by its name, beside those of others."""
-
-    def __call__(self, parser: object, names: argparse.Namespace, value: Any,
-                 option: str | None = None) -> None:
-        setattr(names, self.dest, {**getattr(names, self.dest, {}),
-                                   self.option_strings[0]: "" if value == [] else value})
-
-
 def add_options(parser: argparse.ArgumentParser, options: Iterable[Option] | None = None) -> None:
     """The options of a table, those of a pair where none is given."""
-    parser.set_defaults(passed_on={})
     for one in OPTIONS if options is None else options:
-        known: dict[str, Any] = {"help": one.help}
-        known |= {"dest": one.field, "default": one.default} if one.field else \
-            {"dest": "passed_on", "action": Keep, "default": {}}
+        known: dict[str, Any] = {"help": one.help, "dest": one.field, "default": one.default}
         if one.metavar is None:
-            known |= {"action": "store_const", "const": one.sets} if one.field else {"nargs": 0}
+            known |= {"action": "store_const", "const": one.sets}
         elif one.choices:
             known["choices"] = one.choices
         else:
@@ -287,7 +271,8 @@ KEPT = "subtitles.stl"  # in the temporary folder
 
 @dataclasses.dataclass
 class Request:
-    """A pair and its options, by their table; `page` is the magazine, 0 for 8, and the number.
+    """A pair and its options, by their table, and what is found in their place; `page` is the
+    magazine, 0 for 8, and the number.
 
     `start` is the time code of the recording's first picture, or `tcp`: the GSI block has it.
     """
@@ -307,7 +292,12 @@ class Request:
     start: str | None
     within: int = 0  # frames within which a page has to be whole
     is_strict: bool = False  # warnings count
-    passed_on: dict[str, str] = dataclasses.field(default_factory=dict)  # that `check` gets too
+    from_time: str | None = None  # as it was typed
+    to_time: str | None = None
+    layout: str | None = None  # or `auto`
+    is_open: bool = False  # whether open subtitles are taken too
+    may_keep: bool = False  # whether headers that repeat the page may keep it
+    pace_word: str | None = None  # frames, or `none`
     found_layout: str | None = None  # by --layout auto; the empty one is that without an option
     kept_stl: str | None = None  # what came through a pipe as the subtitle file
     language: str | None = None  # of the subtitle file, where that names the option
@@ -325,70 +315,48 @@ class Request:
     @property
     def between(self) -> Between:
         """The frames in which the subtitles come that are judged."""
-        begin, end = (frame_of(self.passed_on.get(name, "")) for name in (FROM, TO))
+        begin, end = frame_of(self.from_time or ""), frame_of(self.to_time or "")
         return Between(begin or 0, FRAMES_OF_A_DAY if end is None else end)
 
     def of_part(self, begin: int, end: int) -> Request:
         """The same of the subtitles that come from one frame on and before another."""
-        return dataclasses.replace(self, passed_on={
-            **self.passed_on, FROM: time_of(begin), TO: time_of(end)})
+        return dataclasses.replace(self, from_time=time_of(begin), to_time=time_of(end))
 
     @property
     def is_layout_sought(self) -> bool:
         """Whether the layout is still to be found."""
-        return self.passed_on.get(LAYOUT) == AUTO and self.found_layout is None
+        return self.layout == AUTO and self.found_layout is None
 
     @property
-    def is_open(self) -> bool:
-        """Whether open subtitles are taken too."""
-        return OPEN in self.passed_on
-
-    @property
-    def may_keep(self) -> bool:
-        """Whether headers that repeat the page may keep it."""
-        return KEEPING in self.passed_on
-
-    def keeping(self) -> Request:
-        """The same, and they may."""
-        return dataclasses.replace(self, passed_on={**self.passed_on, KEEPING: ""})
-
-    def paced(self, frames: int) -> Request:
-        """The same, and PES packets come in so many frames at most."""
-        return dataclasses.replace(self, passed_on={**self.passed_on, PACE: str(frames)})
+    def layout_text(self) -> str:
+        """The layout, also one that was found; empty where none is asked for."""
+        return (self.found_layout if self.layout == AUTO else self.layout) or ""
 
     @property
     def pace(self) -> int | None:
-        """That pace, where there is one."""
-        word = self.passed_on.get(PACE, NONE)
-        return None if word == NONE else int(word)
+        """How many frames apart PES packets may be at most, where that is asked for."""
+        word = self.pace_word
+        return None if word is None or word == NONE else int(word)
 
-    @property
-    def handed_on(self) -> dict[str, str]:
-        """Those of the options that `check` gets too, with the layout that was found."""
-        found = {LAYOUT: self.found_layout or ""} if self.passed_on.get(LAYOUT) == AUTO else {}
-        words = {**self.passed_on, **found}
-        without = {LAYOUT: "", PACE: NONE}  # that `check` has no word for
-        return {name: word for name, word in words.items() if without.get(name) != word}
+    def of_check(self) -> Request:
+        """The same as `check` is asked: for `auto`, and no layout or pace, it has no word."""
+        return dataclasses.replace(
+            self, layout=self.layout_text or None,
+            pace_word=None if self.pace_word == NONE else self.pace_word)
 
     def words_of_pages(self) -> list[str]:
-        """The options that say how pages are drawn that are due, of those that are handed on."""
-        return words_of_pages(dataclasses.replace(self, passed_on=self.handed_on))
+        """The options of `check` that say how pages are drawn that are due."""
+        return words_of_pages(self.of_check())
 
     def check_words(self, is_file: bool = False) -> list[str]:
         """The options of `check` that a person would type, but for the origin; of a subtitle file
         alone those that change the verdict on it."""
-        return check_words(dataclasses.replace(self, passed_on=self.handed_on), is_file)
+        return check_words(self.of_check(), is_file)
 
 
-def add_pair_options(parser: Words) -> None:
-    """The options that a pair may have, on the command line or on a line of a list."""
-    add_options(parser)
-    parser.set_defaults(found_layout=None)
-
-
-def pair_options() -> list[str]:
-    """The names of those options in `Asked`."""
-    return [field.name for field in dataclasses.fields(Request)][2:-2]
+def pair_options(names: argparse.Namespace) -> dict[str, Any]:
+    """The values of the options of a pair by the fields of `Request`."""
+    return {one.field: getattr(names, one.field) for one in OPTIONS}
 
 
 def request_of(words: argparse.Namespace) -> Request:
@@ -401,8 +369,7 @@ def request_with(stl: str, recording: str | None, options: argparse.Namespace) -
     named = recording and (recording if recording == "-" else plain_name(recording))
     if options.origin is not None and options.start is not None:
         raise Stop("--start tells the origin: --origin is too many")
-    asked = Request(plain_name(stl), named,
-                    **{name: getattr(options, name) for name in pair_options()})
+    asked = Request(plain_name(stl), named, **pair_options(options))
     if asked.option == AUTO and not is_pipe(asked.stl):  # else it is known once that is read
         take_option(asked)
     return asked
@@ -446,13 +413,13 @@ def line_parser() -> Words:
     parser = Words("")
     parser.add_argument("stl")
     parser.add_argument("recording")
-    add_pair_options(parser)
+    add_options(parser)
     return parser
 
 
 def request_of_line(line: Sequence[str], defaults: argparse.Namespace) -> Request:
     """The pair of a line of a list, with the options that hold for all where it has none."""
-    known = {name: getattr(defaults, name) for name in pair_options()}
+    known = pair_options(defaults)
     given = {word.partition("=")[0] for word in line}
     for one, other in (("origin", "start"), ("start", "origin")):
         if f"--{one}" in given:

@@ -18,7 +18,7 @@ from ...common.times import FRAMES_OF_A_DAY, TICKS, time_of
 from ...judging.status import NOT_JUDGED, of_all
 from ...recording.feed import Ending, Stall
 from ...request.commands import CommandWords, Progress
-from ...request.request import AUTO, AUTO_OF_FEED, LAYOUT, Request, Unclear
+from ...request.request import AUTO, AUTO_OF_FEED, Request, Unclear
 from ...results.objects import ENDING, Row, in_order, row_of_object, rows_in, unjudged
 from .. import collection, single
 from ..single import locking, refuse_files_of_all
@@ -280,14 +280,13 @@ class Channel:
     def judge_in(self, running: OnAir, asked: Request, folder: str) -> int:
         """Judges what is read on standard input; what is written has its place in a folder now."""
         tempfile.tempdir = folder
-        words = argparse.Namespace(**{**vars(self.words), **vars(asked)})
-        words.name, words.recording, words.here = running.programme.name, "-", folder
-        words.is_fitted = running.is_fitted
-        words.is_cut = words.is_claimed = True
-        if words.out is None:
-            words.here = None
-            words.json = os.path.join(folder, words.name + ENDING)
-        return single.judge_call(words, self.called)
+        name, words = running.programme.name, self.words
+        placed = {"json": os.path.join(folder, name + ENDING)} if words.out is None else \
+            {"out": words.out, "here": folder}
+        call = single.PairCall(words.program, is_kept=words.is_kept, stall=words.stall, name=name,
+                               is_claimed=True, is_fitted=running.is_fitted, is_cut=True, **placed)
+        return single.judge_request(
+            dataclasses.replace(asked, recording="-", language=None), call, self.called)
 
     def unjudged(self, name: str, reason: str, is_open: bool = False) -> None:
         """A programme is not judged."""
@@ -368,7 +367,7 @@ class Channel:
 
 def judge_channel(words: argparse.Namespace, called: str) -> int:
     """Judges the programmes of a channel until the feed has ended, or a signal ends it."""
-    if words.passed_on.get(LAYOUT) == AUTO:
+    if words.layout == AUTO:
         raise Stop(AUTO_OF_FEED)
     if words.on_result is not None:
         results.refuse_command(words.on_result)

@@ -12,7 +12,7 @@ from ...common.times import FRAMES_OF_A_DAY, TICKS, time_of
 from ...recording.feed import Ending
 from ...request.commands import NamesOfList
 from ...request.request import (
-    AUTO_OF_FEED, CHANNEL_LINE, Request, add_pair_options, pair_options, request_of)
+    AUTO_OF_FEED, CHANNEL_LINE, Request, add_options, pair_options, request_of)
 from ...results.objects import has_had_its_turn
 from ..main import refuse_options
 from .feed import Awaited, Heard, Hearing, MINUTE, Timed
@@ -194,8 +194,7 @@ class Planned:
         """What the words of a line ask."""
         refuse_options(line_parser(), line, CHANNEL_LINE)
         parser = line_parser()
-        parser.set_defaults(recording="-", **{name: getattr(self.defaults, name)
-                                              for name in pair_options()})
+        parser.set_defaults(recording="-", **pair_options(self.defaults))
         asked = request_of(parser.parse_args(line))
         if asked.is_layout_sought:
             raise Stop(AUTO_OF_FEED)
@@ -206,7 +205,7 @@ def line_parser() -> Words:
     """What a line of the list is read by."""
     parser = Words("")
     parser.add_argument("stl")
-    add_pair_options(parser)
+    add_options(parser)
     return parser
 
 
