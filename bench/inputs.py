@@ -42,11 +42,10 @@ from developing.pes import (  # noqa: E402
     DATA, FIRST_LINE, MIRROR, STUFFING_UNIT, UNIT, mirrored, odd, packet, pts_bytes)
 from developing.stl import (  # noqa: E402
     DOUBLE_HEIGHT, END_BOX, START_BOX, boxed, gsi_block, subtitle_blocks)
-from subtitles.core.built import built_program  # noqa: E402
-from subtitles.core.pes import START  # noqa: E402
-from subtitles.core.stl import NEW_LINE, TTI  # noqa: E402
-from subtitles.core.teletext import CODE_WORDS  # noqa: E402
-from subtitles.core.times import FRAMES_A_SECOND, FRAMES_OF_A_DAY, TICKS  # noqa: E402
+from subtitles.common.program import built_program  # noqa: E402
+from subtitles.common.times import FRAMES_A_SECOND, FRAMES_OF_A_DAY, TICKS  # noqa: E402
+from subtitles.formats.stl import NEW_LINE, TTI  # noqa: E402
+from subtitles.formats.teletext import CODE_WORDS, START  # noqa: E402
 
 EVERY = {"day": "1", "pages": "1", "many": "25", "fresh": "1", "service": "25", "late": "25",
          "cells": "1", "passed": "1", "swing": "1"}  # frames from a sending to the next

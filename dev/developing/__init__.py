@@ -1,7 +1,6 @@
 """What the scripts of dev/ share, one idea each.
 
 proved        what PROVED says of the built program
-prefix        what is installed, and taken away again
 debian        a package of it
 pages         man pages and completion, made of the help and one table of options
 crates        the crates, and what each stands on

@@ -7,7 +7,7 @@ import os
 import re
 from typing import Iterator, Mapping, Optional
 
-from subtitles.core.built import read
+from subtitles.common.program import read
 from .definitions import Library, counts
 from .promises import ROW as INDEX, index_of
 from .proved import parsed
@@ -20,6 +20,10 @@ DOCUMENTS = {"docs/HEADLINE.md": "", "docs/ASSURANCE.md": "", "docs/CLAUSES.md":
 ROW = re.compile(r"^\| (.*) \| `tools/reading-list (\S+)` \| (\d+) \| (\d+) \| (\d+) \|$", re.M)
 # For these at most so many lines may have to be read, so that the law of a run can be.
 MOST_LINES = {"run_in_memory.headline": 450, "run_in_memory.acceptance": 800}
+# What README says of these: how many lines have to be read.
+IN_README = {"run_in_memory.headline": re.compile(r"\[(\d+)\s+lines\s+to\s+read\]"),
+             "run_in_memory.chosen": re.compile(r"(\d+)\s+by\s+its\s+most\s+common\s+options"),
+             "run_in_memory.recording": re.compile(r"(\d+)\s+of\s+a\s+recording\)")}
 NUMBERS = re.compile(r"^## The proof in numbers$.*?(?=^## )", re.M | re.S)
 NUMBER = re.compile(r"^\| (.*) \| ([\d,]+) \|$", re.M)  # a row there: what is counted, how many
 PARTS = ("src", "specs", "must-fail", "release-edits")  # of a crate, whose words are taken
@@ -111,6 +115,15 @@ def rows_of_counts(top: str) -> Iterator[tuple[str, str]]:
         found = counts(*library.reading(row[2]))
         yield row[0], "| {} | `tools/reading-list {}` | {} | {} | {} |".format(
             row[1], row[2], *found)
+
+
+def counts_of_readme(top: str) -> Iterator[tuple[str, str]]:
+    """How many lines README says that have to be read, each with how many these are."""
+    text, library = read(os.path.join(top, "README.md")) or "", Library(top)
+    for name, form in IN_README.items():
+        shown = form.search(text)
+        yield (f"README: {name} {shown[1] if shown else 'is not there'}",
+               f"README: {name} {counts(*library.reading(name))[1]}")
 
 
 def too_long(top: str, most_lines: Mapping[str, int]) -> Iterator[Optional[str]]:

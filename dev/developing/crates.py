@@ -4,7 +4,7 @@ from __future__ import annotations
 import os
 import shutil
 
-from subtitles.core.built import TOP
+from subtitles.common.program import TOP
 
 CRATES = os.path.join(TOP, "crates")
 LIST = os.path.join(TOP, "crates.txt")

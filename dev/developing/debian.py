@@ -7,9 +7,9 @@ import re
 import shutil
 import subprocess
 
-from subtitles.core.files import naming
-from subtitles.core.words import Stop
-from .prefix import PAGES, copy, documents, files_below, install, link, sums_of, write
+from subtitles.cli.installation import PAGES, copy, documents, files_below, install, link, sums_of, write
+from subtitles.common.command_line import Stop
+from subtitles.common.files import naming
 
 NAME = "subttx"
 MACHINE = "amd64"

@@ -12,7 +12,7 @@ import os
 import re
 from typing import Iterable, Iterator, NamedTuple, Union
 
-from subtitles.core.words import Stop
+from subtitles.common.command_line import Stop
 from .crates import below, read_lines
 
 BEGINS = ("abbrev ", "unfoldable ", "pub record ", "pub data ", "record ", "data ")

@@ -12,8 +12,8 @@ import re
 from collections import Counter
 from typing import Iterator, NamedTuple
 
-from subtitles.core.built import read
-from subtitles.core.words import Stop
+from subtitles.common.command_line import Stop
+from subtitles.common.program import read
 from .crates import CRATES
 
 TRIED_BY_GATE = "must-fail"

@@ -13,7 +13,7 @@ import shutil
 import subprocess
 from typing import NamedTuple, Sequence
 
-from subtitles.core.built import TOP
+from subtitles.common.program import TOP
 
 LEAST_CONTRAST = 4.5
 SECONDS = 600  # for a browser, on a machine that does other things too
@@ -96,7 +96,7 @@ def contrast(one: str, other: str) -> float:
 
 def schemes() -> dict[str, dict[str, str]]:
     """The variables of the style, light and dark."""
-    path = os.path.join(TOP, "tools", "subtitles", "preview", "style.css")
+    path = os.path.join(TOP, "tools", "subtitles", "report", "style.css")
     with open(path, encoding="utf-8") as file:
         light, dark = (dict(re.findall(r"--([\w-]+): #(\w+);", block))
                        for block in re.findall(r":root \{([^}]*)\}", file.read()))

@@ -13,12 +13,12 @@ from developing.pes import (
     DATA, FIRST_LINE, NATIONAL, UNIT, address_of, data_field, headers_in, pes_packet, pes_packets,
     pts_bytes, pts_in, teletext_packets)
 from developing.stl import DOUBLE_HEIGHT
-from subtitles.core.files import Damaged
-from subtitles.core.stl import GSI, TEXT, TTI, UNUSED
-from subtitles.core.teletext import (
+from subtitles.common.files import Damaged
+from subtitles.common.times import TICKS, frame_of
+from subtitles.formats.stl import GSI, TEXT, TTI, UNUSED
+from subtitles.formats.teletext import (
     CODE_WORDS, CONTROL_BITS, ERASE, INHIBIT, NEWSFLASH, NUMBER, SERIAL, SUBTITLE, SUPPRESS,
     has_bit, is_odd)
-from subtitles.core.times import TICKS, frame_of
 
 CODED = 2, 10  # where a header has its eight coded bytes
 PARITY = 0x80

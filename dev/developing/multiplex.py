@@ -1,8 +1,8 @@
 """A transport stream of one programme with Teletext, as bytes (ISO/IEC 13818-1)."""
 from __future__ import annotations
 
-from subtitles.core.teletext import Page
-from subtitles.core.times import wrapped
+from subtitles.common.times import wrapped
+from subtitles.formats.teletext import Page
 
 SYNC, PACKET, BEGINS, PAYLOAD = 0x47, 188, 0x40, 0x10
 

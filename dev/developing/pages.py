@@ -16,12 +16,12 @@ import sys
 import textwrap
 from typing import NamedTuple, Sequence
 
-from subtitles.calls.result import schema
-from subtitles.core.built import TOP, read
-from subtitles.core.words import INSTALLED, Stop
-from subtitles.qc import options as of_pairs
+from subtitles.cli.installation import COMPLETION, TOOLS
+from subtitles.common.command_line import INSTALLED, Stop
+from subtitles.common.program import TOP, read
+from subtitles.request import request
+from subtitles.results.schema import schema
 from .cited import rows_of_numbers
-from .prefix import COMPLETION, TOOLS
 
 TABLE = os.path.join("docs", "manual", "all-commands.md")
 PROGRAM_PAGE, QC_PAGE = os.path.join("docs", "subttx.1"), os.path.join("docs", "subttx-qc.1")
@@ -185,13 +185,13 @@ def of_qc(text: str) -> dict[str, str]:
 def of_chapter() -> dict[str, str]:
     """The parts of qc's chapter, by the table of options of a pair."""
     rows = ["| Option | Is | Without it |", "|---|---|---|"]
-    for one in of_pairs.OPTIONS:
+    for one in request.OPTIONS:
         form = one.form.replace("|", "\\|")
         rows.append(f"| `{form}` | {one.means} | {one.without} |")
-    return {"options": "\n".join(rows) + "\n\n" + not_with(of_pairs.OPTIONS, of_pairs.JUDGED)}
+    return {"options": "\n".join(rows) + "\n\n" + not_with(request.OPTIONS, request.JUDGED)}
 
 
-def not_with(known: Sequence[of_pairs.Option], modes: Sequence[of_pairs.Mode]) -> str:
+def not_with(known: Sequence[request.Option], modes: Sequence[request.Mode]) -> str:
     """What options a way to call does not take, as a sentence for each that lacks one."""
     told = []
     for mode in modes:

@@ -3,9 +3,8 @@ from __future__ import annotations
 
 from typing import Iterable, Iterator, Protocol, Sequence
 
-from subtitles.core.files import Damaged
-from subtitles.core.pes import HEAD, START, begins_in
-from subtitles.core.teletext import CODE_WORDS, NUMBER, is_odd
+from subtitles.common.files import Damaged
+from subtitles.formats.teletext import CODE_WORDS, HEAD, NUMBER, START, begins_in, is_odd
 
 FIRST_LINE = 7
 UNIT = 46  # bytes of a data unit

@@ -20,8 +20,8 @@ import unittest
 from types import CodeType, FunctionType
 from typing import Any, Callable, Sequence
 
-from subtitles.core.built import TOP, read
-from subtitles.core.words import Stop
+from subtitles.common.command_line import Stop
+from subtitles.common.program import TOP, read
 from .bugs import codes
 from .edits import changed
 from .tests import bench, runner

@@ -4,7 +4,7 @@ from __future__ import annotations
 
 import re
 
-from subtitles.core.words import Stop
+from subtitles.common.command_line import Stop
 from .definitions import Library
 
 CLAUSE = re.compile(r"`(\w+/[\w.]+)`")

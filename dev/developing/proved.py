@@ -17,9 +17,9 @@ import os
 import subprocess
 from typing import NamedTuple
 
-from subtitles.core.built import TOP, read
-from subtitles.core.words import Stop
-from .prefix import copy, write
+from subtitles.cli.installation import copy, write
+from subtitles.common.command_line import Stop
+from subtitles.common.program import TOP, read
 
 OUT, DIST = os.path.join(TOP, "out"), os.path.join(TOP, "dist")
 NOTES = os.path.join(OUT, "lines")

@@ -12,10 +12,10 @@ import os
 import re
 import shutil
 
-from subtitles.core.built import read
-from subtitles.core.words import Stop
+from subtitles.cli.installation import write
+from subtitles.common.command_line import Stop
+from subtitles.common.program import read
 from .crates import Lines, below
-from .prefix import write
 from .proved import toolchain
 
 PROGRAM = "subttx"

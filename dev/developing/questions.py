@@ -10,7 +10,7 @@ import os
 import re
 from typing import Iterator, NamedTuple
 
-from subtitles.core.built import TOP, read
+from subtitles.common.program import TOP, read
 
 FEW = 300  # words that somebody reads in a minute and a half
 WAY = " > "

@@ -9,7 +9,7 @@ import glob
 import os
 import re
 
-from subtitles.core.built import read
+from subtitles.common.program import read
 
 KINDS = ("code", "contracts", "specs", "proofs", "tests")
 TESTS = ("tests", "check_tests", "word_tests", "file_tests", "program_tests", "fixtures",

@@ -1,8 +1,8 @@
 """Blocks of subtitle files, written (EBU Tech 3264)."""
 from __future__ import annotations
 
-from subtitles.core.stl import GSI, LAST, TEXT, UNUSED
-from subtitles.core.times import FRAMES_A_SECOND
+from subtitles.common.times import FRAMES_A_SECOND
+from subtitles.formats.stl import GSI, LAST, TEXT, UNUSED
 
 DOUBLE_HEIGHT, START_BOX, END_BOX = b"\x0d", b"\x0b", b"\x0a"
 

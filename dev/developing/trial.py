@@ -7,7 +7,7 @@ import subprocess
 import tempfile
 from typing import IO, Any, Callable, NamedTuple, Sequence, Union
 
-from subtitles.core.stl import GSI, TTI
+from subtitles.formats.stl import GSI, TTI
 
 NO_MEMORY = re.compile(rb"fault (91 Memory|58 Memory block \d+)\n")
 ANOTHER_USER = 65534

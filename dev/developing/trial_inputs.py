@@ -4,9 +4,9 @@ from __future__ import annotations
 import os
 import sys
 
-from subtitles.core.built import TOP
-from subtitles.core.pes import begins_in
-from subtitles.core.stl import GSI, NEW_LINE
+from subtitles.common.program import TOP
+from subtitles.formats.stl import GSI, NEW_LINE
+from subtitles.formats.teletext import begins_in
 
 from .pes import DATA, UNIT
 from .stl import boxed, tti_block

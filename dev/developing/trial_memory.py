@@ -9,8 +9,8 @@ import subprocess
 from functools import partial
 from typing import Iterator
 
-from subtitles.core.built import TOP
-from subtitles.core.stl import TTI
+from subtitles.common.program import TOP
+from subtitles.formats.stl import TTI
 
 from .stl import boxed, gsi_block, tti_block
 from .trial import (

@@ -1,11 +1,26 @@
-"""What the tools of users share. A package imports of those above it in this list, never of those
-below: `dev/check-tools` holds it.
+"""The Python of the tools of users. A package imports of those above it in this list, never of
+those below: `dev/check-tools` holds it. The head of each lists its modules.
 
-core     bytes, codes, times, words and files, and the lines of the program
-reading  what is read: transport streams, what is sent of a page, where its origin is
-qc       a pair judged, from a recording to a verdict
-preview  a verdict shown as a page
-calls    what a call of `qc` does: one pair, many pairs, a folder, a channel, and their files
+common     what any tool needs: its words, its files, times, values of JSON, the program
+formats    what stands in files: EBU STL, Teletext, layouts, lines of `check`
+request    what is asked for a pair, by the table of options; what a person could type
+stream     what is sent, by what `subttx survey` tells; nothing here judges
+clock      the origin of the clock: which one agrees, which one is given
+recording  a recording as it is read, from a file or from a pipe: its PID, its warnings
+judging    a pair judged: what `check` says of its parts, and what follows of it
+results    results for machines: JSON, CSV, JUnit
+report     a verdict shown as a page
+cli        what a call does: a pair, many pairs, a folder, a channel; what tools/install does
+
+Where is                               See
+a call for one pair, step by step      cli/single.py, then `Pair.judge` of judging/pair.py
+the PID chosen                         recording/recording.py `Recording.chosen`
+the origin found                       clock/origin.py `find`
+a hole of 16 TS packets found          stream/gaps.py `pace_of`, for a part judging/losses.py
+the verdict decided                    judging/status.py `decide`
+the sentence of the last line made     judging/sentence.py `sentence_of`
+an option added                        request/request.py `OPTIONS`
+a member of a JSON result added        results/schema.py
 """
 import os
 import sys

@@ -9,10 +9,10 @@ from typing import NamedTuple
 
 from developing.pes import odd, packet as teletext_packet, pes_packet, pes_packets, pts_in
 from developing.stl import time_code
-from subtitles.core.layout import FLAGS, NUMBERS
-from subtitles.core.stl import GSI, TTI
-from subtitles.core.teletext import CODE_WORDS, NUMBER
-from subtitles.core.times import FRAMES_OF_A_DAY, frame_of_code, time_of
+from subtitles.common.times import FRAMES_OF_A_DAY, frame_of_code, time_of
+from subtitles.formats.layout import FLAGS, NUMBERS
+from subtitles.formats.stl import GSI, TTI
+from subtitles.formats.teletext import CODE_WORDS, NUMBER
 from .broken import LETTERS, MOST_LINES, teletext_in
 
 DISPLAY = 11  # where a GSI block has its DSC

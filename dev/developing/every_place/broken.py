@@ -7,8 +7,8 @@ from random import Random
 from developing.pes import (
     DATA, MIRROR, STUFFING_UNIT, UNIT, mirrored, odd, packet as teletext_packet, pes_packet,
     pes_packets, pts_bytes, pts_in)
-from subtitles.core.teletext import CODE_WORDS
-from subtitles.core.times import CLOCK, FRAMES_OF_A_DAY, TICKS
+from subtitles.common.times import CLOCK, FRAMES_OF_A_DAY, TICKS
+from subtitles.formats.teletext import CODE_WORDS
 
 PACKET = 4  # where a data unit has its Teletext packet
 MOST_LINES = 16  # that `pes_packet` has room for

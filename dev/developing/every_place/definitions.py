@@ -8,7 +8,7 @@ from __future__ import annotations
 from typing import Iterable
 
 from developing.pes import address_of
-from subtitles.core.times import time_of
+from subtitles.common.times import time_of
 from .due import Due, subtitles_in
 from .ends import Ends
 from .on_air import Packet, erases, held_after, packet_faults, page_of

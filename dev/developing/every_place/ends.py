@@ -3,7 +3,7 @@ from __future__ import annotations
 
 from typing import Iterator
 
-from subtitles.core.times import time_of
+from subtitles.common.times import time_of
 from .due import Due
 from .on_air import Held
 from .rows import COLUMNS, SPACE

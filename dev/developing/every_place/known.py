@@ -5,9 +5,9 @@ import os
 
 from developing.pes import mirrored, pes_packet
 from developing.stl import subtitle_blocks
-from subtitles.core.built import TOP
-from subtitles.core.stl import GSI
-from subtitles.core.times import TICKS
+from subtitles.common.program import TOP
+from subtitles.common.times import TICKS
+from subtitles.formats.stl import GSI
 from .calls import KnownCall, known_pair
 from .one_rule import CLOSING, FIRST, HEADER, PACKET_26, PAGE, coded
 

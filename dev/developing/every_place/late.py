@@ -11,7 +11,7 @@ from random import Random
 from typing import NamedTuple
 
 from developing.pes import odd, pes_packet, pes_packets, pts_bytes, pts_in
-from subtitles.core.times import CLOCK, FRAMES_OF_A_DAY, TICKS
+from subtitles.common.times import CLOCK, FRAMES_OF_A_DAY, TICKS
 from .broken import LETTERS, MOST_LINES, damage, random_packet, teletext_in
 
 

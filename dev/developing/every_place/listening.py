@@ -4,8 +4,8 @@ from __future__ import annotations
 from typing import Iterator, NamedTuple
 
 from developing.pes import address_of, pts_in
-from subtitles.core.teletext import is_odd
-from subtitles.core.times import frame_of, time_of
+from subtitles.common.times import frame_of, time_of
+from subtitles.formats.teletext import is_odd
 from .definitions import failure_at, read_by
 from .on_air import ERASE, SERIAL
 from .reading import head_fault, header_of, line_of, pieces_of, sending_in, units_of

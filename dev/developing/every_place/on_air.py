@@ -3,7 +3,7 @@ from __future__ import annotations
 
 from typing import NamedTuple, Sequence
 
-from subtitles.core.teletext import CODE_WORDS, Page, is_odd
+from subtitles.formats.teletext import CODE_WORDS, Page, is_odd
 from .national import ALL_BITS, BITS
 from .reading import Header, subcode_of
 from .rows import BLANK, COLUMNS, SPACE

@@ -10,8 +10,8 @@ from typing import Iterable, NamedTuple
 
 from developing.pes import packet, pes_packet
 from developing.stl import gsi_block, subtitle_blocks, tti_block
-from subtitles.core.stl import GSI, LAST, TEXT, TTI, USER_DATA
-from subtitles.core.times import TICKS
+from subtitles.common.times import TICKS
+from subtitles.formats.stl import GSI, LAST, TEXT, TTI, USER_DATA
 from .calls import KnownCall, known_pair
 from .known import HI, poked, told
 from .one_rule import CLOSING, FIRST, HEADER, header

@@ -11,7 +11,7 @@ from typing import NamedTuple
 
 from developing.pes import pes_packet
 from developing.stl import gsi_block, subtitle_blocks
-from subtitles.core.times import CLOCK, FRAMES_OF_A_DAY, TICKS
+from subtitles.common.times import CLOCK, FRAMES_OF_A_DAY, TICKS
 
 FIRST = 900_000  # the frame 10:00:00:00
 TICKS_OFF = {"+": TICKS // 2, "-": -TICKS // 4}

@@ -11,8 +11,8 @@ from random import Random
 from typing import Callable, NamedTuple
 
 from developing.stl import gsi_block, subtitle_blocks
-from subtitles.core.stl import GSI, TTI, USER_DATA
-from subtitles.core.times import FRAMES_OF_A_DAY
+from subtitles.common.times import FRAMES_OF_A_DAY
+from subtitles.formats.stl import GSI, TTI, USER_DATA
 from .as_houses import (
     as_open, layout_text, pace_words, part_words, refused_some, without_erasing)
 from .broken import LETTERS, break_pes

@@ -5,7 +5,7 @@ import contextlib
 import shlex
 from random import Random
 
-from subtitles.core.times import FRAMES_OF_A_DAY, time_of
+from subtitles.common.times import FRAMES_OF_A_DAY, time_of
 from .calls import ALL, Call
 from .pairs import Pair, Schedule, listed, random_pair, random_subtitles, random_words, stl_file
 from .reading import pieces_of, sending_in

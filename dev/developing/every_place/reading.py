@@ -9,9 +9,9 @@ from __future__ import annotations
 from typing import Iterator, NamedTuple
 
 from developing.pes import address_of, mirrored, pts_in
-from subtitles.core.stl import GSI, LAST, TTI, USER_DATA
-from subtitles.core.teletext import NUMBER, Page
-from subtitles.core.times import CLOCK, FRAMES_OF_A_DAY, TICKS, frame_at, frame_of_code
+from subtitles.common.times import CLOCK, FRAMES_OF_A_DAY, TICKS, frame_at, frame_of_code
+from subtitles.formats.stl import GSI, LAST, TTI, USER_DATA
+from subtitles.formats.teletext import NUMBER, Page
 
 HEAD = 6  # bytes of a PES packet up to its length and with it
 CUT, START, LENGTH = 30, 31, 32  # what is wrong where a piece should be

@@ -1,7 +1,7 @@
 """The page that a subtitle draws, or what is wrong with its text; from the tables, byte by byte."""
 from __future__ import annotations
 
-from subtitles.core.layout import Layout, Refused, drawn_lines, page_of
+from subtitles.formats.layout import Layout, Refused, drawn_lines, page_rows
 from .national import CELLS
 from .reading import Record
 
@@ -46,4 +46,4 @@ def drawn(record: Record, option: str, layout: Layout) -> bytes:
     lines = drawn_lines(cells, record.row, record.justify, layout)
     if isinstance(lines, Refused):
         raise TextFault(*lines)
-    return b"".join(page_of(lines))
+    return b"".join(page_rows(lines))

@@ -2,9 +2,8 @@
 from __future__ import annotations
 
 from developing.pes import STUFFING_UNIT, mirrored, packet, pts_bytes
-from subtitles.core.pes import START
-from subtitles.core.teletext import Page
-from subtitles.core.times import pts_of
+from subtitles.common.times import pts_of
+from subtitles.formats.teletext import Page, START
 from .due import Due, subtitles_in
 from .national import BITS
 from .rows import BLANK, COLUMNS, ROWS, SPACE

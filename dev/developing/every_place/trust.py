@@ -8,7 +8,7 @@ from __future__ import annotations
 from dataclasses import dataclass, field
 from typing import Iterator, NamedTuple
 
-from subtitles.core.times import time_of
+from subtitles.common.times import time_of
 
 # What a PES packet may not be told for, if its frame is quiet; a receiver depends on these rules.
 OF_PACKETS = {64, 65, 67, 68, 69}

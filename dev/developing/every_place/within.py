@@ -7,8 +7,8 @@ even byte in place of its H, `r2` on row 20, and `k` is a header that keeps the 
 from __future__ import annotations
 
 from developing.pes import pes_packet
-from subtitles.core.stl import GSI
-from subtitles.core.times import CLOCK, FRAMES_OF_A_DAY, TICKS
+from subtitles.common.times import CLOCK, FRAMES_OF_A_DAY, TICKS
+from subtitles.formats.stl import GSI
 from .calls import KnownCall, known_pair
 from .known import (
     EARLY_WRONG, HELLO, HI, LAST, ROW, SENT, accepted, ended, of_texts, poked, refused, stands,

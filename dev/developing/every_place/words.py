@@ -4,9 +4,9 @@ from __future__ import annotations
 import re
 from typing import NamedTuple
 
-from subtitles.core.layout import PLAIN, Layout, layout_of
-from subtitles.core.teletext import Page
-from subtitles.core.times import CLOCK, FRAMES_OF_A_DAY, frame_of
+from subtitles.common.times import CLOCK, FRAMES_OF_A_DAY, frame_of
+from subtitles.formats.layout import Layout, PLAIN, layout_of
+from subtitles.formats.teletext import Page
 from .national import BITS
 
 MOST_WITHIN = 50

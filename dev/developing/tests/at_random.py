@@ -25,12 +25,12 @@ import tempfile
 from typing import Any, Iterator, NamedTuple, Sequence
 from unittest import mock
 
-from subtitles.calls.main import main
-from subtitles.core.built import TOP
-from subtitles.core.words import run
-from subtitles.preview import report
-from subtitles.qc import beside, checks, faults
-from subtitles.qc.ending import Ending
+from subtitles.cli.main import main
+from subtitles.common.command_line import run
+from subtitles.common.program import TOP
+from subtitles.judging import faults, pair, subtitles
+from subtitles.recording.feed import Ending
+from subtitles.report import report
 from .parts import MEANINGS
 from .results import wrong_by_schema, wrong_choices
 from .scenario import Scenario
@@ -153,9 +153,9 @@ def in_folder() -> Iterator[None]:
 def called(words: list[str], program: str, more: Sequence[str] = ("-p", "PROGRAM")) -> Said:
     """All that a call of qc says; not by the time, and with other words for the manual's."""
     others: list[tuple[Any, str, object]] = [
-        (checks, "subprocess", Here),
+        (pair, "subprocess", Here),
         (Ending, "is_due", lambda self, packets: packets.count > 2 * self.count + 4),
-        *((module, "meanings", lambda: MEANINGS) for module in (beside, faults, report))]
+        *((module, "meanings", lambda: MEANINGS) for module in (subtitles, faults, report))]
     with contextlib.ExitStack() as stack:
         for module, name, other in others:
             stack.enter_context(mock.patch.object(module, name, other))

@@ -27,8 +27,8 @@ from typing import Any, Callable, NamedTuple, NoReturn, Sequence
 from developing import DEV, TOOLS
 from developing.pes import pes_packets, pts_bytes, pts_in
 from developing.stl import gsi_block, subtitle_blocks
-from subtitles.core.built import TOP, built_program
-from subtitles.core.times import CLOCK
+from subtitles.common.program import TOP, built_program
+from subtitles.common.times import CLOCK
 
 EXAMPLES = os.path.join(TOP, "examples")
 SECONDS = 600  # for one call, or what is waited for, on a machine that does other things too

@@ -13,7 +13,7 @@ from typing import Callable, Iterator, NamedTuple, Sequence
 
 from developing.pes import pts_bytes
 from developing.stl import boxed, gsi_block, subtitle_blocks
-from subtitles.core.times import CLOCK, FRAMES_A_SECOND, TICKS
+from subtitles.common.times import CLOCK, FRAMES_A_SECOND, TICKS
 from .bench import SECONDS, Case, loaded, packets, tool_path
 
 SECOND = TICKS * FRAMES_A_SECOND

@@ -13,22 +13,17 @@ from typing import Any, Callable, NamedTuple, Sequence
 
 from developing.pes import data_field, pes_packet, pts_in, teletext_packets
 from developing.stl import gsi_block, subtitle_blocks
-from subtitles.calls.claim import claimed
-from subtitles.calls.machine import object_of
-from subtitles.calls.main import parser_of
-from subtitles.calls.objects import found
-from subtitles.calls.single import Files, draw, end_pair, judge_pair, now
-from subtitles.core.stl import NEW_LINE
-from subtitles.core.times import CLOCK, TICKS
-from subtitles.qc.asked import asked_of
-from subtitles.qc.made_with import MadeWith
-from subtitles.qc.names import Names
-from subtitles.qc.pair import Pair
-from subtitles.qc.progress import Progress
-from subtitles.qc.severity import Severity
-from subtitles.qc.speech import Speech
-from subtitles.qc.typed import Typed
-from subtitles.qc.verdict import Verdict
+from subtitles.cli.main import parser_of
+from subtitles.cli.single import Files, PairCall, claimed, draw, end_pair, judge_pair, now
+from subtitles.common.program import MadeWith
+from subtitles.common.times import CLOCK, TICKS
+from subtitles.formats.stl import NEW_LINE
+from subtitles.judging.pair import Pair
+from subtitles.judging.status import Severity
+from subtitles.judging.verdict import Verdict
+from subtitles.request.commands import CommandWords, Names, Progress, Speech
+from subtitles.request.request import request_of
+from subtitles.results.objects import found, object_of
 from .bench import Case, packets
 from .scenario import send
 
@@ -93,12 +88,13 @@ def judged_by(program: str, *words: str, heard: Heard | None = None) -> Judged:
     """A pair judged by the words of a command line, by a program."""
     heard = heard or Heard()
     known = parser_of("").parse_args(["-p", program, *words])
-    asked, typed = asked_of(known), Typed("tools/qc", program)
+    asked, typed = request_of(known), CommandWords("tools/qc", program)
     verdict = Verdict(asked, Severity(asked.severity, asked.is_loss_allowed), now())
     with tempfile.TemporaryDirectory() as folder, claimed(known.out, "one"):
         names = Names("one", folder, known.out)
         names.give(asked.stl)
-        files = Files(known, verdict, typed, names)
+        files = Files(PairCall(program, known.out, known.is_kept, known.json, known.csv,
+                               known.junit), verdict, typed, names)
         verdict.found = found(asked)
         pair = Pair(verdict, typed, names, heard, True)
         if known.out:
@@ -149,9 +145,9 @@ def late(by: int, first: int = 0, last: int = 1 << 40) -> Change:
     return lambda sent: [(pts + by * TICKS * (first <= pts <= last), some) for pts, some in sent]
 
 
-def in_pipe(case: Case, data: bytes) -> str:
+def in_pipe(case: Case, data: bytes, path: str = "") -> str:
     """A pipe into which somebody writes these bytes."""
-    path = case.path(f"feed{len(os.listdir(case.folder))}")
+    path = path or case.path(f"feed{len(os.listdir(case.folder))}")
     os.mkfifo(path)
     threading.Thread(target=send, args=(path, data), daemon=True).start()
     return path

@@ -7,15 +7,14 @@ import tempfile
 from typing import Any, Callable, Iterable, Iterator, Sequence
 from unittest import mock
 
-from subtitles.calls import single
-from subtitles.calls.channel.channel import Channel
-from subtitles.calls.channel.heard import Heard
-from subtitles.calls.channel.hearing import Hearing
-from subtitles.calls.channel.results import WORK
-from subtitles.calls.channel.segments import Begin, Read
-from subtitles.calls.objects import found_at, left_by_call, put
-from subtitles.core.teletext import Page
-from subtitles.core.times import CLOCK, FRAMES_A_SECOND, TICKS
+from subtitles.cli import single
+from subtitles.cli.channel.channel import Channel
+from subtitles.cli.channel.feed import Heard, Hearing
+from subtitles.cli.channel.recorder import Begin, Read
+from subtitles.cli.channel.results import WORK
+from subtitles.common.times import CLOCK, FRAMES_A_SECOND, TICKS
+from subtitles.formats.teletext import Page
+from subtitles.results.objects import found_at, left_by_call, put_object
 from .bench import Case
 from .results import result
 from .test_channel_tables import EACH, FIRST, LASTS, defaults, programme
@@ -81,7 +80,7 @@ class Judging:
         known = {**self.left, "asked": {**self.left["asked"], "stl": self.words.stl,
                                         "origin": self.words.origin},
                  "found": {**self.left["found"], "stl": found_at(self.words.stl)}}
-        put(os.path.join(folder, f"{self.name}.json"), known)
+        put_object(os.path.join(folder, f"{self.name}.json"), known)
         return left_by_call(os.path.join(folder, f"{self.name}.json"), self.name, self.ended,
                             ["qc: first", "qc: told: last"])
 
@@ -124,9 +123,11 @@ class Told(Channel):
                ) -> tuple[str, dict[str, Any]]:
         """Stands for another process that judges."""
         folder = tempfile.mkdtemp(dir=self.folder, prefix=WORK)
-        with mock.patch.object(single, "judge") as judge, mock.patch.object(tempfile, "tempdir"):
+        with mock.patch.object(single, "judge_request") as judge, \
+                mock.patch.object(tempfile, "tempdir"):
             call(folder)
-        return folder, Judging(judge.call_args.args[0]).leave(folder)
+        asked, called, _ = judge.call_args.args
+        return folder, Judging(argparse.Namespace(**vars(asked), **called._asdict())).leave(folder)
 
     def say(self, line: str) -> None:
         self.said.append(line)

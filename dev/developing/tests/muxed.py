@@ -4,7 +4,7 @@ from __future__ import annotations
 from typing import Iterator, NamedTuple
 
 from developing.pes import pts_bytes, pts_in
-from subtitles.core.times import CLOCK, TICKS, ticks_between, wrapped
+from subtitles.common.times import CLOCK, TICKS, ticks_between, wrapped
 from developing.multiplex import BEGINS, PACKET, PAYLOAD, head, section
 from .bench import packets
 

@@ -2,23 +2,24 @@
 from __future__ import annotations
 
 import argparse
+import itertools
 import os
 from typing import Sequence
 
 from developing.pes import packet
-from subtitles.core.manual import Meaning
-from subtitles.core.teletext import Page
-from subtitles.core.markup import Value, joined
-from subtitles.core.told import Told, told_of
-from subtitles.core.words import Words
-from subtitles.qc.asked import Asked, add_pair_options, asked_with
-from subtitles.qc.checking import Answer
-from subtitles.qc.clock import GIVEN, Clock, Found
-from subtitles.qc.names import Names
-from subtitles.qc.part import Part
-from subtitles.reading.packets import Packets
-from subtitles.reading.survey import survey
-from subtitles.reading.timeline import Timeline
+from subtitles.cli.main import main
+from subtitles.clock.start import Clock, Found, GIVEN
+from subtitles.common.command_line import Words, ended
+from subtitles.common.markup import Value, joined
+from subtitles.common.program import TOP
+from subtitles.formats.listing import FaultLine, Meaning, fault_of_line
+from subtitles.formats.teletext import Page
+from subtitles.judging.check import Answer
+from subtitles.judging.part import Part
+from subtitles.request.commands import Names
+from subtitles.request.request import Request, add_options, option_words, request_with
+from subtitles.stream.receiver import Timeline
+from subtitles.stream.survey import Packets, survey
 from .bench import Case
 
 PAGE = (0, 0x88)
@@ -32,9 +33,9 @@ def row(number: int, text: bytes) -> bytes:
     return packet(0, number, (), b"\x0b\x0b" + text.ljust(38))
 
 
-def fault_of(line: str) -> Told:
+def fault_of(line: str) -> FaultLine:
     """A line of `check --all` that tells a fault."""
-    told = told_of(line)
+    told = fault_of_line(line)
     assert told, line
     return told
 
@@ -62,12 +63,23 @@ def part_with(begin: int | None, end: int | None, origin: int | None,
     return part
 
 
-def asked_for(stl: str, recording: str | None, *words: str) -> Asked:
+def asked_for(stl: str, recording: str | None, *words: str) -> Request:
     """What is asked of two files, by the words of a command line."""
     parser = Words("")
-    add_pair_options(parser)
+    add_options(parser)
     options: argparse.Namespace = parser.parse_args(words)
-    return asked_with(stl, recording, options)
+    return request_with(stl, recording, options)
+
+
+def call_words(asked: Request) -> list[str]:
+    """A pair as the words of a call."""
+    return [*itertools.chain(*option_words(asked)), "--", asked.stl,
+            *([asked.recording] if asked.recording else [])]
+
+
+def qc(words: Sequence[str]) -> int:
+    """What tools/qc does with these words; its status."""
+    return ended(lambda line: main("", os.path.join(TOP, "tools", "qc"), line), words)
 
 
 def packets_told(case: Case, data: bytes, page: Page = PAGE) -> Packets:

@@ -10,10 +10,10 @@ import os
 import re
 from typing import Any, Iterator, Sequence
 
-from subtitles.calls.result import FORMAT, LISTS
-from subtitles.core.built import TOP
-from subtitles.qc.causes import NAMES
-from subtitles.qc.status import NOT_JUDGED, STATUSES
+from subtitles.common.program import TOP
+from subtitles.judging.causes import NAMES
+from subtitles.judging.status import NOT_JUDGED, STATUSES
+from subtitles.results.schema import FORMAT, LISTS
 
 SCHEMA = os.path.join(TOP, "docs", "verdict.schema.json")
 KINDS: dict[str, Any] = {"object": dict, "array": list, "string": str, "null": type(None),

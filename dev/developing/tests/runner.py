@@ -14,7 +14,7 @@ import unittest
 from types import TracebackType
 from typing import Iterator, Sequence, Tuple, Type, Union
 
-from subtitles.core.words import Stop
+from subtitles.common.command_line import Stop
 from .. import DEV, TOOLS
 from .bench import BENCH
 
@@ -136,7 +136,7 @@ def taken_in(path: str, module: str) -> set[str]:
 
 
 def module_of(name: str) -> str:
-    """The module of the tools that a path or a dotted name is of, as `qc/pace.py` or `qc.pace`."""
+    """The module of the tools that a path or a dotted name is of, as `stream/gaps.py` or `stream.gaps`."""
     dotted = name.removesuffix(".py").replace("/", ".").removeprefix("tools.")
     return "subtitles." + dotted.removeprefix("subtitles.")
 

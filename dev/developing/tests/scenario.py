@@ -13,8 +13,8 @@ from typing import NamedTuple
 from developing.pes import (
     data_field, odd, pes_packet, pes_packets, pts_bytes, pts_in, teletext_packets)
 from developing.stl import boxed, gsi_block, subtitle_blocks
-from subtitles.core.stl import NEW_LINE
-from subtitles.core.times import CLOCK, FRAMES_OF_A_DAY, TICKS, ticks_between, time_of
+from subtitles.common.times import CLOCK, FRAMES_OF_A_DAY, TICKS, ticks_between, time_of
+from subtitles.formats.stl import NEW_LINE
 from .muxed import (
     AHEAD, MPEG_2, PRIVATE, TELETEXT_PID, VIDEO_PID, Maker, mpeg_2_picture, spaced,
     teletext_descriptor, video_packet)

@@ -20,11 +20,12 @@ import sys
 import tempfile
 from typing import NamedTuple
 
-from subtitles.calls.claim import is_own
-from subtitles.calls.forked import Forked, ended_of, qc
-from subtitles.calls.objects import object_at
-from subtitles.core.built import TOP
+from subtitles.cli.batch import Forked, ended_of
+from subtitles.cli.single import is_own
+from subtitles.common.program import TOP
+from subtitles.results.objects import object_at
 from .bench import SECONDS
+from .parts import qc
 
 WATCHED = 3.0  # seconds for which a folder is watched
 OLD = '{"format": 5, "verdict": "not judged", "status": 2, "name": "old", "reason": "old"}\n'

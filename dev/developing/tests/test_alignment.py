@@ -1,9 +1,9 @@
 """Pages that come again soon after they were erased: that is no change."""
 from __future__ import annotations
 
-from subtitles.core.times import CLOCK, TICKS
-from subtitles.reading.alignment import back_at
-from subtitles.reading.packets import Change
+from subtitles.clock.alignment import back_at
+from subtitles.common.times import CLOCK, TICKS
+from subtitles.stream.survey import Change
 from .bench import Case
 
 TEXT, OTHER = ((20, b"text"),), ((20, b"other"),)

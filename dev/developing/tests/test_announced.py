@@ -7,9 +7,8 @@ from typing import Optional
 
 from developing.multiplex import ADAPTATION_ALONE, BEGINS, PACKET, PAYLOAD, head
 from developing.pes import pes_packet
-from subtitles.core.times import CLOCK, TICKS
-from subtitles.reading.announced import announced_in, jumps_at, packets_in
-from subtitles.reading.packets import Packets, Run
+from subtitles.common.times import CLOCK, TICKS
+from subtitles.stream.survey import Packets, Run, announced_in, jumps_at, packets_in
 from .bench import Case
 
 PID = 0x101

@@ -8,14 +8,14 @@ import random
 
 from developing.pes import pes_packet
 from developing.stl import gsi_block, subtitle_blocks
-from subtitles.calls.channel.planned import Planned
-from subtitles.calls.single import refuse_auto
-from subtitles.core.layout import PLAIN, Layout, fault_in, layout_of
-from subtitles.core.national import ENGLISH
-from subtitles.core.programme import Subtitle
-from subtitles.core.times import TICKS
-from subtitles.core.words import Stop, quoted
-from subtitles.qc.as_sent import otherwise, sent_in, words_of_layout
+from subtitles.cli.channel.schedule import Planned
+from subtitles.cli.single import refuse_auto
+from subtitles.common.command_line import Stop, quoted
+from subtitles.common.times import TICKS
+from subtitles.formats.layout import Layout, PLAIN, fault_in, layout_of
+from subtitles.formats.stl import Subtitle
+from subtitles.formats.teletext import ENGLISH
+from subtitles.stream.layout import otherwise, sent_in, words_of_layout
 from .bench import Case
 from .judged import Judged, in_pipe, judged
 from .parts import CLOSING, HEADER, asked_for, row, timeline_of

@@ -14,14 +14,13 @@ from typing import Sequence
 from developing.every_place import due as defined
 from developing.stl import gsi_block, tti_block
 from developing.every_place.words import options_of
-from subtitles.calls.collecting import table_of
-from subtitles.calls.index_page import line_of
-from subtitles.calls.objects import row_of
-from subtitles.core.times import ALL_DAY, Between
-from subtitles.core.told import told_of
-from subtitles.qc.beside import Counts, beside_of, due_beside, is_judged_beside
-from subtitles.qc.subtitle_file import SubtitleFile
-from subtitles.reading.packets import Packets, Run
+from subtitles.cli.collection import pair_line, table_of
+from subtitles.common.times import ALL_DAY, Between
+from subtitles.formats.listing import fault_of_line
+from subtitles.formats.stl import SubtitleFile
+from subtitles.judging.subtitles import Counts, beside_of, due_beside, is_judged_beside
+from subtitles.results.objects import row_of_object
+from subtitles.stream.survey import Packets, Run
 from .bench import Case, packets
 from .judged import Judged, joined, judged, late, sendings
 from .parts import answer, part_with
@@ -110,9 +109,9 @@ class Beside(Case):
                   {("8", "2")}, rows)
         words, case = "8 subtitles judged, 2 refused", tree.fromstring(self.read("x.xml"))
         self.must("case", words in "".join(case.itertext()))
-        row = row_of(known, "one")
+        row = row_of_object(known, "one")
         self.must("collected", words in "".join(table_of([row])) and
-                  words in line_of(self.folder, row).source)
+                  words in pair_line(self.folder, row).source)
         for more, counts in (((self.stl, self.pes, *WORDS), {"judged": 10, "refused": 0}),
                              ((self.stl,), {"judged": 10, "refused": 0}),
                              ((self.file(3),), None)):
@@ -221,7 +220,7 @@ class Beside(Case):
                            for at, one in enumerate(blocks, 1)])
             file = SubtitleFile(self.write("bad.stl", data))
             faults = [told for at in sorted(bad)
-                      if (told := told_of(f"refused 50 Character block {at} at 11"))]
+                      if (told := fault_of_line(f"refused 50 Character block {at} at 11"))]
             began = time.process_time()
             found = beside_of(file, faults, "english")
             due = due_beside(found.judged, PAGE, "english")
@@ -287,7 +286,7 @@ class AtRandom(Case):
                 continue
             beside += 1
             file = SubtitleFile(self.write("one.stl", data), between)
-            found = beside_of(file, filter(None, map(told_of, wanted.lines)), "english")
+            found = beside_of(file, filter(None, map(fault_of_line, wanted.lines)), "english")
             self.must(f"{wanted.lines}", [(one.begin, one.end) for one in found.judged] == [
                 (one.tci, one.tco) for one in wanted.records], found)
             due = due_beside(found.judged, PAGE, "english")

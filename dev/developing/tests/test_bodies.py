@@ -5,7 +5,7 @@ import os
 import re
 import unittest
 
-from subtitles.core.built import TOP
+from subtitles.common.program import TOP
 
 STORED = "dev/bodies-to-read.txt"
 

@@ -6,9 +6,9 @@ import os
 from typing import Any
 
 from developing.pes import pes_packet
-from subtitles.core.built import TOP, read
-from subtitles.core.times import TICKS
-from subtitles.qc.causes import NAMES
+from subtitles.common.program import TOP, read
+from subtitles.common.times import TICKS
+from subtitles.judging.causes import NAMES
 from .bench import Case
 from .judged import Judged, Sent, joined, judged, programme, sendings
 from .parts import CLOSING, HEADER, row

@@ -11,16 +11,14 @@ import unittest
 from types import SimpleNamespace
 from typing import Any
 
-from subtitles.core.programme import Subtitle
-from subtitles.core.spans import Span, Spans
-from subtitles.core.times import time_of
-from subtitles.core.told import told_of
-from subtitles.qc.delays import frames_of
-from subtitles.qc.due_pages import DuePages
-from subtitles.qc.naming import Causes
-from subtitles.reading.packets import Packets
-from subtitles.reading.receiver import BLANK_PAGE, Rows
-from subtitles.reading.timeline import Timeline
+from subtitles.common.times import Span, Spans, time_of
+from subtitles.formats.listing import fault_of_line
+from subtitles.formats.stl import Subtitle
+from subtitles.judging.causes import Causes
+from subtitles.judging.transmissions import DuePages
+from subtitles.judging.verdict import frames_of
+from subtitles.stream.receiver import BLANK_PAGE, Rows, Timeline
+from subtitles.stream.survey import Packets
 from .. import DEV
 from .parts import PAGE
 
@@ -56,7 +54,7 @@ def steady(held: Timeline) -> None:
 
 def told(spans: list[tuple[int, int]], *edges: tuple[int, int]) -> Any:
     """What `check` told: frames at which the content is refused, and others by number and frame."""
-    firsts = {number: told_of(f"refused {number} Edge frame {time_of(frame)}")
+    firsts = {number: fault_of_line(f"refused {number} Edge frame {time_of(frame)}")
               for number, frame in edges}
     return SimpleNamespace(firsts=firsts, marks={72: Spans(spans)})
 

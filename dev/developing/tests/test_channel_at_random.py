@@ -5,9 +5,9 @@ from __future__ import annotations
 import os
 import random
 
-from subtitles.calls.channel.channel import BEFORE_IT
-from subtitles.calls.channel.queue import AT_ONCE
-from subtitles.core.times import TICKS
+from subtitles.cli.channel.channel import BEFORE_IT
+from subtitles.cli.channel.schedule import AT_ONCE
+from subtitles.common.times import TICKS
 from .bench import Case
 from .listings import LAST, SECOND, Judging, Lines, Told, files_of, texts_of
 

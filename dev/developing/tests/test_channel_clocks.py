@@ -1,9 +1,8 @@
 """The time of a channel's feed, and a programme whose origin is given."""
 from __future__ import annotations
 
-from subtitles.calls.channel.awaited import Timed
-from subtitles.calls.channel.feed_clock import ANEW, BACK, FeedClock
-from subtitles.core.times import CLOCK, TICKS, ticks_between
+from subtitles.cli.channel.feed import ANEW, BACK, FeedClock, Timed
+from subtitles.common.times import CLOCK, TICKS, ticks_between
 from .bench import Case
 from .channels import SECOND
 from .test_channel_tables import EACH, FIRST, LASTS as SHOWN, programme

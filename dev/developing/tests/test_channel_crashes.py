@@ -8,9 +8,9 @@ import shutil
 from typing import Any, Callable
 from unittest import mock
 
-from subtitles.calls.channel import hook
-from subtitles.calls.channel.journal import Journal
-from subtitles.core.times import CLOCK, TICKS
+from subtitles.cli.channel import results
+from subtitles.cli.channel.recorder import Journal
+from subtitles.common.times import CLOCK, TICKS
 from .listings import BEGIN, SECOND, Lines, Programmes, Told, texts_of
 from .test_channel_tables import FIRST
 
@@ -18,7 +18,7 @@ STARTS = {"one": BEGIN, "two": BEGIN + 60 * SECOND, "one~2": BEGIN + 120 * SECON
 # The calls by which something is written, and how many of them there are at least.
 STEPS: list[tuple[Any, str]] = [
     (os, "mkdir"), (os, "rename"), (os, "replace"), (os, "unlink"), (shutil, "rmtree"),
-    (Journal, "add"), (hook, "failure_of")]
+    (Journal, "add"), (results, "failure_of")]
 LEAST = 30
 
 
@@ -59,7 +59,7 @@ class Crashes(Programmes):
         def note(command: str, path: str, verdict: str) -> None:
             told.append(os.path.basename(path))
 
-        with mock.patch.object(hook, "failure_of", note):
+        with mock.patch.object(results, "failure_of", note):
             with contextlib.ExitStack() as stack, contextlib.suppress(Crash):
                 for owner, step in STEPS:
                     stack.enter_context(mock.patch.object(owner, step, crashing(

@@ -5,8 +5,8 @@ import os
 import subprocess
 
 
-from subtitles.calls.channel.segments import numbers_in, size_in
-from subtitles.core.times import CLOCK
+from subtitles.cli.channel.recorder import numbers_in, size_in
+from subtitles.common.times import CLOCK
 from .bench import Case, packets
 from .channels import BEGIN, SECOND, Running, blank, make_programme
 from .muxed import in_frames

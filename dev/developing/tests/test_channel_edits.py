@@ -3,9 +3,9 @@ from __future__ import annotations
 
 import json
 
-from subtitles.calls.channel.channel import BEFORE_IT
-from subtitles.calls.members import ASKED
-from subtitles.calls.objects import found, unjudged
+from subtitles.cli.channel.channel import BEFORE_IT
+from subtitles.results.objects import found, unjudged
+from subtitles.results.schema import ASKED
 from .listings import BEGIN, SECOND, Judging, Lines, Programmes, Told, texts_of
 from .parts import asked_for
 from .results import result

@@ -9,7 +9,7 @@ import signal
 import subprocess
 from typing import Iterable
 
-from subtitles.core.times import CLOCK
+from subtitles.common.times import CLOCK
 from .bench import Case, example, packets
 from .channels import BEGIN, SECOND, THREE, WITH_BLANK, Running, blank, make_programme, three
 from .muxed import in_frames, spaced

@@ -9,15 +9,12 @@ from typing import Iterable
 
 from developing.pes import MARK, packet, pes_packet
 from developing.stl import gsi_block
-from subtitles.calls.channel.feed_clock import ANEW, BACK, GAP, MINUTE, jump_of, times_of
-from subtitles.calls.channel.heard import Heard
-from subtitles.calls.channel.hearing import Hearing
-from subtitles.core.times import CLOCK, TICKS
-from subtitles.core.words import Stop
-from subtitles.qc.unclear import Unclear
-from subtitles.reading.moving import way_of
-from subtitles.reading.packets import Run
-from subtitles.reading.survey import Announced, ProgramMap
+from subtitles.cli.channel.feed import ANEW, BACK, GAP, Heard, Hearing, MINUTE, clock_times, jump_of
+from subtitles.common.command_line import Stop
+from subtitles.common.times import CLOCK, TICKS
+from subtitles.request.request import Unclear
+from subtitles.stream.ranges import way_of
+from subtitles.stream.survey import Announced, ProgramMap, Run
 from .bench import Case
 from .listings import SECOND, Lines
 from .parts import CLOSING, HEADER, PAGE, row
@@ -218,7 +215,7 @@ class Missing(Case):
         for run, count in ((Run(0, 1, 7, 0, "", ""), 1), (Run(0, 9, 7, TICKS, "", ""), 2),
                            (Run(0, 9000, 7, TICKS, "", ""), 7), (Run(3, 3, 7, GAP + 1, "", ""), 3),
                            (Run(3, 4, 7, -1, "", ""), 4), (Run(0, 1, None, 0, "", ""), 0)):
-            found = list(times_of(run))
+            found = list(clock_times(run))
             self.must(f"{run}", len(found) == count and found[-1:] == [run.last] * bool(count) and
                       found[:1] == [run.pts] * bool(count), found)
 

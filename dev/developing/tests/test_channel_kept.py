@@ -8,13 +8,11 @@ from typing import Iterator
 from unittest import mock
 
 from developing.pes import MARK, pes_packet
-from subtitles.calls.channel import recorder
-from subtitles.calls.channel.journal import Journal
-from subtitles.calls.channel.recorder import AHEAD, NotWanted, Recorder
-from subtitles.calls.channel.segments import (
-    LEAST, MANY, PART, Begin, Segments, numbers_in, path_of)
-from subtitles.calls.channel.state import ERROR, FILE, HEARD, Exchange
-from subtitles.core.files import Input
+from subtitles.cli.channel import recorder
+from subtitles.cli.channel.recorder import (
+    AHEAD, Begin, ERROR, Exchange, FILE, HEARD, Journal, LEAST, MANY, NotWanted, PART, Recorder,
+    Segments, numbers_in, path_of)
+from subtitles.common.files import Input
 from .bench import Case
 from .listings import SECOND
 from .parts import CLOSING, HEADER

@@ -4,8 +4,8 @@ from __future__ import annotations
 import os
 from unittest import mock
 
-from subtitles.calls.channel.planned import MISSING, Planned, Programme, edits_of
-from subtitles.core.lists import Line, lines_in
+from subtitles.cli.channel.schedule import MISSING, Planned, Programme, edits_of
+from subtitles.common.files import Line, lines_in
 from .bench import Case
 from .test_channel_tables import defaults
 

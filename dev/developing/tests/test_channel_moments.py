@@ -13,8 +13,8 @@ import statistics
 import time
 from typing import Any
 
-from subtitles.calls.claim import InUse, locking
-from subtitles.core.times import CLOCK
+from subtitles.cli.single import InUse, locking
+from subtitles.common.times import CLOCK
 from .bench import SECONDS, Case, packets
 from .channels import BEGIN, SECOND, Running, blank, family_of, make_programme, until
 from .muxed import in_frames

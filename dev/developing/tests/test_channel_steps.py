@@ -7,13 +7,12 @@ import os
 from typing import Any
 from unittest import mock
 
-from subtitles.calls.channel.channel import BEFORE_IT
-from subtitles.calls.channel.feed_clock import MINUTE
-from subtitles.calls.channel.queue import AT_ONCE
-from subtitles.calls.channel.running import LATER
-from subtitles.calls.channel.state import ERROR
-from subtitles.core.times import CLOCK, TICKS
-from subtitles.qc.clock import FITTED_SHORT
+from subtitles.cli.channel.channel import BEFORE_IT
+from subtitles.cli.channel.feed import MINUTE
+from subtitles.cli.channel.recorder import ERROR
+from subtitles.cli.channel.schedule import AT_ONCE, LATER
+from subtitles.clock.start import FITTED_SHORT
+from subtitles.common.times import CLOCK, TICKS
 from .listings import BEGIN, LAST, SECOND, Judging, Lines, Pages, Programmes, Told, texts_of
 from .results import result
 from .test_channel_tables import FIRST

@@ -8,7 +8,7 @@ from typing import Any, Iterator, NamedTuple, Sequence
 
 from developing.pes import pts_bytes
 from developing.stl import boxed, gsi_block, subtitle_blocks
-from subtitles.core.times import CLOCK, FRAMES_A_SECOND, TICKS
+from subtitles.common.times import CLOCK, FRAMES_A_SECOND, TICKS
 from .bench import Case, packets
 from .channels import FITTED, SECOND, verdicts
 from .muxed import TELETEXT_PID, Sent, stream_of

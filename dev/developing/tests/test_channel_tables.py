@@ -5,11 +5,10 @@ import argparse
 from unittest import mock
 
 from developing.stl import boxed, gsi_block, subtitle_blocks
-from subtitles.calls.channel.awaited import BEFORE, NEAR, Awaited, Changes
-from subtitles.calls.channel.feed_clock import SECOND
-from subtitles.core.times import CLOCK, EARLY, TICKS
-from subtitles.core.words import Stop, Words
-from subtitles.qc.asked import add_pair_options
+from subtitles.cli.channel.feed import Awaited, BEFORE, Changes, NEAR, SECOND
+from subtitles.common.command_line import Stop, Words
+from subtitles.common.times import CLOCK, EARLY, TICKS
+from subtitles.request.request import add_options
 from .bench import Case
 
 FIRST = 1_000_000  # the frame of a programme's first subtitle
@@ -21,7 +20,7 @@ AGES = 10 ** 15  # ticks
 def defaults(*words: str) -> argparse.Namespace:
     """The options of a call that has these."""
     parser = Words("")
-    add_pair_options(parser)
+    add_options(parser)
     return parser.parse_args(words)
 
 

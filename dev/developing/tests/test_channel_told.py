@@ -8,9 +8,9 @@ import signal
 import subprocess
 from unittest import mock
 
-from subtitles.calls.channel import hook
-from subtitles.calls.channel.hook import failure_of, refuse_command
-from subtitles.core.words import Stop
+from subtitles.cli.channel import results
+from subtitles.cli.channel.results import failure_of, refuse_command
+from subtitles.common.command_line import Stop
 from .bench import SECONDS, Case, example
 from .channels import Running, until
 from .listings import BEGIN, SECOND, Lines, Programmes, Told, texts_of
@@ -142,7 +142,7 @@ class Commands(Case):
 
         self.write("told", b"")
         command = self.write_program(name, f"#!/bin/sh\n{text}\n")
-        with mock.patch.object(hook, "LONGEST", longest), \
+        with mock.patch.object(results, "HOOK_SECONDS", longest), \
                 mock.patch.object(subprocess.Popen, "wait", wait_then):
             failure = failure_of(command, "a b.json", "not judged")
         return failure and failure.removeprefix(f"{command} ")

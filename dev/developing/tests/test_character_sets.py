@@ -8,20 +8,19 @@ import os
 import unittest
 
 from developing.pes import data_field, packet, pes_packet, pts_in, teletext_packets
-from subtitles.core.built import TOP
-from subtitles.core.national import FRENCH, OPTIONS
-from subtitles.core.teletext import CODE_WORDS
-from subtitles.qc.asked import Asked
-from subtitles.qc.warned import of_character_sets, of_option
+from subtitles.common.program import TOP
+from subtitles.formats.teletext import CODE_WORDS, FRENCH, OPTIONS
+from subtitles.recording.recording import of_character_sets, of_option
+from subtitles.request.request import Request
 from .bench import Case, example_bytes, packets
 from .parts import packets_told
 from .test_qc import STORY, lines_of, qc
 from .test_warnings import warnings
 
 PAGE = (0, 0x88)
-ASKED = Asked(stl="a.stl", recording="a.ts", page=PAGE, every=250, option="english", origin=0,
+ASKED = Request(stl="a.stl", recording="a.ts", page=PAGE, every=250, option="english", origin=0,
               is_complete=True, pid=None, is_loss_allowed=False, severity=None, breaks=0, pes=None,
-              start=None)
+                start=None)
 HEADER, OTHER, CLOSING = (packet(0, 0, numbers, b" " * 32) for numbers in (
     (8, 8, 0, 8, 0, 8, 1, 0), (1, 0, 0, 0, 0, 0, 0, 0), (15, 15, 15, 7, 15, 3, 0, 0)))
 ROW = packet(0, 20, (), b"a row".ljust(40))

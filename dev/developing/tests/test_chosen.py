@@ -8,11 +8,10 @@ import re
 from typing import Any, Sequence
 
 from developing.pes import pes_packet
-from subtitles.core.built import TOP, read
-from subtitles.core.times import TICKS
-from subtitles.qc.asked import asked_of, option_line
-from subtitles.qc.chosen import CHOICES
-from subtitles.calls.main import parser_of
+from subtitles.cli.main import parser_of
+from subtitles.common.program import TOP, read
+from subtitles.common.times import TICKS
+from subtitles.request.request import CHOICES, option_line, request_of
 from .bench import Case, example, tool_path
 from .judged import Judged, joined, judged, programme, sendings
 from .results import wrong_choices
@@ -121,7 +120,7 @@ class Chosen(Case):
             data = file.read()
         for language, (option, why) in LANGUAGES.items():
             path = self.write("one.stl", b"" if language is None else data[:14] + language + data[16:])
-            asked = asked_of(parser_of("").parse_args([path, "--option", "auto"]))
+            asked = request_of(parser_of("").parse_args([path, "--option", "auto"]))
             self.must(f"{language!r}", asked.option == option and
                       option_line(asked) == f"option: {option}, since {why}", option_line(asked))
 

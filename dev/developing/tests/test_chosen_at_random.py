@@ -13,9 +13,9 @@ from typing import Callable, NamedTuple
 
 from developing.multiplex import ADAPTATION_ALONE, PACKET, head
 from developing.pes import data_field, pes_packet, pts_in, teletext_packets
-from subtitles.core.layout import PLAIN, Layout, Refused, drawn, layout_of, page_of
-from subtitles.core.national import ENGLISH
-from subtitles.core.times import TICKS
+from subtitles.common.times import TICKS
+from subtitles.formats.layout import Layout, PLAIN, Refused, drawn, layout_of, page_rows
+from subtitles.formats.teletext import ENGLISH
 from .bench import BENCH, Case, packets
 from .judged import Judged, Sent, joined, judged
 from .muxed import TELETEXT_PID
@@ -64,7 +64,7 @@ class Programme(NamedTuple):
     def page(self, said: Said) -> object:
         """What the house draws of a text."""
         lines = drawn(said[0], 18, said[1], self.layout, ENGLISH)
-        return lines if isinstance(lines, Refused) else page_of(lines)
+        return lines if isinstance(lines, Refused) else page_rows(lines)
 
     def is_right(self) -> bool:
         """Whether each cell that was sent is as it is due."""

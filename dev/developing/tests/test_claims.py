@@ -5,8 +5,8 @@ import errno
 import os
 from unittest import mock
 
-from subtitles.calls.claim import claimed, claimed_for_batch
-from subtitles.core.words import Stop
+from subtitles.cli.single import claimed, claimed_for_batch
+from subtitles.common.command_line import Stop
 from .bench import Case
 
 

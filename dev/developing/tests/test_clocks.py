@@ -7,7 +7,7 @@ import shutil
 import subprocess
 
 from developing.stl import boxed, gsi_block, subtitle_blocks
-from subtitles.core.times import CLOCK, TICKS, time_of
+from subtitles.common.times import CLOCK, TICKS, time_of
 from .bench import Case, example, example_bytes, moved
 from .judged import Judged, Sent, in_pipe, joined, judged, late, programme, sendings
 from .muxed import H_264, HEVC, MPEG_2, programme as stream_with

@@ -7,7 +7,7 @@ import shutil
 import subprocess
 from typing import Iterable
 
-from subtitles.core.built import TOP, behind_script, read
+from subtitles.common.program import TOP, behind_script, read
 from ..compiled import share_compiled
 from ..proved import Proved, digest_of, parsed, text_of
 from ..trial import ANOTHER_USER, Trial

@@ -8,9 +8,9 @@ import json
 import os
 from unittest import mock
 
-from subtitles.calls import collecting
-from subtitles.calls.objects import unjudged
-from subtitles.core.words import Stop
+from subtitles.cli import collection
+from subtitles.common.command_line import Stop
+from subtitles.results.objects import unjudged
 from .bench import Case
 from .results import FAULT, result
 from .test_many_pairs import row
@@ -25,13 +25,13 @@ class Collected(Case):
 
     def test_table(self) -> None:
         """Columns as wide as their widest, and how many there are of which verdict."""
-        self.must("table", list(collecting.table_of(self.ROWS)) == [
+        self.must("table", list(collection.table_of(self.ROWS)) == [
             "pair    verdict     faults  first fault", "one     accepted         0",
             "second  refused         12  72 Content frame 1: a hint",
             "c       not judged          why", "d       waived           3  waived: refused 5 X",
             "4 pairs: 1 accepted, 1 refused, 1 not judged, 1 waived"],
-            list(collecting.table_of(self.ROWS)))
-        self.must("one", list(collecting.table_of(self.ROWS[:1]))[-1] == "1 pair: 1 accepted")
+                  list(collection.table_of(self.ROWS)))
+        self.must("one", list(collection.table_of(self.ROWS[:1]))[-1] == "1 pair: 1 accepted")
 
     def end(self, **outputs: str) -> tuple[int, str, str]:
         """The status of all rows, what is printed, and what is told."""
@@ -44,15 +44,15 @@ class Collected(Case):
             self.write(os.path.basename(path), json.dumps(have).encode())
         out, told = io.StringIO(), io.StringIO()
         with contextlib.redirect_stdout(out), contextlib.redirect_stderr(told):
-            status = collecting.end(words, self.ROWS, paths)
+            status = collection.write_collection(words, self.ROWS, paths)
         return status, out.getvalue(), told.getvalue()
 
     def test_outputs(self) -> None:
         """The table goes to standard output unless a file does, and what failed is told."""
-        table = "".join(f"{line}\n" for line in collecting.table_of(self.ROWS))
+        table = "".join(f"{line}\n" for line in collection.table_of(self.ROWS))
         self.must("none", self.end() == (2, table, ""), self.end())
         for name in ("csv", "junit", "json"):
-            with mock.patch.object(collecting, "put"):
+            with mock.patch.object(collection, "put_file"):
                 self.must(f"{name} to -", self.end(**{name: "-"}) == (2, "", table))
         status, out, told = self.end(csv=self.path("no/x"), junit=self.path("no/y"))
         self.must("failed", status == 2 and out == f"{table.rstrip()}; not all was written\n" and len(told.splitlines()) == 2 and
@@ -75,9 +75,9 @@ class Collected(Case):
                 raise BrokenPipeError
 
         words = argparse.Namespace(csv=self.path("lines"), junit=None, json=None)
-        with mock.patch.object(collecting, "silence") as silenced, \
+        with mock.patch.object(collection, "silence") as silenced, \
                 contextlib.redirect_stdout(Gone()) as out:
-            status = collecting.end(words, self.ROWS[:2], [self.path("a"), self.path("b")])
+            status = collection.write_collection(words, self.ROWS[:2], [self.path("a"), self.path("b")])
         self.must("status", status == 1 and os.path.exists(self.path("lines")) and
                   silenced.call_args == mock.call(out), silenced)
 
@@ -88,7 +88,7 @@ class Collected(Case):
         def collect() -> tuple[int, str, str]:
             out, told = io.StringIO(), io.StringIO()
             with contextlib.redirect_stdout(out), contextlib.redirect_stderr(told):
-                return collecting.collect(words), out.getvalue(), told.getvalue()
+                return collection.collect(words), out.getvalue(), told.getvalue()
 
         self.assertRaises(Stop, collect)
         os.mkdir(self.path("in"))
@@ -100,7 +100,7 @@ class Collected(Case):
         self.must("accepted", status == 0 and "1 pair: 1 accepted" in out and
                   told.count(".json is no JSON result of a pair, and is skipped") == 2, told)
         with self.assertRaises(Stop):
-            collecting.refuse_names(argparse.Namespace(json=None, csv=self.path("in"), junit=None))
+            collection.refuse_names(argparse.Namespace(json=None, csv=self.path("in"), junit=None))
         self.write("in/two.json", json.dumps(result()).encode())
         self.must("refused", collect()[0] == 1)
         self.write("in/three.json", b"{")
@@ -114,15 +114,15 @@ class Collected(Case):
         for data in (None, b"[]", b"{"):
             if data is not None:
                 self.write("gone.json", data)
-            have = json.loads(collecting.text_of(path))
+            have = json.loads(collection.fitting_text(path))
             self.must("gone", have["verdict"] == "not judged" and have["name"] == "gone", have)
         known = result(faults=[FAULT])
         self.write("gone.json", b'{"status": 0, ' + json.dumps(known, indent=3).encode()[1:])
-        self.must("as it was read", json.loads(collecting.text_of(path)) == known)
-        self.must("lines", len(b"".join(collecting.lines_of([path, path])).splitlines()) == 5)
+        self.must("as it was read", json.loads(collection.fitting_text(path)) == known)
+        self.must("lines", len(b"".join(collection.csv_lines([path, path])).splitlines()) == 5)
         known["left_out"]["faults"] = 7
         self.write("gone.json", json.dumps(known).encode())
         with contextlib.redirect_stderr(io.StringIO()) as told:
-            self.must("lines of some", len(list(collecting.lines_of([path]))) == 3)
+            self.must("lines of some", len(list(collection.csv_lines([path]))) == 3)
         self.must("told", told.getvalue().endswith(
             f": {path} leaves out 7 faults, and so do the lines\n"), told.getvalue())

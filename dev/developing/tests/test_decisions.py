@@ -9,33 +9,24 @@ from dataclasses import replace
 
 from developing.pes import pes_packet
 from developing.stl import gsi_block, tti_block
-from subtitles.calls.batch import words_of
-from subtitles.calls.members import ASKED
-from subtitles.calls.result import total
-from subtitles.calls.objects import hint_in
-from subtitles.calls.pairs import of_folder
-from subtitles.calls.watching import Sighting, Watch
-from subtitles.core.programme import Subtitle
-from subtitles.core.spans import Span
-from subtitles.core.times import TICKS, Between
-from subtitles.core.words import Words
-from subtitles.qc.asked import add_pair_options, asked_of_line
-from subtitles.qc.clock import RECORDING, START, Clock, Found
-from subtitles.qc.delays import frames_until
-from subtitles.qc.clocks import unclear, with_delay
-from subtitles.reading.packets import Packets
-from subtitles.reading.order import FEW
-from subtitles.reading.timeline import Timeline
-from subtitles.qc.parting import parted, refuse_others
-from subtitles.qc.subtitle_file import NamedSubtitle, SubtitleFile
-from subtitles.qc.typed import Typed
-from subtitles.qc.unclear import Unclear
-from subtitles.qc.warned import of_page
-from subtitles.reading.finding import Agreement, Origin
-from subtitles.reading.survey import Announced
-from subtitles.reading.receiver import BLANK_PAGE, Rows
+from subtitles.cli.batch import Sighting, Watch, of_folder
+from subtitles.clock.origin import Agreement, Origin
+from subtitles.clock.start import Clock, Found, RECORDING, START
+from subtitles.common.command_line import Words
+from subtitles.common.times import Between, Span, TICKS
+from subtitles.formats.stl import NamedSubtitle, Subtitle, SubtitleFile
+from subtitles.judging.pair import unclear_origin, with_delay
+from subtitles.judging.part import parted, refuse_others
+from subtitles.judging.verdict import frames_until
+from subtitles.recording.recording import of_page
+from subtitles.request.commands import CommandWords
+from subtitles.request.request import Unclear, add_options, request_of_line
+from subtitles.results.objects import hint_in
+from subtitles.results.schema import ASKED, total
+from subtitles.stream.receiver import BLANK_PAGE, FEW, Rows, Timeline
+from subtitles.stream.survey import Announced, Packets
 from .bench import Case
-from .parts import CLOSING, HEADER, PAGE, asked_for, packets_told, row, timeline_of
+from .parts import CLOSING, HEADER, PAGE, asked_for, call_words, packets_told, row, timeline_of
 
 
 class Objects(Case):
@@ -69,12 +60,12 @@ class Objects(Case):
                    ["--start", "10:00:00:00"], ["--severity", "file"], ["--no-complete"],
                    ["--allow-lost"]]
         parser = Words("")
-        add_pair_options(parser)
+        add_options(parser)
         defaults = parser.parse_args([])
         every = [word for one in options if one[0] != "--start" for word in one]
         for words in [list[str](), *options, every]:
             asked = asked_for("one.stl", "one.pes", *words)
-            again = asked_of_line(words_of(asked), defaults)
+            again = request_of_line(call_words(asked), defaults)
             self.must(f"{words}", ASKED.made(again) == ASKED.made(asked), again)
 
 
@@ -126,7 +117,7 @@ class Folders(Case):
             os.mkdir(self.path(name))
         words = argparse.Namespace(watch=self.path("in"), out=self.path("out"), settled=10,
                                    is_kept=False, **vars(defaults()))
-        watch = Watch(words, Typed("tools/qc", self.bench.program))
+        watch = Watch(words, CommandWords("tools/qc", self.bench.program))
         for name in ("in/one.stl", "in/one.ts"):
             self.write(name, b"1")
 
@@ -157,7 +148,7 @@ class Folders(Case):
             os.mkdir(self.path(name))
         words = argparse.Namespace(watch=self.path("in"), out=self.path("out"), settled=0,
                                    is_kept=False, **vars(defaults()))
-        watch = Watch(words, Typed("tools/qc", self.bench.program))
+        watch = Watch(words, CommandWords("tools/qc", self.bench.program))
 
         def told(now: float) -> int:
             with contextlib.redirect_stderr(io.StringIO()) as told:
@@ -180,7 +171,7 @@ def subtitle(index: int, begin: int) -> Subtitle:
 def defaults() -> argparse.Namespace:
     """The options of a call that has none."""
     parser = Words("")
-    add_pair_options(parser)
+    add_options(parser)
     return parser.parse_args([])
 
 
@@ -254,7 +245,7 @@ class Fitted(Case):
         """With several runs, or other breaks than were said, the lines alone are the reason."""
         for runs, breaks, is_alone in ((0, None, False), (2, None, True), (0, 0, True),
                                        (0, 2, True), (3, 2, True)):
-            why = unclear(Origin(runs=[(0, 9)] * runs, breaks=breaks, told=["one"]), [])
+            why = unclear_origin(Origin(runs=[(0, 9)] * runs, breaks=breaks, told=["one"]), [])
             self.must(f"{runs} {breaks}", (why.reason == "one") == is_alone)
 
 

@@ -7,7 +7,7 @@ import re
 import shutil
 from typing import Iterator
 
-from subtitles.core.built import TOP, read
+from subtitles.common.program import TOP, read
 from ..questions import Question, ask, count, link, page
 from .bench import Case
 

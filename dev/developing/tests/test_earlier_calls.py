@@ -11,19 +11,18 @@ import os
 from typing import Any, Iterator
 from unittest import mock
 
-from subtitles.calls import watching
-from subtitles.calls.claim import claimed
-from subtitles.calls.members import ASKED
-from subtitles.calls.objects import (
+from subtitles.cli import batch
+from subtitles.cli.batch import Item, Watch, refuse_folders
+from subtitles.cli.single import claimed
+from subtitles.common.command_line import Stop
+from subtitles.common.program import MadeWith, about_program
+from subtitles.recording.feed import Stall
+from subtitles.request.commands import CommandWords
+from subtitles.request.request import Request
+from subtitles.results.objects import (
     Row, found, found_at, has_had_its_turn, is_current, left_by_call, may_take, object_at,
-    objects_in, row_of, unjudged)
-from subtitles.calls.pairs import Item
-from subtitles.calls.watching import Watch, refuse_folders
-from subtitles.core.words import Stop
-from subtitles.qc.asked import Asked
-from subtitles.qc.made_with import MadeWith, program_at
-from subtitles.qc.feed import Stall
-from subtitles.qc.typed import Typed
+    objects_in, row_of_object, unjudged)
+from subtitles.results.schema import ASKED
 from .bench import Case, example_bytes
 from .parts import asked_for
 from .test_channel_tables import defaults
@@ -64,9 +63,10 @@ class EarlierCalls(Case):
         none = dataclasses.replace(asked, severity=None)
         self.must("no severity", not is_current(known, none, PROGRAM))
         names = {field.name for field in dataclasses.fields(asked)}
-        self.must("all words", names == {*OTHERS, "stl", "recording", "severity", "passed_on",
+        self.must("all words", names == {*OTHERS, "stl", "recording", "severity", "from_time",
+                                             "to_time", "layout", "is_open", "may_keep", "pace_word",
                                              "found_layout", "kept_stl", "language"},
-                  names)  # those that are passed on: test_options
+                  names)  # those that are left out here: test_options
 
     def test_object_of_another_program(self) -> None:
         asked, known = self.known()
@@ -113,21 +113,21 @@ class Objects(Case):
         faults = [{**FAULT, "line": f"refused {number}", "number": 5, "name": "X"}
                   for number in range(120)]
         causes = {"late": 2, "early": 1}
-        found_row = row_of(result(faults=faults, fault_count=7, seconds=1.5,
-                                  cause_counts={**causes, "never": 0}, hints=["72: a hint"]),
-                           "name")
+        found_row = row_of_object(result(faults=faults, fault_count=7, seconds=1.5,
+                                         cause_counts={**causes, "never": 0}, hints=["72: a hint"]),
+                                  "name")
         self.must("all", found_row == Row(
             "name", "one.stl one.ts", "refused", 1, "refused 72 Content", 7,
             {**causes, "5 X": 120}, [f"refused {number}" for number in range(100)], 1.5, "a hint"),
             found_row)
-        self.must("none", row_of(unjudged("name", "why"), "name") == Row(
+        self.must("none", row_of_object(unjudged("name", "why"), "name") == Row(
             "name", "name", "not judged", 2, "why", 0, {}, [], 0.0, ""))
         none: dict[str, Any] = {"format": 5, "verdict": "not judged", "status": 2, "name": "a",
                                 "reason": "why"}
         self.must("not judged", unjudged("a", "why") == none and
                   unjudged("a", "why", True) == {**none, "open": True})
-        self.must("reason", row_of(result("not judged"), "x").line == "why")
-        self.must("judged", row_of(result(), "x").is_judged and not row_of(
+        self.must("reason", row_of_object(result("not judged"), "x").line == "why")
+        self.must("judged", row_of_object(result(), "x").is_judged and not row_of_object(
             unjudged("x", "why"), "x").is_judged)
 
     def test_shape(self) -> None:
@@ -183,7 +183,7 @@ class Objects(Case):
         one = result(asked=ASKED.made(asked), found=found(asked))
         nothing, longer = ({**found(asked), "stl": size and {**size, "size": 2}}
                            for size in (None, found_at(stl)))
-        rows: list[tuple[str, dict[str, Any], Asked | None, bool]] = [
+        rows: list[tuple[str, dict[str, Any], Request | None, bool]] = [
                 ("judged", one, asked, True), ("of another file", one, other, False),
                 ("no programme now", one, None, False),
                 ("nothing found", {**one, "found": nothing}, asked, False),
@@ -245,7 +245,7 @@ class Watched(Case):
         for name in ("old", "older"):
             self.write(f"out/{name}.json", json.dumps(result("accepted")).encode())
         self.write("out/x.json", b"[]")
-        watch = Watch(self.words(), Typed("tools/qc", self.bench.program))
+        watch = Watch(self.words(), CommandWords("tools/qc", self.bench.program))
         self.must("rows", list(watch.rows) == ["old", "older"])
         out = io.StringIO()
         with contextlib.redirect_stdout(out):
@@ -257,7 +257,7 @@ class Watched(Case):
         self.must("page", "4 pairs" in page and page.index("<td>a<") < page.index("<td>b<"))
         stl, ts = self.write("in/a.stl", b"1"), self.write("in/a.ts", b"1")
         item = Item("a", asked_for(stl, ts), None)
-        program = program_at(watch.calls.typed.program_path)
+        program = about_program(watch.calls.typed.program_path)
         asked = asked_for(stl, ts)
         have = result(asked=ASKED.made(asked), found=found(asked), program=program._asdict())
         other: dict[str, Any] = {"found": {**found(asked), "stl": None}}
@@ -269,7 +269,7 @@ class Watched(Case):
         """One whose files another call was writing is told once, and judged again at each look."""
         for name in ("in", "out"):
             os.mkdir(self.path(name))
-        watch = Watch(self.words(), Typed("tools/qc", self.bench.program))
+        watch = Watch(self.words(), CommandWords("tools/qc", self.bench.program))
         item = Item("a", asked_for(self.write("in/a.stl", b"1"), self.write("in/a.ts", b"1")), None)
         out = io.StringIO()
         with contextlib.redirect_stdout(out), claimed(self.path("out"), "a"):
@@ -286,7 +286,7 @@ class Watched(Case):
         """It is told once, and again where its reason is another one."""
         for name in ("in", "out"):
             os.mkdir(self.path(name))
-        watch = Watch(self.words(), Typed("tools/qc", self.bench.program))
+        watch = Watch(self.words(), CommandWords("tools/qc", self.bench.program))
         told = io.StringIO()
         with contextlib.redirect_stderr(told):
             for reason in ("first", "first", "second", "second", "first"):
@@ -319,11 +319,11 @@ class Watched(Case):
                 raise KeyboardInterrupt
             return due(watch, busy)
 
-        with mock.patch("signal.signal"), mock.patch.object(watching, "LOOK", 0.01), mock.patch.object(Watch, "due", look), \
-                mock.patch.object(watching, "judged_next", judged_next), \
-                mock.patch("subtitles.calls.batch.Calls.items", lambda calls: running), \
+        with mock.patch("signal.signal"), mock.patch.object(batch, "LOOK", 0.01), mock.patch.object(Watch, "due", look), \
+                mock.patch.object(batch, "judged_next", judged_next), \
+                mock.patch("subtitles.cli.batch.Calls.items", lambda calls: running), \
                 contextlib.redirect_stdout(io.StringIO()) as out:
-            status = watching.watch(self.words(program=self.bench.program, jobs=4), "tools/qc")
+            status = batch.watch(self.words(program=self.bench.program, jobs=4), "tools/qc")
         self.must("its status", status == 2, status)
         self.must("once", sorted(begun) == ["a", "b"] and len(out.getvalue().splitlines()) == 2,
                   (begun, out.getvalue()))

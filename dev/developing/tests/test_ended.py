@@ -14,11 +14,11 @@ import xml.etree.ElementTree as tree
 from typing import Any, NamedTuple
 from unittest import mock
 
-from subtitles.calls.main import main
-from subtitles.calls.single import SIGNALS
-from subtitles.core.built import TOP
-from subtitles.core.stl import stl_bytes
-from subtitles.core.words import Stop, run
+from subtitles.cli.main import main
+from subtitles.cli.single import SIGNALS
+from subtitles.common.command_line import Stop, run
+from subtitles.common.program import TOP
+from subtitles.formats.stl import stl_bytes
 from .bench import Case, example, tool_path
 from .judged import FEW
 
@@ -285,17 +285,17 @@ class Mistakes(Story):
         for error in (ValueError("odd"), KeyError("none"), RecursionError(), MemoryError(),
                       AssertionError("never"), IndexError("far"), OSError("read"), Stop("stopped")):
             with self.subTest(error=error):
-                self.failing("qc.pair.Pair.judge", error)
-        for place in ("qc.checks.check_alone", "qc.clocks.find", "qc.judging.end",
-                      "qc.part.Part.is_read", "qc.checking.Answer.take"):
+                self.failing("judging.pair.Pair.judge", error)
+        for place in ("judging.pair.check_alone", "judging.pair.find", "judging.pair.end_part",
+                      "judging.part.Part.is_read", "judging.check.Answer.take"):
             with self.subTest(place):
                 self.failing(place, ValueError("odd"))
 
     def test_what_is_outside_of_the_steps(self) -> None:
         """An error before judging, while words are read, and while a file is made."""
-        for place in ("calls.main.parser_of", "calls.single.asked_of", "calls.single.Typed",
-                      "calls.single.found", "calls.machine.listed", "calls.machine.fitting",
-                      "calls.single.program_at"):
+        for place in ("cli.main.parser_of", "cli.single.request_of", "cli.single.CommandWords",
+                      "cli.single.found", "results.objects.listed", "results.objects.fitting",
+                      "cli.single.about_program"):
             with self.subTest(place):
                 self.failing(place, ValueError("odd"))
 
@@ -303,7 +303,7 @@ class Mistakes(Story):
         """Python's own status would be that of a refusal."""
         done = subprocess.run(
             [sys.executable, "-c", "import sys; sys.path.insert(0, sys.argv[1]); "
-             "import subtitles; import subtitles.core.nothing", os.path.join(TOP, "tools")],
+             "import subtitles; import subtitles.common.nothing", os.path.join(TOP, "tools")],
             capture_output=True, encoding="utf-8", check=False)
         self.assertEqual((done.returncode, len(done.stderr.splitlines())), (2, 1), done)
 

@@ -5,12 +5,12 @@ from __future__ import annotations
 import random
 from typing import NamedTuple, Sequence
 
-from subtitles.core.layout import PLAIN, Layout, Refused, drawn, layout_of, page_of, text_of
-from subtitles.core.national import ENGLISH
-from subtitles.qc.evidence import (
-    MOST_ITEMS, Choice, Evidence, Left, Rest, choices_of, items_in, taken_from, with_items,
+from subtitles.formats.layout import (
+    Layout, PLAIN, Refused, drawn, layout_of, layout_text, page_rows)
+from subtitles.formats.teletext import ENGLISH
+from subtitles.stream.layout import (
+    Choice, Evidence, Left, MOST_ITEMS, Rest, Sent, choices_of, items_in, taken_from, with_items,
     without)
-from subtitles.qc.layouts import Sent
 from .bench import Case
 from .judged import Judged, judged
 from .test_as_sent import file_of
@@ -90,7 +90,7 @@ def rows_of(text: bytes, justify: int, layout: Layout, row: int = 18) -> tuple[b
     """The page that a layout draws."""
     lines = drawn(text, row, justify, layout, ENGLISH)
     assert not isinstance(lines, Refused), text
-    return page_of(lines)
+    return page_rows(lines)
 
 
 def sent_of(several: Sequence[One], layout: Layout = PLAIN) -> list[Sent]:
@@ -115,7 +115,7 @@ class Items(Case):
     def test_items(self) -> None:
         for text, items in ITEMS:
             layout = meant(text)
-            told = [(text_of(with_items(PLAIN, [item], layout)), text_of(without(layout, [item])))
+            told = [(layout_text(with_items(PLAIN, [item], layout)), layout_text(without(layout, [item])))
                     for item in items_in(layout)]
             self.must(text, told == items, told)
             self.must(f"{text}, all", without(layout, items_in(layout)) == PLAIN
@@ -124,7 +124,7 @@ class Items(Case):
     def test_what_is_taken_from_a_page(self) -> None:
         for text, gone in TAKEN:
             layout = meant(text)
-            told = text_of(with_items(PLAIN, taken_from(layout), layout))
+            told = layout_text(with_items(PLAIN, taken_from(layout), layout))
             self.must(text, told == gone, told)
 
     def test_seen(self) -> None:
@@ -148,7 +148,7 @@ class Taken(Case):
             several = [row.one] * row.times + plain(100 - row.times)
             closest, choice = choices_of(sent_of(several), ENGLISH)
             left = [(one.text, one.more) for one in choice.left]
-            self.must(row.name, text_of(choice.layout) == row.taken and choice.found == 100
+            self.must(row.name, layout_text(choice.layout) == row.taken and choice.found == 100
                       and choice.drawn == 100 - (row.times if row.left else 0)
                       and left == ([(row.left, row.more)] if row.left else [])
                       and closest.drawn == 100, (closest, choice))
@@ -158,7 +158,7 @@ class Taken(Case):
         for count, taken in ((1, ""), (9, ""), (10, "right=2")):
             right = [moved(one, 2) for one in sent_of([One(b"Hi", b"Hi", 3)] * count)]
             choice = choices_of([*sent_of(plain(100 - count)), *right], ENGLISH)[1]
-            self.must(f"{count}", text_of(choice.layout) == taken and choice.drawn == 100 - (
+            self.must(f"{count}", layout_text(choice.layout) == taken and choice.drawn == 100 - (
                 count if not taken else 0), choice)
 
     def test_a_colour_that_is_overruled(self) -> None:
@@ -170,7 +170,7 @@ class Taken(Case):
             closest, choice = choices_of(sent, ENGLISH)
             left = [(one.text, one.more) for one in choice.left]
             self.must(f"{count}", closest.drawn == 100 and choice.drawn == drawn_so and
-                      text_of(choice.layout) == text and choice.is_clear == bool(text) and
+                      layout_text(choice.layout) == text and choice.is_clear == bool(text) and
                       left == [("before=*070B0B", 100 - drawn_so)], choice)
 
     def test_evidence_is_of_what_is_decided(self) -> None:
@@ -182,7 +182,7 @@ class Taken(Case):
                     *sent_of(plain(100))]
             found = Evidence(sent, ENGLISH)
             layout, gone = found.supported(Layout(double=True))
-            self.must(f"{otherwise}", text_of(layout) == taken and bool(gone) == (not taken) and
+            self.must(f"{otherwise}", layout_text(layout) == taken and bool(gone) == (not taken) and
                       found.rest(Layout(double=True), [("double", 0)]) ==
                       Rest("double", 10 + otherwise, 10), (layout, gone))
 
@@ -203,8 +203,8 @@ class Taken(Case):
         house = Layout(text=True, after=b"\x0a")
         sent = [*sent_of([*plain(99), COLOUR], house)]
         choice = choices_of(sent, ENGLISH)[1]
-        self.must("seen", text_of(choice.layout) == "after=0A,text" or
-                  text_of(choice.layout) == "after=0A", choice)
+        self.must("seen", layout_text(choice.layout) == "after=0A,text" or
+                  layout_text(choice.layout) == "after=0A", choice)
         self.must("left", [one.text for one in choice.left] == ["strip=03"], choice)
         several = [One(b"\x0dHi", b"Hi")] * 20 + plain(80)
         found = Evidence(sent_of(several, Layout(before=b"\x0d\x0b\x0b")), ENGLISH)

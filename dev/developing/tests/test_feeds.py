@@ -4,11 +4,11 @@ from __future__ import annotations
 from typing import Any
 
 from developing.pes import pes_packet
-from subtitles.core.times import CLOCK, TICKS
-from subtitles.qc import feed
-from subtitles.qc.ending import LAST, Ending
-from subtitles.reading.finding import Agreement, OfPart, Origin
-from subtitles.reading.survey import Survey
+from subtitles.clock.origin import Agreement, OfPart, Origin
+from subtitles.common.times import CLOCK, TICKS
+from subtitles.recording import feed
+from subtitles.recording.feed import Ending, LAST
+from subtitles.stream.survey import Survey
 from .bench import Case
 from .parts import CLOSING, HEADER, asked_for, packets_told
 

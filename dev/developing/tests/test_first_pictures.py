@@ -4,9 +4,9 @@ from __future__ import annotations
 import unittest
 from typing import Sequence
 
-from subtitles.core.times import CLOCK, TICKS
-from subtitles.qc.start import PATIENCE, First, NoFirst, first_of, is_known, left_out
-from subtitles.reading.survey import Survey
+from subtitles.clock.start import First, NoFirst, PATIENCE, first_picture, is_known, left_out
+from subtitles.common.times import CLOCK, TICKS
+from subtitles.stream.survey import Survey
 from .muxed import H_264, HEVC, MPEG_2
 
 TELETEXT, VIDEO = 0x101, 0x200
@@ -40,7 +40,7 @@ class Pictures(unittest.TestCase):
 
     def said(self, lines: Sequence[str], is_whole: bool = True) -> str | First:
         try:
-            return first_of(surveyed(lines, is_whole), TELETEXT)
+            return first_picture(surveyed(lines, is_whole), TELETEXT)
         except NoFirst as reason:
             return str(reason)
 

@@ -10,19 +10,19 @@ import time
 from typing import Any, Callable
 from unittest import mock
 
-from subtitles.calls import batch
-from subtitles.calls.batch import Calls, all_rows, kept_rows, progress_line, words_of
-from subtitles.calls.forked import Forked, ended_of, qc, signals_held
-from subtitles.calls.members import ASKED
-from subtitles.calls.main import parser_of
-from subtitles.calls.objects import Row, found, object_at, unjudged
-from subtitles.calls.pairs import Item
-from subtitles.qc.asked import asked_of
-from subtitles.qc.made_with import program_at
-from subtitles.qc.typed import Typed
+from subtitles.cli.single import PairCall
+from subtitles.cli import batch
+from subtitles.cli.batch import (
+    Calls, Forked, Item, all_rows, ended_of, kept_rows, progress_line, signals_held)
+from subtitles.cli.main import parser_of
+from subtitles.common.program import about_program
+from subtitles.request.commands import CommandWords
+from subtitles.request.request import Request, request_of
+from subtitles.results.objects import Row, found, object_at, unjudged
+from subtitles.results.schema import ASKED
 from .bench import SECONDS, Case
 from .channels import until
-from .parts import asked_for
+from .parts import asked_for, call_words, qc
 from .results import result
 from .test_many_pairs import row
 
@@ -61,15 +61,18 @@ class Judged(Case):
         path = self.write_program("call", CALL.replace("SECONDS", f"{SECONDS}"))
         for verdict in ("accepted", "refused", "not judged"):
             self.write(verdict, json.dumps(result(verdict, notes=TOLD)).encode())
-        self.typed = Typed("tools/qc", self.bench.program)
+        self.typed = CommandWords("tools/qc", self.bench.program)
 
-        def execute(words: list[str]) -> int:
+        def execute(asked: Request, call: PairCall) -> int:
+            kept = ["-o", call.out] if call.out else ["--json", call.json or ""]
+            words = [f"--name={call.name}", *["--claimed"] * call.is_claimed, *kept,
+                     *["--keep"] * call.is_kept, "-p", call.program or "", *call_words(asked)]
             for file in os.listdir("/proc/self/fd"):  # that it goes on is known by one of them
                 with contextlib.suppress(OSError):
                     os.set_inheritable(int(file), True)
             os.execv(path, [path, *words])
 
-        asking = mock.patch.object(batch, "qc", execute)
+        asking = mock.patch.object(batch, "judge_alone", execute)
         asking.start()
         self.addCleanup(asking.stop)
         os.mkdir(self.path("temporary"))
@@ -107,7 +110,7 @@ class Judged(Case):
                       "--strict --allow-lost --no-complete --severity file --breaks 2 --pes 3-9",
                       "--page 1A0 --every 7 --option german"):
             asked = asked_for("a.stl", "a.ts", *words.split())
-            again = asked_of(parser_of("").parse_args(words_of(asked)))
+            again = request_of(parser_of("").parse_args(call_words(asked)))
             self.must(words, again == asked, again)
 
     def test_one(self) -> None:
@@ -151,7 +154,7 @@ class Judged(Case):
             ("a signal", lambda: signal.raise_signal(signal.SIGTERM), "it did not end by itself")]
         for name, does, reason in kinds:
             calls = Calls(self.typed, self.path("temporary"), self.path("out"), False)
-            with mock.patch.object(batch, "qc", lambda words: does()):
+            with mock.patch.object(batch, "judge_alone", lambda *_: does()):
                 calls.begin(self.item("accepted", "dies"))
             calls.begin(self.item("accepted", "other"))
             rows: dict[str, Row] = {}
@@ -212,7 +215,7 @@ class Judged(Case):
                 if line.startswith("1 of 4 pairs: 1 accepted"):
                     raise reason
 
-            with mock.patch("subtitles.qc.progress.Progress.show", show), \
+            with mock.patch("subtitles.request.commands.Progress.show", show), \
                     mock.patch.object(batch, "ignore_signals") as ignored:
                 if isinstance(reason, KeyboardInterrupt):
                     rows = all_rows(calls, items, {}, 2)
@@ -237,7 +240,7 @@ class Judged(Case):
             until(are_over)
             raise KeyboardInterrupt
 
-        with mock.patch("subtitles.qc.progress.Progress.show", stopped), \
+        with mock.patch("subtitles.request.commands.Progress.show", stopped), \
                 mock.patch.object(batch, "ignore_signals"):
             rows = all_rows(calls, items, {}, 3)
         self.must("all", sorted(rows) == ["name0", "name1", "name2"], rows)
@@ -249,7 +252,7 @@ class Judged(Case):
         items = [self.item("accepted", name) for name in (
             "one", "two", "three", "four", "six", "seven", "eight")]
         items.append(Item("five", None, "no pair"))
-        program = program_at(self.typed.program_path)
+        program = about_program(self.typed.program_path)
         mores: list[dict[str, Any]] = [
             {}, {}, {"program": {**program._asdict(), "sha256": "1" * 64}}, {}, {"format": 2},
             {"found": None}, {"asked": None}]

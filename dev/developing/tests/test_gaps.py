@@ -3,9 +3,9 @@ from __future__ import annotations
 
 from typing import Tuple
 
-from subtitles.core.times import TICKS
-from subtitles.reading.gaps import Place, places_of, what_of, why_refused
-from subtitles.reading.packets import Clocked, Mark, Packets, Run
+from subtitles.common.times import TICKS
+from subtitles.stream.gaps import Place, places_of, what_of, why_refused
+from subtitles.stream.survey import Clocked, Mark, Packets, Run
 from .bench import Case
 
 Jump = Tuple[int, int]  # the PTS around one

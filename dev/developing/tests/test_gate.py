@@ -7,8 +7,8 @@ import re
 import shutil
 import subprocess
 
-from subtitles.calls.objects import object_at
-from subtitles.core.built import TOP, read
+from subtitles.common.program import TOP, read
+from subtitles.results.objects import object_at
 from .bench import Case, Done, example_bytes, tool_path
 
 # `rt help` says what `rt ci` takes; `rt ci` notes the words that it got.

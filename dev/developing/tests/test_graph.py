@@ -7,7 +7,7 @@ import unittest
 from typing import Any
 from unittest import mock
 
-from subtitles.core.words import Stop
+from subtitles.common.command_line import Stop
 from .bench import script
 
 graph = script("graph")

@@ -5,8 +5,8 @@ import itertools
 import os
 import unittest
 
-from subtitles.qc.checking import Answer, check
-from subtitles.qc.unclear import Unclear
+from subtitles.judging.check import Answer, check
+from subtitles.request.request import Unclear
 
 ACCEPTED = "accepted 226 frames 5 transmissions"
 FAULT = "refused 72 Content frame 20:15:05:12 row 22 column 9"

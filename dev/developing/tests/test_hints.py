@@ -8,7 +8,7 @@ import shutil
 import subprocess
 from typing import Iterator
 
-from subtitles.core.built import TOP
+from subtitles.common.program import TOP
 from .bench import SECONDS, Case
 
 TOOLS, DEV, BENCH = (os.path.join(TOP, name) for name in ("tools", "dev", "bench"))

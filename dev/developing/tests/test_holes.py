@@ -5,9 +5,9 @@ from typing import NamedTuple
 
 from developing.pes import pts_in
 from developing.stl import boxed, gsi_block, subtitle_blocks
-from subtitles.core.times import CLOCK, TICKS
-from subtitles.reading.gaps import ClockJump, Place, jumps_of, places_of
-from subtitles.reading.survey import survey
+from subtitles.common.times import CLOCK, TICKS
+from subtitles.stream.gaps import ClockJump, Place, jumps_of, places_of
+from subtitles.stream.survey import survey
 from developing.multiplex import PACKET
 from .bench import Case, packets
 from .judged import judged

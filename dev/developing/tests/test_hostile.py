@@ -9,7 +9,7 @@ import shutil
 import subprocess
 import xml.etree.ElementTree as tree
 
-from subtitles.calls.claim import claimed
+from subtitles.cli.single import claimed
 from .bench import Case, Done, example, example_bytes, tool_path
 from .muxed import teletext_descriptor
 from .test_qc import ACCEPTED, RECORDING, STORY, in_two_parts, lines_of, qc

@@ -9,9 +9,9 @@ import subprocess
 import sys
 import tarfile
 
-from subtitles.core.built import TOP, chosen, read
+from subtitles.cli.installation import PAGES, documents, without_dead_links
+from subtitles.common.program import TOP, chosen, read
 from ..compiled import plain_environment
-from ..prefix import PAGES, documents, without_dead_links
 from ..proved import lacking, parsed
 from .bench import Case, Done, example
 

@@ -4,19 +4,16 @@ from __future__ import annotations
 from typing import Sequence
 
 from developing.pes import packet, pes_packet
-from subtitles.core.programme import Subtitle
-from subtitles.core.spans import Span
-from subtitles.core.times import TICKS, time_of
-from subtitles.core.told import CONTENT, told_of
-from subtitles.qc.causes import REPEATED, Namer
-from subtitles.qc.checking import Answer
-from subtitles.qc.counted import NO_END, End
-from subtitles.qc.due_pages import DuePages
-from subtitles.qc.headers import REPEATS, Headed, control_words, headed, unerased_words
-from subtitles.qc.keeping import Kept, LeftOut, judged_by, kept_in, left_at, left_by, rows_words
-from subtitles.reading.packets import Run
-from subtitles.reading.receiver import BLANK_PAGE, TUNED, Rows
-from subtitles.reading.timeline import Timeline
+from subtitles.common.times import Span, TICKS, time_of
+from subtitles.formats.listing import CONTENT, fault_of_line
+from subtitles.formats.stl import Subtitle
+from subtitles.judging.causes import Namer, REPEATED
+from subtitles.judging.check import Answer, End, NO_END
+from subtitles.judging.transmissions import (
+    DuePages, Headed, Kept, LeftOut, REPEATS, control_words, headed, judged_by, kept_in, left_at,
+    left_by, left_rows_words, unerased_words)
+from subtitles.stream.receiver import BLANK_PAGE, Rows, TUNED, Timeline
+from subtitles.stream.survey import Run
 from .bench import Case
 from .judged import Judged, Sent, joined, judged, programme, sendings
 from .parts import CLOSING, HEADER, answer, asked_for, row, timeline_of
@@ -134,7 +131,7 @@ class Counted(Case):
                 ([20, 22], 20, 5, "row 20"), ([18, 20, 22], 20, 1, "row 20 and 1 more"),
                 ([18, 20, 22], 20, -1, "rows 18, 20 and 22")]
         for rows, told, came, wanted in cases:
-            found = rows_words(rows, told, came)
+            found = left_rows_words(rows, told, came)
             self.must(f"{rows} {told} {came}", found == wanted, found)
 
 
@@ -213,7 +210,7 @@ class RowsLeftOut(Case):
                 ("refused 72 Content frame 00:00:00:03 row 20 column 0", NO_END, []),
                 ("refused 73 Gap frame 00:00:01:00", NO_END, []),
                 ("refused 72 Content", NO_END, [])):
-            told = told_of(line)
+            told = fault_of_line(line)
             assert told
             said = answer([line, "1 faults"], path=self.path("list"))
             found = [tuple(one) for one in left_by(told, end, said, held, lambda frame: due)]

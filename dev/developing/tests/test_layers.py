@@ -5,14 +5,18 @@ import ast
 import os
 from typing import Iterator
 
-from subtitles.core.times import CLOCK, ticks_between, wrapped
+from subtitles.common.times import CLOCK, ticks_between, wrapped
 from .bench import Case
 from .test_hints import DEV, PACKAGES, TOOLS, modules
 
-ORDER = ["core", "reading", "qc", "preview", "calls"]  # the packages of users, lowest first
+ORDER = ["common", "formats", "request", "stream", "clock", "recording", "judging", "results",
+         "report", "cli"]  # the packages of users, lowest first
 # The second implementation shares with the tools codes, times, layouts and the blocks of files.
-SHARED = {"subtitles.core." + name for name in (
-    "built", "layout", "pes", "stl", "teletext", "times", "words")}
+SHARED = {"subtitles." + name for name in (
+    "common.command_line", "common.program.TOP", "common.program.built_program", "common.times",
+    "formats.layout", *("formats.stl." + name for name in (
+        "GSI", "LAST", "TEXT", "TTI", "USER_DATA")),
+    *("formats.teletext." + name for name in ("CODE_WORDS", "NUMBER", "Page", "START", "is_odd")))}
 
 
 def name_of(path: str) -> str:
@@ -43,7 +47,8 @@ def wrong_imports(name: str, names: Iterator[str]) -> list[str]:
         if here[1:2] != ["every_place"]:
             return []
         return [one for one in names if one.startswith("subtitles")
-                and not any((one + ".").startswith(shared + ".") for shared in SHARED)]
+                and not any((one + ".").startswith(shared + ".") for shared in SHARED)
+                and not any(shared.startswith(one + ".") for shared in SHARED)]
     allowed = ORDER[:ORDER.index(here[1]) + 1] if here[1:] else []
     found = []
     for one in names:
@@ -67,7 +72,7 @@ class Layers(Case):
     def test_go_downwards(self) -> None:
         """Each module of both packages."""
         paths = [path for folder in PACKAGES for path in modules(folder)]
-        self.must("modules", len(paths) > 150, len(paths))
+        self.must("modules", len(paths) > 50, len(paths))
         for path in paths:
             name = name_of(path)
             with open(path, encoding="utf-8") as file:
@@ -78,27 +83,30 @@ class Layers(Case):
     def test_tells_wrong_ones(self) -> None:
         """What has to be found, by the module that imports it."""
         for name, text, is_right in [
-                ("subtitles.qc.pair", "from ..preview.page import document", False),
-                ("subtitles.qc.pair", "from .. import preview", False),
-                ("subtitles.qc.pair", "def f():\n    from ..calls import main", False),
-                ("subtitles.qc.pair", "if TYPE_CHECKING:\n    import subtitles.calls.main", False),
-                ("subtitles.qc.pair", "from ..core.words import Stop\nfrom .asked import Asked",
+                ("subtitles.judging.pair", "from ..report.page import document", False),
+                ("subtitles.judging.pair", "from .. import report", False),
+                ("subtitles.judging.pair", "def f():\n    from ..cli import main", False),
+                ("subtitles.judging.pair", "if TYPE_CHECKING:\n    import subtitles.cli.main", False),
+                ("subtitles.judging.pair", "from ..common.command_line import Stop\nfrom .part import Part",
                  True),
-                ("subtitles.calls.single", "from ..preview.overview import overview", True),
-                ("subtitles.core.words", "from developing import TOOLS", False),
-                ("subtitles.core.words", "from ..reading import sent", False),
-                ("developing.every_place.known", "from subtitles.qc.told import told_of", False),
-                ("developing.every_place.known", "from subtitles.core.times import CLOCK", True)]:
+                ("subtitles.cli.single", "from ..report.page import overview", True),
+                ("subtitles.common.command_line", "from developing import TOOLS", False),
+                ("subtitles.common.command_line", "from ..stream import survey", False),
+                ("developing.every_place.known", "from subtitles.formats.listing import told_of",
+                 False),
+                ("developing.every_place.known", "from subtitles.formats.teletext import OPTIONS",
+                 False),
+                ("developing.every_place.known", "from subtitles.common.times import CLOCK", True)]:
             wrong = wrong_imports(name, imported(text, name, False))
             self.must(f"{name}: {text}", (not wrong) == is_right, wrong)
 
     def test_wrap_in_one_place(self) -> None:
-        """PTS are wrapped at 2^33 by `core.times` alone, in what users call."""
+        """PTS are wrapped at 2^33 by `common.times` alone, in what users call."""
         self.must("what is found", wraps("a = 1\nb = (a - 2) % CLOCK") == [2])
         for path in modules(PACKAGES[0]):
             with open(path, encoding="utf-8") as file:
                 found = wraps(file.read())
-            is_home = name_of(path) == "subtitles.core.times"
+            is_home = name_of(path) == "subtitles.common.times"
             self.must(name_of(path), bool(found) == is_home, found)
 
     def test_are_wrapped(self) -> None:

@@ -7,12 +7,10 @@ import random
 
 from developing.pes import address_of
 from developing.stl import gsi_block, subtitle_blocks
-from subtitles.core.layout import (
-    PLAIN, Layout, Refused, drawn, layout_of, page_of, text_of)
-from subtitles.core.national import BY_WORD
-from subtitles.core.teletext import Page
-from subtitles.qc.evidence import Choice, choices_of
-from subtitles.qc.layouts import Sent, is_found, missed, simplicity
+from subtitles.formats.layout import (
+    Layout, PLAIN, Refused, drawn, layout_of, layout_text, page_rows)
+from subtitles.formats.teletext import BY_WORD, Page
+from subtitles.stream.layout import Choice, Sent, choices_of, is_found, missed, simplicity
 from .. import DEV
 from ..every_place.on_air import Packet, rows_in, span_of
 from ..every_place.reading import header_of, pieces_of, sending_in
@@ -100,7 +98,7 @@ def programme(some: random.Random, has_codes: bool, leaves_room: bool, layout: L
         row, justify = some.choice([16, 18, 20]), some.choice([2, 2, 2, 1, 3, 0])
         lines = drawn(text, row, justify, layout, ENGLISH)
         if not isinstance(lines, Refused):
-            sent.append(Sent(text, row, justify, page_of(lines)))
+            sent.append(Sent(text, row, justify, page_rows(lines)))
     return sent
 
 
@@ -112,7 +110,7 @@ class Layouts(Case):
             self.must(f"none: {text!r}", layout_of(text) is None, layout_of(text))
         for text, simple in MEANS:
             found = layout_of(text)
-            self.must(text, found and text_of(found) == simple, found)
+            self.must(text, found and layout_text(found) == simple, found)
             self.must(f"{text}, read again", (layout_of(simple) if simple else PLAIN) == found)
 
     def test_lines_are_drawn(self) -> None:

@@ -1,10 +1,10 @@
 """The lines of the program as values: those of `check --all`, and those of `show`."""
 from __future__ import annotations
 
-from subtitles.core.programme import Subtitle, subtitles_shown
-from subtitles.core.told import (
-    Accepted, Told, Trusted, accepted_of, count_of, number_of, told_of, trusted_of)
-from subtitles.core.words import Stop
+from subtitles.common.command_line import Stop
+from subtitles.formats.listing import (
+    Accepted, FaultLine, Trusted, accepted_of, count_of, fault_of_line, number_of, trusted_of)
+from subtitles.formats.stl import Subtitle, subtitles_shown
 from .bench import Case
 
 FIRST = "00001 00:00:01:00 00:00:02:00 vp 20 jc 2 text 41"
@@ -35,13 +35,13 @@ class Lines(Case):
                  ("ended", 72, "Content", NONE, NONE, NONE, "00:00:03:00", NONE, NONE, NONE)),
                 ("fault 91 Memory",
                  ("fault", 91, "Memory", NONE, NONE, NONE, NONE, NONE, NONE, NONE))):
-            self.must(line, told_of(line) == Told(line, *wanted), told_of(line))
+            self.must(line, fault_of_line(line) == FaultLine(line, *wanted), fault_of_line(line))
             is_fault = line.startswith("refused ")
             self.must(f"number of {line}", number_of(line) == (wanted[1] if is_fault else None))
         for line in ("", "refused", "refused 72", "refused x Content", "refused 72 Content frame",
                      "refused 72 Content row 1 column 2", "refused 72 Content pes 1 more",
                      " refused 72 Content", "accepted 72 Content"):
-            self.must(f"no such line: {line}", told_of(line) is None, told_of(line))
+            self.must(f"no such line: {line}", fault_of_line(line) is None, fault_of_line(line))
 
     def test_tell_ends(self) -> None:
         """What is accepted, trusted and counted; no other line is."""

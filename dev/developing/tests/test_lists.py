@@ -5,7 +5,7 @@ import collections
 import os
 import re
 
-from subtitles.core.built import TOP, read
+from subtitles.common.program import TOP, read
 from ..definitions import Library
 from ..promises import clauses_in, unknown_clauses
 from ..sizes import KINDS, counted, total
@@ -15,8 +15,8 @@ from .bench import Case
 # each of these.
 FOLDERS = [("tools", "subtitles", True), ("dev", "developing", False)]
 PACKAGES = [*(os.path.join("tools", "subtitles", name)
-              for name in ("core", "reading", "qc", "preview", "calls",
-                           os.path.join("calls", "channel"))),
+              for name in ("common", "formats", "request", "stream", "clock", "recording",
+                           "judging", "results", "report", "cli", os.path.join("cli", "channel"))),
             os.path.join("dev", "developing"), os.path.join("dev", "developing", "every_place")]
 ROW = re.compile(r"^\| (`.*?) \|", re.M)  # a row of a README: the names in its first cell
 LINE = re.compile(r"^([a-z_]+) +\S", re.M)  # a line of the list of a package, in its __init__.py

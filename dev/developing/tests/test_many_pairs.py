@@ -12,21 +12,20 @@ import time
 from typing import Any
 from unittest import mock
 
-from subtitles.calls import batch, pairs
-from subtitles.calls.batch import Calls, all_rows, kept_rows
-from subtitles.calls.forked import qc
-from subtitles.calls.objects import Row, row_of
-from subtitles.calls.pairs import Item, at_line, no_file, pairs_at
-from subtitles.core import outputs
-from subtitles.core.words import Stop
+from subtitles.cli import batch
+from subtitles.cli.batch import Calls, Item, all_rows, at_line, kept_rows, no_file, pairs_at
+from subtitles.common import files
+from subtitles.common.command_line import Stop
+from subtitles.results.objects import Row, row_of_object
 from .bench import Case
+from .parts import qc
 from .results import result
 from .test_channel_tables import defaults
 
 
 def row(name: str, verdict: str, line: str = "", hint: str = "", faults: int = 0) -> Row:
     """A row of a table."""
-    made = row_of(result(verdict, fault_count=faults), name)
+    made = row_of_object(result(verdict, fault_count=faults), name)
     return made._replace(line=line, hint=hint)
 
 
@@ -86,12 +85,12 @@ class Lists(Case):
         for wrong in (4, 5, 10, 99):
             self.assertRaisesRegex(Stop, "there is no pair", at_line, path, wrong, defaults())
         self.assertRaisesRegex(Stop, "is no list", at_line, self.folder, 1, defaults())
-        with mock.patch.object(pairs, "no_file", side_effect=lambda path: None) as looked:
+        with mock.patch.object(batch, "no_file", side_effect=lambda path: None) as looked:
             at_line(path, 8, defaults())
         self.must("files of one pair", [call[0][0] for call in looked.call_args_list] == [
             "two.stl", "one.ts"], looked.call_args_list)
-        with mock.patch.object(outputs, "identities", side_effect=outputs.identities) as looked:
-            inputs = outputs.Inputs(*words)
+        with mock.patch.object(files, "identities", side_effect=files.identities) as looked:
+            inputs = files.Inputs(*words)
             inputs.refuse(self.path("none"), True)
             self.must("nothing is there", looked.call_count == 1, looked.call_args_list)
             inputs.refuse(self.path("list"), True)
@@ -149,7 +148,7 @@ class Batches(Case):
         out, told = io.StringIO(), io.StringIO()
         with mock.patch.object(batch, "all_rows", all_rows), contextlib.redirect_stdout(out), \
                 contextlib.redirect_stderr(told):
-            status = batch.judge(words, "tools/qc")
+            status = batch.judge_batch(words, "tools/qc")
         return status, out.getvalue().splitlines(), told.getvalue().splitlines()
 
     def setUp(self) -> None:

@@ -7,18 +7,18 @@ import unittest
 from types import ModuleType
 from unittest import mock
 
-from subtitles.calls import batch, collecting, main, single, watching
-from subtitles.calls.channel import call, recorder
-from subtitles.calls.main import file_in, name_in, parser_of
-from subtitles.calls.modes import (
-    TAKEN_BY, jobs_word, line_word, minutes_word, mode_of, refuse_options, seconds_word)
-from subtitles.calls.channel.planned import Planned
-from subtitles.core.built import TOP
-from subtitles.core.words import Stop
-from subtitles.qc.asked import asked_of_line
-from subtitles.qc.options import (
-    ALONE, BATCH, CHANNEL, CHANNEL_LINE, COLLECT, LINE, MODES, PAIR, RECORDER, WATCH, Mode)
-from subtitles.qc.typed import Typed
+from subtitles.cli import batch, collection, main, single
+from subtitles.cli.channel import channel, recorder
+from subtitles.cli.channel.schedule import Planned
+from subtitles.cli.main import (
+    TAKEN_BY, file_in, jobs_word, line_word, minutes_word, mode_of, name_in, parser_of,
+    refuse_options, seconds_word)
+from subtitles.common.command_line import Stop
+from subtitles.common.program import TOP
+from subtitles.request.commands import CommandWords
+from subtitles.request.request import (
+    ALONE, BATCH, CHANNEL, CHANNEL_LINE, COLLECT, LINE, MODES, Mode, PAIR, RECORDER, WATCH,
+    request_of_line)
 from .bench import Case
 from .test_channel_tables import defaults
 
@@ -34,7 +34,6 @@ VALUES = {"--page": "801", "--every": "25", "--within": "1", "--option": "german
           "--to": "00:00:02:00", "--layout": "fit", "--pace": "9", "--spool": "feed",
           "--on-result": "true"}
 MANUAL = os.path.join(TOP, "docs", "manual", "qc.md")
-HIDDEN = {"--name", "--claimed", "--fitted", "--cut"}  # of calls that other ones make
 ASKING = {"--batch", "--watch", "--channel", "--collect", "--help", "-h", "--version"}
 
 
@@ -47,7 +46,7 @@ def refusal(mode: Mode, name: str, folder: str) -> str | None:
     """What is said of an option that is given with a mode; `None` where it is taken."""
     try:
         if mode is LINE:
-            asked_of_line(["a.stl", "a.ts", *words_of(name)], defaults())
+            request_of_line(["a.stl", "a.ts", *words_of(name)], defaults())
         elif mode is CHANNEL_LINE:
             Planned(os.path.join(folder, "list"), defaults()).asked_of(["a.stl", *words_of(name)])
         else:
@@ -98,24 +97,24 @@ class Modes(Case):
         """Each call by its own function, with what is taken where nothing is said, and 0 as it is.
         """
         rows: list[tuple[list[str], ModuleType, str, dict[str, object]]] = [
-            (CALLS[PAIR], single, "judge", {"recording": "a.ts", "out": None}),
-            (CALLS[ALONE], single, "judge", {"stl": "a.stl", "recording": None}),
-            ([*CALLS[PAIR], "-o", "x", "--keep"], single, "judge",
+            (CALLS[PAIR], single, "judge_call", {"recording": "a.ts", "out": None}),
+            (CALLS[ALONE], single, "judge_call", {"stl": "a.stl", "recording": None}),
+            ([*CALLS[PAIR], "-o", "x", "--keep"], single, "judge_call",
              {"out": "x", "is_kept": True}),
-            ([*CALLS[PAIR], "-o@x"], single, "judge", {"out": "./@x"}),
-            (CALLS[BATCH], batch, "judge", {"batch": "in"}),
-            (CALLS[COLLECT], collecting, "collect", {"collect": "in"}),
-            (CALLS[WATCH], watching, "watch", {"settled": 5}),
-            ([*CALLS[WATCH], "--settled", "0"], watching, "watch", {"settled": 0}),
-            (CALLS[CHANNEL], call, "judge", {"patience": 60, "stall": 10}),
-            ([*CALLS[CHANNEL], "--patience", "1"], call, "judge", {"patience": 1}),
-            ([*CALLS[CHANNEL], "--spool", "x"], call, "judge", {"spool": "x"})]
+            ([*CALLS[PAIR], "-o@x"], single, "judge_call", {"out": "./@x"}),
+            (CALLS[BATCH], batch, "judge_batch", {"batch": "in"}),
+            (CALLS[COLLECT], collection, "collect", {"collect": "in"}),
+            (CALLS[WATCH], batch, "watch", {"settled": 5}),
+            ([*CALLS[WATCH], "--settled", "0"], batch, "watch", {"settled": 0}),
+            (CALLS[CHANNEL], channel, "judge_channel", {"patience": 60, "stall": 10}),
+            ([*CALLS[CHANNEL], "--patience", "1"], channel, "judge_channel", {"patience": 1}),
+            ([*CALLS[CHANNEL], "--spool", "x"], channel, "judge_channel", {"spool": "x"})]
         for line, module, name, wanted in rows:
             with mock.patch.object(module, name, return_value=7) as called:
                 self.must(f"{line}", main.answer("", "tools/qc", line) == 7)
             words, *others = called.call_args.args
             self.must(f"{line}: words", {one: vars(words)[one] for one in wanted} == wanted and
-                      others == ["tools/qc"] * (module is not collecting), words)
+                      others == ["tools/qc"] * (module is not collection), words)
         with mock.patch.object(recorder, "record_alone", return_value=7) as called:
             self.must("a recorder", main.answer("", "tools/qc", CALLS[RECORDER]) == 7 and
                       called.call_args.args == ("-", "feed"), called.call_args)
@@ -127,7 +126,7 @@ class Modes(Case):
     def test_names_all_options(self) -> None:
         """The table has each option that the parser has."""
         names = {name for action in parser_of("")._actions for name in action.option_strings}
-        self.must("all", names - HIDDEN - ASKING == set(TAKEN_BY), names ^ set(TAKEN_BY))
+        self.must("all", names - ASKING == set(TAKEN_BY), names ^ set(TAKEN_BY))
 
     def test_modes_of_words(self) -> None:
         """What is asked for, by the words; two at once are refused."""
@@ -169,7 +168,7 @@ class Modes(Case):
                     ("/some/tools/qc", "/some/tools/text", "/some/subttx"),
                     ("/some/subttx-qc", "/some/subttx-text", "/some/subttx"),
                     (self.path("subttx-qc"), "subttx-text", "subttx")):
-                typed = Typed(called, program)
+                typed = CommandWords(called, program)
                 self.must(called, (typed.tool("text"), typed.beside()) == (tool, beside), (
                     typed.tool("text"), typed.beside()))
 

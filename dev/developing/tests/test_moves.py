@@ -4,13 +4,12 @@ from __future__ import annotations
 from typing import Callable, Sequence
 
 from developing.pes import packet, pes_packet, pts_in
-from subtitles.core.programme import Subtitle
-from subtitles.core.times import TICKS, Between
-from subtitles.qc.clock import RECORDING, Clock, Found
-from subtitles.qc.moved import found_on, moves_told
-from subtitles.reading.moving import Stage, joined, part_inside, stages_of, up_to
-from subtitles.reading.packets import Change, Mark, Packets, Run
-from subtitles.reading.survey import survey
+from subtitles.clock.start import Clock, Found, RECORDING
+from subtitles.common.times import Between, TICKS
+from subtitles.formats.stl import Subtitle
+from subtitles.judging.part import found_on, moves_told
+from subtitles.stream.ranges import Stage, joined_stages, part_inside, stages_of, up_to
+from subtitles.stream.survey import Change, Mark, Packets, Run, survey
 from .bench import Case, moved, packets
 from .judged import in_pipe, judged, programme
 from .muxed import MPEG_2, PRIVATE, TELETEXT_PID, VIDEO_PID, Maker, teletext_descriptor
@@ -333,7 +332,7 @@ class Pieces(Case):
                     [Mark(number, None, 1, 0) for number in range(length)])
             for pid, length, begin in ((OLD, 10, 0), (NEW, 4, 20)))
         stages = [Stage(one, (2, 7)), Stage(other, (1, 3))]
-        whole = joined(stages)
+        whole = joined_stages(stages)
         self.must("numbers", [(run.first, run.length, run.pts) for run in whole.runs] == [
             (0, 6, 2 * TICKS), (6, 3, 21 * TICKS)], whole.runs)
         for name, found in (("held", [number for number, _ in whole.held]),

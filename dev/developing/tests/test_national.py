@@ -7,12 +7,12 @@ import os
 import unittest
 from typing import Iterator
 
-from subtitles.core.built import TOP
-from subtitles.core.characters import letters, option_name
-from subtitles.core.national import (
+from subtitles.common.program import TOP
+from subtitles.formats.teletext import (
     BY_WORD, CZECH, ENGLISH, FRENCH, GERMAN, ITALIAN, OPTIONS, PLACES, RESERVED, SPANISH, SWEDISH,
-    character_of, codes_of, draws, letter_at, named_by, of_track, options_with)
-from subtitles.qc.option_advice import advice_of
+    character_of, codes_of, has_characters, letter_at, letters, named_by, of_track, option_name,
+    options_with)
+from subtitles.judging.subtitles import advice_of
 
 VECTORS = os.path.join(TOP, "dev", "vectors", "national")
 
@@ -64,11 +64,11 @@ class Table(unittest.TestCase):
                 count += 1
                 with self.subTest(no=row["no"], option=row["option"], text=row["text"]):
                     text = bytes.fromhex(row["stl"])
-                    self.assertEqual(draws(text, BY_WORD[row["option"]]), row["kind"] == "drawn")
+                    self.assertEqual(has_characters(text, BY_WORD[row["option"]]), row["kind"] == "drawn")
         self.assertGreater(count, 150)
         for byte in range(0x80, 0x90):
-            self.assertTrue(draws(b"A%cA" % byte, ENGLISH), byte)
-        self.assertFalse(draws(b"A\x90A", ENGLISH))
+            self.assertTrue(has_characters(b"A%cA" % byte, ENGLISH), byte)
+        self.assertFalse(has_characters(b"A\x90A", ENGLISH))
 
     def test_languages(self) -> None:
         for code, option in ((b"09", ENGLISH), (b"08", GERMAN), (b"27", SWEDISH), (b"28", SWEDISH),

@@ -8,10 +8,9 @@ from typing import NamedTuple
 
 from developing.pes import NATIONAL, address_of, data_field, header_of, pts_in, teletext_packets
 from developing.stl import END_BOX, START_BOX, gsi_block, tti_block
-from subtitles.core.national import OPTIONS, NationalOption
-from subtitles.core.stl import UNUSED
-from subtitles.core.teletext import has_bit
-from subtitles.core.times import TICKS
+from subtitles.common.times import TICKS
+from subtitles.formats.stl import UNUSED
+from subtitles.formats.teletext import NationalOption, OPTIONS, has_bit
 from .bench import Case, packets
 from .test_national import rows_of
 

@@ -3,8 +3,8 @@ last TCO, rows that come when the page is not open, two subtitles that are sent 
 from __future__ import annotations
 
 from developing.pes import packet
-from subtitles.core.times import TICKS
-from subtitles.reading.receiver import control_words, lines_of, national_option
+from subtitles.common.times import TICKS
+from subtitles.stream.receiver import control_text, national_option, printed_rows
 from .bench import Case
 from .judged import Judged, Sent, joined, judged, late, programme, sendings
 
@@ -79,11 +79,11 @@ class Pages(Case):
                 ([8, 8, 0, 8, 0, 8, 1, 0], "C4 C6 C7", 0), ([0] * 8, "none", 0),
                 ([8, 8, 0, 0, 0, 4, 8, 15], "C5 C10 C11 C12 C13 C14", 7),
                 ([8, 8, 0, 0, 0, 0, 0, 8], "C14", 4), ([8, 8, 0, 0, 0, 0, 0, 1], "C11", 0)):
-            self.must(words, control_words(bytes(header)) == words and
+            self.must(words, control_text(bytes(header)) == words and
                       national_option(bytes(header)) == option,
-                      (control_words(bytes(header)), national_option(bytes(header))))
+                      (control_text(bytes(header)), national_option(bytes(header))))
         rows = {1: b"\x0b\x0bHi\x7f~", 6: b"\xa0" * 40, 7: b"a\xa0b", 24: b"\xbf" * 40}
-        self.must("rows", lines_of(tuple(rows.get(at, b"").ljust(40) for at in range(1, 25))) == [
+        self.must("rows", printed_rows(tuple(rows.get(at, b"").ljust(40) for at in range(1, 25))) == [
             f"row {at:02} |{text.ljust(40)}|" for at, text in (
                 (1, "..Hi.~"), (7, "a b"), (24, "?" * 40))])
-        self.must("blank", lines_of((b" " * 40, b"\xa0" * 40)) == ["blank"])
+        self.must("blank", printed_rows((b" " * 40, b"\xa0" * 40)) == ["blank"])

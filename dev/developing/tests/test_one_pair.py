@@ -9,21 +9,21 @@ import json
 import os
 from typing import Any, Sequence
 
-from subtitles.calls import index_page, overview
-from subtitles.calls.objects import Row, found
-from subtitles.calls.claim import clear
-from subtitles.calls.single import Files, Output, end, end_pair, name_of, now, refuse_outputs
-from subtitles.qc.asked import Asked
-from subtitles.qc.checking import Answer
-from subtitles.qc.clock import FITTED, GIVEN, RECORDING, Clock, Found
-from subtitles.qc.made_with import program_at
-from subtitles.qc.names import Names
-from subtitles.qc.severity import Severity
-from subtitles.qc.typed import Typed
-from subtitles.qc.part import Part
-from subtitles.qc.verdict import Gap, Verdict
-from subtitles.qc.warned import Warned
-from subtitles.reading.gaps import Place
+from subtitles.cli import collection
+from subtitles.cli.single import (
+    Files, Output, PairCall, clear, end_pair, now, pair_title, refuse_outputs, say_verdict)
+from subtitles.clock.start import Clock, FITTED, Found, GIVEN, RECORDING
+from subtitles.common.program import about_program
+from subtitles.judging.check import Answer
+from subtitles.judging.part import Part
+from subtitles.judging.status import Severity
+from subtitles.judging.verdict import Gap, Verdict
+from subtitles.recording.recording import Notice
+from subtitles.report import page as report_page
+from subtitles.request.commands import CommandWords, Names
+from subtitles.request.request import Request
+from subtitles.results.objects import Row, found
+from subtitles.stream.gaps import Place
 from .bench import Case, example
 from .judged import Heard
 from .parts import answer, asked_for, in_page, part_with
@@ -52,13 +52,13 @@ class Ends(Case):
 
     def said(self, verdict: Verdict) -> list[str]:
         heard = Heard()
-        end(verdict, heard)
+        say_verdict(verdict, heard)
         return heard.lines
 
     def test_accepted(self) -> None:
         """The sentence, then what stands beside it, and the line last."""
         said = self.said(self.verdict([part_with(0, 9, 0)], notes=["a note"], hints=["a hint"],
-                                      warnings=[Warned("kind", "strange")]))
+                                      warnings=[Notice("kind", "strange")]))
         self.must("lines", said == [
             "Accepted: 3 subtitles, each of them as it is due from the first frame on.",
             "! a note", said[2], "a hint", "accepted 10 frames 2 transmissions"] and
@@ -130,7 +130,7 @@ class Ends(Case):
         for last, wanted in rows:
             heard = Heard()
             heard.last = last
-            end(self.verdict([], reason="why"), heard)
+            say_verdict(self.verdict([], reason="why"), heard)
             self.must(last, heard.lines == [*wanted, "! why"], heard.lines)
 
 
@@ -143,10 +143,9 @@ class Writes(Case):
         self.write("one.pes", b"")
 
     def files(self, verdict: Verdict, **words: Any) -> Files:
-        known = argparse.Namespace(json=None, csv=None, junit=None, out=None, is_kept=False)
-        vars(known).update(words)
+        known = PairCall(None, **words)
         names = Names("one", self.folder, known.out)
-        return Files(known, verdict, Typed("tools/qc", self.bench.program), names)
+        return Files(known, verdict, CommandWords("tools/qc", self.bench.program), names)
 
     def part(self, number: int = 1, lines: Sequence[str] = REFUSED) -> Part:
         """A part that is refused, with its list."""
@@ -165,10 +164,9 @@ class Writes(Case):
         made.parts = [self.part(1, lines)]
         return made
 
-    def refused(self, asked: Asked, **words: str) -> str:
+    def refused(self, asked: Request, **words: Any) -> str:
         """Why the outputs of a call for a pair are refused."""
-        known = argparse.Namespace(json=None, csv=None, junit=None)
-        vars(known).update(words)
+        known = PairCall(None, **words)
         return refused(lambda: refuse_outputs(known, asked, words.get("out"), "one"))
 
     def test_before(self) -> None:
@@ -296,8 +294,8 @@ class Writes(Case):
         verdict.parts += [part_with(0, 9, 0), self.part(2, [*many, "70 faults"])]
         lines = self.files(verdict).lines()
         self.must("lines", lines == [*many, "70 faults", *many[:29]], lines[65:75])
-        self.must("name", name_of(asked_for("a.stl", None)) == "a.stl" and
-                  name_of(asked_for("a.stl", "b.ts")) == "a.stl b.ts")
+        self.must("name", pair_title(asked_for("a.stl", None)) == "a.stl" and
+                  pair_title(asked_for("a.stl", "b.ts")) == "a.stl b.ts")
 
     def test_end_that_fails(self) -> None:
         """Where the verdict can't be said it is not judged, in the object too."""
@@ -330,35 +328,35 @@ class Overview(Case):
                              (2, "origin 7, given, all 2 frames late"),
                              (-1, "origin 7, given, all 1 frame early")):
             verdict.parts[0].found = Found(0, 9, Clock(7, GIVEN, delay))
-            self.must(words, overview.clock_of(verdict.parts[0]) == words)
-        table = in_page(overview.table(verdict, names))
+            self.must(words, report_page.clock_of(verdict.parts[0]) == words)
+        table = in_page(report_page.table(verdict, names))
         for number in (1, 2, 3):
             link = f'<a href="one.{number}.html">'
             self.must(f"part {number}", table.count(f"{link}part {number}</a>") == 1 and
                       table.count(link) == 2)
-        odd = in_page(overview.table(verdict, Names("50%25", self.folder, self.path("out"))))
+        odd = in_page(report_page.table(verdict, Names("50%25", self.folder, self.path("out"))))
         self.must("a name with an escaped sign", 'href="50%2525.2.html"' in odd, odd)
         self.must("faults", '<td data-name="Faults">2</td>' in table and
                   table.count('<td data-name="Faults">0</td>') == 2, table)
         self.must("between", "between 00:00:00:09 and 00:00:02:00; between 00:00:03:24 and "
-                  "00:00:04:20." in in_page(overview.between(verdict.parts)))
+                  "00:00:04:20." in in_page(report_page.times_between(verdict.parts)))
         for part in verdict.parts:
             part.names.given = example("story.stl")
         verdict.gaps = [gap(True), gap(False)]
-        verdict.warnings = [Warned("kind", "strange")]
-        box = in_page(overview.box(verdict, "the <line>"))
+        verdict.warnings = [Notice("kind", "strange")]
+        box = in_page(report_page.box(verdict, "the <line>"))
         self.must("box", box.startswith('<div class="verdict refused">') and "the &lt;line&gt;" in
                   box and box.count("3 TS packets lost") == 1 and "warning: strange" in box, box)
-        page = in_page(overview.overview(dataclasses.replace(verdict, date="2026-01-02T03:04:05Z"),
-                                         program_at(self.bench.program), names,
-                                         Typed("tools/qc", self.bench.program)))
+        page = in_page(report_page.overview(dataclasses.replace(verdict, date="2026-01-02T03:04:05Z"),
+                                            about_program(self.bench.program), names,
+                                            CommandWords("tools/qc", self.bench.program)))
         self.must("its date", "2026-01-02 03:04:05 UTC" in page)
-        scope = in_page(overview.scope(verdict))
-        count = 3 * overview.subtitles_of(verdict.parts[0])
+        scope = in_page(report_page.scope(verdict))
+        count = 3 * report_page.subtitle_count(verdict.parts[0])
         self.must("scope", f"00:00:00:00 to 00:00:05:24, {count} subtitles" in scope, scope)
         verdict.asked = asked_for("piped.stl", "one.pes")  # what came through a pipe is kept
         verdict.asked.kept_stl = example("story.stl")
-        self.must("a pipe", "Programme" in scope and in_page(overview.scope(verdict)) == scope,
+        self.must("a pipe", "Programme" in scope and in_page(report_page.scope(verdict)) == scope,
                   scope)
 
     def test_pairs(self) -> None:
@@ -373,14 +371,14 @@ class Overview(Case):
                 one("c", "waived", 0, "waived: x", 1, 1),
                 one("d<", "refused", 1, "refused 72", 9, 7, "a hint"),
                 one("e", "lost", 1, "not accepted")]
-        self.must("order", [row.name for row in sorted(rows, key=index_page.rank)] ==
+        self.must("order", [row.name for row in sorted(rows, key=collection.rank)] ==
                   ["d<", "e", "b", "c", "a"])
         for name in ("a.html", "a.json", "b.json", "b.txt"):
             self.write(name, b"")
-        page = index_page.page_of(self.folder, rows, "now").decode()
+        page = collection.index_page(self.folder, rows, "now").decode()
         self.must("counts", page.count("5 pairs: 1 accepted, 1 lost, 1 not judged, 1 refused, "
                                        "1 waived") == 2, page[:900])
-        lines = {row.name: index_page.line_of(self.folder, row).source for row in rows}
+        lines = {row.name: collection.pair_line(self.folder, row).source for row in rows}
         self.must("links", [lines[name].count("<a ") for name in "abc"] == [2, 2, 0] and
                   ">list</a>" in lines["b"] and ">report</a>" in lines["a"])
         self.must("why", "why<br/>more<br/>and<" in lines["b"] and "four" not in lines["b"] and

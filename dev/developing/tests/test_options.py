@@ -8,40 +8,40 @@ import re
 import sys
 from typing import Any
 
-from subtitles.calls.batch import words_of
-from subtitles.calls.members import ASKED
-from subtitles.core.shapes import Flag, Text
-from subtitles.core.words import Words
-from subtitles.qc.asked import add_pair_options, asked_of_line, asked_with
-from subtitles.qc.names import again
-from subtitles.qc.options import (
-    ALONE, CHANNEL_LINE, JUDGED, LINE, OPTIONS, Option, plain, words_of as options_of)
-from subtitles.qc.typed import Typed
+from subtitles.common.command_line import Words
+from subtitles.common.shapes import Flag, Text
+from subtitles.request.commands import CommandWords, again
+from subtitles.request.request import (
+    ALONE, CHANNEL_LINE, JUDGED, LINE, OPTIONS, Option, add_options, option_words as
+    options_of, plain, request_of_line, request_with)
+from subtitles.results.schema import ASKED
 from .. import DEV
 from .bench import Case
-from .parts import asked_for
+from .parts import asked_for, call_words
 
 # Adds two options to the table before anything is made of it, and prints what then is made.
 ADDED = """
-import json, sys, developing
-from subtitles.core.shapes import Flag, Maybe, Text
-from subtitles.qc import options
+import dataclasses, json, sys, developing
+from subtitles.common.shapes import Flag, Maybe, Text
+from subtitles.request import request as options
 options.OPTIONS = (*options.OPTIONS, options.Option(
-    "--new-one", "K", "a [new](x.md) `one`", options.JUDGED, "`none`", of_check=None, of_pages=True,
+    "--new-one", "K", "a [new](x.md) `one`", options.JUDGED, "`none`", "new_one", of_check=None, of_pages=True,
     shape=Maybe(Text()), said="What is new."), options.Option(
-    "--newer", None, "it is newer", options.PAIRS, default=False, of_check=False, shape=Flag()))
+    "--newer", None, "it is newer", options.PAIRS, "", "newer", default=False, of_check=False, shape=Flag()))
+options.Request = dataclasses.make_dataclass("Request", [
+    ("new_one", object, None), ("newer", bool, False)], bases=(options.Request,))
 from developing import pages
 from developing.tests.test_channel_tables import defaults
-from subtitles.calls.batch import words_of
-from subtitles.calls.channel.planned import Planned
-from subtitles.calls.main import parser_of
-from subtitles.calls.members import ASKED
-from subtitles.calls.modes import mode_of, refuse_options
-from subtitles.calls.result import schema
-from subtitles.core.words import Stop
-from subtitles.qc.asked import asked_of, asked_of_line
-from subtitles.qc.names import again
-from subtitles.qc.typed import Typed
+from developing.tests.parts import call_words
+from subtitles.cli.channel.schedule import Planned
+from subtitles.cli.main import parser_of
+from subtitles.results.schema import ASKED
+from subtitles.cli.main import mode_of, refuse_options
+from subtitles.results.schema import schema
+from subtitles.common.command_line import Stop
+from subtitles.request.request import request_of, request_of_line
+from subtitles.request.commands import again
+from subtitles.request.commands import CommandWords
 
 def said(does):
     try:
@@ -54,21 +54,21 @@ def taken(*line):
 
 program, folder = sys.argv[1:]
 pair, given = ["a.stl", "a.ts"], ["--new-one", "5", "--newer"]
-asked = asked_of(parser_of("").parse_args([*pair, *given]))
-none = asked_of(parser_of("").parse_args(pair))
+asked = request_of(parser_of("").parse_args([*pair, *given]))
+none = request_of(parser_of("").parse_args(pair))
 help = parser_of("").format_help()
 planned = Planned(folder + "/list", defaults())
 print(json.dumps({
     "help": help, "man page": pages.of_qc(help)["options"], "chapter": pages.of_chapter()["options"],
     "completion": pages.completed("  check STL PES  does\\n", "", [help])["values"],
-    "asked": ASKED.made(asked), "left out": ASKED.made(none), "call": words_of(asked),
-    "again": again(asked, Typed("tools/qc", program)), "check": asked.check_words(),
+    "asked": ASKED.made(asked), "left out": ASKED.made(none), "call": call_words(asked),
+    "again": again(asked, CommandWords("tools/qc", program)), "check": asked.check_words(),
     "file": asked.check_words(True), "pages": asked.words_of_pages(),
     "schema": schema()["definitions"]["asked"]["properties"],
-    "same": asked_of(parser_of("").parse_args(words_of(asked))) == asked,
+    "same": request_of(parser_of("").parse_args(call_words(asked))) == asked,
     "not with": [taken("a.stl", *given), taken(*pair, *given), taken("--collect", "x", "--new-one", "5"),
                  taken("--channel", "x", "-", "--new-one", "5"), taken("--channel", "x", "-", "--newer")],
-    "line": ASKED.made(asked_of_line([*pair, *given], defaults())),
+    "line": ASKED.made(request_of_line([*pair, *given], defaults())),
     "channel": [said(lambda: planned.asked_of(["a.stl", *words])) for words in (given[:2], given[2:])]}))
 """
 # An option with its words, and its member of a result.
@@ -132,24 +132,24 @@ class Rows(Case):
         names = [one.name for one in OPTIONS]
         self.must("all", {*names} == {"--complete", *(name for name, _, _ in ROWS)})
         parser = Words("")
-        add_pair_options(parser)
+        add_options(parser)
         plain_words = parser.parse_args([])
         without = ASKED.made(asked_for("one.stl", "one.pes"))
         for name, value, member in ROWS:
             words = [name, value] if value else [name]
             asked = asked_for("one.stl", "one.pes", *words)
-            self.must(f"{name}: a call", words_of(asked) == [*words, "--", "one.stl", "one.pes"])
-            once_more = asked_with("one.stl", "one.pes", parser.parse_args(words))
+            self.must(f"{name}: a call", call_words(asked) == [*words, "--", "one.stl", "one.pes"])
+            once_more = request_with("one.stl", "one.pes", parser.parse_args(words))
             self.must(f"{name}: again", once_more == asked)
             known = ASKED.made(asked)
             key = name.replace("--no-", "--").strip("-").replace("-", "_")
             self.must(f"{name}: result", known == {**without, key: member}, known)
-            line = asked_of_line(["one.stl", "one.pes", *words], plain_words)
+            line = request_of_line(["one.stl", "one.pes", *words], plain_words)
             self.must(f"{name}: line", line == asked, line)
         every = [word for name, value, _ in ROWS if name != "--start"
                  for word in ([name, value] if value else [name])]
         asked = asked_for("one.stl", "one.pes", *every)
-        typed = again(asked, Typed("tools/qc", self.bench.program))
+        typed = again(asked, CommandWords("tools/qc", self.bench.program))
         for name, _, _ in ROWS:
             self.must(f"{name}: typed", (f" {name}" in typed) == (name != "--start"), typed)
         self.must("complete", options_of(asked_for("a", "b", "--complete")) == [[]] * len(OPTIONS))

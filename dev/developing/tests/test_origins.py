@@ -6,8 +6,8 @@ from typing import Sequence
 
 from developing.pes import MARK, data_field, packet, pes_packet, pts_in, teletext_packets
 from developing.stl import boxed, gsi_block, subtitle_blocks
-from subtitles.core.times import CLOCK, TICKS, time_of
-from subtitles.reading.finding import Agreement, Origin, Sought, find
+from subtitles.clock.origin import Agreement, Origin, Sought, find
+from subtitles.common.times import CLOCK, TICKS, time_of
 from .bench import Case, example, example_bytes, moved, packets, random_subtitles
 from .parts import CLOSING, HEADER, asked_for, packets_told, row
 

@@ -16,17 +16,17 @@ from typing import Any
 from unittest import mock
 from xml.etree import ElementTree
 
-from subtitles.calls import collecting
-from subtitles.calls.junit import TestCase, text_of as junit_of
-from subtitles.calls.members import ASKED, GAP, JUDGED_PART, PartOf
-from subtitles.calls.objects import Row, modified, unjudged
-from subtitles.calls.single import now
-from subtitles.calls.table import cell_words, of_part, said, text_of as csv_of
-from subtitles.core.words import shown
-from subtitles.qc.clock import GIVEN
-from subtitles.qc.sums import SummedFile
-from subtitles.qc.verdict import Gap
-from subtitles.reading.gaps import Place
+from subtitles.cli import collection
+from subtitles.cli.single import now
+from subtitles.clock.start import GIVEN
+from subtitles.common.command_line import shown
+from subtitles.common.files import SummedFile
+from subtitles.judging.verdict import Gap
+from subtitles.results.objects import Row, modified, unjudged
+from subtitles.results.schema import ASKED, GAP, JUDGED_PART, PartOf
+from subtitles.results.tables import (
+    TestCase, cell_words, junit_file as junit_of, part_columns, said, table_lines as csv_of)
+from subtitles.stream.gaps import Place
 from .bench import Case
 from .parts import asked_for, part_with
 from .results import ASKED as PLAIN, FAULT, result
@@ -141,7 +141,7 @@ class Statuses(Case):
         words = argparse.Namespace(csv=None, junit=None, json=None)
         vars(words).update(outputs)
         with contextlib.redirect_stdout(io.StringIO()), contextlib.redirect_stderr(io.StringIO()):
-            return collecting.end(words, [self.ROW], [self.path("one.json")], is_stopped)
+            return collection.write_collection(words, [self.ROW], [self.path("one.json")], is_stopped)
 
     def test_outputs_that_fail(self) -> None:
         """Each of the three, whether others are written or not."""
@@ -199,9 +199,7 @@ class Members(unittest.TestCase):
         for asked in (own, dataclasses.replace(own, is_loss_allowed=False, is_strict=True)):
             self.assertEqual(ASKED.made(asked), {**words, "strict": asked.is_strict,
                                                   "allow_lost": not asked.is_strict})
-        drawn = dataclasses.replace(own, passed_on={
-            "--layout": "auto", "--open": "", "--to": "10:00:00:00"},
-            found_layout="fit")
+        drawn = dataclasses.replace(own, layout="auto", is_open=True, found_layout="fit")
         self.assertEqual(ASKED.made(drawn), {**words, "layout": "auto", "open": True})
 
     def test_part(self) -> None:
@@ -233,7 +231,7 @@ class Members(unittest.TestCase):
         nothing: dict[str, object] = {}
         for end, number, wanted in ((1, None, first), (2, None, nothing), (2, 1, first),
                                     (2, 2, second), (2, 3, nothing), (0, None, nothing)):
-            self.assertEqual(of_part(parts[:end], number), wanted)
+            self.assertEqual(part_columns(parts[:end], number), wanted)
         for code, letter, words in (("41", "A", "41 A"), ("00", "", "00")):
             self.assertEqual(cell_words({"code": code, "character": letter}), words)
         self.assertEqual(said("a\nb\x07"), "a\n" + shown("b\x07"))

@@ -5,11 +5,11 @@ from __future__ import annotations
 from typing import NamedTuple, Sequence
 
 from developing.pes import pes_packet
-from subtitles.core.times import CLOCK, TICKS
-from subtitles.reading.pace import (
-    BY_EVERY, FEW, IRREGULAR, LEAST, PAUSED, REGULAR, TOO_FEW, Pauses, each_of, pace_of, pauses_of,
-    rows_of)
-from subtitles.reading.packets import Packets, Run
+from subtitles.common.times import CLOCK, TICKS
+from subtitles.stream.gaps import (
+    BY_EVERY, FEW, IRREGULAR, LEAST, PAUSED, Pauses, REGULAR, TOO_FEW, each_of, frame_rows, pace_of,
+    pauses_of)
+from subtitles.stream.survey import Packets, Run
 from .bench import Case
 from .judged import Judged, Sent, in_pipe, joined, judged, programme, sendings
 from .muxed import TELETEXT_PID
@@ -206,10 +206,10 @@ class Told(Case):
             packets = Packets(5, [Run(first, count, None if frame is None else int(
                 origin + frame * TICKS) % CLOCK, step * TICKS, "-", "", fault=fault)
                 for first, count, frame, step, fault in runs])
-            told = [[*row] for row in rows_of(packets, (0, 99), origin, within)]
+            told = [[*row] for row in frame_rows(packets, (0, 99), origin, within)]
             self.must(f"{runs}", told == wanted, told)
         packets = Packets(5, [Run(0, 9, origin, TICKS, "-", "")])
-        self.must("some", [[*row] for row in rows_of(packets, (3, 5), origin, 0)] == [[3, 4, 5]])
+        self.must("some", [[*row] for row in frame_rows(packets, (3, 5), origin, 0)] == [[3, 4, 5]])
 
     def test_each(self) -> None:
         """By all TS packets, or by the bytes of a file; more where one holds more; at most nine."""

@@ -3,16 +3,15 @@ from __future__ import annotations
 
 import argparse
 
-from subtitles.calls.batch import words_of
-from subtitles.calls.members import ASKED
-from subtitles.calls.main import parser_of
-from subtitles.calls.objects import found, is_current
-from subtitles.calls.pairs import pairs_at
-from subtitles.core.words import Stop
-from subtitles.qc.asked import asked_of
-from subtitles.qc.made_with import MadeWith
+from subtitles.cli.batch import pairs_at
+from subtitles.cli.main import parser_of
+from subtitles.common.command_line import Stop
+from subtitles.common.program import MadeWith
+from subtitles.request.request import request_of
+from subtitles.results.objects import found, is_current
+from subtitles.results.schema import ASKED
 from .bench import Case
-from .parts import asked_for
+from .parts import asked_for, call_words
 
 
 class Words(Case):
@@ -32,7 +31,7 @@ class Words(Case):
             asked = asked_for("one.stl", "one.ts", "--pace", word)
             given = ["--pace", str(pace)] if pace else []
             self.must(word, asked.check_words() == ["--complete", *given] and asked.pace == pace
-                      and asked_of(self.options(*words_of(asked))) == asked)
+                      and request_of(self.options(*call_words(asked))) == asked)
             self.must(f"{word}: result", ASKED.made(asked)["pace"] == str(pace or "none"))
         self.must("left out", ASKED.made(asked_for("one.stl", "one.ts"))["pace"] is None)
         for word in ("0", "", "-1", "x", "None", "2160001", "9" * 5000, "1.5", "\u0661"):

@@ -4,7 +4,7 @@ from __future__ import annotations
 
 from developing.multiplex import ADAPTATION_ALONE, PACKET, head
 from developing.pes import STUFFING_UNIT, pes_packet
-from subtitles.core.times import TICKS
+from subtitles.common.times import TICKS
 from .bench import Case
 from .judged import Judged, Sent, joined, judged, programme, sendings
 from .muxed import TELETEXT_PID

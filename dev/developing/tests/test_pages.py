@@ -4,9 +4,9 @@ from __future__ import annotations
 import os
 import unittest
 
-from subtitles.core.built import TOP, read
-from subtitles.core.words import Stop
-from subtitles.qc.options import ALONE, CHANNEL, PAIR, Option
+from subtitles.common.command_line import Stop
+from subtitles.common.program import TOP, read
+from subtitles.request.request import ALONE, CHANNEL, Option, PAIR
 from .. import pages
 from .bench import Case
 

@@ -4,11 +4,11 @@ from __future__ import annotations
 import unittest
 from typing import Any
 
-from subtitles.core.national import ENGLISH
-from subtitles.preview.drawing import (
-    LOW_ROWS, CellStyle, cut_of, differences, frames_of, is_boxed, picture, row_drawing,
-    spans_of, text_of_code)
-from subtitles.reading.receiver import BLANK_PAGE, HIT, OLD, Rows
+from subtitles.formats.teletext import ENGLISH
+from subtitles.report.pictures import (
+    CellStyle, LOW_ROWS, cut_of, differences, frames_of, is_boxed, picture, row_drawing, spans_of,
+    text_of_code)
+from subtitles.stream.receiver import BLANK_PAGE, HIT, OLD, Rows
 from .parts import in_page
 
 SUBTITLE_HEADER, PLAIN_HEADER = bytes([8, 8, 0, 8, 0, 8, 1, 0]), bytes([8, 8, 0, 8, 0, 0, 1, 0])

@@ -7,7 +7,7 @@ from typing import Sequence
 
 from developing.pes import DATA, MARK, UNIT, mirrored, pes_packet, pts_bytes, pts_in
 from developing.stl import gsi_block, subtitle_blocks
-from subtitles.core.times import CLOCK, TICKS, time_of
+from subtitles.common.times import CLOCK, TICKS, time_of
 from .bench import Case, example, example_bytes, moved, packets, random_subtitles
 from .judged import FEW, Judged, Sent, in_pipe, joined, judged, programme, sendings
 from .test_pairs_in_parts import ORIGIN, one_late, times

@@ -5,20 +5,18 @@ from __future__ import annotations
 from typing import Any, Sequence
 
 from developing.pes import pes_packet
-from subtitles.core.times import CLOCK, TICKS
-from subtitles.core.told import ENDS_READING, STL_FAULTS
-from subtitles.qc.checking import Answer
-from subtitles.qc.counted import NO_END
-from subtitles.qc.clock import FITTED, FITTED_LATER, GIVEN, RECORDING, Clock, Found
-from subtitles.qc.delays import MOVED, Spread, spread_of
-from subtitles.qc.ending import is_enough
-from subtitles.qc.missing import gap_of, gaps_of, lacks
-from subtitles.qc.severity import ERROR, OTHERS, REFUSALS, WARNING, Severity
-from subtitles.qc.part import Part
-from subtitles.qc.verdict import Gap, Verdict
-from subtitles.qc.within import FIXED, OF_ENDS, OF_FRAMES, OF_PACKETS
-from subtitles.reading.finding import Agreement
-from subtitles.reading.gaps import Place
+from subtitles.clock.origin import Agreement
+from subtitles.clock.start import Clock, FITTED, FITTED_LATER, Found, GIVEN, RECORDING
+from subtitles.common.times import CLOCK, TICKS
+from subtitles.formats.listing import ENDS_READING, STL_FAULTS
+from subtitles.judging.check import Answer, NO_END
+from subtitles.judging.losses import gap_of, gaps_of, lacks
+from subtitles.judging.pair import FIXED, OF_ENDS, OF_FRAMES, OF_PACKETS
+from subtitles.judging.part import Part
+from subtitles.judging.status import ERROR, OTHERS, REFUSALS, Severity, WARNING
+from subtitles.judging.verdict import Gap, MOVED, Spread, Verdict, spread_of
+from subtitles.recording.feed import is_enough
+from subtitles.stream.gaps import Place
 from .bench import Case
 from .parts import CLOSING, HEADER, answer, asked_for, packets_told, part_with
 

@@ -2,8 +2,10 @@
 from __future__ import annotations
 
 import json
+import os
+import shutil
 
-from subtitles.core.stl import MOST_STL
+from subtitles.formats.stl import MOST_STL
 from .bench import Case, Done, example, example_bytes, tool_path
 from .judged import in_pipe
 
@@ -29,8 +31,11 @@ class Pipes(Case):
             name = self.write("one.stl", data)
             of_file = self.qc(name, *words, "-o", self.path("file"))
             known = json.loads(self.read("x.json"))
-            pipe = in_pipe(self, data)
-            of_pipe = self.qc(pipe, *words, "-o", self.path("pipe"), "--name", "one")
+            pipe = self.path("pipe/one.stl")  # the name of the pair
+            shutil.rmtree(os.path.dirname(pipe), ignore_errors=True)
+            os.mkdir(os.path.dirname(pipe))
+            in_pipe(self, data, pipe)
+            of_pipe = self.qc(pipe, *words, "-o", self.path("of_pipe"))
             other = json.loads(self.read("x.json"))
             self.must(f"{words}", of_pipe.status == of_file.status and
                       [line.replace(pipe, name) for line in of_pipe.told] == of_file.told and

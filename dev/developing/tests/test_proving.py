@@ -8,7 +8,7 @@ import signal
 import subprocess
 import time
 
-from subtitles.core.built import read
+from subtitles.common.program import read
 from ..proved import digest_of, parsed
 from .bench import SECONDS, Case, Done
 from .test_clones import LINE, PACKET, SOURCE, TOOLCHAIN, Clone

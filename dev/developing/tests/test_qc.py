@@ -6,8 +6,8 @@ import os
 import subprocess
 
 from developing.stl import gsi_block, subtitle_blocks
-from subtitles.core.built import TOP
-from subtitles.core.times import TICKS
+from subtitles.common.program import TOP
+from subtitles.common.times import TICKS
 from .bench import Case, Done, example, example_bytes
 
 STORY, RECORDING = example("story.stl"), example("recording.ts")

@@ -8,7 +8,7 @@ import os
 import xml.etree.ElementTree as tree
 from typing import Any
 
-from subtitles.calls.claim import claimed_for_batch
+from subtitles.cli.single import claimed_for_batch
 from .bench import Case, Done, example, example_bytes
 from .results import second_reader, wrong_by_schema
 from .test_qc import ACCEPTED, RECORDING, STORY, lines_of, qc

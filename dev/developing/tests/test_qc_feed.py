@@ -10,8 +10,8 @@ import threading
 
 from developing.pes import pts_in
 from developing.stl import boxed, gsi_block, subtitle_blocks
-from subtitles.core.times import TICKS
-from subtitles.core.words import counted
+from subtitles.common.command_line import counted
+from subtitles.common.times import TICKS
 from .bench import SECONDS, Case, example, example_bytes, moved, packets, tool_path
 from .channels import until
 from .muxed import PRIVATE, TELETEXT_PID, Maker, teletext_descriptor

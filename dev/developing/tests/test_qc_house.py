@@ -13,7 +13,7 @@ import xml.etree.ElementTree as tree
 from typing import Any
 from urllib.parse import unquote
 
-from subtitles.core.built import TOP
+from subtitles.common.program import TOP
 from .bench import SECONDS, Case, Done, example_bytes, tool_path
 from .channels import until
 

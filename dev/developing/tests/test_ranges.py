@@ -4,13 +4,12 @@ from __future__ import annotations
 import os
 
 from developing.stl import gsi_block, subtitle_blocks, tti_block
-from subtitles.calls.channel.awaited import Awaited, Timed
-from subtitles.calls.channel.planned import Planned
-from subtitles.core.programme import subtitles_read
-from subtitles.core.times import FRAMES_OF_A_DAY, Between
-from subtitles.qc.due_pages import subtitles_in
-from subtitles.qc.midnight import HOUR, title_words
-from subtitles.qc.subtitle_file import SubtitleFile
+from subtitles.cli.channel.feed import Awaited, Timed
+from subtitles.cli.channel.schedule import Planned
+from subtitles.common.times import Between, FRAMES_OF_A_DAY
+from subtitles.formats.stl import SubtitleFile, subtitles_read
+from subtitles.judging.subtitles import HOUR, title_words
+from subtitles.judging.transmissions import subtitles_in
 from .bench import Case
 from .judged import joined, judged, programme, sendings, shown_files
 from .test_channel_tables import defaults

@@ -7,13 +7,13 @@ import random
 import unittest
 from typing import Sequence
 
-from subtitles.core.times import (
-    CLOCK, FRAMES_A_SECOND, FRAMES_OF_A_DAY, TICKS, frame_in)
-from subtitles.reading.alignment import AGAIN, Edge, Shown, bases_of, edges_of
-from subtitles.reading.cutting import cut_of
-from subtitles.reading.finding import Origin, Sought, packets_of as packets_of_run, take_one, take_parts
-from subtitles.reading.packets import Change, Packets, Run
-from subtitles.reading.stretches import by_breaks, find_row, parts_of, runs_of
+from subtitles.clock.alignment import (
+    AGAIN, Edge, Shown, bases_of, by_breaks, edges_of, find_row, parts_of, runs_of)
+from subtitles.clock.origin import (
+    Origin, Sought, packets_of as packets_of_run, take_one, take_parts)
+from subtitles.common.times import CLOCK, FRAMES_A_SECOND, FRAMES_OF_A_DAY, TICKS, frame_in
+from subtitles.stream.ranges import cut_of
+from subtitles.stream.survey import Change, Packets, Run
 
 SEEDS = range(20)
 Sending = tuple[int, bytes]  # a PTS that does not wrap, and the letters of the page then

@@ -3,7 +3,7 @@ from __future__ import annotations
 
 import os
 
-from subtitles.core.words import Stop
+from subtitles.common.command_line import Stop
 from ..cited import too_long
 from ..definitions import Library, counts
 from ..promises import clauses_in, unknown_clauses

@@ -2,15 +2,15 @@
 from __future__ import annotations
 
 from developing.pes import address_of, header_of, packet, pts_in
-from subtitles.core.teletext import CODE_WORDS
-from subtitles.core.times import TICKS
-from subtitles.qc.causes import EVEN, IN_PARTS, UNSEEN, Namer
-from subtitles.qc.due_pages import DuePages
-from subtitles.qc.pes_header import first_of, header_words
-from subtitles.reading.finding import other_words
-from subtitles.reading.gaps import Place, places_of, what_of
-from subtitles.reading.packets import Clocked, Mark, Packets, Run
-from subtitles.reading.subcodes import subcode_of, turns_of
+from subtitles.clock.origin import other_words
+from subtitles.common.times import TICKS
+from subtitles.formats.teletext import CODE_WORDS
+from subtitles.judging.causes import EVEN, IN_PARTS, Namer, UNSEEN
+from subtitles.judging.transmissions import DuePages
+from subtitles.recording.recording import header_bytes, pes_header_words
+from subtitles.stream.gaps import Place, places_of, what_of
+from subtitles.stream.receiver import subcode_of, turns_of
+from subtitles.stream.survey import Clocked, Mark, Packets, Run
 from .bench import Case, packets
 from .judged import Sent, in_pipe, joined, judged, programme, sendings
 from .muxed import AHEAD, TELETEXT_PID, Maker, components, put_teletext
@@ -134,13 +134,13 @@ class Reasons(Case):
             self.must(f"{length}: asked for", words in judged(
                 self, self.stl, path, "--pid", "0x101", "--origin", "0").verdict.sentence)
             words = words.replace(" of PID 0x101", "")
-            self.assertEqual(header_words(of_length[0], 0), words)
+            self.assertEqual(pes_header_words(of_length[0], 0), words)
         found = judged(self, self.stl, self.write("one.pes", b"".join(of_length)), "--origin", "0")
         self.must("PES packets", words in found.verdict.sentence, found.said)
         for data in (b"", b"refused 60", self.pes[0], self.pes[0][:8]):
-            self.assertEqual(header_words(data, 0), "")
+            self.assertEqual(pes_header_words(data, 0), "")
         path = self.write("none", b"\x47\x41\x01\x30\xff".ljust(188, b"\0") * 9)
-        self.assertEqual(first_of(self.bench.program, path, TELETEXT_PID, 188), b"refused 6")
+        self.assertEqual(header_bytes(self.bench.program, path, TELETEXT_PID, 188), b"refused 6")
 
     def test_rows_of_a_page_that_is_not_open(self) -> None:
         """Another header, or one that ends all pages, between header and rows: that is told with

@@ -9,13 +9,11 @@ import subprocess
 import time
 
 from developing.pes import pes_packet
-from subtitles.core.times import CLOCK, TICKS
-from subtitles.qc.recording import silent_in
-from subtitles.reading.gaps import SECOND, marks_told, why_refused
-from subtitles.reading.languages import names_of
-from subtitles.reading.packets import Mark, Packets, Run
+from subtitles.common.times import CLOCK, TICKS
+from subtitles.recording.recording import silent_in
+from subtitles.stream.gaps import SECOND, marks_told, why_refused
+from subtitles.stream.survey import Mark, Packets, Run, Survey, names_of, survey
 from developing.multiplex import Multiplex
-from subtitles.reading.survey import Survey, survey
 from .bench import SECONDS, Case, packets
 from .parts import HEADER, row
 

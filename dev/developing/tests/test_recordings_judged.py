@@ -8,7 +8,7 @@ import os
 import re
 
 from developing.pes import pes_packet, pts_in
-from subtitles.core.times import TICKS
+from subtitles.common.times import TICKS
 from .bench import Case, example_bytes, moved, packets, random_subtitles
 from .judged import in_pipe, joined, judged, programme, sendings
 from .muxed import (

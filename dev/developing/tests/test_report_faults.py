@@ -6,16 +6,14 @@ import unittest
 from types import SimpleNamespace
 from typing import Any
 
-from subtitles.core.markup import markup
-from subtitles.core.programme import SubtitleList, Subtitle
-from subtitles.core.times import time_of
-from subtitles.preview.fault_list import FaultList
-from subtitles.preview.faults import Entry, Faults
-from subtitles.preview.reasons import Reasons
-from subtitles.qc.causes import Cause
-from subtitles.qc.checking import Answer
-from subtitles.qc.counted import End
-from subtitles.reading.receiver import TUNED, Rows, State
+from subtitles.common.markup import markup
+from subtitles.common.times import time_of
+from subtitles.formats.stl import Subtitle, SubtitleList
+from subtitles.judging.causes import Cause
+from subtitles.judging.check import Answer, End
+from subtitles.report.faults import Entry, FaultList, Faults
+from subtitles.report.report import Reasons
+from subtitles.stream.receiver import Rows, State, TUNED
 from .parts import fault_of, in_page
 
 # Three subtitles, of which the second has another number than its place.

@@ -10,20 +10,17 @@ from typing import Any, cast
 from unittest import mock
 
 from developing.pes import packet
-from subtitles.core.markup import markup
-from subtitles.core.spans import Spans
-from subtitles.core.times import CLOCK, FRAMES_OF_A_DAY, TICKS
-from subtitles.core.teletext import CODE_WORDS
-from subtitles.preview import page, program as asking, report
-from subtitles.preview.faults import Entry
-from subtitles.preview.packet_words import packet_lines
-from subtitles.preview.page import lost_places, pages_table, subtitles_words
-from subtitles.preview.places import marked_bytes, place_of_pts
-from subtitles.preview.report import Report, Subject
-from subtitles.preview.scope import BETWEEN, DELAY, ROW_0, Scope
-from subtitles.qc.clock import GIVEN, RECORDING, START, TCP, Clock
-from subtitles.qc.made_with import MadeWith
-from subtitles.qc.sums import SummedFile
+from subtitles.clock.start import Clock, GIVEN, RECORDING, START, TCP
+from subtitles.common.files import SummedFile
+from subtitles.common.markup import markup
+from subtitles.common.program import MadeWith
+from subtitles.common.times import CLOCK, FRAMES_OF_A_DAY, Spans, TICKS
+from subtitles.formats.teletext import CODE_WORDS
+from subtitles.report import page as report_page, report as report_report, transmission
+from subtitles.report.faults import Entry
+from subtitles.report.page import lost_places, pages_table, subtitles_words
+from subtitles.report.report import BETWEEN, DELAY, ROW_0, Report, Scope, Subject
+from subtitles.report.transmission import marked_bytes, packet_lines, place_of_pts
 from .bench import Case, example
 from .parts import asked_for, fault_of, in_page, part_with
 
@@ -182,8 +179,8 @@ class Bounds(unittest.TestCase):
             made.part, made.reasons = mock.MagicMock(), SimpleNamespace(drawn=None)
             others = {name: mock.DEFAULT for name in (
                 "Figures", "Entries", "FaultList", "Strips", "mark_unheard", "end_of_knowledge")}
-            with mock.patch.multiple(report, **others) as made_of:
-                looks = report.Looks(made, cast(Any, seen))
+            with mock.patch.multiple(report_report, **others) as made_of:
+                looks = report_report.Looks(made, cast(Any, seen))
             at, words = made_of["Strips"].call_args.args[4:6]
             self.assertEqual((at, None if at is None else words), (frame, line))
             self.assertIs(made.reasons.drawn, looks.entries.drawn)
@@ -208,15 +205,15 @@ class Reports(Case):
         """What is made from files: each with its size and its sum, words by lines, the prover's."""
         file = SummedFile("a<b", 1234, "f" * 64)
         for proved, words in (("x & y", "x &amp; y</code>"), (None, "no file PROVED says")):
-            text = in_page(page.made_from([("STL", file), ("PES", file)], "a date", MadeWith(
+            text = in_page(report_page.made_from([("STL", file), ("PES", file)], "a date", MadeWith(
                 "1.2.3", "", proved), [("One", "a\nb"), ("Two", "<")]))
             self.must(words, text.count("<td>1,234 bytes</td>") == 2 and words in text and
                       text.count("a&lt;b</td>") == 2 and text.count("f" * 64) == 2, text)
             self.must("words", "<dt>Date</dt><dd>a date</dd><dt>Version</dt><dd>1.2.3</dd><dt>One"
                       '</dt><dd><code class="long">a<br/>b</code></dd><dt>Two</dt><dd><code '
                       'class="long">&lt;</code></dd><dt>PROVED</dt>' in text, text)
-        text = in_page(page.document("a <line>", "b & c", [markup("one"), markup("two")]))
-        wrong = page.document("a", "b", ["<b>"])  # type: ignore[list-item]
+        text = in_page(report_page.document("a <line>", "b & c", [markup("one"), markup("two")]))
+        wrong = report_page.document("a", "b", ["<b>"])  # type: ignore[list-item]
         self.must("no text stands for markup", "\n&lt;b&gt;\n" in in_page(wrong))
         self.must("document", "<title>a &lt;line&gt; &#8211; b &amp; c</title>" in text and
                   text.endswith("<h1>Report on b &amp; c</h1>\none\ntwo\n</body></html>\n"), text)
@@ -225,10 +222,10 @@ class Reports(Case):
         """The Teletext packets of PES packets from the first number on to the last."""
         program = self.write_program("said", f"#!/bin/sh\necho $* >'{self.path('words')}'\n"
                                              "echo unit 0 0 3 7 first FF00\necho 1 pes\n")
-        found = asking.Program("subttx", program, "a.pes").units([3, 4, 9])
+        found = transmission.Program("subttx", program, "a.pes").units([3, 4, 9])
         self.must("words", self.read("words") == b"packets --pes 3-9 -- a.pes\n",
                   self.read("words"))
-        self.must("units", found == [asking.Unit("7 first", b"\xff\0")], found)
+        self.must("units", found == [transmission.Unit("7 first", b"\xff\0")], found)
 
 
 class Packets(Case):

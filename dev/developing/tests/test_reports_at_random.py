@@ -20,11 +20,11 @@ from typing import Callable, Iterator
 
 from developing.pes import DATA, UNIT, mirrored, packet, pts_bytes, pts_in, whole_in
 from developing.stl import boxed, gsi_block, subtitle_blocks, tti_block
-from subtitles.core.manual import Meaning, meanings
-from subtitles.core.stl import NEW_LINE, USER_DATA
-from subtitles.core.teletext import page_name
-from subtitles.core.times import CLOCK, FRAMES_OF_A_DAY, TICKS
-from subtitles.preview import report
+from subtitles.common.times import CLOCK, FRAMES_OF_A_DAY, TICKS
+from subtitles.formats.listing import Meaning, meanings
+from subtitles.formats.stl import NEW_LINE, USER_DATA
+from subtitles.formats.teletext import page_name
+from subtitles.report import report
 from .. import DEV
 from .bench import BENCH, example_bytes
 from .judged import Judged, judged_by

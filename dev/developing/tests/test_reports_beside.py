@@ -10,9 +10,9 @@ from collections import Counter
 from typing import Callable
 
 from developing.pes import whole_in
-from subtitles.core.teletext import page_name
-from subtitles.core.times import frame_of
-from subtitles.core.told import PASSED_OVER
+from subtitles.common.times import frame_of
+from subtitles.formats.listing import PASSED_OVER
+from subtitles.formats.teletext import page_name
 from .bench import BENCH
 from .judged import Judged
 from .test_reports_at_random import BESIDE, HTML, Rows, made

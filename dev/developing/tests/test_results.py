@@ -14,22 +14,18 @@ import sys
 from typing import Any, Iterator, Sequence
 from unittest import mock
 
-from subtitles.calls import collecting, machine, objects
-from subtitles.calls.batch import Calls, kept_rows
-from subtitles.calls.channel.results import Results
-from subtitles.calls.machine import object_of
-from subtitles.calls.members import FAULT as ROWS_OF_FAULT
-from subtitles.calls.objects import has_had_its_turn, object_at, unjudged
-from subtitles.calls.pairs import Item
-from subtitles.calls.result import FORMAT, LISTS, VERDICT, misfit, schema
-from subtitles.calls.watching import Watch
-from subtitles.core.built import TOP, read
-from subtitles.core.outputs import Inputs
-from subtitles.core.shapes import Integer, Listed
-from subtitles.core.told import SILENT, UNDECIDED
-from subtitles.core.words import Stop
-from subtitles.qc.made_with import MadeWith
-from subtitles.qc.typed import Typed
+from subtitles.cli import collection
+from subtitles.cli.batch import Calls, Item, Watch, kept_rows
+from subtitles.cli.channel.results import Results
+from subtitles.common.command_line import Stop
+from subtitles.common.files import Inputs
+from subtitles.common.program import MadeWith, TOP, read
+from subtitles.common.shapes import Integer, Listed
+from subtitles.formats.listing import SILENT, UNDECIDED
+from subtitles.request.commands import CommandWords
+from subtitles.results import objects
+from subtitles.results.objects import has_had_its_turn, object_at, object_of, unjudged
+from subtitles.results.schema import FAULT as ROWS_OF_FAULT, FORMAT, LISTS, VERDICT, misfit, schema
 from .. import DEV
 from ..pages import SCHEMA, laid_out
 from .bench import Case, example_bytes
@@ -126,14 +122,14 @@ class Written(Case):
                 known = self.judge()
             self.must(f"{most}", known["faults"] == whole["faults"][:most] and
                       known["left_out"] == {**whole["left_out"], "faults": 4 - most}, known)
-        with mock.patch.object(machine, "MOST_BYTES", 0):
+        with mock.patch.object(objects, "MOST_BYTES", 0):
             known = self.judge()
         counts = {one.name: len(whole[one.name]) for one in LISTS}
         self.must("none", known["left_out"] == counts and known["fault_count"] == 4, known)
         size = sum(len(json.dumps(one, ensure_ascii=False)) for name in counts
                    for one in whole[name])
         for room, left in ((size, 0), (size - 1, 1)):
-            with mock.patch.object(machine, "MOST_BYTES", room):
+            with mock.patch.object(objects, "MOST_BYTES", room):
                 self.must(f"{room}", self.judge()["left_out"]["subtitles"] == left)
 
     def test_longest(self) -> None:
@@ -197,11 +193,11 @@ class ReadBack(Case):
 
     def all_read(self) -> list[dict[str, Any]]:
         """What each mode that reads results says of those in a folder; the names of all."""
-        words, typed = self.words(), Typed("tools/qc", self.bench.program)
+        words, typed = self.words(), CommandWords("tools/qc", self.bench.program)
         with contextlib.redirect_stdout(io.StringIO()), contextlib.redirect_stderr(io.StringIO()):
-            status = collecting.collect(words)
+            status = collection.collect(words)
             rows = Watch(words, typed).rows
-        collecting.write_index(self.path("out"), [*rows.values()])
+        collection.write_index(self.path("out"), [*rows.values()])
         names = sorted(name.removesuffix(".json") for name in os.listdir(self.path("out"))
                        if name.endswith(".json"))
         self.must("names", sorted(rows) == names, rows)
@@ -251,7 +247,7 @@ class ReadBack(Case):
             self.must(f"{most}", found is not None and (found["verdict"] == "accepted") == is_read,
                       found)
         os.mkdir(self.path("empty"))
-        self.assertRaises(Stop, collecting.collect, self.words(collect=self.path("empty")))
+        self.assertRaises(Stop, collection.collect, self.words(collect=self.path("empty")))
 
     def test_written_is_read(self) -> None:
         """The greatest number of items is less than half of what is read back."""
@@ -259,4 +255,4 @@ class ReadBack(Case):
         self.must("it fits", misfit(known) is None and known["format"] == FORMAT)
         self.must("all lists", {one.name for one in VERDICT.members
                                 if isinstance(one.shape, Listed)} == {one.name for one in LISTS})
-        self.must("room", objects.MOST_READ == 2 * machine.MOST_BYTES)
+        self.must("room", objects.MOST_READ == 2 * objects.MOST_BYTES)

@@ -13,10 +13,10 @@ class Found(Case):
 
     def test_modules(self) -> None:
         for name, wanted in (
-                ("qc/evidence.py", "subtitles.qc.evidence"),
-                ("tools/subtitles/qc/evidence.py", "subtitles.qc.evidence"),
-                ("qc.evidence", "subtitles.qc.evidence"), ("evidence", "subtitles.evidence"),
-                ("subtitles.qc.evidence", "subtitles.qc.evidence")):
+                ("stream/layout.py", "subtitles.stream.layout"),
+                ("tools/subtitles/stream/layout.py", "subtitles.stream.layout"),
+                ("stream.layout", "subtitles.stream.layout"), ("evidence", "subtitles.evidence"),
+                ("subtitles.stream.layout", "subtitles.stream.layout")):
             self.must(name, runner.module_of(name) == wanted, runner.module_of(name))
 
     def test_each_module(self) -> None:
@@ -28,8 +28,9 @@ class Found(Case):
             if not module.endswith("__init__"):
                 self.must(module, runner.of_module(module, everything))
         self.must("no module", not runner.of_module("subtitles.none", everything))
-        for module, test, most in (("qc.paced", "test_paced", 1), ("qc.judging", "test_clocks", 40),
-                                   ("qc.source", "test_feeds", 9), ("qc.sendings", "test_reasons", 30)):
+        for module, test, most in (("judging.losses", "test_parts_of_verdicts", 3), ("judging.pair", "test_decisions", 5),
+                                   ("recording.feed", "test_feeds", 9),
+                                   ("judging.transmissions", "test_reasons", 30)):
             kinds = {type(one).__module__.rpartition(".")[2] for one in
                      runner.of_module(f"subtitles.{module}", everything)}
             self.must(module, test in kinds and len(kinds) <= most, kinds)
@@ -39,10 +40,10 @@ class Found(Case):
         module = __name__
         self.must("none of the tools", not runner.called_by(module))
         self.must("no module", not runner.called_by("no.such"))
-        tests = runner.found(["reading.announced"])
+        tests = runner.found(["report.strips"])
         kinds = {type(one).__module__.rpartition(".")[2] for one in tests}
-        self.must("those that call it", kinds == {"test_announced"}, kinds)
-        kinds = {type(one).__module__.rpartition(".")[2] for one in runner.found(["qc/evidence.py"])}
+        self.must("those that call it", kinds == {"test_report_pictures"}, kinds)
+        kinds = {type(one).__module__.rpartition(".")[2] for one in runner.found(["stream/layout.py"])}
         self.must("of two", kinds >= {"test_evidence", "test_layouts"} and len(kinds) < 9, kinds)
         self.must("by name alone", all(isinstance(one, unittest.TestCase) and "test_runner" in
                                        one.id() for one in runner.found(["test_runner."])))

@@ -4,15 +4,12 @@ from __future__ import annotations
 import re
 import unittest
 
-from subtitles.core.manual import meanings
-from subtitles.core.national import OPTIONS
-from subtitles.core.told import told_of
-from subtitles.qc.causes import IN_PAUSE, NAMES, Cause
-from subtitles.qc.fault_words import WORDS
-from subtitles.qc.headers import control_words
-from subtitles.qc.sentence import SAID, Facts, of_causes, sentence_of
-from subtitles.qc.severity import REFUSALS
-from subtitles.qc.status import ACCEPTED, LOST, NOT_JUDGED, REFUSED, WAIVED, WARNED
+from subtitles.formats.listing import fault_of_line, meanings
+from subtitles.formats.teletext import OPTIONS
+from subtitles.judging.causes import Cause, IN_PAUSE, NAMES
+from subtitles.judging.sentence import Facts, SAID, WORDS, of_causes, sentence_of
+from subtitles.judging.status import ACCEPTED, LOST, NOT_JUDGED, REFUSALS, REFUSED, WAIVED, WARNED
+from subtitles.judging.transmissions import control_words
 from .test_tables_of_faults import cause, causes_of
 
 OF_PACKETS = {3, 4}  # refusals of `normal`, which `check` does not have
@@ -58,8 +55,8 @@ class Sentences(unittest.TestCase):
 
     def test_words(self) -> None:
         """Each verdict, whatever is known."""
-        fault, packet = told_of("refused 73 Gap frame 10:00:00:00"), told_of("refused 34 Pts pes 7")
-        block = told_of("refused 24 Unfinished block 12")
+        fault, packet = fault_of_line("refused 73 Gap frame 10:00:00:00"), fault_of_line("refused 34 Pts pes 7")
+        block = fault_of_line("refused 24 Unfinished block 12")
         for seen, wanted in (
                 (Facts(NOT_JUDGED, 0, reason="no\nmore"), "Not judged: no."),
                 (Facts(NOT_JUDGED, 0), "Not judged: check was not answered."),
@@ -96,7 +93,7 @@ class Sentences(unittest.TestCase):
             for place, begin in (("frame 10:00:00:00", "at 10:00:00:00"),
                                  ("pes 7", "in PES packet 7"), ("block 12", "in block 12"),
                                  ("", "")):
-                told = told_of(f"refused {number} Name {place}".rstrip())
+                told = fault_of_line(f"refused {number} Name {place}".rstrip())
                 found = sentence_of(Facts(REFUSED, 1, first=told, faults=1))
                 with self.subTest(number=number, place=place):
                     self.assertEqual(found, " ".join(["Refused:", *begin.split(), words]) + ".")

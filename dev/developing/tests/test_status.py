@@ -6,11 +6,10 @@ import tempfile
 import unittest
 from typing import Sequence
 
-from subtitles.core.words import Stop
-from subtitles.qc.severity import Severity
-from subtitles.qc.status import (
-    ACCEPTED, LOST, NOT_JUDGED, REFUSED, STATUSES, UNREAD, UNSAID, WAIVED, WARNED, Decision, Said,
-    Grounds, decide, is_of_call, of_all, word_of)
+from subtitles.common.command_line import Stop
+from subtitles.judging.status import (
+    ACCEPTED, Decision, Grounds, LOST, NOT_JUDGED, REFUSED, STATUSES, Said, Severity, UNREAD,
+    UNSAID, WAIVED, WARNED, decide, is_of_call, of_all, word_of)
 
 ERROR, WARNING, NUMBER = 72, 67, 38  # of faults: the file below names the second a warning
 ENDS_READING, LOST_PACKETS, SILENT = (30, 31, 32, 44), 45, 79

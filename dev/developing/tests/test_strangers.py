@@ -14,9 +14,9 @@ from typing import Callable
 from xml.etree import ElementTree as tree
 
 from developing.looks import browser
-from subtitles.calls.index_page import page_of
-from subtitles.calls.objects import Row
-from subtitles.core.markup import POLICY
+from subtitles.cli.collection import index_page
+from subtitles.common.markup import POLICY
+from subtitles.results.objects import Row
 from .. import DEV
 from .bench import Case, example, example_bytes, tool_path
 
@@ -109,7 +109,7 @@ class Pages(Case):
         rows = [Row(text(), text(), chance.choice(["accepted", "refused", "not judged", text()]),
                     chance.randrange(3), text(), chance.randrange(9), {text(): 1, text(): 2},
                     [text()], 0.5, text(), text()) for _ in range(chance.randrange(1, 9))]
-        return self.write(f"{number}.html", page_of(self.folder, rows, text()))
+        return self.write(f"{number}.html", index_page(self.folder, rows, text()))
 
     def test_marks(self) -> None:
         """No element or attribute is there that the page has not for text alone."""

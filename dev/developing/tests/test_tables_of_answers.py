@@ -4,14 +4,13 @@ line of a list asks.
 from __future__ import annotations
 
 from developing.stl import gsi_block, subtitle_blocks
-from subtitles.core.times import FRAMES_OF_A_DAY
-from subtitles.core.told import told_of
-from subtitles.core.words import Stop, Words
-from subtitles.qc.asked import add_pair_options, asked_of_line
-from subtitles.qc.checking import Answer
-from subtitles.qc.midnight import AT_MIDNIGHT, falls_at_midnight, midnight_words
-from subtitles.qc.subtitle_file import SubtitleFile
-from subtitles.qc.unclear import Unclear
+from subtitles.common.command_line import Stop, Words
+from subtitles.common.times import FRAMES_OF_A_DAY
+from subtitles.formats.listing import fault_of_line
+from subtitles.formats.stl import SubtitleFile
+from subtitles.judging.check import Answer
+from subtitles.judging.subtitles import AT_MIDNIGHT, falls_at_midnight, midnight_words
+from subtitles.request.request import Unclear, add_options, request_of_line
 from .bench import Case
 from .parts import asked_for
 
@@ -61,7 +60,7 @@ class Answers(Case):
                 self.assertEqual(made.line, line)
             self.assertEqual(list(made.lines()), list(lines))
             self.assertEqual([one.line for one, _ in made.told()],
-                             [one for one in lines if one.startswith("refused ") and told_of(one)])
+                             [one for one in lines if one.startswith("refused ") and fault_of_line(one)])
             self.assertEqual([begin for begin, _ in made.trusted],
                              [150] * (self.TRUSTED in lines))
 
@@ -118,10 +117,10 @@ class Nights(Case):
                 ("refused 56 Order block 5", False), ("refused 56 Order block 3", False),
                 ("refused 56 Order block 1", False), ("refused 20 Other block 2", False),
                 ("refused 57 Other block 4", False), ("refused 21 Times", False)):
-            told = told_of(line)
+            told = fault_of_line(line)
             assert told
             self.assertEqual(midnight_words(told, subtitles), AT_MIDNIGHT if is_told else "", line)
-        told = told_of("refused 56 Order block 2")
+        told = fault_of_line("refused 56 Order block 2")
         for begin, wanted in ((day - 90_001, ""), (day - 90_000, AT_MIDNIGHT)):
             data = gsi_block(b"", 2, 2) + subtitle_blocks(1, begin, day - 100, 20, 2, b"a") + \
                 subtitle_blocks(2, 10, 60, 20, 2, b"b")
@@ -136,7 +135,7 @@ class Asked(Case):
         """A line that tells its origin, or its first picture, takes neither of the call; the other
         options stay, where it has none of its own."""
         parser = Words("")
-        add_pair_options(parser)
+        add_options(parser)
         for call, line, wanted in (
                 ("", "", (None, None, 250)), ("--origin 7 --every 50", "", (7, None, 50)),
                 ("--origin 7", "--origin 9", (9, None, 250)),
@@ -145,13 +144,13 @@ class Asked(Case):
                 ("--start tcp --every 50", "--origin 9", (9, None, 50)),
                 ("--start tcp", "--origin=9 --every 25", (9, None, 25)),
                 ("--start tcp", "--every 25", (None, "tcp", 25))):
-            asked = asked_of_line(["a.stl", "a.ts", *line.split()], parser.parse_args(call.split()))
+            asked = request_of_line(["a.stl", "a.ts", *line.split()], parser.parse_args(call.split()))
             self.assertEqual((asked.origin, asked.start, asked.every), wanted, (call, line))
         for name, wanted_name in (("-", "-"), ("-a", "./-a"), ("a", "a"), ("", ""), (None, None)):
             self.assertEqual(asked_for("-a.stl", name).recording, wanted_name)
             self.assertEqual(asked_for("-a.stl", name).stl, "./-a.stl")
         for words in (["a.stl", "-"], ["a.stl", "a.ts", "--origin", "1", "--start", "tcp"]):
-            self.assertRaises(Stop, asked_of_line, words, parser.parse_args([]))
+            self.assertRaises(Stop, request_of_line, words, parser.parse_args([]))
 
     def test_options_of_languages(self) -> None:
         """`auto` takes the option of the LC of the GSI block; of none, and of no file, English."""

@@ -9,9 +9,11 @@ import random
 import unittest
 
 from developing import pes, stl
-from subtitles.core import teletext, times
-from subtitles.core.files import Damaged
-from subtitles.core.pes import begins_in
+from subtitles.common import times
+from subtitles.common.command_line import page_in
+from subtitles.common.files import Damaged
+from subtitles.formats import teletext
+from subtitles.formats.teletext import begins_in
 from .parts import CLOSING, HEADER, row
 
 CLOCK, DAY = 8_589_934_592, 2_160_000
@@ -139,11 +141,11 @@ class Codes(unittest.TestCase):
         """Names of pages, and what is none."""
         for text, page in (("888", (0, 0x88)), ("100", (1, 0)), ("7fE", (7, 0xFE)),
                            ("8Ab", (0, 0xAB)), ("200", (2, 0)), ("899", (0, 0x99))):
-            self.assertEqual(teletext.page_of(text), page)
+            self.assertEqual(page_in(text), page)
             self.assertEqual(teletext.page_name(*page), text.upper())
         for text in ("", "88", "8888", "000", "900", "8FF", "1ff", "8 1", "8+1", "8_1", "8g0",
                      "x88", "8\u0661\u0661"):
-            self.assertIsNone(teletext.page_of(text), text)
+            self.assertIsNone(page_in(text), text)
 
 
 class Packets(unittest.TestCase):

@@ -11,22 +11,19 @@ from typing import Any
 from unittest import mock
 
 from developing.pes import packet, pes_packet
-from subtitles.core.programme import Subtitle
-from subtitles.core.spans import Span
-from subtitles.core.times import CLOCK, TICKS
-from subtitles.core.told import told_of
-from subtitles.qc.causes import (
-    ATTRIBUTE, EARLY, LATE, NEVER, NOT_ERASED, OTHER, TEXT, UNKNOWN, Cause, Faulty, Namer)
-from subtitles.qc.cells import place_of
-from subtitles.qc.due_pages import DuePages, asked_of
-from subtitles.qc.hints import gap_words, hints_of
-from subtitles.qc.made_with import proved_line
-from subtitles.qc.progress import CLEAR, Progress
-from subtitles.qc.sentence import Facts, of_causes, what_is_wrong
-from subtitles.qc.speech import Speech
-from subtitles.qc.unclear import Unclear
-from subtitles.qc.why import tell
-from subtitles.reading.receiver import BLANK_PAGE, OLD
+from subtitles.common.program import proved_line
+from subtitles.common.times import CLOCK, Span, TICKS
+from subtitles.formats.listing import fault_of_line
+from subtitles.formats.stl import Subtitle
+from subtitles.judging.causes import (
+    ATTRIBUTE, Cause, EARLY, Faulty, LATE, NEVER, NOT_ERASED, Namer, OTHER, TEXT, UNKNOWN)
+from subtitles.judging.faults import fault_place, gap_words, hints_of
+from subtitles.judging.part import tell_causes
+from subtitles.judging.sentence import Facts, of_causes, what_is_wrong
+from subtitles.judging.transmissions import DuePages, program_answer
+from subtitles.request.commands import CLEAR, Progress, Speech
+from subtitles.request.request import Unclear
+from subtitles.stream.receiver import BLANK_PAGE, OLD
 from .bench import Case
 from .judged import Heard
 from .parts import (
@@ -96,7 +93,7 @@ class Words(Case):
                                       ("refused 68 Parity frame 00:00:01:00 packet 1", 1, False),
                                       ("refused 72 Content frame 00:00:01:00 row 1 column 1", 2,
                                        False)):
-            words = what_is_wrong(Facts("refused", 9, told_of(line), count, "", causes_of(
+            words = what_is_wrong(Facts("refused", 9, fault_of_line(line), count, "", causes_of(
                 cause(2, LATE, 3))))
             self.must(f"{line} {count}", words.endswith(
                 "; the first of 2 faults is 68 Parity at 00:00:01:00") == is_named ==
@@ -184,9 +181,9 @@ class Words(Case):
                 ("refused 68 Parity frame 00:00:00:10 packet 1", 1, 1),
                 ("refused 68 Parity frame 00:00:00:10 packet 2", 1, 2),
                 ("refused 38 UnitLength pes 3", 0, 3)):
-            packets, fault = packets_told(self, data), told_of(line)
+            packets, fault = packets_told(self, data), fault_of_line(line)
             assert fault
-            found = place_of(fault, packets, timeline_of(self, data, 0, within))
+            found = fault_place(fault, packets, timeline_of(self, data, 0, within))
             self.must(f"{line} {within}", found.pes == pes, found)
 
     def test_gaps(self) -> None:
@@ -264,12 +261,12 @@ class Words(Case):
                 speech.end(line)
             speech.end("a")
         self.must("the last line once", out.getvalue() == "a\nb\na\n", out.getvalue())
-        with mock.patch("subtitles.qc.why.Wording") as wording:
+        with mock.patch("subtitles.judging.part.Wording") as wording:
             wording.return_value.line = lambda one: f"cause {one}"
             for count in (0, 40, 41, 45):
                 heard = Heard()
                 causes: Any = SimpleNamespace(all=lambda: list(range(count)))
-                tell(heard, causes, "english")
+                tell_causes(heard, causes, "english")
                 self.must(f"{count} causes", heard.lines == [
                     *(f"cause {at}" for at in range(min(count, 40))),
                     *[f".. {count - 40} more causes"] * (count > 40)], heard.lines)
@@ -286,7 +283,7 @@ class Calls(Case):
         for lines, status, is_right in rows:
             path = self.write_program("program", f"#!/bin/sh\n{script(lines, status)}")
             try:
-                found: list[str] | None = asked_of(path, "schedule", "x")
+                found: list[str] | None = program_answer(path, "schedule", "x")
             except Unclear as reason:
                 found = None
                 self.must("why", reason.reason == "schedule was not answered: "

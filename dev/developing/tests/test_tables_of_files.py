@@ -9,13 +9,11 @@ from typing import Callable, Sequence
 from unittest import mock
 
 from developing.stl import gsi_block, tti_block
-from subtitles.core import stl, told
-from subtitles.core.characters import option_name
-from subtitles.core.files import Damaged
-from subtitles.core.gsi import titles_in
-from subtitles.core.letters import letters_of
-from subtitles.core.programme import SubtitleList, Subtitle
-from subtitles.core.words import Stop
+from subtitles.common.command_line import Stop
+from subtitles.common.files import Damaged
+from subtitles.formats import listing, stl
+from subtitles.formats.stl import Subtitle, SubtitleList, titles_in
+from subtitles.formats.teletext import letters_of, option_name
 from .bench import Case
 
 GSI = 1024
@@ -123,16 +121,16 @@ class Lines(unittest.TestCase):
 
     def test_kinds(self) -> None:
         """Of each number what it is of: the file, what ends reading, what is passed over."""
-        kinds = {"stl": told.STL_FAULTS, "ends": told.ENDS_READING, "passed": told.PASSED_OVER}
+        kinds = {"stl": listing.STL_FAULTS, "ends": listing.ENDS_READING, "passed": listing.PASSED_OVER}
         for number in range(100):
             wanted = {"stl"} if 10 <= number <= 25 or 50 <= number <= 57 else set[str]()
             wanted |= {"ends"} if number in (30, 31, 32, 44) else set()
             wanted |= {"passed"} if 33 <= number <= 40 or number in (45, 61) else set()
             self.assertEqual({kind for kind, some in kinds.items() if number in some}, wanted)
-        self.assertEqual((told.EMPTY, told.EMPTY_TIME, told.OUT_OF_ORDER, told.OFF_FRAME, told.GAP,
-                          told.LOST_PACKETS, told.CONTENT, told.CHARACTER, told.CONTROL, told.BEGIN,
-                          told.END), (60, 21, 56, 61, 73, 45, 72, 50, 67, 63, 74))
-        self.assertEqual((told.LETTERS, told.WITH_CAUSE), ((50, 51), {63, 72, 74}))
+        self.assertEqual((listing.EMPTY, listing.EMPTY_TIME, listing.OUT_OF_ORDER, listing.OFF_FRAME, listing.GAP,
+                          listing.LOST_PACKETS, listing.CONTENT, listing.CHARACTER, listing.CONTROL, listing.BEGIN,
+                          listing.END), (60, 21, 56, 61, 73, 45, 72, 50, 67, 63, 74))
+        self.assertEqual((listing.LETTERS, listing.WITH_CAUSE), ((50, 51), {63, 72, 74}))
 
     def test_quickly(self) -> None:
         """What is taken of a line without reading all of it is what all of it says."""
@@ -141,26 +139,26 @@ class Lines(unittest.TestCase):
         for word, number, place in itertools.product(
                 ("refused", "ended", "fault", "usage"), self.NUMBERS, places):
             line = f"{word} {number} Name{place}"
-            found = told.told_of(line)
+            found = listing.fault_of_line(line)
             assert found
             self.assertEqual((found.word, found.number, found.name, found.is_fault),
                              (word, number, "Name", word == "refused"))
-            self.assertEqual(told.number_of(line), number if word == "refused" else None)
+            self.assertEqual(listing.number_of(line), number if word == "refused" else None)
             parts = line.split(" ")
-            self.assertEqual(told.words_of(line), parts[:5] + [" ".join(parts[5:])] * (
+            self.assertEqual(listing.line_words(line), parts[:5] + [" ".join(parts[5:])] * (
                 len(parts) > 5))
             if found.time:
-                self.assertEqual(found.frame, told.frame_of_place(found.time))
+                self.assertEqual(found.frame, listing.frame_of_place(found.time))
                 self.assertIn(found.frame, (2_159_999, 25, 900_001))
             else:
                 self.assertIsNone(found.frame)
-            self.assertTrue(told.is_line(line))
+            self.assertTrue(listing.is_line(line))
         for line, is_one in (("5 faults", True), ("accepted 1 frames 2 transmissions", True),
                              ("trusted frames a b", True), ("faults", False), ("", False)):
-            self.assertEqual(told.is_line(line), is_one)
+            self.assertEqual(listing.is_line(line), is_one)
         for line in ("refused", "refused ", "refused x Name", "refused \u0661 Name", "ended 5 Name",
                      "refused5 6 Name"):
-            self.assertIsNone(told.number_of(line + " "), line)
+            self.assertIsNone(listing.number_of(line + " "), line)
 
 
 class Order(unittest.TestCase):

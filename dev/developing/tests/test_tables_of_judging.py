@@ -11,25 +11,20 @@ from unittest import mock
 
 from developing.pes import pes_packet
 from developing.stl import gsi_block, subtitle_blocks, tti_block
-from subtitles.core.times import CLOCK, TICKS
-from subtitles.qc.causes import (
-    ATTRIBUTE, EARLY, LATE, NEVER, NOT_ERASED, OTHER, PLACE, TEXT, UNKNOWN, Cause)
-from subtitles.qc.chosen import Chosen
-from subtitles.qc.clock import GIVEN, RECORDING, Clock, Found
-from subtitles.qc.clocks import found_in
-from subtitles.qc.off_frame import most_off, off_words
-from subtitles.qc.start import start_frame
-from subtitles.qc.subtitle_file import SubtitleFile
-from subtitles.qc.unclear import Unclear
-from subtitles.qc.warned import (
-    Warned, length_words, of_character_sets, of_counts, of_jumps, of_pauses, of_repeat, of_tables,
-    there_are)
-from subtitles.qc.within import (
-    NOTHING, is_accepted, is_delay, least_of, line_of, may_be, same_part)
-from subtitles.reading.finding import OfPart, Origin
-from subtitles.reading.gaps import ClockJump
-from subtitles.reading.packets import Packets
-from subtitles.reading.survey import Announced
+from subtitles.clock.origin import OfPart, Origin
+from subtitles.clock.start import Clock, Found, GIVEN, RECORDING, most_off, off_words, start_frame
+from subtitles.common.times import CLOCK, TICKS
+from subtitles.formats.stl import SubtitleFile
+from subtitles.judging.causes import (
+    ATTRIBUTE, Cause, EARLY, LATE, NEVER, NOT_ERASED, OTHER, PLACE, TEXT, UNKNOWN)
+from subtitles.judging.pair import (
+    NOTHING, found_in, is_accepted, is_delay, least_of, may_be, same_part, within_line)
+from subtitles.recording.recording import (
+    Notice, count_notices, length_words, of_character_sets, of_jumps, of_pauses, of_repeat,
+    of_tables, there_are)
+from subtitles.request.request import Selection, Unclear
+from subtitles.stream.gaps import ClockJump
+from subtitles.stream.survey import Announced, Packets
 from .bench import Case
 from .parts import CLOSING, HEADER, PAGE, asked_for, packets_told
 from .test_character_sets import naming
@@ -102,12 +97,12 @@ class Within(unittest.TestCase):
         self.assertIsNone(same_part([], 1, 1, three[0]))
         whole = Found(3, 9, Clock(7, GIVEN))
         self.assertEqual(found_in(Origin(1, [OfPart(5)]), whole), [])
-        told = Chosen("origin", "5", "origin: 3 of 4", 3, 4)
+        told = Selection("origin", "5", "origin: 3 of 4", 3, 4)
         self.assertEqual(found_in(Origin(0, [OfPart(5, (1, 2), None, 3, 4, "3 of 4")]), whole),
                          [Found(3, 9, Clock(5, RECORDING, evidence=told), (1, 2))])
 
     def test_words(self) -> None:
-        self.assertEqual(line_of(3), "within 3 it is accepted: --within 3")
+        self.assertEqual(within_line(3), "within 3 it is accepted: --within 3")
         for line, status, wanted in (
                 (ACCEPTED[0], 0, True), (ACCEPTED[0], 1, False), (ACCEPTED[0], 2, False),
                 (ACCEPTED[0], -9, False), (LATER[0], 0, False), (LATER[0], 1, False),
@@ -115,7 +110,7 @@ class Within(unittest.TestCase):
             self.assertEqual(is_accepted(line, status), wanted)
 
 
-def said(warned: Iterable[Warned]) -> list[tuple[str, str, str | None]]:
+def said(warned: Iterable[Notice]) -> list[tuple[str, str, str | None]]:
     return [(one.kind, one.line, one.time) for one in warned]
 
 
@@ -129,7 +124,7 @@ class Warnings(Case):
             jumps = [ClockJump(None, 90_000), *(ClockJump((origin + TICKS * frame) % CLOCK, ticks)
                                            for frame, ticks in (
                 (9, 1), (10, 90_000), (15, -90_000), (20, 8_640_000), (21, 5)))]
-            with mock.patch("subtitles.qc.warned.jumps_of", lambda packets: jumps):
+            with mock.patch("subtitles.recording.recording.jumps_of", lambda packets: jumps):
                 found = [(one.kind, one.time, one.line.partition(" at ")[0])
                          for one in of_jumps(Packets(1), origin, 10, 20)]
             self.assertEqual(found, [
@@ -175,13 +170,13 @@ class Warnings(Case):
         blocks = [subtitle_blocks(at, 25 * at, 25 * at + 20, 20, 2, b"a") for at in (1, 2)]
         for told_blocks, told_subtitles in itertools.product((1, 2, 3), repeat=2):
             data = gsi_block(b"", told_blocks, told_subtitles) + b"".join(blocks)
-            found = said(of_counts(SubtitleFile(self.write("one.stl", data))))
+            found = said(count_notices(SubtitleFile(self.write("one.stl", data))))
             kinds = ["blocks"] * (told_blocks != 2) + ["subtitles"] * (told_subtitles != 2)
             self.assertEqual([one[0] for one in found], kinds)
             for _, line, _ in found:
                 self.assertTrue("there are 2" in line, line)
         data = gsi_block(b"", 1, 1)[:238] + b"  x  00000" + gsi_block(b"", 1, 1)[248:]
-        self.assertEqual([one[:2] for one in said(of_counts(SubtitleFile(self.write(
+        self.assertEqual([one[:2] for one in said(count_notices(SubtitleFile(self.write(
             "one.stl", data + blocks[0]))))], [
                 ("subtitles", "the GSI block counts 0 subtitles (TNS), and there is 1: is the "
                  "subtitle file whole?")])
@@ -190,7 +185,7 @@ class Warnings(Case):
         comment = tti_block(2, 30, 40, 20, 2, b"", comment=1)
         for count in (1, 2):
             data = gsi_block(b"", 2, count) + blocks[0] + comment
-            self.assertEqual(said(of_counts(SubtitleFile(self.write("one.stl", data)))), [])
+            self.assertEqual(said(count_notices(SubtitleFile(self.write("one.stl", data)))), [])
 
     def test_pauses(self) -> None:
         """Frames without a PES packet, of what sends one in each but few: one in twenty."""

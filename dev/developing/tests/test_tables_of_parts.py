@@ -9,19 +9,18 @@ from unittest import mock
 
 from developing.pes import pes_packet
 from developing.stl import gsi_block, tti_block
-from subtitles.core.words import HIDDEN
-from subtitles.qc.headers import control_words
-from subtitles.qc.lettering import (
-    ATTRIBUTES, attribute_words, code_words, is_moved, is_part, place_words, text_of, words_on)
-from subtitles.qc.names import (
-    Names, NamesOfList, again, files_in, pair_name, part_name)
-from subtitles.qc.option_advice import OptionAdvice
-from subtitles.qc.recording import is_recording
-from subtitles.qc.subtitle_file import SubtitleFile
-from subtitles.qc.typed import Typed, line_of
-from subtitles.reading import repeat
-from subtitles.reading.receiver import BLANK_PAGE
-from subtitles.reading.repeat import FEWEST, NEAR, are_usual, longest_gap, measured
+from subtitles.common.command_line import HIDDEN
+from subtitles.formats.stl import SubtitleFile
+from subtitles.judging.subtitles import OptionAdvice
+from subtitles.judging.transmissions import (
+    ATTRIBUTES, attribute_words, code_words, control_words, is_moved, is_part, moved_words,
+    page_text, words_on)
+from subtitles.recording.recording import is_recording
+from subtitles.request.commands import (
+    CommandWords, Names, NamesOfList, again, files_in, pair_name, part_name, shell_line)
+from subtitles.stream import gaps
+from subtitles.stream.gaps import FEWEST, NEAR, are_usual, longest_gap, repeat_distance
+from subtitles.stream.receiver import BLANK_PAGE
 from .bench import Case
 from .parts import asked_for
 
@@ -100,7 +99,7 @@ class Named(Case):
 
     def test_again(self) -> None:
         """The same call with more words: an option that is said anew stands once."""
-        typed = Typed("tools/qc", self.bench.program)
+        typed = CommandWords("tools/qc", self.bench.program)
         asked = asked_for("one.stl", "one.ts", "--page", "150", "--every", "50", "--no-complete",
                           "--pid", "0x101", "--origin", "7", "--within", "2", "--breaks", "1",
                           "--pes", "2-9", "--option", "german")
@@ -117,13 +116,13 @@ class Named(Case):
         self.must("start", again(start, typed) == "tools/qc one.stl --start tcp")
         self.must("an origin instead", again(start, typed, "--origin", "T") ==
                   "tools/qc one.stl --origin T")
-        self.must("words", line_of("cat", "a b", ">", "c", "|", "d'e") ==
+        self.must("words", shell_line("cat", "a b", ">", "c", "|", "d'e") ==
                   "cat 'a b' >c | 'd'\"'\"'e'")
         for called, tool, program in (("tools/qc", "tools/text", "subttx"), ("./qc", "./text",
                                                                            "../subttx"),
                                       ("qc", "./text", "../subttx"),
                                       ("/a/tools/qc", "/a/tools/text", "/a/subttx")):
-            made = Typed(called, self.bench.program)
+            made = CommandWords(called, self.bench.program)
             self.must(called, made.tool("text") == tool and made.program_words ==
                       ["-p", self.bench.program], made.tool("text"))
             self.must(f"{called}: beside", os.path.normpath(made.beside()) ==
@@ -161,7 +160,7 @@ class Pages(Case):
                  "row 20 from column 3 instead of 2"),
                 (page_with((20, self.ONE), (22, b" two")), "row 22 from column 1 instead of 2"),
                 (page_with((20, self.ONE)), "1 rows instead of 2")):
-            self.assertEqual(place_words(own, other), place)
+            self.assertEqual(moved_words(own, other), place)
         for other, words in (
                 (own, ""), (page_with((20, b"\x0b\x0bHallo"), (22, b"  two")),
                             "row 20 column 3: 61 instead of 65"),
@@ -183,7 +182,7 @@ class Pages(Case):
                            (page_with((20, self.TWO)), False), (page_with((22, b"  two")), True),
                            (page_with((21, b"x")), False)):
             self.assertEqual(is_part(sent, own), part)
-        self.assertEqual((words_on(own), text_of(own, 0), text_of(page_with((1, b"\x5b[#")), 4)),
+        self.assertEqual((words_on(own), page_text(own, 0), page_text(page_with((1, b"\x5b[#")), 4)),
                          ("Hello two", "Hello / two", "ÄÄ#"))
         self.assertEqual([code_words(code) for code in (0, 7, 0x1F, 0x20, 0x21, 0x7F)],
                          ["alpha black", "alpha white", "release mosaics", "a space", "21", "7F"])
@@ -249,9 +248,9 @@ class Repeats(unittest.TestCase):
                 ([0, 1, 25, 26, 50, 51, 75, 76], [], 24), ([], [], None),
                 ([0, 10, 20, 30, 50, 90], [], 20)]
         for frames, edges, every in of_frames:
-            self.assertEqual(measured(frames, edges), every, (frames, edges))
-        with mock.patch.object(repeat, "sum", side_effect=sum, create=True) as summed:
-            self.assertEqual(measured(range(1000), []), 1)
+            self.assertEqual(repeat_distance(frames, edges), every, (frames, edges))
+        with mock.patch.object(gaps, "sum", side_effect=sum, create=True) as summed:
+            self.assertEqual(repeat_distance(range(1000), []), 1)
         self.assertLess(summed.call_count, 3)  # not once for each sending
         self.assertEqual(FEWEST, 3)
         of_gaps: list[tuple[list[int], int]] = [([], 0), ([5], 0), ([5, 5], 0), ([9, 5, 30], 21)]

@@ -8,16 +8,14 @@ import unittest
 from types import SimpleNamespace
 from typing import Any, Sequence
 
-from subtitles.core.spans import Spans, joined
-from subtitles.core.times import CLOCK, TICKS
-from subtitles.qc.clock import RECORDING, Clock, Found
-from subtitles.qc.clocks import last_time
-from subtitles.reading.cutting import cut_of
-from subtitles.reading.gaps import SECOND, ClockJump, Place, jumps_of, line_of, places_of, what_of
-from subtitles.reading.packets import Clocked, Mark, Packets, Run
-from subtitles.reading.stretches import LACKED, Stretch, by_breaks
-from subtitles.reading.survey import Survey
-from subtitles.reading.timing import strange_of
+from subtitles.clock.alignment import LACKED, Stretch, by_breaks
+from subtitles.clock.start import Clock, Found, RECORDING
+from subtitles.common.times import CLOCK, Spans, TICKS, joined_spans
+from subtitles.judging.pair import last_time
+from subtitles.stream.gaps import (
+    ClockJump, Place, SECOND, jumps_of, place_line, places_of, strange_of, what_of)
+from subtitles.stream.ranges import cut_of
+from subtitles.stream.survey import Clocked, Mark, Packets, Run, Survey
 from .parts import asked_for
 
 
@@ -59,10 +57,10 @@ class Times(unittest.TestCase):
                 span for span in spans if span[1] >= begin and span[0] < end])
             self.assertEqual(list(spans.without([*several[1], *several[2]])),
                              runs_of(one - other - third))
-            self.assertEqual(list(joined(several)), runs_of(one | other | third))
+            self.assertEqual(list(joined_spans(several)), runs_of(one | other | third))
         falling = Spans([(7, 9), (1, 3), (4, 8)])
         self.assertEqual((list(falling), falling.is_rising()), ([(7, 9), (1, 8)], False))
-        self.assertEqual(list(joined([falling])), [(1, 9)])
+        self.assertEqual(list(joined_spans([falling])), [(1, 9)])
 
     def test_bases(self) -> None:
         """PTS may go on over 2^33; two in a row before the two that came before begin a base, also
@@ -190,15 +188,15 @@ class Times(unittest.TestCase):
                 (Place(3600, 7200, 1), "between PTS 3600 and 7200, 00:00:00:01 and 00:00:00:02 on"),
                 (Place(None, 7200, 1), "before PTS 7200, 00:00:00:02 on"),
                 (Place(3600, None, 1), "after PTS 3600, 00:00:00:01 on")):
-            self.assertEqual(line_of(place, 0), f"{words}: 1 TS packet lost")
+            self.assertEqual(place_line(place, 0), f"{words}: 1 TS packet lost")
         words = f"between PTS {CLOCK - 3600} and 3600, 00:00:00:01 and 00:00:00:03 on: "
         for first, last in ((CLOCK - 7200, 3600), (CLOCK - 7201, 3599)):
-            said = line_of(Place(CLOCK - 3600, last, 1, 2), first)
+            said = place_line(Place(CLOCK - 3600, last, 1, 2), first)
             self.assertEqual(said, words.replace(" 3600", f" {last}") +
                              "1 TS packet lost, 2 TS packets scrambled")
-        self.assertEqual(line_of(Place(None, 3600, 0), None),
+        self.assertEqual(place_line(Place(None, 3600, 0), None),
                          "before PTS 3600, 00:00:00:01 on: a break in the stream")
-        self.assertEqual(line_of(Place(None, None, 1), None), "1 TS packet lost")
+        self.assertEqual(place_line(Place(None, None, 1), None), "1 TS packet lost")
 
     def test_what_is_near_in_a_feed(self) -> None:
         """Of the time bases the last in which PES packets come near the time of the subtitles."""

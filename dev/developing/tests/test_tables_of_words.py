@@ -16,13 +16,13 @@ from types import SimpleNamespace
 from typing import Any, Callable
 from unittest import mock
 
-from subtitles.core import manual, words
-from subtitles.core.files import Input, bounded_bytes, first_bytes, naming, plain_name
-from subtitles.core.lists import MOST_BYTES, MOST_OF_LINE, lines_in, list_at, split
-from subtitles.core.markup import joined, markup
-from subtitles.core.outputs import (
-    Inputs, is_replaced, result_file, temporary_folder, whole_file)
-from subtitles.core.words import Stop
+from subtitles.common import command_line
+from subtitles.common.command_line import Stop
+from subtitles.common.files import (
+    Input, Inputs, MOST_BYTES, MOST_OF_LINE, bounded_bytes, first_bytes, is_replaced, lines_in,
+    list_at, naming, plain_name, result_file, split, temporary_folder, whole_file)
+from subtitles.common.markup import joined, markup
+from subtitles.formats import listing
 from .bench import Case
 from .test_hints import TOOLS, modules
 from .test_tables_of_files import refused
@@ -36,26 +36,26 @@ class Words(Case):
         none: Any = None
         many = "9" * 5000
         of_words: list[tuple[Callable[[str], object], dict[str, object]]] = [
-            (words.page_word, {"888": (0, 0x88), "8FF": none, "": none}),
-            (words.time_word, {"00:00:00:00": 0, "23:59:59:24": 2_159_999, "24:00:00:00": none}),
-            (words.origin_word, {"0": 0, "8589934591": 8_589_934_591, "8589934592": none,
-                                 "-1": none, "000": 0, "0007": 7, "": none, "\u0661": none,
-                                 many: none,
-                                 "00000000000000": 0, "0x1": none}),
-            (words.range_word, {"0-0": (0, 0), "0-99": (0, 99), "1-0": none, "5": none, "-": none,
-                                "999999999999-999999999999": (999_999_999_999,) * 2,
+            (command_line.page_word, {"888": (0, 0x88), "8FF": none, "": none}),
+            (command_line.time_word, {"00:00:00:00": 0, "23:59:59:24": 2_159_999, "24:00:00:00": none}),
+            (command_line.origin_word, {"0": 0, "8589934591": 8_589_934_591, "8589934592": none,
+                                        "-1": none, "000": 0, "0007": 7, "": none, "\u0661": none,
+                                        many: none,
+                                        "00000000000000": 0, "0x1": none}),
+            (command_line.range_word, {"0-0": (0, 0), "0-99": (0, 99), "1-0": none, "5": none, "-": none,
+                                       "999999999999-999999999999": (999_999_999_999,) * 2,
                                 "1-1000000000000": none, "1-2-3": none, "\u0661-\u0662": none}),
-            (words.every_word, {"1": 1, "2160000": 2_160_000, "0": none, "2160001": none, "0001": 1,
+            (command_line.every_word, {"1": 1, "2160000": 2_160_000, "0": none, "2160001": none, "0001": 1,
                                 "": none, "01500": 1500, "-5": none, many: none, "\u0661": none,
-                                "00": none}),
-            (words.within_word, {"0": 0, "50": 50, "51": none, "00": 0, "050": 50, "": none,
-                                 "-1": none, many: none, "\u0661": none}),
-            (words.breaks_word, {"0": 0, "999": 999, "1000": none, "-1": none, "": none,
-                                 "\u0661": none}),
-            (words.start_word, {"tcp": "tcp", "10:00:00:00": "10:00:00:00", "TCP": none,
-                                "24:00:00:00": none}),
-            (words.pid_word, {"0": 0, "8190": 8190, "0x1FFE": 8190, "8191": none, "-1": none,
-                              "0x101": 257, "x": none, "": none})]
+                                       "00": none}),
+            (command_line.within_word, {"0": 0, "50": 50, "51": none, "00": 0, "050": 50, "": none,
+                                        "-1": none, many: none, "\u0661": none}),
+            (command_line.breaks_word, {"0": 0, "999": 999, "1000": none, "-1": none, "": none,
+                                        "\u0661": none}),
+            (command_line.start_word, {"tcp": "tcp", "10:00:00:00": "10:00:00:00", "TCP": none,
+                                       "24:00:00:00": none}),
+            (command_line.pid_word, {"0": 0, "8190": 8190, "0x1FFE": 8190, "8191": none, "-1": none,
+                                     "0x101": 257, "x": none, "": none})]
         for call, texts in of_words:
             for text, wanted in texts.items():
                 try:
@@ -68,14 +68,14 @@ class Words(Case):
         for pid, size, wanted in ((None, 188, []), (None, 204, []),
                                   (0x101, 188, ["--pid", "0x101"]),
                                   (0, 192, ["--pid", "0x0", "--packet-size", "192"])):
-            self.assertEqual(words.stream_words(pid, size), wanted)
-        self.assertEqual([words.counted(one, "fault") for one in (0, 1, 2)],
+            self.assertEqual(command_line.stream_words(pid, size), wanted)
+        self.assertEqual([command_line.counted(one, "fault") for one in (0, 1, 2)],
                          ["0 faults", "1 fault", "2 faults"])
-        self.assertEqual([words.range_words(*one) for one in ((0, 0), (1, 1), (0, 1), (0, 2))],
+        self.assertEqual([command_line.range_words(*one) for one in ((0, 0), (1, 1), (0, 1), (0, 2))],
                          ["0 frames", "1 frame", "0 to 1 frame", "0 to 2 frames"])
-        self.assertEqual(words.pid_name(0x1A), "PID 0x1A")
-        parser = words.Words("")
-        words.add_page(parser)
+        self.assertEqual(command_line.pid_name(0x1A), "PID 0x1A")
+        parser = command_line.Words("")
+        command_line.add_page(parser)
         self.assertEqual(vars(parser.parse_args([])), {"page": (0, 0x88)})
 
     def test_shown(self) -> None:
@@ -87,12 +87,12 @@ class Words(Case):
                              ("\u2065\u2066\u2069\u206a", "\u2065\\u2066\\u2069\u206a"),
                              ("\udc80\udcff", "\\x80\\xff"), ("\udc7f\ud800", "\\udc7f\\ud800"),
                              ("a\nb\0", "a\\x0ab\\x00")):
-            self.assertEqual(words.shown(text), wanted)
-            self.assertTrue(words.quoted(text).startswith("$'"))
+            self.assertEqual(command_line.shown(text), wanted)
+            self.assertTrue(command_line.quoted(text).startswith("$'"))
         for text in ("plain", "two words", "it's", "a\\b", ""):
-            self.assertEqual(shlex.split(words.quoted(text)), [text])
+            self.assertEqual(shlex.split(command_line.quoted(text)), [text])
         for text in ("it's\na\\n", "\x1b[1m"):
-            done = self.call(["bash", "-c", f"printf %s {words.quoted(text)}"])
+            done = self.call(["bash", "-c", f"printf %s {command_line.quoted(text)}"])
             self.assertEqual(done.out.decode(), text)
 
     def test_ends(self) -> None:
@@ -104,12 +104,12 @@ class Words(Case):
                 (OSError(2, "No such file", ""), "an empty name: No such file"),
                 (OSError("a  word"), "the output: a word"),
                 (ValueError("x  y"), "a mistake of this tool, ValueError in no line: x y")):
-            self.assertEqual(words.line_of(reason), wanted)
+            self.assertEqual(command_line.error_line(reason), wanted)
         for value, lines in (("0", 0), ("1", 1)):
             with mock.patch.dict(os.environ, {"SUBTTX_DEBUG": value}), \
                     mock.patch("traceback.print_exception") as traced:
-                words.line_of(ValueError("x"))
-                words.line_of(Stop("x"))
+                command_line.error_line(ValueError("x"))
+                command_line.error_line(Stop("x"))
             self.assertEqual(traced.call_count, lines)
         for name, wanted in (("a", "a"), ("-", "./-"), ("-a", "./-a"), ("=a", "./=a"),
                              ("+a", "./+a"), ("@a", "./@a"), ("a-", "a-"), ("/-a", "/-a")):
@@ -128,8 +128,8 @@ class Words(Case):
             self.assertEqual((source.read(5), waited.call_count), (b"some", 2))
         for code, status in ((3, 3), (None, 0), (0, 0)):
             with mock.patch("sys.argv", ["tool", "word"]):
-                self.assertEqual(words.answer(lambda line: sys.exit(code), []), status)
-                self.assertEqual(words.answer(len, ["one"]), 1)
+                self.assertEqual(command_line.answer(lambda line: sys.exit(code), []), status)
+                self.assertEqual(command_line.answer(len, ["one"]), 1)
 
     def test_files(self) -> None:
         """What is no file is refused at once, by what is open; a pipe, where there may be one, is
@@ -223,12 +223,12 @@ class Words(Case):
 | 11 | Two | second | the same |
 | 12 | Three | [a](b) | third | the same, twice |
 """)
-        with mock.patch.object(manual, "CHAPTER", path):
-            self.assertEqual(manual.meanings(), {
+        with mock.patch.object(listing, "CHAPTER", path):
+            self.assertEqual(listing.meanings(), {
                 10: ("One", "first", "mend it"), 11: ("Two", "second", "mend it"),
                 12: ("Three", "third", "mend it, twice")})
-        with mock.patch.object(manual, "CHAPTER", self.path("none")):
-            self.assertEqual(manual.meanings(), {})
+        with mock.patch.object(listing, "CHAPTER", self.path("none")):
+            self.assertEqual(listing.meanings(), {})
 
     def test_outputs(self) -> None:
         """What is written takes a name whole or not at all, and never that of an input."""
@@ -314,7 +314,7 @@ class Signals(Case):
 
             told: BaseException | None = None
             try:
-                with mock.patch("subtitles.core.outputs.os.replace", replaced), \
+                with mock.patch("subtitles.common.files.os.replace", replaced), \
                         whole_file(path) as file:
                     file.write(b"new")
             except (KeyboardInterrupt, OSError) as reason:
@@ -338,7 +338,7 @@ class Signals(Case):
 
             seen: list[str] = []
             made: Any = os.mkdir if place == "os.mkdir" else shutil.rmtree
-            patched: Any = mock.patch(f"subtitles.core.outputs.{place}", interrupted) if place else \
+            patched: Any = mock.patch(f"subtitles.common.files.{place}", interrupted) if place else \
                 contextlib.nullcontext()
             with mock.patch("tempfile.tempdir", self.folder), self.assertRaises(KeyboardInterrupt):
                 with patched, temporary_folder("one-") as folder:

@@ -12,8 +12,8 @@ import time
 from typing import Any, NamedTuple, Sequence
 
 from developing.pes import MARK, pes_packet
-from subtitles.core.times import CLOCK, TICKS, frame_of
-from subtitles.reading.cutting import cut_of
+from subtitles.common.times import CLOCK, TICKS, frame_of
+from subtitles.stream.ranges import cut_of
 from ..every_place.recordings import carried
 from .bench import SECONDS, Case, Done, example, example_bytes, moved, packets, tool_path
 from .muxed import spaced

@@ -4,8 +4,8 @@ from __future__ import annotations
 import shutil
 import subprocess
 
-from subtitles.core.letters import letters_of
-from subtitles.core.stl import StoredSubtitle
+from subtitles.formats.stl import StoredSubtitle
+from subtitles.formats.teletext import letters_of
 from .bench import Case, example, example_bytes, script
 
 tool = script("text")

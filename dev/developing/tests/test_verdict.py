@@ -5,7 +5,7 @@ from __future__ import annotations
 import json
 
 from developing.pes import packet
-from subtitles.core.teletext import ERASE
+from subtitles.formats.teletext import ERASE
 from .bench import Case
 from .judged import Sent, joined, judged, programme, sendings
 from .parts import CLOSING, HEADER, row

@@ -7,19 +7,15 @@ from types import SimpleNamespace
 from typing import Any
 
 from developing.pes import pes_packet
-from subtitles.calls.channel.lacking import Losses
-from subtitles.calls.channel.planned import Planned
-from subtitles.calls.channel.queue import Queue
-from subtitles.calls.channel.running import OnAir
-from subtitles.core.spans import Span
-from subtitles.core.times import CLOCK, NO_FRAME, TICKS
-from subtitles.preview import blocks
-from subtitles.qc.missing import places_on
-from subtitles.reading.alignment import back_at
-from subtitles.reading.gaps import Place
-from subtitles.reading.order import pauses_in
-from subtitles.reading.packets import Change
-from subtitles.reading.timeline import Timeline, timeline_near
+from subtitles.cli.channel.feed import Losses
+from subtitles.cli.channel.schedule import OnAir, Planned, Queue
+from subtitles.clock.alignment import back_at
+from subtitles.common.times import CLOCK, NO_FRAME, Span, TICKS
+from subtitles.judging.losses import places_on
+from subtitles.report import page
+from subtitles.stream.gaps import Place
+from subtitles.stream.receiver import Timeline, pauses_in, timeline_near
+from subtitles.stream.survey import Change
 from .bench import Case, example, example_bytes
 from .judged import in_pipe, judged, programme
 from .muxed import TELETEXT_PID
@@ -159,7 +155,7 @@ class Values(Case):
         """No byte of a text is markup in the page that shows it."""
         for byte, wanted in ((ord("<"), "&lt;"), (ord("&"), "&amp;"), (ord(">"), "&gt;"),
                              (ord("A"), "A"), (0x0B, "<i>0B</i>")):
-            self.must(f"{byte:02X}", in_page(blocks.readable(byte)) == wanted)
+            self.must(f"{byte:02X}", in_page(page.readable(byte)) == wanted)
 
 
 class Channels(Case):

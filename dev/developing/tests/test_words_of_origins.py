@@ -6,9 +6,9 @@ import unittest
 from types import SimpleNamespace
 from typing import Any
 
-from subtitles.core.times import CLOCK, TICKS
-from subtitles.reading.finding import break_lines, frames_words, part_lines, shift_lines
-from subtitles.reading.stretches import Stretch
+from subtitles.clock.alignment import Stretch
+from subtitles.clock.origin import break_lines, frames_words, part_lines, shift_lines
+from subtitles.common.times import CLOCK, TICKS
 
 ORIGIN = CLOCK - 5 * TICKS
 

@@ -8,16 +8,14 @@ from __future__ import annotations
 import itertools
 import unittest
 
-from subtitles.calls.channel.feed_clock import FeedClock
-from subtitles.core.spans import Span
-from subtitles.core.times import CLOCK, FRAMES_OF_A_DAY, TICKS
-from subtitles.preview.places import place_of_pts
-from subtitles.qc.clock import RECORDING, Clock, Found
-from subtitles.qc.missing import is_in, time_at
-from subtitles.qc.why import reach, unseen
-from subtitles.reading.gaps import Place
+from subtitles.cli.channel.feed import FeedClock
+from subtitles.clock.start import Clock, Found, RECORDING
+from subtitles.common.times import CLOCK, FRAMES_OF_A_DAY, Span, TICKS
+from subtitles.judging.losses import is_in, place_time
+from subtitles.judging.part import reach, unseen
+from subtitles.report.transmission import place_of_pts
+from subtitles.stream.gaps import Place, SECOND
 from developing.multiplex import TENTH, Multiplex
-from subtitles.reading.gaps import SECOND
 from .parts import part_with
 
 # What is added to all PTS of a case: nothing, then so much that they begin again in its midst.
@@ -37,7 +35,7 @@ class Frames(unittest.TestCase):
             for ticks, time in ((0, "00:00:00:00"), (25 * TICKS, "00:00:01:00"), (-TICKS, None),
                                 (TICKS * FRAMES_OF_A_DAY, None)):
                 with self.subTest(shift=shift, ticks=ticks):
-                    self.assertEqual(time_at(shifted(ticks, shift), shift), time)
+                    self.assertEqual(place_time(shifted(ticks, shift), shift), time)
 
 
 class Order(unittest.TestCase):

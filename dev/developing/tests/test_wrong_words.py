@@ -6,8 +6,8 @@ import json
 import os
 import xml.etree.ElementTree as tree
 
-from subtitles.calls.table import FORMULA
-from subtitles.core.built import TOP
+from subtitles.common.program import TOP
+from subtitles.results.tables import FORMULA
 from .bench import Case, example, tool_path
 
 STL, PES = example("hello.stl"), example("hello.pes")

@@ -1,0 +1,463 @@
+"""The recorder: a feed written into segments, which the judge reads as they grow."""
+from __future__ import annotations
+
+import contextlib
+import json
+import os
+import select
+import stat
+import time
+from typing import Any, BinaryIO, Iterable, Iterator, NamedTuple
+
+from ...common.command_line import Stop
+from ...common.files import Input, result_file
+from ...formats.teletext import HEAD, START, begins_in
+from ..batch import beside, signals_held
+from ..single import heed_signals, ignore_signals, locking
+
+
+# Values in a file that only grows, an entry in each line: half of one, as a crash leaves it, is
+# none.
+
+
+class Journal:
+    """A file of entries. What can't be written to it now is left out: whoever reads it has to do
+    with what is there."""
+
+    def __init__(self, path: str) -> None:
+        self.path = path
+
+    def entries(self, count: int) -> Iterator[list[Any]]:
+        """Those that have so many values."""
+        with contextlib.suppress(OSError), open(self.path, "rb") as file:
+            for line in file:
+                with contextlib.suppress(ValueError):
+                    found = json.loads(line)
+                    if isinstance(found, list) and len(found) == count:
+                        yield found
+
+    def add(self, *values: Any) -> None:
+        """One more."""
+        with contextlib.suppress(OSError), open(self.path, "ab", buffering=0) as file:
+            file.write(b"\n" + json.dumps(values).encode() + b"\n")
+
+    def replace(self, entries: Iterable[Iterable[Any]]) -> None:
+        """These in the place of all that there are."""
+        with contextlib.suppress(OSError), result_file(self.path) as file:
+            file.writelines(json.dumps(list(one)).encode() + b"\n" for one in entries)
+
+
+# What the recorder and the judge of a channel tell each other: numbers in the file `state`, which
+# is written to at once, also where there is no room any more.
+
+HEARD, ERROR, FILE = range(0, 24, 8)  # where what is told begins
+SIZE, COUNT = 8, 6  # bytes of a number, and how many there are
+
+
+class Exchange:
+    """`HEARD` is the number behind the segment that the judge reads, `ERROR` that of the error by
+    which something was lost; at `FILE`, of a feed that is a file: its device, its number there, a
+    segment, and the place in the file where that begins.
+
+    The file is opened each time, since somebody may have emptied the folder."""
+
+    def __init__(self, folder: str) -> None:
+        self.path = os.path.join(folder, "state")
+        if not os.path.exists(self.path):
+            self.put(HEARD, *[0] * COUNT)  # it has its room before the disk is full
+
+    def __getitem__(self, at: int) -> int:
+        return self.several(at, 1)[0]
+
+    def __setitem__(self, at: int, value: int) -> None:
+        self.put(at, value)
+
+    def several(self, at: int, count: int) -> list[int]:
+        """So many numbers; 0 for those that nobody has written."""
+        data = b""
+        with contextlib.suppress(OSError), open(self.path, "rb", buffering=0) as file:
+            data = os.pread(file.fileno(), SIZE * count, at)
+        data = data.ljust(SIZE * count, b"\0")
+        return [int.from_bytes(data[one:one + SIZE], "big") for one in range(0, len(data), SIZE)]
+
+    def put(self, at: int, *values: int) -> None:
+        """Writes numbers, all at once."""
+        with contextlib.suppress(OSError):
+            handle = os.open(self.path, os.O_WRONLY | os.O_CREAT | os.O_CLOEXEC, 0o666)
+            try:
+                os.pwrite(handle, b"".join(one.to_bytes(SIZE, "big") for one in values), at)
+            finally:
+                os.close(handle)
+
+
+# A feed on disk: segments with numbers in a folder. A recorder writes them; a judge reads them as
+# they grow, and takes away what no programme needs any more. A number that is left out is a loss.
+
+PART = 1 << 18  # bytes that are read at a time
+LEAST = 1 << 20  # bytes by which what is told of a feed is behind what was read of it, at most
+ENDING = ".seg"
+MANY = 5000  # entries of the index that nobody needs, until it is written anew
+
+
+def numbers_in(folder: str) -> list[int]:
+    """The numbers of the segments in a folder, in their order."""
+    names = (name.removesuffix(ENDING) for name in os.listdir(folder) if name.endswith(ENDING))
+    return sorted(int(name) for name in names if name.isdecimal())
+
+
+def path_of(folder: str, number: int) -> str:
+    return os.path.join(folder, f"{number:09}{ENDING}")
+
+
+def size_in(folder: str, number: int) -> int:
+    """The bytes of a segment; 0 of one that is gone."""
+    with contextlib.suppress(FileNotFoundError):
+        return os.path.getsize(path_of(folder, number))
+    return 0
+
+
+class Begin(NamedTuple):
+    """What was told of a feed when one began to read a segment: what is in it came then or later.
+    Before the first segment, and after a loss, the time is not that of its first bytes."""
+
+    time: int
+    pts: int
+    is_exact: bool
+
+
+class Read(NamedTuple):
+    """What was read of a segment: its file, and how many bytes."""
+
+    path: str
+    size: int
+
+
+def bytes_of(several: Iterable[Read]) -> Iterator[bytes]:
+    """What was read, in parts."""
+    for path, size in several:
+        with open(path, "rb") as file:
+            while size and (data := file.read(min(PART, size))):
+                size -= len(data)
+                yield data
+
+
+class Segments:
+    """The segments of a folder, read from the oldest on. When each began is kept in the file
+    `index`, so that the time of the feed goes on for who begins to read anew.
+
+    `at` is the segment that is read, `oldest` the first one that was read, or that is behind the
+    last loss; what an earlier call has read ends with `known`.
+    """
+
+    def __init__(self, folder: str) -> None:
+        self.folder, self.state = folder, Exchange(folder)
+        self.index = Journal(os.path.join(folder, "index"))
+        self.begins = {number: Begin(*rest) for number, *rest in self.index.entries(4)}
+        self.known, self.count = max(self.begins, default=-1), len(self.begins)
+        self.file: BinaryIO | None = None
+        self.is_lost = False  # something behind the segment that is read, and that was told
+        self.at = self.oldest = next(iter(numbers_in(folder)), -1)
+
+    def begun(self) -> Begin | None:
+        """What was known when the first segment began, if only of an earlier one."""
+        if self.at in self.begins:
+            return self.begins[self.at]
+        number = max((one for one in self.begins if self.at < 0 or one < self.at), default=None)
+        return None if number is None else self.begins[number]._replace(is_exact=False)
+
+    def read(self) -> bytes | None:
+        """Some bytes that come next; nothing where there are none yet. `None`, once, where
+        something is lost: what came before it is there until more is read."""
+        while True:
+            data = self.read_on()
+            following = None if data else self.following()
+            if following is None:
+                return data
+            data = self.read_on()  # all of it is there by now
+            if data:
+                return data
+            is_lost = -1 < self.at != following - 1
+            if is_lost and not self.is_lost:
+                self.is_lost = True
+                return None
+            if self.at < 0 or is_lost:
+                self.oldest = following
+            self.close()
+            self.at, self.is_lost = following, False
+
+    def read_on(self) -> bytes:
+        """Some bytes of the segment that is read."""
+        if self.file is None:
+            with contextlib.suppress(FileNotFoundError):
+                self.file = open(path_of(self.folder, self.at), "rb", buffering=0)
+                self.state[HEARD] = self.at + 1
+        return self.file.read(PART) if self.file else b""
+
+    def following(self) -> int | None:
+        """The segment behind the one that is read, where there is one."""
+        return next((one for one in numbers_in(self.folder) if one > self.at), None)
+
+    def begin(self, begin: Begin) -> None:
+        """The segment that is read now begins so."""
+        if self.at not in self.begins:
+            self.begins[self.at], self.count = begin, self.count + 1
+            self.index.add(self.at, *begin)
+
+    def before(self) -> Iterator[bytes]:
+        """All that was read so far, since the last loss."""
+        with contextlib.suppress(FileNotFoundError):
+            yield from bytes_of([self.read_of(number) for number in self.there()])
+
+    def read_of(self, number: int) -> Read:
+        """What was read of a segment: more may have come to it, where PTS may come again."""
+        size = size_in(self.folder, number) if number < self.at else \
+            self.file.tell() if self.file else 0
+        return Read(path_of(self.folder, number), size)
+
+    def there(self) -> list[int]:
+        """The segments that were read, since the last loss, as far as they are there."""
+        return [one for one in numbers_in(self.folder) if self.oldest <= one <= self.at]
+
+    def first_at(self, time: int, numbers: list[int]) -> int | None:
+        """The place, among the segments that are there, of the first with what came from a time on;
+        `None` where some of that is gone."""
+        at = max((place for place, one in enumerate(numbers)
+                  if one in self.begins and self.begins[one].time <= time), default=0)
+        behind = 0
+        while at > 0 and behind < LEAST:
+            at -= 1
+            behind += size_in(self.folder, numbers[at])
+        is_whole = behind >= LEAST or numbers[at:at + 1] == [self.oldest]
+        return at if is_whole else None
+
+    def between(self, time: int, earlier: int, last: int) -> list[Read] | None:
+        """All that was read from one time to another, and from an earlier one on, where that is
+        there; `None` where some of the first is gone."""
+        numbers = self.there()
+        if self.first_at(time, numbers) is None:
+            return None
+        return [self.read_of(one) for one in numbers[self.first_at(earlier, numbers) or 0:]
+                if one not in self.begins or self.begins[one].time <= last]
+
+    def drop(self, before: int) -> None:
+        """Takes away what came before a time, and what is before a loss."""
+        numbers = self.there()
+        floor = numbers[self.first_at(before, numbers) or 0] if numbers else self.at
+        self.take_away(floor)
+        needed = max((one for one in self.begins if one <= floor), default=floor)
+        self.begins = {one: known for one, known in self.begins.items() if one >= needed}
+        if self.count > len(self.begins) + MANY:
+            self.index.replace([number, *known] for number, known in self.begins.items())
+            self.count = len(self.begins)
+
+    def take_away(self, floor: int) -> None:
+        """Takes away the segments before one."""
+        for number in numbers_in(self.folder):
+            if number < floor:
+                with contextlib.suppress(OSError):
+                    os.unlink(path_of(self.folder, number))
+
+    def close(self) -> None:
+        if self.file:
+            self.file.close()
+            self.file = None
+
+
+# Writes a feed into segments, and does nothing else: a process of its own, which may end at any
+# moment, and be begun again. With who judges it shares the segments, and the file `state`.
+
+LONG, MOST = 5.0, 1 << 25  # seconds, and bytes, of a segment
+AHEAD = 8  # segments by which a file may be read before it is heard
+WAIT, TRIES = 0.1, 20  # seconds between two tries to write, and how many there are
+BEHIND_TIME, SYNC = 4, b"\x47"  # bytes before the first TS packet of 192 bytes
+
+
+class NotWanted(Exception):
+    """Nobody wants more of the feed."""
+
+
+class Recorder:
+    """Writes what comes to segments of a folder. Where there is no room the oldest goes that was
+    heard; what can't be written then is lost. The number that is left out tells that, and a feed
+    that is recorded anew: only a file is read on from where it was."""
+
+    def __init__(self, folder: str, source: Input, alive: int) -> None:
+        self.folder, self.source, self.state = folder, source, Exchange(folder)
+        self.alive = alive  # can be read where nobody wants more
+        about = os.fstat(source.file.fileno())
+        self.own = (about.st_dev, about.st_ino) if stat.S_ISREG(about.st_mode) else None
+        self.file: BinaryIO | None = None
+        self.size, self.since = 0, time.monotonic()
+        self.is_pes: bool | None = None
+        self.rest = b""  # of PES packets, what comes behind the last whole one
+        self.is_damaged = self.is_lost = False
+        self.written = 0  # bytes of a file that stand in segments already, of those that come next
+        self.place = 0  # in a file, of what is written next
+        known, heard = numbers_in(folder), self.state[HEARD]
+        self.number = max([heard - 1, *known[-1:]]) + 2 if heard or known else 0
+        self.go_on(about.st_size)
+
+    def go_on(self, size: int) -> None:
+        """Of the same file, goes on where it was."""
+        *own, number, place = self.state.several(FILE, 4)
+        written = size_in(self.folder, number)
+        if self.own == tuple(own) and number >= self.number - 2 and place + written <= size:
+            self.number, self.place, self.written = number, place, written
+            os.lseek(self.source.file.fileno(), place, os.SEEK_SET)
+
+    def wait(self) -> None:
+        """Waits a little."""
+        if select.select([self.alive], [], [], WAIT)[0]:
+            raise NotWanted
+
+    def record(self) -> bool:
+        """Writes the feed; whether that was to its end."""
+        try:
+            while True:
+                while self.own and self.number - self.state[HEARD] > AHEAD:
+                    self.wait()
+                if self.alive in select.select([self.source.file, self.alive], [], [])[0]:
+                    return False
+                data = self.source.read(PART)
+                if not data:
+                    break
+                self.write(self.whole(data))
+        except OSError as error:
+            self.state[ERROR] = error.errno or 0
+        except NotWanted:
+            return False
+        return True
+
+    def whole(self, data: bytes) -> bytes:
+        """Of PES packets those that are whole by now; else the bytes as they come."""
+        data, self.rest = self.rest + data, b""
+        if self.is_pes is None:
+            if len(data) < HEAD:
+                self.rest = data
+                return b""
+            self.is_pes = data.startswith(START) and data[BEHIND_TIME:][:1] != SYNC
+        if not self.is_pes or self.is_damaged:
+            return data
+        end = begins_in(data)[-1]
+        self.is_damaged = len(data) - end >= HEAD and not data.startswith(START, end)
+        self.rest = b"" if self.is_damaged else data[end:]
+        return data if self.is_damaged else data[:end]
+
+    def write(self, data: bytes) -> None:
+        """Writes bytes, once there is room for them."""
+        known = min(self.written, len(data))
+        self.written -= known
+        left, tries = memoryview(data)[known:], 0
+        while left:
+            try:
+                count = self.opened().write(left)
+            except OSError as error:
+                tries += 1
+                self.state[ERROR] = error.errno or 0
+                if not self.make_room() and tries > TRIES * (not self.is_lost) and not self.own:
+                    self.lose()
+                    return
+            else:
+                left, self.size = left[count:], self.size + count
+        self.is_lost = False
+        if self.size >= MOST or self.size >= LEAST and time.monotonic() - self.since >= LONG:
+            self.end()
+
+    def opened(self) -> BinaryIO:
+        """The segment that is written."""
+        if self.file is None:
+            self.size, self.since = size_in(self.folder, self.number), time.monotonic()
+            if self.own and not self.size:
+                self.state.put(FILE, *self.own, self.number, self.place)
+            self.file = open(path_of(self.folder, self.number), "ab", buffering=0)
+        return self.file
+
+    def lose(self) -> None:
+        """Tells a loss, by a number that is left out."""
+        if not self.is_lost:
+            self.end()
+            self.number, self.is_lost = self.number + 1, True
+
+    def end(self) -> None:
+        """Ends the segment that is written."""
+        if self.file is not None:
+            self.file.close()
+            self.place += self.size
+            self.file, self.number = None, self.number + 1
+
+    def make_room(self) -> bool:
+        """Takes away the oldest segment, if it was heard; whether there was one. Of the one that is
+        written what is there is heard, so that it can go."""
+        if self.size:
+            self.end()
+            self.size, self.is_lost = 0, False
+        oldest = min(numbers_in(self.folder), default=self.number)
+        if oldest < min(self.state[HEARD] - 1, self.number):
+            with contextlib.suppress(OSError):
+                os.unlink(path_of(self.folder, oldest))
+                return True
+        self.wait()
+        return False
+
+
+def record(name: str, folder: str, alive: int) -> bool:
+    """Records a feed in a folder; whether that was to its end. One that has just been left is still
+    ending, and is waited for."""
+    tries = TRIES
+    while True:
+        try:
+            with Input(name) as source, \
+                    locking(folder, "recorder", "another feed is recorded in "):
+                return Recorder(folder, source, alive).record()
+        except Stop:
+            tries -= 1
+            if not tries:
+                raise
+            time.sleep(WAIT)
+
+
+def record_alone(name: str, folder: str) -> int:
+    """Records a feed until a signal ends that, or it ends; answers the status."""
+    alive, own = os.pipe()
+    ending = [own]
+    heed_signals(lambda *_: os.close(ending.pop()) if ending else None)
+    return 0 if record(name, folder, alive) else 2
+
+
+class Recorded:
+    """What is recorded of a feed: by a process that this one begins, or, of a folder, by another
+    call, which may end and be begun again."""
+
+    def __init__(self, name: str, folder: str) -> None:
+        self.pid, self.is_over = 0, False
+        if os.path.isdir(name):
+            return
+        alive, self.alive = os.pipe()
+
+        def does() -> bool:
+            os.setsid()
+            ignore_signals()  # who began it ends it
+            return record(name, folder, alive)
+
+        with Input(name), signals_held():
+            self.pid = beside(does, alive)
+        os.close(alive)
+        nothing = os.open(os.devnull, os.O_RDONLY)
+        os.dup2(nothing, 0)  # whoever feeds it hears when the recorder ends
+        os.close(nothing)
+
+    def has_ended(self) -> bool:
+        """Whether nothing more comes."""
+        pid, status = os.waitpid(self.pid, os.WNOHANG) if self.pid else (0, 0)
+        if pid:
+            self.pid, self.is_over = 0, True
+        if status:
+            raise Stop("the recorder ended")
+        return self.is_over
+
+    def close(self) -> None:
+        """Ends it, once it has written what it has."""
+        if self.pid:
+            os.close(self.alive)
+            os.waitpid(self.pid, 0)
+            self.pid = 0

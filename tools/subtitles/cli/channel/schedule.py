@@ -1,0 +1,396 @@
+"""The programmes of a list: those planned, those waited for, the one that is on air."""
+from __future__ import annotations
+
+import argparse
+import dataclasses
+import time
+from typing import Any, Callable, Iterable, NamedTuple, Sequence, Union
+
+from ...common.command_line import Stop, Words, error_line
+from ...common.files import Line, lines_in, list_at
+from ...common.times import FRAMES_OF_A_DAY, TICKS, time_of
+from ...recording.feed import Ending
+from ...request.commands import NamesOfList
+from ...request.request import (
+    AUTO_OF_FEED, CHANNEL_LINE, Request, add_options, pair_options, request_of)
+from ...results.objects import has_had_its_turn
+from ..main import refuse_options
+from .feed import Awaited, Heard, Hearing, MINUTE, Timed
+from .recorder import Journal
+
+
+# The programmes of a channel, by the entries of a list that is edited while the channel runs.
+
+MISSING = 60.0  # seconds for which a list that is not there is waited for
+
+
+@dataclasses.dataclass(eq=False)
+class Programme:
+    """A programme of the list, from the first reading that had it on; or, without what is asked of
+    it, why a line is none. `has_ended`: it has its result, or gets it now."""
+
+    name: str
+    line: Line
+    asked: Request | None
+    reason: str | None
+    has_ended: bool = False
+
+
+class Edits(NamedTuple):
+    """What became of a list: the programmes in its order, for lines that are new `None`, and which
+    others are gone; those of which a line has other options."""
+
+    rows: Sequence[tuple[Programme | None, Line]]
+    gone: Sequence[Programme]
+    changed: Sequence[Programme]
+
+
+def edits_of(known: Sequence[Programme], lines: Sequence[Line]) -> Edits:
+    """Which line is which programme: first those whose words are the same, then those of the same
+    subtitle file. Of several that are alike the first is the first; where there are fewer than
+    before, those stay that have no result yet."""
+    left = list(known)
+    rows: dict[int, Programme] = {}
+    changed: list[Programme] = []
+    for count in (None, 1):  # of the words
+        for words in dict.fromkeys(line.words[:count] for line in lines):
+            open_lines = [at for at, line in enumerate(lines)
+                          if at not in rows and line.words[:count] == words]
+            alike = [one for one in left if one.line.words[:count] == words]
+            while len(alike) > len(open_lines) and any(one.has_ended for one in alike):
+                alike.remove(next(one for one in alike if one.has_ended))
+            for at, one in zip(open_lines, alike):
+                rows[at] = one
+                left.remove(one)
+                if one.line.words != lines[at].words:
+                    changed.append(one)
+    return Edits([(rows.get(at), line) for at, line in enumerate(lines)], left, changed)
+
+
+class Planned:
+    """The programmes of a list, each with a name of its own, in the order of its lines.
+
+    A list that is being written is not taken at its word: what is more than lines at its end counts
+    once it stood there at two looks. `said` is what is to be told of it; `gone` are programmes that
+    have left it and never had a result. `result` is that of a name. The list as it is known is kept
+    in a file, so that an edit is one whenever somebody looks.
+    """
+
+    def __init__(self, path: str, defaults: argparse.Namespace, kept: Journal | None = None,
+                 result: Callable[[str], dict[str, Any] | None] = lambda name: None) -> None:
+        self.path, self.defaults, self.kept, self.result = path, defaults, kept, result
+        self.programmes: list[Programme] = []
+        self.gone: list[Programme] = []
+        self.said: list[str] = []
+        self.names = NamesOfList()
+        self.taken: str | None = None  # the text that is known
+        self.seen: str | None = None  # that of the last look
+        self.first: str | None = None  # that of the first one
+        self.missing: float | None = None  # since when the file is not there
+        self.is_missed = False  # for so long that it was said
+        for name, is_gone, number, words, fault in kept.entries(5) if kept else ():
+            line = Line(number, tuple(words), fault)
+            known = result(self.names.take(name))
+            one = Programme(name, line, *self.read_line(line),
+                            known is not None and not known.get("open"))
+            if not is_gone:
+                self.programmes.append(one)
+            elif not one.has_ended:
+                self.gone.append(one)
+        self.was_known = bool(self.programmes)
+
+    def open(self) -> list[Programme]:
+        """Those that have no result."""
+        return [one for one in self.programmes if not one.has_ended]
+
+    def look(self, is_whole: bool = False) -> bool:
+        """Looks into the list; whether there is something else in it. `is_whole`: nobody writes to
+        it any more."""
+        text = self.read()
+        if text is None:
+            return False
+        is_same, self.seen = text == self.seen, text
+        self.first = text if self.first is None else self.first
+        if not is_same and not is_whole:
+            text = text[:text.rfind("\n") + 1]  # the last line may be half of one
+            if self.taken is not None and not text.startswith(self.taken):
+                return False
+        if text == self.taken:
+            return False
+        is_first = not self.was_known and (self.taken is None or text == self.first)
+        self.taken = text
+        self.take(edits_of(self.programmes, lines_in(text)), is_first)
+        self.keep()
+        return True
+
+    def keep(self) -> None:
+        """Keeps the list as it is known, with those that are gone and have no result yet."""
+        if self.kept:
+            self.kept.replace((one.name, one in self.gone, *one.line)
+                              for one in (*self.gone, *self.programmes))
+
+    def read(self) -> str | None:
+        """The text of the list; `None` as long as it is not there."""
+        try:
+            text = list_at(self.path)
+        except (Stop, OSError) as error:
+            if self.taken is None and not self.was_known:
+                raise
+            self.missing = time.monotonic() if self.missing is None else self.missing
+            if not self.is_missed and time.monotonic() - self.missing >= MISSING:
+                self.is_missed = True
+                self.said.append(f"{error_line(error)}: the list is not there for a minute; what it "
+                                 "had is waited for")
+            return None
+        if self.is_missed:
+            self.said.append(f"{self.path} is there again")
+        self.missing, self.is_missed = None, False
+        return text
+
+    def take(self, edits: Edits, is_first: bool) -> None:
+        """Takes what became of the list."""
+        rows = [(one or self.programme(line), line, one is None) for one, line in edits.rows]
+        before = [one for one, _, is_new in rows if not is_new]
+        kept = [one for one in self.programmes if one not in edits.gone]
+        for one, line, is_new in rows:
+            if one in edits.changed and not one.has_ended:
+                one.asked, one.reason = self.read_line(line)
+            one.line = line
+        self.programmes = [one for one, _, _ in rows]
+        lost = [one for one in edits.gone if not one.has_ended]
+        self.gone += lost
+        if is_first:
+            return
+        told = {"new": [one for one, _, is_new in rows if is_new], "changed": edits.changed,
+                "gone": edits.gone}
+        said = [f"{word}: {', '.join(one.name for one in several)}"
+                for word, several in told.items() if several]
+        said += ["in another order"] if before != kept else []
+        self.said += [f"{self.path}: {'; '.join(said)}"] if said else []
+
+    def programme(self, line: Line) -> Programme:
+        """The programme of a line that is new. A result that is there is its own, or takes the
+        name."""
+        asked, reason = self.read_line(line)
+        while True:
+            name = self.names.pair(asked.stl) if asked else self.names.line(line.number)
+            known = self.result(name)
+            if known is None or known.get("open"):
+                return Programme(name, line, asked, reason)
+            if has_had_its_turn(known, asked):
+                return Programme(name, line, asked, reason, True)
+
+    def read_line(self, line: Line) -> tuple[Request | None, str | None]:
+        """What a line asks, or why that is nothing."""
+        fault = line.fault
+        try:
+            if not fault:
+                return self.asked_of([*line.words]), None
+        except (Stop, ValueError) as reason:
+            fault = str(reason)
+        return None, f"{self.path}, line {line.number}: {fault}"
+
+    def asked_of(self, line: list[str]) -> Request:
+        """What the words of a line ask."""
+        refuse_options(line_parser(), line, CHANNEL_LINE)
+        parser = line_parser()
+        parser.set_defaults(recording="-", **pair_options(self.defaults))
+        asked = request_of(parser.parse_args(line))
+        if asked.is_layout_sought:
+            raise Stop(AUTO_OF_FEED)
+        return asked
+
+
+def line_parser() -> Words:
+    """What a line of the list is read by."""
+    parser = Words("")
+    parser.add_argument("stl")
+    add_options(parser)
+    return parser
+
+
+# The programmes of a channel that are waited for: the first of the list that has no result, and the
+# next three.
+
+AT_ONCE = 4  # programmes that are looked for at the same time
+LOOK = 1.0  # seconds between two looks into the list
+
+
+class Arrival(NamedTuple):
+    """A programme that is there: how many stand before it, and the time of its midnight."""
+
+    place: int
+    midnight: int
+
+
+class Waiting:
+    """A programme that is waited for; `reason` is why that can't be done now."""
+
+    def __init__(self, programme: Programme) -> None:
+        self.programme = programme
+        self.line = programme.line.words
+        self.awaited: Union[Awaited, Timed, None] = None
+        self.reason = programme.reason
+
+    @property
+    def asked(self) -> Request:
+        """What is asked of it, where it is a programme."""
+        assert self.programme.asked
+        return self.programme.asked
+
+    def begin(self, since: int, until: int) -> None:
+        """Reads its subtitle file, and waits for what has come from one time to another."""
+        asked = self.programme.asked
+        if asked is None:
+            return
+        self.awaited, self.reason = None, None
+        try:
+            self.awaited = Awaited(asked.stl, asked.option, since, until, asked.within,
+                                   asked.between) if asked.origin is None else \
+                Timed(asked.stl, asked.option, asked.origin, since, asked.between)
+        except (Stop, OSError) as reason:
+            self.reason = error_line(reason)
+
+    def midnight(self, hearing: Hearing) -> int | None:
+        """The time of its midnight, once it is there."""
+        if self.awaited is None:
+            return None
+        heard = hearing.of(self.asked)
+        if isinstance(self.awaited, Timed):
+            return self.awaited.midnight(heard.clock)
+        return self.awaited.midnight(heard.changes[self.asked.within > 0])
+
+
+class Queue:
+    """The programmes that are waited for, and those of the list behind them.
+
+    `since` is when waiting for the first one began, `ended` when the programme before was over.
+    """
+
+    def __init__(self, planned: Planned, patience: int) -> None:
+        self.planned, self.patience = planned, patience
+        self.waiting: list[Waiting] = []
+        self.since = self.ended = 0
+        self.next_look = 0.0
+        self.is_whole = False  # the list
+
+    @property
+    def until(self) -> int:
+        """Up to when the first one has to be there."""
+        return self.since + self.patience
+
+    def fill(self, now: int) -> None:
+        """Looks into the list each second, and waits for as many as can be waited for. Where there
+        was nothing to wait for, patience begins now."""
+        was_empty = not self.waiting
+        if time.monotonic() >= self.next_look:
+            self.planned.look(self.is_whole)
+            self.next_look = time.monotonic() + LOOK
+        if was_empty:
+            self.since = now
+        self.take(self.planned.open()[:AT_ONCE])
+
+    def take(self, programmes: Iterable[Programme]) -> None:
+        """Waits for these; for one for which it does already, as long as its line is the same."""
+        known = {one.programme: one for one in self.waiting}
+        self.waiting = []
+        for programme in programmes:
+            one = known.get(programme)
+            if one is None or one.line != programme.line.words:
+                one = Waiting(programme)
+                one.begin(self.ended, self.until)
+            self.waiting.append(one)
+
+    def end(self) -> None:
+        """Takes that nothing more comes to the list, and looks into it at once."""
+        self.is_whole, self.next_look = True, 0.0
+
+    def seen(self, hearing: Hearing) -> Arrival | None:
+        """The first of them that is there."""
+        for place, one in enumerate(self.waiting):
+            midnight = one.midnight(hearing)
+            if midnight is not None:
+                return Arrival(place, midnight)
+        return None
+
+    def leave(self) -> Waiting:
+        """Takes the first one away, for which nothing is waited any more."""
+        one = self.waiting.pop(0)
+        one.programme.has_ended = True
+        return one
+
+    def wait_anew(self, since: int, ended: int | None = None) -> None:
+        """The first one is another one than before, and is waited for since a time; its subtitle
+        file may have come meanwhile. What an earlier call has judged may be heard once more, and is
+        over all the same: `ended` never goes back."""
+        self.since = since
+        self.ended = max(self.ended, self.ended if ended is None else ended)
+        for one in self.waiting:
+            one.begin(self.ended, self.until)
+
+
+# A programme of a channel that is sent, and what came of it.
+
+LATER = MARGIN = 2 * MINUTE  # after a last TCO; before a first TCI what is sent may be of it
+ENDED = "the feed ended"
+ANEW = "PTS began anew"
+LOST = "something of the feed was not recorded"
+
+
+@dataclasses.dataclass(eq=False)
+class OnAir:
+    """A programme: what is asked of it, with its origin, the time of its midnight, and the frames
+    of its first TCI and its last TCO."""
+
+    programme: Programme
+    asked: Request
+    midnight: int
+    first: int
+    last: int
+    ending: Ending
+
+    @property
+    def begin(self) -> int:
+        """The time of its first TCI."""
+        return self.midnight + TICKS * self.first
+
+    @property
+    def since(self) -> int:
+        """From when on what is sent may be of it."""
+        return self.begin - max(MARGIN, TICKS * self.asked.every)
+
+    @property
+    def end(self) -> int:
+        """The time of its last TCO."""
+        return self.midnight + TICKS * self.last
+
+    @property
+    def until(self) -> int:
+        """Up to when what is sent may be of it."""
+        return self.end + LATER + TICKS * self.asked.every
+
+    @property
+    def is_fitted(self) -> bool:
+        """Whether its clock was found in the feed."""
+        return bool(self.programme.asked and self.programme.asked.origin is None)
+
+    def has_come(self, heard: Heard, now: int, is_still: bool) -> bool:
+        """Whether all has come of it, and nothing more of it can."""
+        return now >= self.end and (
+            now > self.end + LATER or self.ending.is_over(heard, heard.packets, is_still))
+
+    def missing(self, start: int, now: int, why: str) -> str | None:
+        """Why it is not judged, where it did not come whole: the feed was heard from one time to
+        another, which is its last one since something happened."""
+        said = []
+        if start > self.begin:
+            said.append(f"its beginning was missed: the feed was heard from "
+                        f"{self.time_at(start)} on")
+        if now < self.end:
+            said.append(f"{why} at {self.time_at(now)}, in mid-programme")
+        return "; ".join(said) or None
+
+    def time_at(self, time: int) -> str:
+        """The time of its day at a time of the feed, or the first or the last of the day."""
+        frame = (time - self.midnight) // TICKS
+        return time_of(min(max(frame, 0), FRAMES_OF_A_DAY - 1))

@@ -1,0 +1,254 @@
+"""One table, one page, and the files for machines, of many results."""
+from __future__ import annotations
+
+import argparse
+import json
+import os
+import sys
+from typing import Any, Callable, Iterator, Sequence, Union
+from urllib.parse import quote
+
+from ..common.command_line import Stop, counted, error_line, shown, silence, tell
+from ..common.files import Inputs, NOTHING, OWN_OUTPUT, refuse_name, result_file, whole_file
+from ..common.markup import BREAK, HEAD, Markup, joined, markup
+from ..judging.status import ACCEPTED, NOT_JUDGED, of_all
+from ..request.commands import index_in
+from ..results import tables
+from ..results.objects import ENDING, Row, object_at, objects_in, row_of_object, unjudged
+from ..results.schema import FORMAT
+from .single import now, refuse_files_of_all
+
+
+# All pairs of a folder on one page, those that somebody has to look at first; without a script.
+
+STYLE = Markup("""<style>
+:root { --ground: #fff; --words: #1b1e23; --soft: #545c66; --line: #c3c9d1; --shade: #f1f3f6;
+  --link: #0b57b0; --good: #0a6b33; --bad: #b3150f; color-scheme: light dark; }
+@media (prefers-color-scheme: dark) {
+  :root { --ground: #14171c; --words: #e7eaee; --soft: #a9b2be; --line: #424a56; --shade: #1f242b;
+    --link: #82b4ff; --good: #5fd08d; --bad: #ff8a80; } }
+* { box-sizing: border-box; }
+body { margin: 0 auto; padding: 16px 12px 60px; max-width: 1280px; background: var(--ground);
+  color: var(--words); font: 15px/1.45 system-ui, "DejaVu Sans", Arial, sans-serif; }
+h1 { font-size: 22px; margin: 0 0 8px; }
+a { color: var(--link); }
+table { border-collapse: collapse; margin: 12px 0; width: 100%; }
+th, td { border: 1px solid var(--line); padding: 4px 8px; text-align: left; vertical-align: top;
+  overflow-wrap: anywhere; }
+th { background: var(--shade); font-weight: 600; }
+td.verdict { font-weight: 600; white-space: nowrap; }
+.accepted td.verdict { color: var(--good); }
+.refused td.verdict, .lost td.verdict, .warned td.verdict, .not-judged td.verdict {
+  color: var(--bad); }
+small { color: var(--soft); }
+@media (max-width: 640px) {
+  thead { display: none; }
+  tr { display: block; margin: 0 0 10px; border: 1px solid var(--line); }
+  td { display: block; border: 0; padding: 2px 8px; }
+  td:empty { display: none; } }
+</style>""")
+PAGE_HEADS = ("Verdict", "Pair", "Faults", "First fault, or why it was not judged", "More")
+MOST_CAUSES = 6
+
+
+def index_page(folder: str, rows: Sequence[Row], date: str) -> bytes:
+    """The page."""
+    verdicts = [row.verdict for row in rows]
+    counts = ", ".join(f"{verdicts.count(one)} {one}" for one in dict.fromkeys(sorted(verdicts)))
+    title = f"{counted(len(rows), 'pair')}: {counts}"
+    heads = joined(markup("<th>{}</th>", text) for text in PAGE_HEADS)
+    lines = joined((pair_line(folder, row) for row in sorted(rows, key=rank)), "\n")
+    page = HEAD + markup("<title>{}</title>", title) + STYLE + markup(
+        "</head><body>\n<h1>{}</h1>\n<p><small>Made {}. Pairs that somebody has to look at stand "
+        "first.</small></p>\n<table><thead><tr>{}</tr></thead><tbody>\n{}\n</tbody></table>\n"
+        "</body></html>\n", title, date, heads, lines)
+    return page.page()
+
+
+def rank(row: Row) -> tuple[int, str]:
+    """What is broken comes first, then what nobody judged, then warnings, then what is accepted."""
+    if row.verdict == NOT_JUDGED:
+        return 1, row.name
+    if row.status:
+        return 0, row.name
+    return (3 if row.verdict == ACCEPTED else 2), row.name
+
+
+def pair_line(folder: str, row: Row) -> Markup:
+    """The line of a pair."""
+    causes = list(row.causes.items())
+    told = [markup("{} &times; {}", count, cause) for cause, count in causes[:MOST_CAUSES]]
+    told += [markup("&hellip;")] if len(causes) > MOST_CAUSES else []
+    faults = markup("{}", counted(row.faults, "fault") if row.is_judged else "")
+    if told:
+        faults += markup("<br/><small>{}</small>", joined(told, BREAK))
+    why = [] if row.verdict == ACCEPTED else [
+        *row.line.splitlines()[:3], *filter(None, [row.hint, row.counts])]
+    return markup(
+        '<tr class="{}"><td class="verdict">{}</td><td>{}<br/><small>{}</small></td><td>{}</td>'
+        "<td>{}</td><td>{}</td></tr>", row.verdict.replace(" ", "-"), row.verdict, row.name,
+        row.title, faults, joined(why, BREAK),
+        links(folder, row.name))
+
+
+def links(folder: str, name: str) -> Markup:
+    """Links to what there is of a pair."""
+    found = []
+    for ending, word in ((".html", "report"), (".txt", "list"), (ENDING, "object")):
+        if os.path.isfile(os.path.join(folder, name + ending)):
+            found.append(markup('<a href="./{}">{}</a>', quote(os.fsencode(name + ending)), word))
+    return joined(found, " ")
+
+
+# Objects of many pairs in one table, one page, and one file for each kind of machine.
+
+Place = Union[str, dict[str, Any]]  # of an object: its file, or itself where it has none
+LINE_HEADS = ("pair", "verdict", "faults", "first fault")
+
+
+def collect(words: argparse.Namespace) -> int:
+    """Makes all there is to make of the objects in a folder; answers the status."""
+    folder = words.collect
+    refuse_names(words)
+    if not os.path.isdir(folder):
+        raise Stop(f"{folder} is no folder")
+    rows, paths = [], []
+    for path, known in objects_in(folder):
+        if known is None:
+            tell(f"{path} is no JSON result of a pair, and is skipped")
+            continue
+        name = os.path.basename(path).removesuffix(ENDING)
+        rows.append(row_of_object(known, name))
+        paths.append(path)
+    if not rows:
+        raise Stop(f"{folder} has no JSON result of a pair")
+    refuse_names(words, Inputs(*paths), folder)
+    return write_collection(words, rows, paths, folder=folder)
+
+
+def write_collection(words: argparse.Namespace, rows: Sequence[Row], places: Sequence[Place],
+                     is_stopped: bool = False, folder: str | None = None) -> int:
+    """Writes the page over a folder, and the files for machines, by the objects, and prints the
+    table; answers the status, which is 2 where others were to be judged too, or a file could not be
+    written. The object comes last, and knows of that."""
+    date, failed = now(), list[str]()
+
+    def status() -> int:
+        return of_all((row.verdict for row in rows), is_stopped or bool(failed))
+
+    written: list[Callable[[], None]] = [
+        lambda: write_index(folder, rows), lambda: put_file(words.csv, lambda: csv_lines(places)),
+        lambda: put_file(words.junit, lambda: testcases(rows, date)),
+        lambda: put_file(words.json, lambda: objects(places, status(), date))]
+    for write in written:
+        try:
+            write()
+        except (Stop, OSError) as reason:
+            failed.append(error_line(reason))
+            tell(failed[-1])
+    why = "stopped before the others" if is_stopped else "not all was written" if failed else ""
+    is_output_taken = any(path in OWN_OUTPUT for path in (words.json, words.csv, words.junit))
+    out = sys.stderr if is_output_taken else sys.stdout
+    try:
+        for line in table_of(rows, why) if rows else ():
+            print(shown(line), file=out)
+        out.flush()
+    except BrokenPipeError:  # who reads it wants no more: what is written stays
+        silence(out)
+    return status()
+
+
+def refuse_names(words: argparse.Namespace, inputs: Inputs = NOTHING,
+                 folder: str | None = None) -> None:
+    """Names under which nothing can be written, and those of inputs, are refused before anything is
+    done; also those of the files over all pairs of a folder."""
+    for path in (words.json, words.csv, words.junit):
+        if path is not None:
+            refuse_name(path)
+            inputs.refuse(path, True)
+    if folder is not None:
+        refuse_files_of_all(folder, inputs)
+
+
+def write_index(folder: str | None, rows: Sequence[Row]) -> None:
+    """The page over all pairs of a folder, where there is one."""
+    if folder is None:
+        return
+    with result_file(index_in(folder)) as file:
+        file.write(index_page(folder, rows, now()))
+
+
+def table_of(rows: Sequence[Row], why: str = "") -> Iterator[str]:
+    """The table, and a line of how many there are of which verdict; where more than these decides
+    the status, it says so."""
+    lines = [LINE_HEADS, *((row.name, row.verdict, str(row.faults) if row.is_judged else "",
+                            first_fault(row)) for row in rows)]
+    widths = [max(len(line[column]) for line in lines) for column in range(3)]
+    for name, verdict, faults, first in lines:
+        yield (f"{name:{widths[0]}}  {verdict:{widths[1]}}  {faults:>{widths[2]}}  "
+               f"{first}").rstrip()
+    counts = [f"{sum(row.verdict == verdict for row in rows)} {verdict}"
+              for verdict in dict.fromkeys(row.verdict for row in rows)]
+    yield f"{counted(len(rows), 'pair')}: {', '.join(counts)}" + (f"; {why}" if why else "")
+
+
+def first_fault(row: Row) -> str:
+    """The place of the first fault, with what to know of it, or why the pair was not judged, as far
+    as one line has it."""
+    if row.verdict == ACCEPTED or not row.line:
+        return ""
+    line = row.line.splitlines()[0].removeprefix("refused ").partition("; ")[0]
+    more = f"; {row.counts}" if row.counts else ""
+    return (f"{line}: {row.hint}" if row.hint else line) + more
+
+
+def put_file(path: str | None, pieces: Callable[[], Iterator[bytes]]) -> None:
+    """Writes a file whole, or not at all."""
+    if path is not None:
+        with whole_file(path) as file:
+            for piece in pieces():
+                file.write(piece)
+
+
+def objects(places: Sequence[Place], status: int, date: str) -> Iterator[bytes]:
+    """One object with those of all pairs."""
+    head = {"format": FORMAT, "status": status, "date": date}
+    yield json.dumps(head, indent=1).removesuffix("\n}").encode() + b',\n "pairs": ['
+    before = b"\n"
+    for place in places:
+        yield before + fitting_text(place)
+        before = b",\n"
+    yield b"]\n}\n"
+
+
+def fitting_text(place: Place) -> bytes:
+    """An object, as it was read and fits."""
+    return json.dumps(known_at(place)).encode()
+
+
+def known_at(place: Place) -> dict[str, Any]:
+    """The object of a pair, wherever it stands; its file may be gone by now."""
+    if isinstance(place, dict):
+        return place
+    name = os.path.basename(place).removesuffix(ENDING)
+    return object_at(place) or unjudged(name, "its JSON result is gone: judge it again")
+
+
+def csv_lines(places: Sequence[Place]) -> Iterator[bytes]:
+    """The lines of all pairs under one head."""
+    yield from tables.table_lines(map(all_told, places))
+
+
+def all_told(place: Place) -> dict[str, Any]:
+    """An object; that some of its faults are left out is told."""
+    known = known_at(place)
+    left_out = known["left_out"]["faults"] if "asked" in known else 0
+    if left_out:
+        tell(f"{place} leaves out {counted(left_out, 'fault')}, and so do the lines")
+    return known
+
+
+def testcases(rows: Sequence[Row], date: str) -> Iterator[bytes]:
+    """A testcase for each pair."""
+    yield tables.junit_file([tables.TestCase(row.title, row.verdict, row.status, row.line, row.lines,
+                                             row.seconds, row.counts) for row in rows], date)

@@ -1,0 +1,223 @@
+"""The words of the command line, and which option goes with what."""
+from __future__ import annotations
+
+import argparse
+import contextlib
+import os
+import sys
+from typing import Any, Callable, Sequence
+
+from ..common.command_line import Stop, Words, error_line
+from ..common.files import IsInput, plain_name, whole_file
+from ..request.request import (
+    ALONE, BATCH, CHANNEL, COLLECT, Mode, OPTIONS, Option, PAIR, RECORDER, WATCH, add_options)
+from ..results import objects, tables
+from . import single
+
+
+# What tools/qc is called for, the options of the call itself, and which options go with which.
+
+CALLS = (PAIR, ALONE, BATCH, WATCH, CHANNEL)
+OUTPUT_MODES = (PAIR, ALONE, BATCH, COLLECT)
+
+
+def number_word(what: str, least: int, most: int) -> Callable[[str], int]:
+    """What reads a number of something, in bounds."""
+
+    def read(text: str) -> int:
+        is_number = text.isascii() and text.isdecimal() and len(text) <= len(str(most))
+        if not is_number or not least <= int(text) <= most:
+            raise argparse.ArgumentTypeError(f"{text} is no number of {what}: {least} to {most}")
+        return int(text)
+
+    return read
+
+
+line_word = number_word("a line", 1, 9_999_999)
+jobs_word = number_word("pairs at a time", 1, 9_999)
+seconds_word = number_word("seconds", 0, 99_999)
+minutes_word = number_word("minutes", 1, 1_440)  # a day at most
+
+ASKING = (
+    Option("--batch", "FOLDER|LIST", "judge many pairs", (BATCH,), field="batch"),
+    Option("--collect", "DIR", "one table and one page of the JSON results in a folder", (COLLECT,),
+           field="collect"),
+    Option("--watch", "IN", "judge the pairs that come into a folder", (WATCH,), field="watch"),
+    Option("--channel", "LIST", "judge the programmes of a list, one after another, out of a feed",
+           (CHANNEL,), field="channel"))
+OF_CALL = (
+    Option("-o", "DIR", "the folder for report and list", CALLS, field="out"),
+    Option("--keep", None, "keep in DIR the PES packets of the recording, NAME.recording.pes; of a "
+           "feed all that came, NAME.recording.ts", (PAIR, BATCH, WATCH, CHANNEL), field="is_kept",
+           default=False),
+    Option("--json", "FILE", "the verdict as a JSON result", OUTPUT_MODES, field="json"),
+    Option("--csv", "FILE", "a line for each fault", OUTPUT_MODES, field="csv"),
+    Option("--junit", "FILE", "the verdict for a CI", OUTPUT_MODES, field="junit"),
+    Option("-p", "PROGRAM", "the program that is asked", CALLS, "./subttx", field="program"),
+    Option("--resume", None, "keep what an earlier call has judged in the same way",
+           (BATCH, CHANNEL), field="is_resumed", default=False),
+    Option("--line", "N", "judge line N of LIST alone, as an engine's job does", (BATCH,),
+           field="line", read=line_word),
+    Option("--jobs", "N", "pairs at a time", (BATCH, WATCH), "as many as processors", field="jobs",
+           read=jobs_word),
+    Option("--settled", "S", "seconds after which a file that does not change is whole", (WATCH,),
+           "5", field="settled", default=5, read=seconds_word),
+    Option("--patience", "M", "minutes within which a programme has to begin", (CHANNEL,), "60",
+           field="patience", default=60, read=minutes_word),
+    Option("--spool", "DIR", "the folder in which the feed is kept; without --channel the feed is "
+           "recorded there", (CHANNEL, RECORDER), "beside that of -o", field="spool"),
+    Option("--on-result", "COMMAND", "a program that is called with each JSON result and its "
+           "verdict", (CHANNEL,), field="on_result"),
+    Option("--stall", "S", "seconds after which a feed that stands still is reported",
+           (PAIR, CHANNEL), "10", field="stall", default=10, read=seconds_word))
+TAKEN_BY = {one.name: one.modes for one in (*OPTIONS, *OF_CALL)}
+
+
+def mode_of(words: argparse.Namespace) -> Mode:
+    """What is asked for; `Stop` where that is two things."""
+    asked = {BATCH: words.batch, COLLECT: words.collect, WATCH: words.watch,
+             CHANNEL: words.channel}
+    given = [mode for mode, value in asked.items() if value is not None]
+    if len(given) > 1:
+        raise Stop(f"{given[0].words} and {given[1].words} are two calls")
+    if CHANNEL in given:
+        if words.stl is None or words.recording is not None:
+            raise Stop("--channel LIST takes one feed: a file, a pipe, or -")
+    elif given and words.stl is not None:
+        raise Stop(f"{words.stl} stands beside {given[0].words}, which takes its pairs from "
+                   f"{asked[given[0]]}")
+    if not given and words.spool is not None and words.stl is not None and words.recording is None:
+        return RECORDER
+    return given[0] if given else ALONE if words.recording is None else PAIR
+
+
+def options_in(parser: argparse.ArgumentParser, line: Sequence[str]) -> list[str]:
+    """The options that a command line gives, as `TAKEN_BY` names them and in its order, by a parser
+    that is used for nothing else."""
+    names = {}
+    parser._defaults.clear()
+    for action in parser._actions:
+        action.default = argparse.SUPPRESS
+        for name in action.option_strings:
+            names[name] = action.dest
+    given = vars(parser.parse_args(list(line)))
+    # One that has two words is the one that stands there.
+    words = {word.partition("=")[0] for word in line}
+    return [name for name in TAKEN_BY if names.get(name) in given and (
+        name in words or not words & {other for other in names if names[other] == names[name]})]
+
+
+def refuse_options(parser: argparse.ArgumentParser, line: Sequence[str], mode: Mode) -> None:
+    """`Stop` with the first option that does not go with what is asked for."""
+    for name in options_in(parser, line):
+        if mode not in TAKEN_BY[name]:
+            *others, last = (one.words for one in TAKEN_BY[name])
+            known = f"{', '.join(others)} or {last}" if others else last
+            raise Stop(f"{name} goes with {known}, and not with {mode.words}")
+
+
+# The words of tools/qc.
+
+
+def parser_of(text: str) -> Words:
+    parser = Words(text)
+    parser.add_argument("stl", metavar="STL", nargs="?", help="the subtitle file")
+    parser.add_argument("recording", metavar="RECORDING", nargs="?",
+                        help="the recording, - for standard input")
+    add_options(parser)
+    add_options(parser, [*ASKING, *OF_CALL])
+    return parser
+
+
+def main(text: str, called: str, line: list[str]) -> int:
+    """Does what the words ask; answers the status. Where that ends early, what is asked for by
+    --json, --csv and --junit says why, as nothing else may."""
+    try:
+        status = answer(text, called, line)
+        sys.stdout.flush()
+        return status
+    except (Exception, KeyboardInterrupt) as reason:
+        if not isinstance(reason, IsInput):
+            leave(name_in(line), {one: file_in(line, one) for one in WRITERS}, error_line(reason))
+        raise
+
+
+def leave(name: str, paths: dict[str, str | None], reason: str) -> None:
+    """Writes the files that are asked for, each with one entry that is not judged."""
+    known = objects.unjudged(name, reason)
+    for option, path in paths.items():
+        with contextlib.suppress(Stop, OSError):
+            if path is not None and objects.may_take(path, BEGINS[option]):
+                WRITERS[option](path, known)
+
+
+def write_table(path: str, known: dict[str, Any]) -> None:
+    """The CSV file of a pair by its object."""
+    with whole_file(path) as file:
+        for piece in tables.table_lines([known]):
+            file.write(piece)
+
+
+def write_testcase(path: str, known: dict[str, Any]) -> None:
+    """The file for a CI of a pair that is not judged."""
+    case = tables.TestCase(known["name"], known["verdict"], known["status"], known["reason"], [],
+                           0.0)
+    with whole_file(path) as file:
+        file.write(tables.junit_file([case], single.now()))
+
+
+def write_object(path: str, known: dict[str, Any]) -> None:
+    """The object of a pair."""
+    with whole_file(path) as file:
+        file.write(objects.object_text(known))
+
+
+WRITERS = {"--json": write_object, "--csv": write_table, "--junit": write_testcase}
+# What a file begins with that an earlier call wrote: another one may be an input.
+BEGINS = {"--json": b"{", "--csv": b"stl,recording,", "--junit": b"<?xml version='1.0' "}
+
+
+def file_in(line: Sequence[str], option: str) -> str | None:
+    """The file of an option in the words of a command line, whatever else is wrong with them."""
+    words = list(line[:line.index("--")] if "--" in line else line)
+    found = None
+    for word, following in zip(words, [*words[1:], ""]):
+        if word.startswith(f"{option}="):
+            found = word.removeprefix(f"{option}=")
+        elif word == option and (following == "-" or not following.startswith("-")):
+            found = following
+    return found or None
+
+
+def name_in(line: Sequence[str]) -> str:
+    """The name of the pair of a command line, by its subtitle file; none where there is no such
+    word."""
+    stl = next((word for word in line if word.lower().endswith(".stl")), "")
+    return os.path.splitext(os.path.basename(stl))[0]
+
+
+def answer(text: str, called: str, line: list[str]) -> int:
+    """Does what the words ask; answers the status."""
+    words = parser_of(text).parse_args(line)
+    refuse_options(parser_of(text), line, mode_of(words))
+    if words.is_kept and words.out is None:
+        raise Stop("--keep goes with -o DIR, where it keeps what was judged")
+    words.out = words.out and plain_name(words.out)
+    if words.collect is not None:
+        from . import collection  # one pair needs nothing of these
+        return collection.collect(words)
+    if words.batch is not None:
+        from . import batch
+        return batch.judge_batch(words, called)
+    if words.watch is not None:
+        from . import batch
+        return batch.watch(words, called)
+    if words.channel is not None:
+        from .channel import channel
+        return channel.judge_channel(words, called)
+    if words.spool is not None:
+        from .channel import recorder
+        return recorder.record_alone(words.stl, words.spool)
+    if words.stl is None:
+        raise Stop("give a subtitle file, and a recording; --help lists all options")
+    return single.judge_call(words, called)

@@ -1,0 +1,489 @@
+"""One pair: judged, said and written, in a folder that belongs to one call."""
+from __future__ import annotations
+
+import argparse
+import contextlib
+import fcntl
+import functools
+import itertools
+import os
+import re
+import signal
+import stat
+import time
+from typing import Callable, Iterator, NamedTuple, Sequence
+
+from ..common.command_line import Stop, counted, error_line, escaped, shown, silence, tell
+from ..common.files import (
+    Inputs, OWN_OUTPUT, first_bytes, is_replaced, kind_of, naming, refuse_name, result_file,
+    temporary_folder, whole_file)
+from ..common.program import about_program
+from ..formats.listing import is_line
+from ..judging.causes import count_line
+from ..judging.faults import faults_of, hints_of
+from ..judging.pair import Pair, within_line
+from ..judging.part import Part
+from ..judging.status import NOT_JUDGED, Severity
+from ..judging.verdict import Gap, Verdict
+from ..recording.recording import Recording, size_of
+from ..report.page import overview
+from ..request.commands import (
+    CommandWords, LOCK, Names, Progress, Speech, files_in, index_in, lock_of, pair_name)
+from ..request.request import AUTO_OF_FEED, Request, Unclear, keep_stl, request_of
+from ..results import objects, tables
+from ..results.objects import found, object_text, unjudged
+from ..stream.gaps import first_lines
+
+
+# The files of a pair in a folder of results: they belong to one call at a time, and whatever else
+# stands under their names is left as it is.
+
+RESULT = re.compile(rb'\{\s*"format": [0-9]+,\s*"(verdict": "|status": )')
+PAGE = re.compile(rb'<!DOCTYPE html>\n<html (xmlns="http://www.w3.org/1999/xhtml" )?lang="en">'
+                  rb'<head><meta charset="UTF-8"/?>.*?<title>([0-9]+ pairs?: |.+? &#8211; |not )',
+                  re.DOTALL)
+ENOUGH = 4096  # bytes by which a file tells what it is
+
+
+class InUse(Stop):
+    """Another call writes the files that this one would write."""
+
+
+def refuse_files_of(folder: str, name: str, inputs: Inputs) -> None:
+    """`Stop` where a call for a pair would write over an input, or over what no call has written,
+    or take that away: nothing is done yet."""
+    for path in [*files_in(folder, name), lock_of(folder, name)]:
+        refuse_file(path, inputs)
+
+
+def refuse_files_of_all(folder: str, inputs: Inputs) -> None:
+    """The same of the files over all pairs of a folder."""
+    for path in (index_in(folder), lock_of(folder, "")):
+        refuse_file(path, inputs)
+
+
+def refuse_file(path: str, inputs: Inputs) -> None:
+    """`Stop` where a file of a folder is an input, or nothing that these tools have written; a link
+    is taken away, and not what it leads to."""
+    inputs.refuse(path, False)
+    with contextlib.suppress(FileNotFoundError, NotADirectoryError):
+        about = os.lstat(path)
+        if not stat.S_ISLNK(about.st_mode) and (kind_of(about.st_mode) or not is_own(path)):
+            raise Stop(f"{path} is there, and is no result of these tools: move it away, or give "
+                       "another folder")
+
+
+def is_own(path: str) -> bool:
+    """Whether these tools have written a file, by its first bytes. Those of a recording tell
+    nothing: it is kept beside a result."""
+    begin, ending = os.path.splitext(path)
+    if ending in (".pes", ".ts"):
+        beside = f"{os.path.splitext(begin)[0]}.json"
+        return os.path.isfile(beside) and is_own(beside)
+    data = first_bytes(path, ENOUGH, is_followed=False)
+    if not data or ending == f".{LOCK}":
+        return not data
+    if ending == ".txt":
+        return is_line(data.split(b"\n")[0].decode("utf-8", "replace"))
+    return bool((RESULT if ending == ".json" else PAGE).match(data))
+
+
+def clear(folder: str, name: str) -> None:
+    """Takes away what an earlier call left of a pair."""
+    for path in files_in(folder, name):
+        if os.path.lexists(path):
+            os.unlink(path)
+
+
+def claimed(folder: str | None, name: str) -> contextlib.AbstractContextManager[None]:
+    """Makes a folder, and keeps other calls from writing the files of a pair in it."""
+    return locking(folder, name, f"another call is writing the files of {name} in ")
+
+
+def claimed_for_batch(folder: str | None) -> contextlib.AbstractContextManager[None]:
+    """Makes a folder, and keeps other batches from judging into it."""
+    return locking(folder, "", "another batch is judging into ")
+
+
+@contextlib.contextmanager
+def locking(folder: str | None, name: str, refusal: str) -> Iterator[None]:
+    """Makes a folder, if there is to be one, and holds a lock in it; `InUse` with these words where
+    another one does."""
+    if folder is None:
+        yield
+        return
+    path = lock_of(folder, name)
+    with naming(folder):
+        os.makedirs(folder, exist_ok=True)
+        handle = locked(path)
+    if handle is None:
+        raise InUse(refusal + folder)
+    try:
+        yield
+    finally:
+        with contextlib.suppress(OSError):  # somebody has changed the folder
+            if is_at(handle, path):
+                os.unlink(path)
+        os.close(handle)
+
+
+def locked(path: str) -> int | None:
+    """An open file that nobody else has locked; `None` where somebody has. A link in its place is
+    taken away."""
+    while True:
+        if os.path.islink(path):
+            os.unlink(path)
+        handle = os.open(path, os.O_RDWR | os.O_CREAT | os.O_CLOEXEC | os.O_NOFOLLOW
+                         | os.O_NONBLOCK, 0o666)
+        try:
+            fcntl.flock(handle, fcntl.LOCK_EX | fcntl.LOCK_NB)
+        except BlockingIOError:
+            os.close(handle)
+            return None
+        except OSError:
+            return handle  # a file system that knows no locks
+        if is_at(handle, path):
+            return handle
+        os.close(handle)  # the one who had it took it away meanwhile
+
+
+def is_at(handle: int, path: str) -> bool:
+    """Whether an open file is the one that has this name."""
+    try:
+        return os.path.samestat(os.fstat(handle), os.lstat(path))
+    except FileNotFoundError:
+        return False
+
+
+# One pair: judged, said, and written to the files that were asked for.
+
+ESCAPED = re.compile("[\ud800-\udfff]")  # bytes of a name that is not UTF-8
+SIGNALS = (signal.SIGINT, signal.SIGTERM, signal.SIGHUP)
+SUMMED = 100  # lines of a list in a summary, and in a file for a CI
+
+
+def now() -> str:
+    """The time, in UTC."""
+    return time.strftime("%Y-%m-%dT%H:%M:%SZ", time.gmtime())
+
+
+class PairCall(NamedTuple):
+    """A call for a pair, beside what is asked of it: the program, and the files that are written. `name`
+    is that of the pair, where it is not that of its subtitle file, and `here` the folder in which
+    its files stand until somebody gives them their place. `is_claimed`: its files are the caller's;
+    `is_fitted`: its origin was found by the caller; `is_cut`: all that is read may be judged.
+    """
+
+    program: str | None
+    out: str | None = None
+    is_kept: bool = False
+    json: str | None = None
+    csv: str | None = None
+    junit: str | None = None
+    stall: int = 10
+    name: str | None = None
+    here: str | None = None
+    is_claimed: bool = False
+    is_fitted: bool = False
+    is_cut: bool = False
+
+
+def judge_call(words: argparse.Namespace, called: str) -> int:
+    """Judges the pair of a command line; answers its status."""
+    return judge_request(request_of(words), PairCall(
+        words.program, words.out or None, words.is_kept, words.json, words.csv, words.junit,
+        words.stall), called)
+
+
+def judge_request(asked: Request, call: PairCall, called: str) -> int:
+    """Judges a pair; answers its status."""
+    refuse_auto(asked)
+    out, here = call.out, call.here or call.out
+    is_output_taken = any(path in OWN_OUTPUT for path in (call.json, call.csv, call.junit))
+    speech = Speech(Progress(), is_output_taken)
+    speech.at_end = ignore_signals  # what stands last is that of the status
+    typed = CommandWords(called, call.program)
+    verdict = Verdict(asked, Severity(asked.severity, asked.is_loss_allowed), now(),
+                      was_fitted=call.is_fitted)
+    verdict.is_kept = call.is_kept
+    name = call.name or pair_name(asked.stl)
+    refuse_outputs(call, asked, here, name)
+    with temporary_folder("subttx-qc-") as folder, claimed(
+            None if call.is_claimed else here, name):
+        if here is not None:
+            clear(here, name)
+        names = Names(name, folder, out, here)
+        keep_stl(asked, folder)
+        names.give(asked.stl_path)
+        files = Files(call, verdict, typed, names)
+        verdict.found = found(asked)
+        pair = Pair(verdict, typed, names, speech, files.are_any())
+        pair.stalled_after, pair.is_cut = call.stall, call.is_cut
+        if out is not None:
+            pair.draw = functools.partial(draw, pair)
+        judge_pair(pair, files)
+        end_pair(verdict, speech, files)
+    return verdict.status
+
+
+def refuse_outputs(call: PairCall, asked: Request, out: str | None, name: str) -> None:
+    """`Stop` where a file that is asked for can't be written, or is an input; nothing is done yet.
+    """
+    inputs = Inputs(asked.stl, asked.recording, asked.severity)
+    for path in (call.json, call.csv, call.junit):
+        if path:
+            inputs.refuse(path, True)
+            refuse_name(path)
+    if out is not None:
+        refuse_files_of(out, name, inputs)
+
+
+def refuse_auto(asked: Request) -> None:
+    """A layout is looked for in a recording that is there, and in no feed."""
+    if not asked.is_layout_sought:
+        return
+    if asked.recording is None:
+        raise Stop("--layout auto looks at what was sent: give a recording")
+    with contextlib.suppress(OSError):  # a name that is wrong is told later
+        if size_of(asked.recording) is None:
+            raise Stop(AUTO_OF_FEED)
+
+
+def draw(pair: Pair, part: Part, gaps: Sequence[Gap], count: int) -> None:
+    """Draws the report of a part, one of so many, with what is missing there."""
+    # most calls need nothing of these
+    from ..report import page as report_page, report, transmission
+    verdict, typed = pair.verdict.of_part(part, [*gaps]), pair.typed
+    program = transmission.Program(typed.program_word, typed.program_path,
+                                   part.recording.path if part.recording else None, part.stream,
+                                   part.names.folder)
+    files = [(kind, file) for kind, file in (
+        ("STL", verdict.stl), ("PES", part.judged), ("Recording", verdict.recording)) if file]
+    subject = report.Subject(verdict, part, count, program, pair.speech.commands, files)
+    try:
+        made = report_page.report_page(report.Report(subject))
+    except transmission.NoReport as reason:
+        raise Unclear(f"no report was made: {reason}") from None
+    with result_file(part.names.report) as file:
+        file.write(made.page())
+
+
+def judge_pair(pair: Pair, files: Files) -> None:
+    """Judges a pair and writes the files; what is not clear stands in the verdict."""
+    verdict, began = pair.verdict, time.monotonic()
+    try:
+        pair.judge()
+        verdict.hints = [*dict.fromkeys(hints_of(verdict))]  # parts may have the same
+    except Unclear as unclear:
+        verdict.reason, verdict.to_type = unclear.reason, unclear.to_type
+    except Exception as reason:  # whatever it is, nothing is judged
+        verdict.reason = error_line(reason)
+    except KeyboardInterrupt:
+        ignore_signals()  # what is known is written now
+        verdict.is_stopped = True
+        verdict.reason = f"stopped at {pair.stop(now())}"
+    verdict.commands, verdict.chosen = pair.speech.commands, pair.speech.chosen
+    verdict.seconds = round(time.monotonic() - began, 3)
+    try:
+        files.write(pair.recording)
+    except KeyboardInterrupt as reason:
+        ignore_signals()
+        verdict.failed.append(error_line(reason))
+        files.write(pair.recording)
+
+
+def end_pair(verdict: Verdict, speech: Speech, files: Files) -> None:
+    """Says the verdict; where that fails it is not judged, in all files too."""
+    try:
+        say_verdict(verdict, speech)
+    except KeyboardInterrupt as reason:
+        ignore_signals()
+        verdict.failed.append(error_line(reason))
+        files.write_again()
+        say_verdict(verdict, speech)
+    except Exception as reason:
+        verdict.failed.append(error_line(reason))
+        files.write_again()
+        with contextlib.suppress(OSError):
+            tell(verdict.failed[-1])
+        silence()
+
+
+def heed_signals(handler: Callable[..., object] = signal.default_int_handler) -> None:
+    """Lets signals end this call, but those that are ignored: nohup lets a hang-up pass."""
+    for one in SIGNALS:
+        if signal.getsignal(one) != signal.SIG_IGN:
+            signal.signal(one, handler)
+
+
+def ignore_signals() -> None:
+    """Takes no signal any more that would end this call."""
+    for one in SIGNALS:
+        signal.signal(one, signal.SIG_IGN)
+
+
+def say_verdict(verdict: Verdict, speech: Speech) -> None:
+    """Says the verdict, after what was lost and what is not clear."""
+    if verdict.line is not None:
+        speech.say(verdict.sentence)
+    causes = [part.causes for part in verdict.parts if part.causes]
+    if causes:
+        speech.say(count_line(causes))
+    for line in verdict.lines():
+        speech.say(line)
+    for line in first_lines([gap.line() + ("" if gap.is_judged else ", outside of what is judged")
+                             for gap in verdict.gaps]):
+        speech.tell(line)
+    if verdict.is_lost and not verdict.asked.is_loss_allowed:
+        would = "; --allow-lost accepts the recording without it" if verdict.is_lost_alone else ""
+        speech.tell(f"that part was not recorded{would}")
+    for line in verdict.notes:
+        speech.tell(line)
+    for warned in verdict.warnings:
+        speech.tell(warned.said())
+    if verdict.line is not None:
+        if verdict.asked.within and verdict.delays:
+            speech.say(verdict.delays.words())
+        if verdict.accepted_within is not None:
+            speech.say(within_line(verdict.accepted_within))
+        if verdict.fitted:
+            speech.say(verdict.fitted)
+        for line in verdict.hints:
+            speech.say(line)
+        speech.end(verdict.line)
+    elif is_line(speech.last):  # what the program says is no verdict then
+        speech.say(NOT_JUDGED)
+    if verdict.is_stopped:
+        speech.say(counted(verdict.faults, "fault") + " so far" if verdict.parts else
+                   "nothing was judged so far")
+    for line in (verdict.why_not or "").splitlines():
+        speech.tell(f"{NOT_JUDGED}: {line}" if verdict.is_stopped else line)
+    for at, line in enumerate(verdict.to_type):
+        speech.tell(f"{'type' if at == 0 else 'or'} {line}")
+
+
+class Output(NamedTuple):
+    """A file that is asked for, and how its bytes are made; of an object what stands for it where
+    that can't be done. One that is a result stands in the folder; one that `is_raw` says nothing of
+    the verdict."""
+
+    path: str
+    pieces: Callable[[], Iterator[bytes]]
+    is_result: bool = False
+    is_object: bool = False
+    is_raw: bool = False
+
+    @property
+    def is_replaced(self) -> bool:
+        """Whether it can be written once more."""
+        return self.is_result or is_replaced(self.path)
+
+
+class Files:
+    """The files that are asked for."""
+
+    def __init__(self, call: PairCall, verdict: Verdict, typed: CommandWords,
+                 names: Names) -> None:
+        self.call, self.verdict, self.typed, self.names = call, verdict, typed, names
+        self.written: list[Output] = []
+
+    def are_any(self) -> bool:
+        """Whether something is written that has the sums of the inputs."""
+        return bool(self.call.out or self.call.json or self.call.csv)
+
+    def write(self, recording: Recording | None = None) -> None:
+        """Writes what is asked for. What could not be written stands in the verdict: so what was
+        written before is written once more, where that can be. The object in the folder comes
+        last, when all else is there, but for what can't be written once more."""
+        for output in sorted(self.wanted(recording), key=lambda one: not one.is_replaced):
+            if self.try_to_put(output):
+                self.written.append(output)
+            else:
+                self.write_again()
+
+    def write_again(self) -> None:
+        """Writes once more what was written, with what failed since then."""
+        for output in self.written:
+            if output.is_replaced and not output.is_raw:
+                self.try_to_put(output)
+
+    def try_to_put(self, output: Output) -> bool:
+        """Writes a file; whether that was done. Else why not stands in the verdict."""
+        try:
+            self.put(output)
+        except Exception as reason:
+            self.verdict.failed.append(error_line(reason))
+            if output.is_object and not isinstance(reason, (Stop, OSError)):
+                known = unjudged(self.names.name, self.verdict.why_not or "")
+                self.put(output._replace(pieces=lambda: iter([object_text(known)])))
+            return False
+        return True
+
+    def wanted(self, recording: Recording | None) -> list[Output]:
+        """What is asked for."""
+        call, verdict, names = self.call, self.verdict, self.names
+        wanted = [Output(call.csv, self.table_lines)] if call.csv else []
+        wanted += [Output(call.junit, self.testcase)] if call.junit else []
+        wanted += self.raw(recording) if names.out else []
+        if not call.json and not names.machine:
+            return wanted
+        program = about_program(self.typed.program_path)
+
+        def page() -> Iterator[bytes]:
+            return iter([overview(verdict, program, names, self.typed).page()])
+
+        def members() -> Iterator[bytes]:
+            return map(as_bytes, objects.object_of(verdict, program))
+
+        if names.out and len(verdict.parts) > 1:
+            wanted.append(Output(names.report, page, True))
+        wanted += [Output(call.json, members, is_object=True)] if call.json else []
+        wanted += [Output(names.machine, members, True, True)] if names.machine else []
+        return wanted
+
+    def raw(self, recording: Recording | None) -> list[Output]:
+        """The list of each part as `check` told it, and what was recorded, where that is kept."""
+        lists = [Output(part.names.placed("txt"), part.answer.raw, True, is_raw=True)
+                 for part in self.verdict.parts]
+        ending = recording and recording.packets.count and recording.kept_ending
+        if self.call.is_kept and recording and ending:
+            lists.append(Output(self.names.placed(ending), recording.kept, True, is_raw=True))
+        return lists
+
+    def testcase(self) -> Iterator[bytes]:
+        """The file for a CI."""
+        verdict = self.verdict
+        case = tables.TestCase(pair_title(verdict.asked), verdict.word, verdict.status,
+                               verdict.lead or verdict.why_not or "", self.lines(), verdict.seconds,
+                               verdict.counts.words() if verdict.counts else "")
+        yield tables.junit_file([case], verdict.date)
+
+    def lines(self) -> list[str]:
+        """The first lines of the lists of all parts."""
+        lines = (line for part in self.verdict.parts for line in part.answer.lines()
+                 if part.answer.count)
+        return list(itertools.islice(lines, SUMMED))
+
+    def table_lines(self) -> Iterator[bytes]:
+        """The lines of the CSV file: the names of the columns, the pair, its faults."""
+        return map(str.encode, tables.column_lines(itertools.chain(
+            [tables.pair_columns(self.verdict)], (tables.fault_columns(self.verdict, fault)
+                                                  for fault in faults_of(self.verdict)))))
+
+    @staticmethod
+    def put(output: Output) -> None:
+        """Writes a file whole, or not at all."""
+        with result_file(output.path) if output.is_result else whole_file(output.path) as file:
+            for piece in output.pieces():
+                file.write(piece)
+
+
+def as_bytes(text: str) -> bytes:
+    """The text of an object; of a name that is not UTF-8 the bytes are escaped, which all other
+    texts have done."""
+    return ESCAPED.sub(lambda found: "\\" + escaped(found[0]), text).encode()
+
+
+def pair_title(asked: Request) -> str:
+    """A pair as a line of a table names it."""
+    return " ".join([asked.stl, *([asked.recording] if asked.recording else [])])

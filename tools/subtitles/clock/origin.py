@@ -1,0 +1,379 @@
+"""The origin of a recording, found and told."""
+from __future__ import annotations
+
+import dataclasses
+from typing import Collection, Iterator, NamedTuple, Sequence
+
+from ..common.command_line import Stop, counted, range_words
+from ..common.times import (
+    ALL_DAY, Between, FRAMES_A_SECOND, FRAMES_OF_A_DAY, TICKS, frame_in, pts_of, ticks_between,
+    ticks_within, time_of, wrapped)
+from ..formats.stl import letters_on_page, readable, stl_bytes, subtitle_times
+from ..formats.teletext import Page, page_name
+from ..stream.receiver import subcode_words, turns_of
+from ..stream.survey import Packets, Range, STRAY
+from .alignment import (
+    Airing, Base, Fit, FittedPart, IN_A_ROW, MOST_APART, Shown, Stretch, bases_of, by_breaks,
+    find_row, parts_of, runs_of)
+
+
+NEAR = 10 * FRAMES_A_SECOND  # to the origin 0
+NAMED = 5  # origins that are as good, or other pages
+LISTED = 20  # places at which subtitles begin to be late
+
+
+class Sought(NamedTuple):
+    """What is looked for: the subtitle file, and the page with its national option, in a recording
+    by its name; the origin that is known, the frames within which a page has to be whole, and how
+    many breaks there are; of the PES packets with some numbers alone, and of the subtitles that come
+    in some frames, but for those that are left out, by their places in the file."""
+
+    stl: str
+    name: str
+    page: Page = (0, 0x88)
+    option: str = "english"
+    origin: int | None = None
+    within: int = 0
+    breaks: int = 0
+    inside: Range | None = None
+    between: Between = ALL_DAY
+    left_out: Collection[int] = ()
+
+
+class OfPart(NamedTuple):
+    """The origin of a part, its PES packets where PTS go back, and of one of several parts its
+    first and its last frame; how many cues agree with it, among how many, and the line that says
+    so."""
+
+    origin: int
+    packets: Range | None = None
+    frames: tuple[int, int] | None = None
+    agree: int = 0
+    among: int = 0
+    line: str = ""
+
+
+class Agreement(NamedTuple):
+    """How many cues agree with the origin of the first part, among how many in the time in which
+    the page was sent, with how many the letters do, and how many `edges` there are. `are_all`: each
+    agrees, but where all beginnings are late compared with the ends, or all ends with them."""
+
+    agree: int
+    among: int
+    letters: int
+    edges: int
+    are_all: bool
+
+
+@dataclasses.dataclass
+class Origin:
+    """What is found: a status, 0 where it is clear; `parts`, where they are clear; the PES
+    packets of each time that the programme is there, where that is more than once; how many breaks,
+    where others were said; by how many ticks the first part is later than the origin that is known;
+    from when on subtitles are late, first, and in words. `printed` and `told` are all lines."""
+
+    status: int = 1
+    parts: list[OfPart] = dataclasses.field(default_factory=list)
+    runs: list[Range] = dataclasses.field(default_factory=list)
+    breaks: int | None = None
+    away: int | None = None
+    agreement: Agreement | None = None
+    shifted_from: int | None = None
+    shifts: list[str] = dataclasses.field(default_factory=list)
+    printed: list[str] = dataclasses.field(default_factory=list)
+    told: list[str] = dataclasses.field(default_factory=list)
+
+
+def subtitles_between(path: str, option: str, between: Between,
+                      left_out: Collection[int] = ()) -> list[Shown]:
+    """The subtitles of a file that come in some frames, and go within the day."""
+    found = []
+    for place, one in enumerate(readable(path, stl_bytes(path)), 1):
+        begin, end = subtitle_times(one)
+        is_one = begin is not None and between.has(begin) and place not in left_out
+        if is_one and begin is not None and end is not None and begin < end:
+            found.append(Shown(begin, end, (one.row, one.justify, one.text),
+                               letters_on_page(one.text, option)))
+    if not found:
+        raise Stop(f"{path} has no subtitle that comes and goes within a day")
+    return found
+
+
+def find(asked: Sought, packets: Packets) -> Origin:
+    """The origin of a recording, or why it is not clear."""
+    origin = Origin()
+    subtitles = subtitles_between(asked.stl, asked.option, asked.between, asked.left_out)
+    if not is_sent(packets, asked, origin.told):
+        return origin
+    bases = bases_of(subtitles, packets, asked.within, asked.inside)
+    if not bases:
+        origin.told += [*other_words(packets, asked.page), "no cue agrees with any origin"]
+        return origin
+    runs = runs_of(bases)
+    if len(runs) > 1:
+        origin.runs = [packets_of(runs, number, bases, packets) for number in range(len(runs))]
+        origin.told += [runs_line(len(runs)), *run_lines(runs, origin.runs, bases)]
+        return origin
+    row = find_row(bases)
+    if asked.breaks:
+        take_parts(origin, asked, bases, parts_of(subtitles, bases, by_breaks(row)))
+    else:
+        take_one(origin, asked, bases, row, parts_of(subtitles, bases, row))
+    if origin.status:
+        origin.told[:0] = other_words(packets, asked.page)
+    return origin
+
+
+def is_sent(packets: Packets, asked: Sought, told: list[str]) -> bool:
+    """Whether there is something of the page; else what there is, is told."""
+    count, marks = packets.count, len(packets.marks)
+    timed = sum(run.length for run in packets.timed())
+    if packets.damage:
+        if not count:
+            raise Stop(f"{asked.name}: {packets.damage}")
+        told.append(f"{asked.name}: {packets.damage}; what stands before is used")
+    if not timed:
+        told.append(f"none of {counted(count, 'PES packet')} in {asked.name} has a PTS: check "
+                    "refuses them as 34")
+        return False
+    if marks:
+        told.append(f"{counted(marks, 'mark')} of what is missing skipped: check refuses them as "
+                    "45")
+    if timed + marks < count:
+        told.append(f"{count - timed - marks} of {counted(count, 'PES packet')} have no PTS, and "
+                    "are skipped here: check refuses them as 34")
+    if not packets.changes:
+        own = page_name(*asked.page)
+        others = sorted((one for one in packets.sent if one != own),
+                        key=lambda one: -packets.sent[one])
+        told.append(f"there is no header of page {own} in {asked.name}; other subtitle pages: "
+                    f"{', '.join(others[:NAMED]) or 'none'}")
+    return bool(packets.changes)
+
+
+def take_one(origin: Origin, asked: Sought, bases: Sequence[Base],
+             row: Sequence[Stretch], parts: Sequence[FittedPart]) -> None:
+    """Takes one origin, that of the first part, where it is clear."""
+    if not parts:
+        origin.told.append("no cue agrees with any origin")
+        return
+    part, edges = parts[0], bases[0].edges
+    if is_clear(part):
+        origin.status = 0
+        is_back = len(bases) > 1 and len(parts) == 1
+        add(origin, part, part.sent.packets if is_back else None, None, len(edges))
+    origin.told += part_lines(part, len(edges))
+    measure(origin, asked.origin, part)
+    if len(parts) > 1:
+        origin.shifted_from = edges[row[1].first].frame
+        origin.shifts = shift_lines(row, parts,
+                                    part.origin if asked.origin is None else asked.origin)
+        origin.told += origin.shifts
+    first, last = (time_of_pts(pts, part.origin) for pts in part.sent.sent)
+    origin.told.append(f"subtitles due from {time_of(edges[0].frame)} to "
+                       f"{time_of(edges[-1].frame)}, page sent from {first} to {last}")
+
+
+def take_parts(origin: Origin, asked: Sought, bases: Sequence[Base],
+               parts: Sequence[FittedPart]) -> None:
+    """Takes all parts, where they are as many as there are to be, and clear."""
+    if len(parts) != asked.breaks + 1:
+        origin.breaks = max(len(parts) - 1, 0)
+        found = counted(origin.breaks, "break") if origin.breaks else "no break"
+        origin.told += [f"{found} found, where --breaks {asked.breaks} is said",
+                        *break_lines(parts)]
+        return
+    count = sum(len(part.sent.edges) for part in parts)
+    if all(map(is_clear, parts)):
+        origin.status = 0
+        for part in parts:
+            add(origin, part, part.sent.packets if len(bases) > 1 else None,
+                (part.begin, part.end), count)
+    origin.told += [f"{len(parts)} parts: {sum(part.best.agree for part in parts)} of "
+                    f"{counted(count, 'cue')} agree", *break_lines(parts)]
+    for part in parts:
+        origin.told += part_lines(part, count)
+        if part is parts[0]:
+            measure(origin, asked.origin, part)
+        origin.told += [f"the subtitle from {time_of(one.begin)} to {time_of(one.end)} reaches "
+                        "into the next part, and is in none" for one in part.over]
+
+
+def add(origin: Origin, part: FittedPart, packets: Range | None,
+        frames: tuple[int, int] | None, count: int) -> None:
+    """Takes a part that is clear; the file has so many edges."""
+    between = f"--from {time_of(frames[0])} --to {time_of(frames[1])} " if frames else ""
+    pes = f"--pes {packets[0]}-{packets[1]} " if packets else ""
+    best = part.best
+    origin.parts.append(OfPart(part.origin, packets, frames, best.agree, best.among,
+                               agree_line(part, count)))
+    origin.printed.append(f"{between}{pes}--origin {part.origin}")
+
+
+def measure(origin: Origin, known: int | None, part: FittedPart) -> None:
+    """Takes how the first part agrees with its origin, and how late it is compared with one that
+    is known, or with 0 near that."""
+    best, apart = part.best, part.sent.apart(part.best)
+    origin.agreement = Agreement(
+        best.agree, best.among, best.letters, len(part.sent.edges),
+        best.agree == best.among or bool(apart and apart.agree == apart.of))
+    away = ticks_between(known or 0, part.origin)
+    origin.away = None if known is None else away
+    if known is not None or abs(away) // TICKS <= NEAR and not 0 <= abs(away) < TICKS:
+        which = f"--origin {known or 0}"
+        origin.told.append(f"that is {frames_words(away)} compared with {which}" if away else
+                           f"that is {which}")
+
+
+# ---- words
+
+def other_words(packets: Packets, page: Page) -> Iterator[str]:
+    """What may be why edges do not agree: rows that no receiver of the page takes, or sub-pages."""
+    name = page_name(*page)
+    if packets.strays:
+        count = sum(run.length for run in packets.runs if STRAY in run.does)
+        yield f"rows came while {name} was not open, in {counted(count, 'PES packet')}"
+    subcodes = turns_of(packets)
+    if subcodes:
+        yield subcode_words(subcodes, name)
+
+
+def time_of_pts(pts: int, origin: int) -> str:
+    """The time of the day of a PTS, or that it is of none."""
+    frame = frame_in(pts, origin)
+    return time_of(frame) if frame < FRAMES_OF_A_DAY else "outside of the day"
+
+
+def frames_words(ticks: int) -> str:
+    """`2 frames late`, of the ticks between what is due and what is sent."""
+    frames, rest = divmod(abs(ticks), TICKS)
+    more = f" and {rest} ticks" if rest else ""
+    return f"{counted(frames, 'frame')}{more} {'late' if ticks > 0 else 'early'}"
+
+
+def as_good(part: FittedPart) -> list[Fit]:
+    """The origins that are as good as the best of a part, but where beginnings and ends are apart
+    the one of the ends, and those with which nothing is but erased."""
+    best, apart = part.best, part.sent.apart(part.best)
+    ways = (True,) if best.agree >= IN_A_ROW else (True, False)
+    return [fit for fit in part.others if any(fit.points(one) >= best.points(one) for one in ways)
+            and not (apart and (abs(fit.start - best.start) <= MOST_APART or not fit.texts))]
+
+
+def is_clear(part: FittedPart) -> bool:
+    """Whether the origin of a part is clear."""
+    return not as_good(part) and (part.best.agree * 2 >= part.best.among
+                                  or bool(part.sent.apart(part.best)))
+
+
+def agree_line(part: FittedPart, count: int) -> str:
+    """How many cues of a part agree with its best origin; the file has so many edges."""
+    best, others, edges = part.best, part.others, len(part.sent.edges)
+    following = f"--origin {others[0].origin} with {others[0].agree}" if others else "none"
+    return (f"{best.agree} of {counted(best.among, 'cue')} "
+            f"{'agrees' if best.agree == 1 else 'agree'}, {best.letters} with the letters that are "
+            f"due; {'the file' if edges == count else 'this part'} has {edges}; next best: "
+            f"{following}")
+
+
+def part_lines(part: FittedPart, count: int) -> Iterator[str]:
+    """What there is to know of the best origin of a part; the file has so many edges."""
+    best = part.best
+    yield agree_line(part, count)
+    if part.sent.within:
+        late = sorted(best.late)
+        yield "no cue is late" if not late[-1] else f"cues are " \
+            f"{range_words(late[0], late[-1])} late, {late[len(late) // 2]} in the middle"
+    equal, apart = as_good(part), part.sent.apart(best)
+    if equal:
+        names = ", ".join(f"--origin {fit.origin}" for fit in equal[:NAMED])
+        yield (f"it is not unique: as good as --origin {best.origin} are {names}"
+               + (f" and {len(equal) - NAMED} more" if len(equal) > NAMED else ""))
+    if best.first_other is not None:
+        yield f"the first cue that does not agree is {time_of(best.first_other)}"
+    if apart:
+        some, others_ = ("beginnings", "ends") if apart.is_begin else ("ends", "beginnings")
+        which = "all" if apart.agree == apart.of else f"{apart.agree} of {apart.of}"
+        yield f"{which} {some} are {frames_words(TICKS * apart.late)} compared with the {others_}"
+    if best.exact < best.agree:
+        yield (f"{best.agree - best.exact} of them only to the nearest frame: PTS that are not "
+               "whole frames apart are refused as 61")
+    if best.agree * 2 < best.among and not apart:
+        yield (f"fewer than half of the cues agree with --origin {best.origin}: check that this "
+               "is the right subtitle file")
+
+
+def shift_lines(row: Sequence[Stretch], parts: Sequence[FittedPart], known: int) -> list[str]:
+    """From when on subtitles are late, compared with an origin, and what to say if it is a break.
+    """
+    lines = []
+    for stretch, before, part in zip(row[1:], parts, parts[1:]):
+        late = ticks_between(known, part.origin)
+        frames = round(abs(late) / TICKS)
+        words = f"{frames / FRAMES_A_SECOND:.2f} s ({counted(frames, 'frame')}) " \
+            f"{'late' if late > 0 else 'early'}" if abs(late) >= TICKS else "on time"
+        back = ", where PTS go back," if part.base != before.base else ""
+        lines.append(f"from {time_of(stretch.track.edges[stretch.first].frame)} on{back} subtitles "
+                     f"are {words}")
+    left = lines[LISTED - 1:-1]
+    lines = lines[:LISTED - 1] + [f"and so on, {counted(len(left), 'time')} more"] * bool(left) \
+        + lines[LISTED - 1:][-1:]
+    if len(by_breaks(row)) == len(row):
+        breaks = "a break" if len(row) == 2 else "breaks"
+        lines[-1] += f"; if the programme has {breaks} there, say --breaks {len(row) - 1}"
+    return lines
+
+
+def break_lines(parts: Sequence[FittedPart]) -> Iterator[str]:
+    """Where parts begin, and how much longer the recording is there than the file."""
+    for number, (before, part) in enumerate(zip(parts, parts[1:]), 2):
+        frames, rest = divmod(abs(away := ticks_between(before.origin, part.origin)), TICKS)
+        length = time_of(frames) + (f" and {rest} ticks" if rest else "")
+        where = "where PTS go back" if part.base != before.base else \
+            f"after a break of {length}" if away > 0 else f"where the recording lacks {length}"
+        yield f"part {number} begins at {time_of(part.begin)}, {where}"
+
+
+def runs_line(runs: int) -> str:
+    """How often the programme is there."""
+    return f"the programme is there {runs} times"
+
+
+def run_lines(runs: Sequence[Airing], packets: Sequence[Range], bases: Sequence[Base]) \
+        -> Iterator[str]:
+    """Where the runs of a programme are."""
+    def after(place: tuple[int, int]) -> str:
+        before = sum(wrapped(last - first) // TICKS
+                     for first, last in (one.sent for one in bases[:place[0]]))
+        return time_of(before + place[1])
+
+    for number, (run, own) in enumerate(zip(runs, packets), 1):
+        first, last = (pts_of(frames, bases[base].first) for base, frames in run)
+        yield (f"run {number} is sent from PTS {first} to PTS {last}, from {after(run.first)} to "
+               f"{after(run.last)} after the first header: --pes {own[0]}-{own[1]}")
+
+
+def packets_of(runs: Sequence[Airing], number: int, bases: Sequence[Base],
+               packets: Packets) -> Range:
+    """The PES packets of a run, and all beside it up to the last of the run before and the first of
+    the next one."""
+    first, last = bases[0].packets[0], bases[-1].packets[1]
+    if number:
+        first = number_of_place(runs[number - 1].last, bases, packets) + 1
+    if number + 1 < len(runs):
+        last = number_of_place(runs[number + 1].first, bases, packets) - 1
+    return first, last
+
+
+def number_of_place(place: tuple[int, int], bases: Sequence[Base], packets: Packets) -> int:
+    """The number of the PES packet at a place; a base may be longer than half of the clock."""
+    base = bases[place[0]]
+    length, least = TICKS * base.length, TICKS * place[1] - TICKS // 2
+
+    def is_there(pts: int) -> bool:
+        return ticks_within(base.first, length, pts) >= least
+
+    return next((number for run in packets.inside(*base.packets)
+                 if run.last is not None and is_there(run.last)
+                 for number in range(run.first, run.end) if is_there(run.pts_of(number) or 0)),
+                base.packets[1])

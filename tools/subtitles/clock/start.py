@@ -1,0 +1,258 @@
+"""The clock of a part, `--start` by the first picture, and PTS that are no whole frames."""
+from __future__ import annotations
+
+import collections
+from typing import NamedTuple, Sequence
+
+from ..common.command_line import counted, pid_name, shown
+from ..common.files import first_bytes
+from ..common.times import (
+    ALL_DAY, Between, EARLY, TICKS, frame_in, frame_of, frame_of_code, ticks_between, time_of,
+    wrapped)
+from ..formats.stl import GSI
+from ..request.request import ORIGIN_CHOICE, Request, Selection, Unclear
+from ..stream.ranges import Stage
+from ..stream.survey import Packets, Range, Survey
+
+
+# The clock of a part: its origin, where that is from, and the delay measured against it.
+
+RECORDING, GIVEN, START, TCP = "recording", "given", "start", "tcp"
+SOURCES = {RECORDING: "fitted to the recording", GIVEN: "given", START: "by the first picture",
+           TCP: "by the first picture, TCP"}
+FITTED_SHORT = "the clock was fitted to the recording"
+FITTED = f"{FITTED_SHORT}: a delay that all subtitles share is not seen; give --origin or --start"
+FITTED_LATER = "the clock after a break was fitted to the recording: a delay that all subtitles " \
+    "of that part share is not seen"
+
+
+class Clock(NamedTuple):
+    """An origin and its `source`: fitted to the recording, given as `--origin`, or as `--start` by
+    a time or by the TCP of the GSI block. `delay_frames` is how many frames later than by it the
+    edges of the subtitles came, `None` where nothing can tell: a clock that was fitted to the
+    recording has the delay in it. `evidence` is by what this call has fitted it."""
+
+    origin: int
+    source: str
+    delay_frames: int | None = None
+    evidence: Selection | None = None
+
+    def chosen(self, part: int | None) -> Selection | None:
+        """It as what is chosen for a part; `None` where it was given."""
+        evidence = self.evidence or Selection(ORIGIN_CHOICE, str(self.origin), FITTED)
+        return evidence._replace(part=part) if self.is_fitted else None
+
+    @property
+    def is_fitted(self) -> bool:
+        """Whether it was found in the recording that it judges."""
+        return self.source == RECORDING
+
+    def words(self) -> str:
+        """The origin, and where it is from."""
+        return f"origin {self.origin}, {SOURCES[self.source]}"
+
+
+class Found(NamedTuple):
+    """What is judged by one clock: its frames, its PES packets where PTS go back, and the frames in
+    which its subtitles come. Where the page moves to another PID it is what one of these carries,
+    `stage`; `came` and `goes` are the PIDs from which the page comes, and to which it goes."""
+
+    begin: int
+    end: int
+    clock: Clock
+    packets: Range | None = None
+    between: Between = ALL_DAY
+    stage: Stage | None = None
+    came: int | None = None
+    goes: int | None = None
+
+    @property
+    def origin(self) -> int:
+        return self.clock.origin
+
+    @property
+    def pid(self) -> int | None:
+        """The PID, where the page moves to another one."""
+        return self.stage and self.stage.pid
+
+
+# The clock of a recording by the time code of its first picture, `--start`.
+
+NAMES = {0x01: "MPEG-1", 0x02: "MPEG-2", 0x1B: "H.264", 0x24: "HEVC"}  # stream_type
+# Other video, whose pictures are not looked for.
+OTHERS = {0x10: "MPEG-4 part 2", 0x1E: "MPEG-C", 0x1F: "SVC", 0x20: "MVC", 0x21: "JPEG 2000",
+          0x25: "HEVC sub-bitstream", 0x32: "JPEG XS", 0x33: "VVC", 0x35: "EVC", 0x42: "AVS",
+          0xD1: "Dirac", 0xD2: "AVS2", 0xD4: "AVS3", 0xEA: "VC-1"}
+TCP_PLACE = slice(256, 264)  # of a GSI block
+FRAMES_NEAR = 25  # frames that the last PCR of a recording may be before its last picture
+PTS_LOOKED_AT = 1000  # PTS
+REORDERED = 16  # pictures, at most, that are sent before one that is shown before them
+LONGEST = 10 * 90_000  # ticks after which pictures are no longer listed
+PATIENCE = 60 * 90_000  # ticks of the PCR without a picture after which none is waited for
+
+
+class NoFirst(Exception):
+    """There is no first picture, or it is not clear which one it is; the text says why."""
+
+
+class First(NamedTuple):
+    """The first picture of a recording: the PID of its video, what kind that is, its PTS, and how
+    many PES packets before it were passed over."""
+
+    pid: int
+    kind: int
+    pts: int
+    passed: int
+
+    def line(self) -> str:
+        return (f"the first picture has PTS {self.pts}, {NAMES[self.kind]} of "
+                f"{pid_name(self.pid)}; {counted(self.passed, 'PES packet')} of video before it "
+                "skipped")
+
+
+class Began(NamedTuple):
+    """The clock that the first picture tells: what is said of it, and the frame of that picture."""
+
+    clock: Clock
+    lines: list[str]
+    frame: int
+
+
+def video_of(survey: Survey, teletext: int) -> tuple[int, int]:
+    """The video PID of the programme of a Teletext PID, and its kind."""
+    programmes = survey.programmes_of(teletext)
+    if not programmes:
+        raise NoFirst(f"no PMT names {pid_name(teletext)}")
+    kinds = {pid: kind for one in programmes for pid, kind in one.kinds.items()}
+    known = NAMES | OTHERS
+    there = ", ".join(f"{pid_name(pid)} {known.get(kind, f'stream_type {kind:02X}')}"
+                      for pid, kind in sorted(kinds.items()))
+    videos = {pid: kind for pid, kind in kinds.items() if kind in known}
+    if len(videos) != 1:
+        raise NoFirst(f"the PMT that names {pid_name(teletext)} has "
+                      f"{'several video PIDs' if videos else 'no video'}: {there}")
+    pid, kind = videos.popitem()
+    if kind not in NAMES:
+        raise NoFirst(f"pictures of {OTHERS[kind]} are not read: {there}")
+    return pid, kind
+
+
+def first_picture(survey: Survey, teletext: int) -> First:
+    """The first picture of the programme whose PMT names a Teletext PID: the one with the smallest
+    PTS from the first with random_access_indicator to the next such one."""
+    pid, kind = video_of(survey, teletext)
+    name, one = f"{NAMES[kind]} of {pid_name(pid)}", survey.videos.get(pid)
+    if one is None and not survey.is_whole:
+        raise NoFirst(f"no PES packet of {name} has come with the random_access_indicator")
+    if one is None:
+        raise NoFirst(f"{pid_name(pid)}, which the PMT names as {NAMES[kind]}, has no PES packets "
+                      "of video that can be read")
+    if not one.pictures:
+        raise NoFirst(f"none of {counted(one.passed, 'PES packet')} of {name} has the "
+                      "random_access_indicator")
+    if one.scrambled:
+        raise NoFirst(f"{name} is scrambled")
+    if one.lost:
+        raise NoFirst(f"{counted(one.lost, 'TS packet')} of {name} lost among its first pictures")
+    pts = [pts for pts in one.pictures if pts is not None]
+    if len(pts) < len(one.pictures):
+        raise NoFirst(f"a picture of {name} has no PTS")
+    if frames := left_out(pts, one.is_cut):
+        raise NoFirst(f"the PTS of the first pictures of {name} leave out "
+                      f"{counted(frames, 'frame')}: a PES packet has several pictures, or some are "
+                      "missing")
+    return First(pid, kind, min(pts, key=lambda each: ticks_between(pts[0], each)), one.passed)
+
+
+def left_out(pts: list[int], is_cut: bool) -> int:
+    """How many frames the PTS of pictures leave out, of which each has one where a PES packet has
+    one picture. Of pictures that are cut off, some that are shown before the last are not told."""
+    shown_at = sorted(ticks_between(pts[0], one) for one in pts)
+    if is_cut or shown_at[-1] - shown_at[0] > LONGEST:
+        del shown_at[-REORDERED:]
+    steps = [second - first for first, second in zip(shown_at, shown_at[1:])]
+    return sum(round(step / TICKS) - 1 for step in steps if step > TICKS + EARLY)
+
+
+def is_known(survey: Survey, teletext: int) -> bool:
+    """Whether nothing more of a feed tells the first picture."""
+    try:
+        pid, _ = video_of(survey, teletext)
+    except NoFirst:
+        return bool(survey.programmes_of(teletext))
+    clock = survey.clock_of(teletext)
+    return survey.videos[pid].is_over if pid in survey.videos else \
+        clock is not None and ticks_between(*clock) > PATIENCE
+
+
+def after_frame(packets: Packets, pts: int, within: int) -> int:
+    """How many ticks after a frame that begins at a PTS most PTS of the Teletext are, less than a
+    frame; within 1 and more, where there are some, of those that are near it: fields have two."""
+    ticks: collections.Counter[int] = collections.Counter()
+    for _, (one, _) in zip(range(PTS_LOOKED_AT), ((one, 0) for one in packets.pts())):
+        ticks[wrapped(one - pts) % TICKS] += 1
+    known = [rest for rest, _ in ticks.most_common()]
+    near = [rest for rest in known if rest <= EARLY or rest >= TICKS - EARLY]
+    return (near if within and near else known)[0]
+
+
+def start_frame(asked: Request) -> int:
+    """The frame of the first picture, as it was given or as the GSI block has it."""
+    if asked.start != TCP:
+        frame = frame_of(asked.start or "")
+        assert frame is not None  # the words of the command line were looked at
+        return frame
+    code = first_bytes(asked.stl_path, GSI)[TCP_PLACE].decode("latin-1")
+    is_code = code.isascii() and code.isdecimal() and len(code) == 8
+    found = frame_of_code(int(code[at:at + 2]) for at in range(0, 8, 2)) if is_code else None
+    if found is None:
+        raise Unclear(f"the GSI block of {asked.stl} has no time as TCP: {shown(code)!r}")
+    return found
+
+
+def began(asked: Request, survey: Survey, packets: Packets) -> Began:
+    """The clock, moved to the PTS of the Teletext by less than half a frame."""
+    first, frame = first_picture(survey, packets.pid), start_frame(asked)
+    after = after_frame(packets, first.pts, asked.within)
+    if after * 2 == TICKS:
+        raise Unclear(f"{first.line()}. The PTS of the Teletext are half a frame after it: the "
+                      "frame of neither is clear")
+    ticks = after if after * 2 < TICKS else after - TICKS
+    moved = wrapped(first.pts - TICKS * frame + ticks)
+    source = TCP if asked.start == TCP else START
+    name = f"the TCP {time_of(frame)}" if source == TCP else f"--start {time_of(frame)}"
+    said = "which the PTS of the Teletext agree with" if not ticks else \
+        f"moved by {counted(abs(ticks), 'tick')} {'forward' if ticks > 0 else 'back'} to the PTS " \
+        "of the Teletext"
+    return Began(Clock(moved, source), [first.line(), f"{name} there is --origin {moved}, {said}"],
+                 frame)
+
+
+def refuse_outside(asked: Request, one: Began, begin: int, end: int, last: int | None) -> None:
+    """Subtitles that lie outside of a recording which begins with the programme's first picture;
+    `last` is its last PTS."""
+    if begin < one.frame:
+        raise Unclear(f"the first subtitle of {asked.stl} comes at {time_of(begin)}, before its "
+                      f"TCP {time_of(one.frame)}, at which the recording would begin")
+    over = None if last is None else frame_in(last, one.clock.origin)
+    if over is not None and end > over + FRAMES_NEAR:
+        raise Unclear(f"the last subtitle of {asked.stl} goes at {time_of(end)}, and by the TCP "
+                      f"the recording ends at {time_of(over)}")
+
+
+# How far PTS lie off that are no whole frames from the origin (61).
+
+MILLISECOND = 90  # ticks
+MOST_PTS = 100_000  # PTS
+
+
+def most_off(several: Sequence[int], origin: int) -> int:
+    """By how many ticks some PTS are off their nearest frames at most."""
+    return max((abs(ticks_between(0, pts - origin + TICKS // 2) % TICKS - TICKS // 2)
+                for pts in several[:MOST_PTS]), default=0)
+
+
+def off_words(most: int, within: int | None) -> str:
+    """What a person needs to know, with the frames within which it is accepted."""
+    words = f"PTS are up to {most / MILLISECOND:.1f} ms off the frame" if most else ""
+    return f"{words}; --within {within} accepts that" if words and within is not None else words

@@ -1,0 +1,277 @@
+"""What values of JSON may be."""
+from __future__ import annotations
+
+import itertools
+import re
+from typing import Any, Callable, Iterator, NamedTuple, Sequence
+
+from .command_line import NO_PID
+from .times import CLOCK
+
+
+# What values of JSON may be: kinds with bounds, each of which makes a value, says where another one
+# does not fit, and stands in a JSON schema.
+#
+# `misfit` answers `None` for a value that fits, else where in it the first thing does not, as
+# `.faults[3].number`, which is empty for the value itself.
+
+MOST_TEXT = 65_536  # characters of a text, where nothing else is said
+Schema = dict[str, Any]
+
+
+class Shape:
+    """Any value. One that has a `name` stands once in a schema, under it."""
+
+    name, meaning = "", ""
+
+    def made(self, value: Any) -> Any:
+        """The value as it is written, of one that tools have."""
+        return value
+
+    def misfit(self, value: object) -> str | None:
+        """Where a value does not fit."""
+        return None
+
+    def schema(self) -> Schema:
+        """The shape in a schema."""
+        return {}
+
+    def inner(self) -> Iterator[Shape]:
+        """The shapes of which it is made."""
+        return iter(())
+
+    def reference(self) -> Schema:
+        """The shape where another one has it."""
+        return {"$ref": f"#/definitions/{self.name}"} if self.name else self.schema()
+
+
+class Text(Shape):
+    """A text of a length, all of which a pattern matches; one that is longer is cut where nothing
+    is asked of what stands in it."""
+
+    def __init__(self, pattern: str = "", most: int = MOST_TEXT, least: int = 0) -> None:
+        self.pattern, self.most, self.least = pattern and re.compile(pattern), most, least
+
+    def made(self, value: Any) -> Any:
+        is_cut = not self.pattern and isinstance(value, str) and len(value) > self.most
+        return value[:self.most - 3] + "..." if is_cut else value
+
+    def misfit(self, value: object) -> str | None:
+        fits = isinstance(value, str) and self.least <= len(value) <= self.most and (
+            not self.pattern or self.pattern.fullmatch(value))
+        return None if fits else ""
+
+    def schema(self) -> Schema:
+        pattern = {"pattern": f"^{self.pattern.pattern}$"} if self.pattern else {}
+        least = {"minLength": self.least} if self.least else {}
+        return {"type": "string", **pattern, **least, "maxLength": self.most}
+
+
+class Integer(Shape):
+    """A whole number in bounds, both of them included."""
+
+    def __init__(self, least: int, most: int) -> None:
+        self.least, self.most = least, most
+
+    def misfit(self, value: object) -> str | None:
+        return None if type(value) is int and self.least <= value <= self.most else ""
+
+    def schema(self) -> Schema:
+        return {"type": "integer", "minimum": self.least, "maximum": self.most}
+
+
+class Number(Shape):
+    """A number from 0 to a greatest one."""
+
+    def __init__(self, most: int) -> None:
+        self.most = most
+
+    def misfit(self, value: object) -> str | None:
+        if isinstance(value, bool) or not isinstance(value, (int, float)):
+            return ""
+        return None if 0 <= value <= self.most else ""  # neither NaN nor infinite
+
+    def schema(self) -> Schema:
+        return {"type": "number", "minimum": 0, "maximum": self.most}
+
+
+class OneOf(Shape):
+    """One of some values: words, numbers, true, `None`."""
+
+    def __init__(self, *values: str | int | None) -> None:
+        self.values = values
+
+    def misfit(self, value: object) -> str | None:
+        return None if any(type(value) is type(one) and value == one for one in self.values) else ""
+
+    def schema(self) -> Schema:
+        return {"const": self.values[0]} if len(self.values) == 1 else {"enum": [*self.values]}
+
+
+class Flag(Shape):
+    """True or false."""
+
+    def misfit(self, value: object) -> str | None:
+        return None if isinstance(value, bool) else ""
+
+    def schema(self) -> Schema:
+        return {"type": "boolean"}
+
+
+class Maybe(Shape):
+    """A value of a shape, or `None`."""
+
+    def __init__(self, shape: Shape) -> None:
+        self.shape = shape
+
+    def made(self, value: Any) -> Any:
+        return None if value is None else self.shape.made(value)
+
+    def misfit(self, value: object) -> str | None:
+        return None if value is None else self.shape.misfit(value)
+
+    def schema(self) -> Schema:
+        return {"anyOf": [self.shape.reference(), {"type": "null"}]}
+
+    def inner(self) -> Iterator[Shape]:
+        yield self.shape
+
+
+class Listed(Shape):
+    """Values of a shape, so many of them; of more those are left out that come last."""
+
+    def __init__(self, shape: Shape, most: int, least: int = 0) -> None:
+        self.shape, self.most, self.least = shape, most, least
+
+    def made(self, value: Any) -> Any:
+        return [self.shape.made(one) for one in itertools.islice(value, self.most)]
+
+    def misfit(self, value: object) -> str | None:
+        if not isinstance(value, list) or not self.least <= len(value) <= self.most:
+            return ""
+        for at, one in enumerate(value):
+            found = self.shape.misfit(one)
+            if found is not None:
+                return f"[{at}]{found}"
+        return None
+
+    def schema(self) -> Schema:
+        least = {"minItems": self.least} if self.least else {}
+        return {"type": "array", "items": self.shape.reference(), **least, "maxItems": self.most}
+
+    def inner(self) -> Iterator[Shape]:
+        yield self.shape
+
+
+class Member(NamedTuple):
+    """A member of an object: its name, its shape, what it means, and how it is found in the value
+    of which the object is made; that has it under the same name where nothing is said."""
+
+    name: str
+    shape: Shape
+    meaning: str = ""
+    of: Callable[[Any], Any] | None = None
+    is_always: bool = True  # whether each such object has it
+
+    def found(self, value: Any) -> Any:
+        """The member of such a value, as it is written."""
+        if self.of is not None:
+            found = self.of(value)
+        else:
+            found = value[self.name] if isinstance(value, dict) else getattr(value, self.name)
+        return self.shape.made(found)
+
+    def schema(self) -> Schema:
+        """The member in a schema; beside a reference nothing else is read."""
+        known = self.shape.reference()
+        if not self.meaning:
+            return known
+        return {"description": self.meaning, **({"allOf": [known]} if "$ref" in known else known)}
+
+
+class Record(Shape):
+    """An object with these members and no other one. `rules` are other shapes that it has to fit,
+    by members that hang on each other."""
+
+    def __init__(self, name: str, meaning: str, *members: Member,
+                 rules: Sequence[Rules] = ()) -> None:
+        self.name, self.meaning, self.members, self.rules = name, meaning, members, rules
+        self.shapes = {one.name: one.shape for one in members}
+        self.needed = {one.name for one in members if one.is_always}
+
+    def made(self, value: Any) -> Any:
+        return {one.name: one.found(value) for one in self.members
+                if one.is_always or one.name in value}
+
+    def misfit(self, value: object) -> str | None:
+        if not isinstance(value, dict):
+            return ""
+        strange = (value.keys() - self.shapes.keys()) | (self.needed - value.keys())
+        if strange:
+            return f".{min(strange)}"
+        for name, one in value.items():
+            found = self.shapes[name].misfit(one)
+            if found is not None:
+                return f".{name}{found}"
+        return next((found for rule in self.rules if (found := rule.misfit(value)) is not None),
+                    None)
+
+    def schema(self) -> Schema:
+        rules = {"allOf": [rule.schema() for rule in self.rules]} if self.rules else {}
+        meaning = {"description": self.meaning} if self.meaning else {}
+        return {**meaning, "type": "object",
+                "required": [one.name for one in self.members if one.is_always],
+                "additionalProperties": False,
+                "properties": {one.name: one.schema() for one in self.members}, **rules}
+
+    def inner(self) -> Iterator[Shape]:
+        return iter(self.shapes.values())
+
+
+class Rules(NamedTuple):
+    """Rows of what members of an object are together: it fits one row at least."""
+
+    rows: Sequence[dict[str, Shape]]
+
+    def misfit(self, value: dict[str, object]) -> str | None:
+        """The first member of the first row, where no row fits."""
+        is_one = any(all(shape.misfit(value[name]) is None for name, shape in row.items())
+                     for row in self.rows)
+        return None if is_one else f".{next(iter(self.rows[0]))}"
+
+    def schema(self) -> Schema:
+        """All rows in a schema."""
+        return {"anyOf": [{"properties": {name: shape.schema() for name, shape in row.items()}}
+                          for row in self.rows]}
+
+
+def named(name: str, shape: Shape, meaning: str = "") -> Shape:
+    """A shape that stands once in a schema, under this name."""
+    shape.name, shape.meaning = name, meaning
+    return shape
+
+
+def definitions(shapes: Sequence[Shape]) -> Schema:
+    """All shapes with a name of which some are made, in the order in which they come."""
+    found: Schema = {}
+    waiting = [*shapes]
+    while waiting:
+        shape = waiting.pop(0)
+        if shape.name and shape.name in found:
+            continue
+        if shape.name:
+            meaning = {"description": shape.meaning} if shape.meaning else {}
+            found[shape.name] = {**meaning, **shape.schema()}
+        waiting += shape.inner()
+    return found
+
+
+# Kinds of values that JSON results have in several places; each stands once in the schema.
+
+Members = dict[str, Any]  # of a fault, cause or cell, by the rows that `results.schema` has
+MOST_NUMBER = (1 << 53) - 1  # the greatest that each reader of JSON takes as it is
+
+TIME = named("time", Text(r"[0-9]{2}:[0-9]{2}:[0-9]{2}:[0-9]{2}"))
+COUNT = named("count", Integer(0, MOST_NUMBER))
+PTS = named("pts", Integer(0, CLOCK - 1))
+PID = named("pid", Integer(0, NO_PID - 1))

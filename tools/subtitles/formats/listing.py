@@ -1,0 +1,195 @@
+"""Lines of `check`, and what the manual says of their numbers."""
+from __future__ import annotations
+
+import os
+import re
+from typing import NamedTuple
+
+from ..common.markup import Markup, joined, markup
+from ..common.program import TOP
+from ..common.times import FRAMES_A_SECOND, frame_of
+
+
+# The lines of `check --all` as values. How such a line is written is known here alone.
+#
+#     accepted COUNT frames COUNT transmissions
+#     refused NUMBER Name PLACE
+#     ended NUMBER Name PLACE
+#     trusted frames TIME TIME
+#     COUNT faults
+#
+# PLACE is nothing, or one of: block N, block N at N, pes N, frame TIME, frame TIME packet N, frame
+# TIME row N column N. A line `fault` or `usage` has the form of `refused`.
+
+ACCEPTED = re.compile(r"accepted (\d+) frames (\d+) transmissions")
+COUNT = re.compile(r"(\d+) faults")
+TRUSTED = re.compile(r"trusted frames (\S+) (\S+)")
+PLACED = re.compile(
+    r"(?P<word>refused|ended|fault|usage) (?P<number>\d+) (?P<name>\w+)"
+    r"(?: block (?P<block>\d+)(?: at (?P<at>\d+))?| pes (?P<pes>\d+)"
+    r"| frame (?P<time>[\d:]+)(?: packet (?P<packet>\d+)"
+    r"| row (?P<row>\d+) column (?P<column>\d+))?)?")
+EMPTY = 60  # the number for a file without PES packets
+DISPLAY = 13  # display standard code (DSC)
+EMPTY_TIME, OUT_OF_ORDER = 21, 56  # times of a subtitle file that fall
+OFF_FRAME, GAP = 61, 73
+UNDECIDED = 78  # frames at which what is due is not known, beside subtitles that are refused
+STL_FAULTS = {*range(10, 26), *range(50, 58)}
+PASSED_OVER = {*range(33, 41), 45, 61}  # of PES packets that can't be read, or have no frame
+# Where reading a recording ended: nobody saw what comes after that.
+ENDS_READING = {30, 31, 32, 44}
+LOST_PACKETS = 45  # TS packets are lost within what is judged: nobody saw what was sent there
+SILENT = 79  # no PES packet has come for as long as the pace allows: these may be lost
+LOSSES = {LOST_PACKETS, SILENT}
+REFUSED, ENDED, FAULT, USAGE = "refused", "ended", "fault", "usage"
+CONTENT, CHARACTER, LETTERS, CONTROL, CHANGED = 72, 50, (50, 51), 67, 69
+BEGIN, END = 63, 74  # what is judged begins after the first TCI, or ends before the last TCO
+WITH_CAUSE = {BEGIN, CONTENT, END}
+INCOMPLETE = 77
+ON_SCREEN = {*WITH_CAUSE, INCOMPLETE, UNDECIDED}  # what a viewer sees, or does not see
+
+
+class FaultLine(NamedTuple):
+    """A line `refused`, `ended`, `fault` or `usage`: its number, its name and its place."""
+
+    line: str
+    word: str
+    number: int
+    name: str
+    block: int | None
+    at: int | None
+    pes: int | None
+    time: str | None
+    packet: int | None
+    row: int | None
+    column: int | None
+
+    @property
+    def frame(self) -> int | None:
+        """The frame of its time."""
+        frame: int | None = frame_of(self.time) if self.time else None
+        return frame
+
+    @property
+    def is_fault(self) -> bool:
+        return self.word == REFUSED
+
+
+class Accepted(NamedTuple):
+    """A line `accepted`."""
+
+    frames: int
+    transmissions: int
+
+
+class Trusted(NamedTuple):
+    """A line `trusted`: the times of the first and the last frame that may be trusted."""
+
+    first: str
+    last: str
+
+
+def fault_of_line(line: str) -> FaultLine | None:
+    """A line with a number; `None` for another one."""
+    found = PLACED.fullmatch(line)
+    if not found:
+        return None
+    word, number, name, block, at, pes, time, packet, row, column = found.groups()
+    return FaultLine(line, word, int(number), name, known(block), known(at), known(pes), time,
+                     known(packet), known(row), known(column))
+
+
+def known(digits: str | None) -> int | None:
+    """A number that a line may have."""
+    return None if digits is None else int(digits)
+
+
+def accepted_of(line: str) -> Accepted | None:
+    """A line `accepted`; `None` for another one."""
+    found = ACCEPTED.fullmatch(line)
+    return Accepted(int(found[1]), int(found[2])) if found else None
+
+
+def trusted_of(line: str) -> Trusted | None:
+    """A line `trusted`; `None` for another one."""
+    found = TRUSTED.fullmatch(line)
+    return Trusted(found[1], found[2]) if found else None
+
+
+def count_of(line: str) -> int | None:
+    """How many faults the last line of a list counts; `None` for another line."""
+    found = COUNT.fullmatch(line)
+    return int(found[1]) if found else None
+
+
+def is_line(line: str) -> bool:
+    """Whether it is one of these lines."""
+    return any(one(line) is not None for one in (fault_of_line, trusted_of, accepted_of, count_of))
+
+
+# A list may have a line for each frame of a day. Whoever needs few of its words takes these, which
+# cost a fraction of `told_of`.
+
+def line_words(line: str) -> list[str]:
+    """The word, the number, the name, and the place: what it is, its value, and the rest."""
+    return line.split(" ", 5)
+
+
+def number_of(line: str) -> int | None:
+    """The number of a line `refused`; `None` for another one."""
+    digits = line.split(" ", 2)[1] if line.startswith(REFUSED + " ") else ""
+    return int(digits) if digits.isascii() and digits.isdecimal() else None
+
+
+def frame_of_place(time: str) -> int:
+    """The frame of the time of a place."""
+    hours, minutes, seconds, frames = map(int, time.split(":"))
+    return ((hours * 60 + minutes) * 60 + seconds) * FRAMES_A_SECOND + frames
+
+
+# What the manual says that a refusal means, and what to do: read from its tables.
+
+CHAPTER = os.path.join(TOP, "docs", "manual", "refusals.md")
+
+
+class Meaning(NamedTuple):
+    """What the manual says of a number."""
+
+    name: str
+    means: str
+    do: str
+
+
+def meanings() -> dict[int, Meaning]:
+    """By number; empty where the manual does not stand beside tools/."""
+    found: dict[int, Meaning] = {}
+    last = ""
+    if not os.path.isfile(CHAPTER):
+        return found
+    with open(CHAPTER, encoding="utf-8") as file:
+        for line in file:
+            cells = [cell.strip() for cell in line.strip().strip("|").split("|")]
+            if len(cells) >= 4 and cells[0].isdecimal():
+                last = cells[-1].replace("the same", last) if cells[-1].startswith("the same") \
+                    else cells[-1]
+                found[int(cells[0])] = Meaning(cells[1], cells[-2], last)
+    return found
+
+
+def plain(text: str) -> str:
+    """A cell of the manual without marks: links as their words."""
+    return re.sub(r"\[([^]]*)\]\([^)]*\)", r"\1", text).replace("`", "")
+
+
+def marked_up(text: str) -> Markup:
+    """A cell of the manual as markup: code in backticks, and links as their words."""
+    pieces = re.sub(r"\[([^]]*)\]\([^)]*\)", r"\1", text).split("`")
+    return joined(markup("<code>{}</code>", one) if at % 2 else one
+                  for at, one in enumerate(pieces))
+
+
+def number_link(line: str) -> Markup:
+    """A line `refused NUMBER Name place` without its word; number and name lead to what it means.
+    """
+    _, number, name, *place = line.split(" ")
+    return joined([markup('<a href="#n{}">{} {}</a>', number, number, name), *place], " ")

@@ -1,0 +1,14 @@
+"""A pair judged: what `check` says of its parts, and what follows of it.
+
+status         the verdict in one word and its exit status
+check          `check --all` called, and what its list comes to
+transmissions  page transmissions: their headers, what a person reads on them
+causes         why the content is refused: the cause of each subtitle, those of a list
+sentence       the sentence of a verdict, which ends the last line
+subtitles      subtitles that are refused themselves: midnight, letters
+part           a part of a pair: what is judged by itself, which subtitles it has
+verdict        the verdict on a pair: all that is written of it
+losses         what is missing in the time of a part, and the pace by which it is judged
+faults         faults with their places and all that is known of them, and hints on some numbers
+pair           a pair judged, from a recording to a verdict
+"""

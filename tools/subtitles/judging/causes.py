@@ -1,0 +1,493 @@
+"""Why the content is refused: the cause of each subtitle, those of a list, and their words."""
+from __future__ import annotations
+
+import collections
+import functools
+from typing import Iterable, NamedTuple
+
+from ..common.command_line import counted
+from ..common.shapes import Members
+from ..common.times import Span, time_of
+from ..formats.listing import BEGIN, CONTENT, END
+from ..formats.stl import Subtitle
+from ..formats.teletext import BY_WORD, page_name
+from ..stream.receiver import BLANK_PAGE, HIT, LEAST, Rows, Timeline, subcode_words, turns_of
+from ..stream.survey import HEADER
+from .check import Answer
+from .transmissions import (
+    DuePages, Sendings, attribute_words, is_moved, is_part, left_at, moved_words, page_text,
+    words_on)
+
+
+# Why a page is held otherwise than it is due: of each subtitle with such frames one cause.
+
+LATE, EARLY, NEVER, OTHER = "late", "early", "never sent", "another subtitle's text"
+TEXT, PLACE, ATTRIBUTE = "wrong text", "wrong place", "wrong colour or attribute"
+NOT_ERASED, IN_PART, UNKNOWN = "not erased", "not repeated whole", "unknown"
+# A header without rows came while it was due; others' text came in the pause behind it; TS packets
+# are lost at its time.
+ERASED, IN_PAUSE, NOT_RECEIVED = "erased", "another text in a pause", "not received"
+NAMES = (LATE, EARLY, NEVER, OTHER, TEXT, PLACE, ATTRIBUTE, NOT_ERASED, IN_PART, ERASED, IN_PAUSE,
+         NOT_RECEIVED, UNKNOWN)
+UNSEEN = "not all that was sent then can be read"
+NEXT = "the page that comes at the last TCO is the next programme's"
+IN_PARTS = "as it is due only after another PES packet of the same frame"
+REPEATED = "left out behind a header with C4 (erase page) clear"
+EVEN = "a byte of its rows has even parity"
+
+
+class Cause(NamedTuple):
+    """The cause of a subtitle: its place in the file, a name, the frames that it is late or early,
+    the page that is sent, the place of the subtitle whose text that is, and what more there is to
+    say. `known` is the frame from which on the cause can't become another one."""
+
+    place: int
+    name: str
+    frames: int | None
+    sent: Rows | None
+    other: int | None
+    words: str
+    known: int
+
+
+class Faulty:
+    """The frames of a subtitle at which another page is held than the one that is due: the first
+    such stretch while it is due, and the first after its TCO."""
+
+    def __init__(self) -> None:
+        self.within: Span | None = None
+        self.after: Span | None = None
+
+    def add(self, span: Span, subtitle: Subtitle) -> None:
+        """Some more frames; the page that is held is the same at all."""
+        if subtitle.begin <= span.first < subtitle.end:
+            self.within = self.within or span
+        elif span.first >= subtitle.end:
+            self.after = self.after or span
+
+
+class Namer(Sendings):
+    """Names the causes of subtitles by what is held, and by what is told."""
+
+    def __init__(self, programme: DuePages, held: Timeline, answer: Answer | None = None) -> None:
+        super().__init__(programme, held)
+        self.answer = answer
+
+    def cause(self, place: int, faulty: Faulty) -> Cause:
+        """The cause of a subtitle; where no PES packet came it is that."""
+        found, one = self.cause_of_sendings(place, faulty), self.subtitles[place]
+        pause = self.held.pause_at(one.end if found.name == NOT_ERASED else one.begin)
+        if pause is None:
+            return found
+        is_by_pause = {
+            LATE: one.begin + (found.frames or 0) == pause.last + 1,
+            NEVER: one.end - 1 <= pause.last,
+            NOT_ERASED: self.held.number_at(pause.last + 1) != self.held.number_at(pause.last)}
+        if not is_by_pause.get(found.name):
+            return found
+        return self.unknown(place, one.begin, found.known, "no PES packet for "
+                            f"{counted(pause.last + 1 - pause.first, 'frame')}, from "
+                            f"{time_of(pause.first)} on")
+
+    def cause_of_sendings(self, place: int, faulty: Faulty) -> Cause:
+        """The cause of a subtitle, by what was sent when."""
+        one, came = self.subtitles[place], self.sending(place)
+        if self.held.page_at(one.begin) == self.pages[place]:
+            if came is not None and came < one.begin:
+                return self.moved(place, came)
+            return self.later(place, faulty)
+        if came is not None and self.is_in_time(place, came):
+            return self.later(place, faulty)
+        strange = self.strange(place, came)
+        if strange is not None:
+            return self.differs(place, strange)
+        other = self.other_at(one.begin, place)
+        if other is not None:
+            return self.of_other(place, other, self.window(place).last)
+        return self.never(place) if came is None else self.moved(place, came)
+
+    def moved(self, place: int, came: int) -> Cause:
+        """It came late or early."""
+        one = self.subtitles[place]
+        if came > one.begin and not self.held.is_seen(one.begin, came):
+            return self.unknown(place, one.begin, came, self.unseen_words(one.begin, came))
+        name, frames = (LATE, came - one.begin) if came > one.begin else (EARLY, one.begin - came)
+        words = self.row_words(came) if name == LATE and frames <= self.held.within else ""
+        if name == LATE and self.came_closed(place):
+            words = self.closed_words()
+        return Cause(place, name, frames, self.pages[place], None, words, max(came, one.begin))
+
+    def is_in_time(self, place: int, came: int) -> bool:
+        """Whether a page came as many frames after its TCI as are allowed, and the page was whole
+        as many before that."""
+        late = came - self.subtitles[place].begin
+        return 0 < late <= self.held.within and \
+            came - self.broken_since(came - 1) <= self.held.within
+
+    def broken_since(self, frame: int) -> int:
+        """The first of the frames in a row, up to one, at whose ends another page is held than the
+        one that is due; it is not looked for farther back than 250 frames."""
+        first = frame
+        while frame - first < LEAST and first > 0 and not self.is_due(first - 1):
+            first -= 1
+        return first
+
+    def row_words(self, came: int) -> str:
+        """For how many frames in a row the page was not whole when it came. Where it was not before
+        the TCI either these are more than it is late."""
+        first = self.broken_since(came - 1)
+        return f"the page is not whole for {counted(came - first, 'frame')} in a row, from " \
+            f"{time_of(first)} on"
+
+    def never(self, place: int) -> Cause:
+        """Its page came nowhere near."""
+        one, window = self.subtitles[place], self.window(place)
+        other = self.others_in(place)
+        if other is not None:
+            return self.of_other(place, other, window.last)
+        if not self.held.is_seen(one.begin, one.end - 1):
+            return self.unknown(place, one.begin, window.last,
+                                self.unseen_words(one.begin, one.end - 1))
+        if self.came_closed(place):
+            return self.unknown(place, one.begin, window.last, self.closed_words())
+        for number in self.held.numbers(one.begin, one.end):
+            page = self.held.pages[number]
+            if page != BLANK_PAGE and self.is_of_its_time(number, place) and \
+                    is_part(page, self.pages[place]):
+                return Cause(place, TEXT, None, page, None, "rows are missing", window.last)
+        sent = self.held.page_at(one.begin)
+        is_all = self.held.last >= min(window.last, one.begin + LEAST)
+        words = self.subcode_words if is_all else \
+            f"the recording was read up to {time_of(self.held.last)}"
+        return Cause(place, NEVER, None, None if sent == BLANK_PAGE else sent, None, words,
+                     window.last)
+
+    def came_closed(self, place: int) -> bool:
+        """Whether rows of a subtitle came in its time when the page was not open."""
+        one, page = self.subtitles[place], self.pages[place]
+        return any(span.first < one.end and one.begin <= span.last and any(
+            content == page[row - 1] for row, content in texts)
+            for span, texts in self.held.strays)
+
+    def closed_words(self) -> str:
+        """That in words."""
+        return f"rows came while {page_name(*self.held.page)} was not open"
+
+    def differs(self, place: int, number: int) -> Cause:
+        """Another page was sent at its time, which is that of no subtitle."""
+        one, due, sent = self.subtitles[place], self.pages[place], self.held.pages[number]
+        words = words_on(sent)
+        if words != words_on(due):
+            places = self.programme.by_words.get(words)
+            if places and words:
+                other = self.programme.nearest(places, one.begin)
+                return self.of_other(place, other, one.end)._replace(sent=sent)
+            return Cause(place, TEXT, None, sent, None, self.subcode_words, one.end)
+        if is_moved(due, sent):
+            return Cause(place, PLACE, None, sent, None, moved_words(due, sent), one.end)
+        return Cause(place, ATTRIBUTE, None, sent, None, attribute_words(due, sent), one.end)
+
+    def of_other(self, place: int, other: int, known: int) -> Cause:
+        return Cause(place, OTHER, None, self.pages[other], other, "", known)
+
+    def later(self, place: int, faulty: Faulty) -> Cause:
+        """It came at its TCI; something was wrong after that, or before."""
+        one = self.subtitles[place]
+        span = faulty.within or faulty.after
+        if span and self.is_due(span.first):
+            if rows := self.rows_left(span.first):
+                return Cause(place, IN_PART, None, self.pages[place], None, f"{rows} {REPEATED}",
+                             one.end)
+            return self.unknown(place, span.first, one.end, self.hidden_words(span.first))
+        if faulty.within:
+            return self.broken(place, faulty.within)
+        if faulty.after is None:
+            return self.unknown(place, one.begin, one.end, "it is sent at another time too")
+        number = self.held.number_at(faulty.after.first)
+        until = self.held.stretch(number).last
+        if self.held.frames[number] >= one.end:
+            return self.after(place, number, faulty.after.first)
+        if not self.held.is_seen(one.end, until):
+            return self.unknown(place, one.end, one.end, self.unseen_words(one.end, until))
+        return Cause(place, NOT_ERASED, None, self.held.pages[number], None,
+                     self.gone_words(place, number), one.end)
+
+    def hidden_words(self, frame: int) -> str:
+        """Why `check` tells another page at a frame than the one that is held after it."""
+        if len(self.held.members(frame)) > 1:
+            return IN_PARTS
+        if not self.held.is_seen(frame, frame):
+            return UNSEEN
+        return EVEN if HIT in b"".join(self.held.state_at(frame).rows) else ""
+
+    def rows_left(self, frame: int) -> str:
+        """Which rows of the page that is due at a frame a repeat left out, where that is why it is
+        told: all that was sent then is known, and within no frames it is one PES packet."""
+        is_one = self.held.within or len(self.held.members(frame)) == 1
+        return left_at(self.held, self.programme.page_at(frame), frame, self.answer) \
+            if is_one and self.held.is_seen(frame, frame) else ""
+
+    @functools.cached_property
+    def subcode_words(self) -> str:
+        """That sub-pages alternate, where they do."""
+        subcodes = turns_of(self.held.packets, self.held.inside)
+        return subcode_words(subcodes, page_name(*self.held.page)) if subcodes else ""
+
+    def after(self, place: int, number: int, frame: int) -> Cause:
+        """A page is held after its TCO, and came not before that. One of no subtitle is another
+        text in the pause; but just at the last TCO it is no text of ours that stays."""
+        one, page = self.subtitles[place], self.held.pages[number]
+        is_other = page not in self.programme.by_page and page != BLANK_PAGE
+        is_ours = words_on(page) in self.programme.by_words
+        is_last = place == len(self.subtitles) - 1
+        if is_other and is_last and self.held.frames[number] - one.end <= self.held.within:
+            return self.unknown(place, frame, one.end, NEXT)
+        if is_other and not is_ours and self.held.is_seen(one.end, frame):
+            return Cause(place, IN_PAUSE, None, page, None, f"at {time_of(frame)}", one.end)
+        return self.unknown(place, frame, one.end, f"sent after its TCO, at {time_of(frame)}")
+
+    def gone_words(self, place: int, number: int) -> str:
+        """How long after the TCO of a subtitle another page comes than the one that is held there;
+        or the next subtitle that has the same."""
+        until, end = self.held.stretch(number).last, self.subtitles[place].end
+        following = self.subtitles[place + 1:place + 2]
+        if following and following[0].begin <= until and \
+                self.pages[place + 1] == self.held.pages[number]:
+            return f"it stays for {counted(following[0].begin - end, 'frame')}, up to " \
+                f"{following[0].name}, which is the same"
+        if until == self.held.last or self.held.halt is not None:
+            return ""
+        return f"gone {counted(until + 1 - end, 'frame')} later"
+
+    def broken(self, place: int, span: Span) -> Cause:
+        """Its page was there, and another one came before its TCO."""
+        one, number = self.subtitles[place], self.held.number_at(span.first)
+        page = self.held.pages[number]
+        other = self.programme.of_page(page, span.first)
+        if not self.held.is_seen(span.first, span.last):
+            return self.unknown(place, span.first, one.end,
+                                self.unseen_words(span.first, span.last))
+        if other is not None and other != place:
+            return self.of_other(place, other, one.end)
+        if page == BLANK_PAGE:
+            first = self.broken_since(span.first)
+            if self.is_erased(number):
+                return Cause(place, ERASED, None, None, None, "by a header without rows, at "
+                             f"{time_of(self.held.frames[number])}", one.end)
+            return self.unknown(place, span.first, one.end, f"it is gone at {time_of(first)}")
+        return self.differs(place, number)
+
+    def is_erased(self, number: int) -> bool:
+        """Whether a blank page is one whose header came without rows: the page that is held next
+        has a header of its own."""
+        begins = self.held.frames[number:number + 2]
+        return all(any(HEADER in run.does for run in self.held.members(frame)) for frame in begins)
+
+    def unseen_words(self, first: int, last: int) -> str:
+        """Why not all is known that was sent in some frames."""
+        is_lost = any(one.first <= last and first <= one.last for one in self.held.lost)
+        return NOT_RECEIVED if is_lost else UNSEEN
+
+    def unknown(self, place: int, frame: int, known: int, words: str) -> Cause:
+        sent = self.held.page_at(frame)
+        name, words = (NOT_RECEIVED, "") if words == NOT_RECEIVED else (UNKNOWN, words)
+        return Cause(place, name, None, None if sent == BLANK_PAGE else sent, None, words, known)
+
+
+# The causes of a list of `check --all`.
+
+FEW = 3  # subtitles, which have the edges of a part
+BEFORE = f"its page transmission is before what was cut, so {BEGIN} is reported"
+
+
+class Causes:
+    """The causes of subtitles, by the lines of the list and by what is held.
+
+    `named` are those that are known, in order; `of_edge` is the subtitle whose fault a 63 or 74 is,
+    where the recording goes on there. `unseen` are
+    frames of which not all is known that was sent, beside those that can't be read, and `reach`
+    the frames of which the recording is, where that is known of more than its PES packets.
+    """
+
+    def __init__(self, programme: DuePages, held: Timeline, unseen: Iterable[Span] = (),
+                 reach: Span | None = None) -> None:
+        self.programme, self.held, self.reach = programme, held, reach
+        held.lost = list(unseen)
+        self.namer = Namer(programme, held)
+        self.named: dict[int, Cause] = {}
+        self.of_edge: dict[int, int] = {}
+        self.open: dict[int, Faulty] = {}
+
+    def name(self, answer: Answer) -> None:
+        """Names the causes of all that is told."""
+        self.namer.answer = answer
+        begin, end = (answer.firsts.get(number) for number in (BEGIN, END))
+        if begin and begin.frame is not None:
+            self.look_before(begin.frame)
+        for first, last in answer.marks.get(CONTENT, ()):
+            self.add(first, last)
+        if end and end.frame is not None:
+            self.look_after(end.frame)
+        for place in sorted(self.open):
+            self.named[place] = self.named_by(place)
+        self.open = {}
+
+    def add(self, first: int, last: int) -> None:
+        """Takes frames at which another page is held than is due."""
+        for span in self.namer.split(first, last):
+            self.add_to(self.namer.owner(span.first), span)
+
+    def add_to(self, place: int, span: Span) -> int:
+        """Takes such frames as those of a subtitle."""
+        if place not in self.named:
+            self.open.setdefault(place, Faulty()).add(span, self.programme.subtitles[place])
+        return place
+
+    # What was sent before the first frame that is judged, and after the last one.
+
+    def reached(self) -> Span:
+        """The frames of which the recording is."""
+        first, last = self.held.first, self.held.last
+        known = self.reach
+        return Span(min(first, known.first), max(last, known.last)) if known else Span(first, last)
+
+    def look_before(self, frame: int) -> None:
+        """Looks at what was sent up to a frame, the first that is judged, from the first TCI on,
+        where the recording has it; and what of the first subtitle came before that. One that is
+        late is known where the recording begins as long before its TCI: it was not early then.
+        """
+        begin, held = self.programme.begins[0], self.held
+        if not (held.frames and held.frames[0] <= begin or
+                self.reached().first <= 2 * begin - frame):
+            return
+        came = self.namer.sending(0)
+        if came is not None and came < begin and self.namer.is_due(begin):
+            self.of_edge[BEGIN] = self.add_to(0, Span(came, begin - 1))
+        self.compare(BEGIN, begin, frame - 1)
+
+    def look_after(self, frame: int) -> None:
+        """Looks at what was sent after a frame, the last that is judged, up to the last TCO, where
+        the recording has it."""
+        end = self.programme.subtitles[-1].end
+        if self.reached().last >= end:
+            self.compare(END, frame + 1, end)
+
+    def compare(self, number: int, first: int, last: int) -> None:
+        """Takes those of some frames at which another page is held than is due, as what a 63 or 74
+        is."""
+        for span in self.namer.split(first, last):
+            if not self.namer.is_due(span.first):
+                place = self.add_to(self.namer.owner(span.first), span)
+                self.of_edge.setdefault(number, place)
+
+    def named_by(self, place: int) -> Cause:
+        """The cause of a subtitle."""
+        cause = self.namer.cause(place, self.open[place])
+        is_before = cause.name == EARLY and self.of_edge.get(BEGIN) == place
+        return cause._replace(words=BEFORE) if is_before else cause
+
+    def of(self, number: int, frame: int) -> Cause | None:
+        """The cause of a fault of a number at a frame."""
+        if number == CONTENT:
+            return self.named.get(self.namer.owner(frame))
+        edge = self.of_edge.get(number)
+        return None if edge is None else self.named.get(edge)
+
+    def unsent_from(self) -> int | None:
+        """The TCI from which on no subtitle was sent, where these are a few."""
+        subtitles = self.programme.subtitles
+        place = len(subtitles)
+        while place and self.is_never_sent(place - 1):
+            place -= 1
+        return subtitles[place].begin if len(subtitles) - place >= FEW else None
+
+    def is_never_sent(self, place: int) -> bool:
+        return place in self.named and self.named[place].name == NEVER
+
+    def all(self) -> list[Cause]:
+        """All that are known, in the order of the subtitles."""
+        return [self.named[place] for place in sorted(self.named)]
+
+
+def counts_of(several: Iterable[Causes]) -> dict[str, int]:
+    """How many causes there are of each name."""
+    counted = collections.Counter(cause.name for one in several for cause in one.named.values())
+    return {name: counted[name] for name in NAMES}
+
+
+# Causes as a person reads them, and as values for machines.
+
+LINE = "cause: "  # before each
+
+
+class Wording:
+    """The words for the causes of a part, with the letters of a national option."""
+
+    def __init__(self, causes: Causes, option: str) -> None:
+        self.causes, self.subtitles = causes, causes.programme.subtitles
+        self.pages = causes.programme.pages
+        self.option = BY_WORD[option].bits
+
+    def values(self, cause: Cause) -> Members:
+        """A cause for machines."""
+        one = self.subtitles[cause.place]
+        other = None if cause.other is None else self.subtitles[cause.other]
+        return {
+            "subtitle": {"position": one.index, "number": one.number,
+                         "begin": time_of(one.begin), "end": time_of(one.end)},
+            "cause": cause.name, "frames": cause.frames, "text": self.due_text(cause),
+            "sent": None if cause.sent is None else page_text(cause.sent, self.option),
+            "other": None if other is None else other.number,
+            "other_position": None if other is None else other.index,
+            "words": self.said(cause),
+        }
+
+    def due_text(self, cause: Cause) -> str:
+        """The text that is due of the subtitle of a cause."""
+        return page_text(self.pages[cause.place], self.option)
+
+    def line(self, cause: Cause) -> str:
+        """The line of a cause."""
+        one = self.subtitles[cause.place]
+        if cause.name == IN_PAUSE:  # no fault of the subtitle before it
+            return f"{LINE}{self.said(cause)}"
+        return (f'{LINE}{one.name} at {time_of(one.begin)}, '
+                f'"{self.due_text(cause)}": {self.said(cause)}')
+
+    def said(self, cause: Cause, has_text: bool = True) -> str:
+        """What a cause is, in words, with the text that is sent where that is another one."""
+        one = self.subtitles[cause.place]
+        words = cause.name
+        if cause.name in (LATE, EARLY):
+            words += f" by {counted(cause.frames or 0, 'frame')}"
+        elif cause.name == NOT_ERASED:
+            words += f" at {time_of(one.end)}"
+        elif cause.name == OTHER:
+            words += " at its time"
+        if cause.name == IN_PAUSE:
+            words = pause_words(cause)
+        elif cause.words:
+            words += f": {cause.words}"
+        if has_text and cause.sent not in (None, self.pages[cause.place]):
+            sent = page_text(cause.sent or (), self.option)
+            if sent != self.due_text(cause):
+                words += f', sent: "{sent}"'
+        if cause.other is not None:
+            words += f" of {self.subtitles[cause.other].name}"
+        return words
+
+
+def pause_words(cause: Cause) -> str:
+    """That another text was sent in a pause."""
+    return f"another text was sent in a pause, {cause.words}"
+
+
+def count_line(several: list[Causes]) -> str:
+    """How many subtitles have a cause, and how many of each name there are."""
+    count = sum(len(one.named) for one in several)
+    return f"causes of {counted(count, 'subtitle')}: {names_line(several)}"
+
+
+def names_line(several: list[Causes]) -> str:
+    """How many causes there are of each name."""
+    return ", ".join(f"{count} {name}" for name, count in counts_of(several).items() if count)

@@ -1,0 +1,289 @@
+"""Faults with their places and all that is known of them, and hints on some numbers."""
+from __future__ import annotations
+
+import itertools
+from typing import Iterator, NamedTuple, Sequence
+
+from ..clock.start import most_off, off_words
+from ..common.command_line import MOST_EVERY, counted, pid_name
+from ..common.shapes import Members
+from ..common.times import frame_at, time_of
+from ..formats.listing import (
+    BEGIN, CHARACTER, CONTENT, CONTROL, DISPLAY, EMPTY_TIME, END, FaultLine, GAP, LETTERS,
+    OFF_FRAME, OUT_OF_ORDER, PASSED_OVER, SILENT, STL_FAULTS, WITH_CAUSE, meanings, plain)
+from ..formats.stl import NamedSubtitle, SubtitleFile
+from ..formats.teletext import BY_WORD, letters
+from ..request.request import Request
+from ..stream.gaps import are_usual, edges_of, frame_rows, longest_gap, repeat_distance, why_refused
+from ..stream.layout import BY_LAYOUT, left_lines
+from ..stream.receiver import OLD, Rows, Timeline
+from ..stream.survey import HEADER, Packets, Run
+from .causes import Wording
+from .check import End
+from .part import Part
+from .subtitles import OptionAdvice, midnight_words
+from .transmissions import Headed, headed, header_words
+from .verdict import Verdict
+
+
+# The cells that are held, and the PES packets, at the places that faults name.
+
+
+class FaultPlace(NamedTuple):
+    """A PES packet, `None` in a gap between two, its PTS, and the page that is held then; of one
+    whose control bits are refused (67) each header of the page."""
+
+    pes: int | None
+    pts: int | None
+    rows: Rows | None
+    headers: Sequence[Headed] = ()
+
+
+NOWHERE = FaultPlace(None, None, None)
+
+
+def fault_place(fault: FaultLine, packets: Packets, held: Timeline | None,
+                due: Rows | None = None) -> FaultPlace:
+    """The place of a fault of a transmission; of a cell that is not as it is due."""
+    if fault.pes is not None:
+        return FaultPlace(fault.pes, packets.pts_at(fault.pes), None)
+    if fault.frame is None or held is None:
+        return NOWHERE
+    members = held.members(fault.frame)
+    if not members:
+        return FaultPlace(None, None, held.state_at(fault.frame).rows)
+    if not held.within and fault.number == GAP:  # told before others of that frame, which are 62
+        members = members[:1]
+    if due:
+        members = [next((one for one in reversed(members) if code_of(fault, due) != code_of(
+            fault, held.state_after(one.first).rows)), members[-1])]
+    one = members[-1] if fault.packet is None else member_of(members, fault.packet)
+    return FaultPlace(one.first, one.pts, held.state_after(members[-1].first).rows,
+                 headed(one, held.state_after(one.first - 1)) if fault.number == CONTROL else ())
+
+
+def member_of(members: Sequence[Run], packet: int) -> Run:
+    """The PES packet of a frame with a Teletext packet, which are counted on from one to the next.
+    """
+    ends = itertools.accumulate(one.units for one in members)
+    return next((one for one, end in zip(members, ends) if packet < end), members[-1])
+
+
+def code_of(fault: FaultLine, rows: Rows) -> int | None:
+    """The code of the cell that a fault names, where it names one."""
+    return None if fault.row is None or fault.column is None else \
+        code_at(rows, fault.row, fault.column)
+
+
+def code_at(rows: Rows | None, row: int, column: int) -> int | None:
+    """The code of a cell; `None` for one of the old page, which nobody sent."""
+    if rows is None or rows[row - 1][column] == OLD:
+        return None
+    return rows[row - 1][column] & 0x7F
+
+
+# What a person should know of the first fault of some numbers, beside its place.
+
+HINTED = {EMPTY_TIME, CHARACTER, OUT_OF_ORDER, OFF_FRAME, CONTROL, GAP, SILENT}
+NAMED = {DISPLAY, CONTENT, *BY_LAYOUT}  # for which an option is named, where one helps
+OF_HEADERS = {32, 35}  # of PES packets: their length, and that of their headers
+OF_ENDS = {BEGIN, END}  # where the page moves to another PID, or that has no more Teletext
+HINTS = HINTED | NAMED | OF_HEADERS | OF_ENDS
+DSC = slice(11, 12)  # the field in the GSI block
+
+
+def hints_of(verdict: Verdict) -> Iterator[str]:
+    """The lines for the first fault of each of these numbers, in the order of the list."""
+    for part in verdict.parts:
+        if part.answer.numbers & HINTS:
+            yield from hints_of_part(part, verdict)
+
+
+def hints_of_part(part: Part, verdict: Verdict) -> Iterator[str]:
+    """The same of a part."""
+    for number, told in part.answer.firsts.items():
+        words = hint_words(told, part, verdict) if number in HINTS else ""
+        if words:
+            yield f"{number}: {words}"
+
+
+def hint_words(told: FaultLine, part: Part, verdict: Verdict) -> str:
+    """What is to be said of such a fault; nothing where it is not known."""
+    asked = verdict.asked
+    if told.number == CHARACTER:
+        if not told.block or told.at is None:
+            return ""
+        return OptionAdvice(part.subtitle_file(), asked.option).of(told.block, told.at)
+    if told.number == DISPLAY:
+        return open_words(part.subtitle_file())
+    if told.number in OF_HEADERS:
+        return part.of_header
+    if told.number in OF_ENDS:
+        return end_words(told.number, part, asked.page_name)
+    if told.number == CONTENT:
+        return part.otherwise
+    if told.number in BY_LAYOUT:
+        return ", ".join(left_lines(verdict.layout)) if verdict.layout else ""
+    if told.number in (EMPTY_TIME, OUT_OF_ORDER):
+        return midnight_words(told, part.subtitle_file())
+    if part.pes is None or part.origin is None:
+        return ""
+    if told.number == OFF_FRAME:
+        return off_words(most_off(part.pts(), part.origin), part.accepted_within)
+    if told.number == SILENT:
+        return silent_words(told, part)
+    if told.number == GAP:
+        times = [(one.begin, one.end) for one in part.due().subtitles]
+        return gap_words((part.pts(HEADER), part.pts()[-1:]), part.origin, asked,
+                         part.answer.numbers, times, part.is_lost)
+    if part.kept:
+        return part.kept.words()
+    return header_words(fault_place(told, part.packets, part.held).headers, asked, part.better)
+
+
+def end_words(number: int, part: Part, page: str) -> str:
+    """That the page comes from another PID, or goes to one, or that its PID goes on with what is
+    no Teletext, where that is why a subtitle is not whole."""
+    came, goes = (part.found.came, part.found.goes) if part.found else (None, None)
+    if number == BEGIN and came is not None:
+        return f"page {page} was on {pid_name(came)} before"
+    if number == END and goes is not None:
+        return f"page {page} moves to {pid_name(goes)} then"
+    is_last = part.pes is not None and part.pes[1] == part.packets.count - 1
+    return (why_refused(part.packets) or "") if number == END and is_last and \
+        part.packets.refusal else ""
+
+
+def open_words(subtitles: SubtitleFile) -> str:
+    """What takes a file whose display standard code is that of open subtitles, or none."""
+    kind = {b"0": "0, open subtitles", b" ": "a space, none"}.get(subtitles.data[DSC])
+    return f"its DSC is {kind}: --open takes it" if kind else ""
+
+
+def silent_words(told: FaultLine, part: Part) -> str:
+    """From when on, and for how long, no PES packet came; and what does not ask for one."""
+    asked, pes, origin = part.asked, part.pes, part.origin
+    if asked is None or asked.pace is None or pes is None or origin is None or told.frame is None:
+        return ""
+    before = told.frame - asked.pace
+    after = next((frame for row in frame_rows(part.packets, pes, origin, asked.within)
+                  for frame in row if frame > before), None)
+    return "" if after is None else f"none for {counted(after - before - 1, 'frame')} from " \
+        f"{time_of(before + 1)} on; where nothing was sent then, --pace none does not ask for it"
+
+
+def gap_words(sent: tuple[Sequence[int], Sequence[int]], origin: int, asked: Request,
+              numbers: set[int], times: Sequence[tuple[int, int]], is_lost: bool) -> str:
+    """The longest gap between headers of the page, or behind the last one, where all that was sent
+    can be read; and the repeat bound that accepts it, where nothing else is refused, nothing is
+    lost and no repeat is missing. What was sent are the PTS of headers, and that of the last PES
+    packet."""
+    headers, last = ([frame for pts in some if (frame := frame_at(pts, origin, asked.within))
+                      is not None] for some in sent)
+    end = last[0] + 1 if last else 0
+    gap = longest_gap([*headers, end] if headers and end > headers[-1] else headers)
+    if gap <= asked.every or numbers & PASSED_OVER:
+        return ""
+    words = f"the longest gap is {counted(gap, 'frame')}"
+    if numbers == {GAP} and not is_lost and gap <= MOST_EVERY and \
+            are_usual(headers, times, asked.every, end):
+        return f"{words}: --every {gap} accepts it"
+    usual = repeat_distance(headers, edges_of(times))
+    return f"{words}, and {usual} are usual" if usual and usual <= asked.every else words
+
+
+# The faults of a verdict with all that is known of them, one after another.
+
+
+class PartFaults:
+    """The faults of one part."""
+
+    def __init__(self, verdict: Verdict, part: Part) -> None:
+        self.verdict, self.part, self.asked = verdict, part, verdict.asked
+        self.letters: list[str] = letters(BY_WORD[self.asked.option].bits)
+        self.meanings = {number: (plain(one.means), plain(one.do))
+                         for number, one in meanings().items()}
+        self.wording = Wording(part.causes, self.asked.option) if part.causes else None
+        self.subtitles = part.subtitle_file()
+        self.of_letters = OptionAdvice(self.subtitles, self.asked.option)
+
+    def __iter__(self) -> Iterator[Members]:
+        return itertools.starmap(self.fault, self.part.answer.told())
+
+    def fault(self, told: FaultLine, end: End) -> Members:
+        """All that is known of a fault."""
+        is_stl = told.number in STL_FAULTS
+        due = self.part.due().page_at(told.frame) if told.number == CONTENT and \
+            told.frame is not None else None
+        place = NOWHERE if is_stl else fault_place(told, self.part.packets, self.part.held, due)
+        byte, character = self.subtitles.letter(told.block, told.at) \
+            if told.number in LETTERS and told.block and told.at is not None else (None, None)
+        subtitle = self.subtitle_of(told)
+        means, do = self.meanings.get(told.number, ("", ""))
+        if told.number == CHARACTER and told.block and told.at is not None:
+            do = self.of_letters.of(told.block, told.at) or do
+        if told.number == DISPLAY:
+            do = open_words(self.subtitles) or do
+        if told.number == CONTENT:
+            do = self.part.otherwise or do
+        do = midnight_words(told, self.subtitles) or do
+        means = header_words(place.headers, self.asked, self.part.better) or means
+        return {
+            "part": self.part.number, "line": told.line, "number": told.number,
+            "name": told.name, "severity": self.verdict.severity.of(told.number),
+            "file": "stl" if is_stl else "pes", "block": told.block,
+            "subtitle": subtitle and words_of_subtitle(subtitle),
+            "byte": byte, "character": character, "text_at": told.at,
+            "pes": place.pes if told.pes is None else told.pes,
+            "pes_pts": place.pts, "pes_time": self.time_at(place.pts), "packet": told.packet,
+            "frame": told.frame, "time": told.time, "row": told.row, "column": told.column,
+            "due": self.cell(due, told), "held": self.held_cell(told, place),
+            "until": end.time, "until_pes": end.pes, "means": means, "do": do,
+            "cause": self.cause_of(told),
+        }
+
+    def cause_of(self, told: FaultLine) -> Members | None:
+        """The cause of the subtitle whose fault a 63, 72 or 74 is."""
+        if self.wording is None or told.number not in WITH_CAUSE or told.frame is None:
+            return None
+        cause = self.wording.causes.of(told.number, told.frame)
+        return self.wording.values(cause) if cause else None
+
+    def subtitle_of(self, told: FaultLine) -> NamedSubtitle | None:
+        """The subtitle of a block, or the one that is due at a frame."""
+        if told.block is not None:
+            return self.subtitles.at_block(told.block)
+        return self.subtitles.at_frame(told.frame) if told.frame is not None else None
+
+    def time_at(self, pts: int | None) -> str | None:
+        """The time of a PTS that is one of a frame of the day."""
+        if pts is None or self.part.origin is None:
+            return None
+        frame = frame_at(pts, self.part.origin, self.asked.within)
+        return None if frame is None else time_of(frame)
+
+    def held_cell(self, told: FaultLine, place: FaultPlace) -> Members | None:
+        """The cell of a 72 as it is held."""
+        return self.cell(place.rows, told) if told.number == CONTENT else None
+
+    def cell(self, rows: Rows | None, told: FaultLine) -> Members | None:
+        """The cell that a fault names."""
+        if told.row is None or told.column is None:
+            return None
+        code = code_at(rows, told.row, told.column)
+        if code is None:
+            return None
+        return {"code": f"{code:02X}", "character": self.letters[code] if code >= 0x20 else None}
+
+
+def words_of_subtitle(subtitle: NamedSubtitle) -> Members:
+    """A subtitle for machines."""
+    return {"position": subtitle.position, "number": subtitle.number, "begin": subtitle.begin,
+            "end": subtitle.end}
+
+
+def faults_of(verdict: Verdict) -> Iterator[Members]:
+    """The faults of all parts."""
+    for part in verdict.parts:
+        if part.answer.count:
+            yield from PartFaults(verdict, part)

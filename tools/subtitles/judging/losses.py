@@ -1,0 +1,193 @@
+"""What is missing in the time of a part, and the pace by which it is judged."""
+from __future__ import annotations
+
+import dataclasses
+import os
+from typing import Iterator, Sequence
+
+from ..common.command_line import counted, pid_name
+from ..common.times import (
+    FRAMES_OF_A_DAY, TICKS, frame_in, pts_of, ticks_between, ticks_within, time_of)
+from ..formats.listing import LOSSES
+from ..recording.recording import Recording
+from ..request import request
+from ..request.commands import Speech
+from ..request.request import NONE
+from ..stream.gaps import (
+    BY_EVERY, IRREGULAR, PAUSED, Pace, Place, REGULAR, TOO_FEW, each_of, frame_rows, pace_of,
+    pauses_of, what_of)
+from ..stream.survey import PACKET, Range, jumps_at
+from .part import Part
+from .verdict import Gap, Verdict
+
+
+# Places at which something of a recording is missing, and of which parts that is.
+
+
+def gap_of(place: Place, origin: int, is_judged: bool) -> Gap:
+    """A place at which TS packets are missing, with its times."""
+    times = place_time(place.before, origin), place_time(place.after, origin)
+    return Gap(*times, what_of(place), place, is_judged)
+
+
+def gaps_in(recording: Recording, parts: Sequence[Part]) -> list[Gap]:
+    """Where something is missing; on a PID to which the page moved, or from which, what is of none
+    of its parts is left out."""
+    if not recording.stages:
+        return gaps_of(recording.places(), parts)
+    return [gap_of(place, one.origin or 0, True) for one, other in zip(parts, [*parts[1:], None])
+            for place in places_on(one, other) if is_in(place, one) or is_in_move(place, one)]
+
+
+def places_on(one: Part, other: Part | None) -> Iterator[Place]:
+    """Where something is missing on a PID; what is where the page goes to the one of another part
+    is told here, and not there."""
+    recording, its = one.recorded
+    for place in recording.places():
+        if other and is_in_move(place, one):
+            _, found = other.recorded
+            yield dataclasses.replace(place, after=pts_of(found.begin, found.origin))
+        elif place.mark is not None or place.before is not None or its.came is None:
+            yield place
+
+
+def gaps_of(places: Sequence[Place], parts: Sequence[Part]) -> list[Gap]:
+    """Places with the times of the first of these parts of which they are, else of the first."""
+    found = []
+    for place in places:
+        own = [part for part in parts if is_in(place, part)]
+        found.append(gap_of(place, (own or parts)[0].origin or 0, bool(own)))
+    return found
+
+
+def is_in_move(place: Place, one: Part) -> bool:
+    """Whether something is missing where the page goes to another PID."""
+    found = one.found
+    return bool(found and found.stage and found.goes is not None and place.mark is None
+                and place.before == found.stage.last())
+
+
+def is_in(place: Place, part: Part) -> bool:
+    """Whether a mark is one of those that are judged with a part; or where none stands, whether
+    frames of the part may lack what is missing there."""
+    if part.found is None:
+        return False
+    if place.mark is not None and part.pes is not None:
+        return part.pes[0] <= place.mark <= part.pes[1]
+    begin, end = part.found[:2]
+    first, length = pts_of(begin, part.found.origin), TICKS * (end - begin)
+    is_before = place.after is not None and ticks_within(first, length, place.after) <= 0
+    is_after = place.before is not None and ticks_within(first, length, place.before) >= length
+    return not is_before and not is_after
+
+
+def lacks(part: Part, places: Sequence[Place]) -> bool:
+    """Whether something of a part is lost, by what `check` told or by what is missing there."""
+    return bool(LOSSES & part.answer.numbers) or any(is_in(place, part) for place in places)
+
+
+def place_time(pts: int | None, origin: int) -> str | None:
+    """The time of a PTS, to the frame before it."""
+    if pts is None:
+        return None
+    frame = frame_in(pts, origin)
+    return time_of(frame) if frame < FRAMES_OF_A_DAY else None
+
+
+def unsent_in(part: Part) -> list[str]:
+    """That the last subtitles of a feed did not come: it is not read long enough to tell a break.
+    """
+    frame = part.causes.unsent_from() if part.causes else None
+    return [] if frame is None else [
+        f"from {time_of(frame)} on no subtitle was sent while the feed was read; if the programme "
+        "has a break there, say --breaks 1"]
+
+
+# The pace by which a part is judged, where its PES packets are regular; else what is unseen.
+
+NEXT = 1  # frame from a PES packet to one that comes in the next frame
+HOLES = "a hole of 15, or of 16, 32, 48 .. TS packets"  # that a counter of 4 bits may not show
+
+
+def set_pace(part: Part, pes: Range, verdict: Verdict, speech: Speech,
+             times: Sequence[tuple[int, int]]) -> None:
+    """Asks for the pace of the PES packets that are judged, where they are regular and none is
+    asked for, by the frames of the subtitles. Where holes may be unseen the verdict has notes."""
+    asked, recording = part.asked, part.recorded[0]
+    pace = measured_pace(part, pes, times)
+    notes = [jump_words(take_jumps(part, pes, pace), recording)]
+    if asked.pace_word is not None:
+        notes.append(clock_words(recording) if asked.pace_word == NONE else "")
+    else:
+        notes.append(note := unseen_words(pace, recording))
+        if pace.frames:
+            speech.choose(chosen_of(pace, recording.is_stream, part.number))
+            part.asked = dataclasses.replace(asked, pace_word=str(pace.frames))
+        elif note:  # which is told with the verdict
+            speech.chosen.append(request.Selection(request.PACE_CHOICE, None, note, part=part.number))
+    verdict.notes += [note for note in notes if note and note not in verdict.notes]
+
+
+def measured_pace(part: Part, pes: Range, times: Sequence[tuple[int, int]]) -> Pace:
+    """How far apart the PES packets of a part come."""
+    packets, asked, (recording, found) = part.packets, part.asked, part.recorded
+    size = None if recording.is_stream else os.path.getsize(recording.path)
+    return pace_of(frame_rows(packets, pes, found.origin, asked.within),
+                   each_of(packets, pes, size), asked.every, pauses_of(times), recording.is_stream)
+
+
+def take_jumps(part: Part, pes: Range, pace: Pace) -> int:
+    """Takes the jumps of the counter that a stream announces where a PES packet comes later than
+    is usual; answers at how many others there is a frame for one that may be missing."""
+    recording = part.recorded[0]
+    if not recording.is_stream:
+        return 0
+    found = jumps_at(part.packets, pes, min(pace.apart, NEXT), recording.path,
+                     recording.survey.size or PACKET)
+    late = [one for one in found if ticks_between(*one) > pace.apart * TICKS]
+    part.packets.jumps = late
+    return len(found) - len(late)
+
+
+def jump_words(count: int, recording: Recording) -> str:
+    """That nothing tells what is missing at so many jumps of the counter; nothing of none."""
+    return f"at {counted(count, 'place')} a jump of the counter of " \
+        f"{pid_name(recording.packets.pid)} is announced: what is missing there may be unseen" \
+        if count else ""
+
+
+def chosen_of(pace: Pace, is_stream: bool, part: int) -> request.Selection:
+    """A pace that is asked for, by at how many places a loss takes longer, of all that there are."""
+    return request.Selection(request.PACE_CHOICE, str(pace.frames), regular_words(pace, is_stream),
+                             pace.among - pace.closer, pace.among, part)
+
+
+def regular_words(pace: Pace, is_stream: bool) -> str:
+    """What PES packets are like that are regular, and the pace that comes of it."""
+    lost = f", and in {pace.lost} at best where 16 TS packets are lost" if is_stream else ""
+    return f"pace: a PES packet comes within {counted(pace.apart, 'frame')} of the one before" \
+        f"{lost}: --pace {pace.frames}"
+
+
+def unseen_words(pace: Pace, recording: Recording) -> str:
+    """Which holes may be unseen; nothing where `--every` or the pace tells them."""
+    if pace.kind == BY_EVERY or pace.kind == REGULAR and not pace.closer:
+        return ""
+    if without := clock_words(recording):
+        return without
+    why = {REGULAR: f"at {counted(pace.closer, 'place')} its PES packets come closer",
+           IRREGULAR: "its PES packets come at irregular distances",
+           PAUSED: "none of its PES packets came in pauses, of up to "
+                   f"{counted(pace.apart, 'frame')}",
+           TOO_FEW: "its PES packets are too few to measure a pace"}[pace.kind]
+    holes = f"{HOLES} of {pid_name(recording.packets.pid)} alone" if recording.is_stream else \
+        f"PES packets that are missing from {recording.name}"
+    return f"{holes} may be unseen: {why}"
+
+
+def clock_words(recording: Recording) -> str:
+    """That no PCR tells a hole, where there is none."""
+    if not recording.is_stream or recording.survey.clock_of(recording.packets.pid) is not None:
+        return ""
+    return f"there is no PCR of the programme of {pid_name(recording.packets.pid)}: a hole that " \
+        "its counter does not show, as one of 16 TS packets, can't be seen"

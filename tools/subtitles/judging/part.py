@@ -1,0 +1,283 @@
+"""A part of a pair: what is judged by itself, which subtitles it has, and why they are refused."""
+from __future__ import annotations
+
+import collections
+import dataclasses
+import functools
+from typing import Callable, Collection, Iterator, Sequence
+
+from ..clock.start import Clock, Found
+from ..common.command_line import counted, pid_name
+from ..common.files import SummedFile
+from ..common.times import (
+    Between, FRAMES_OF_A_DAY, Span, TICKS, frame_in, pts_of, ticks_within, time_of)
+from ..formats.listing import EMPTY, PASSED_OVER, STL_FAULTS
+from ..formats.stl import Subtitle, SubtitleFile
+from ..formats.teletext import BY_BITS, RESERVED
+from ..recording.recording import Notice, Recording
+from ..request.commands import MOST_LINES, Names, Speech
+from ..request.request import Request, Unclear
+from ..stream.gaps import Place
+from ..stream.ranges import Stage, move_words, part_inside, up_to
+from ..stream.receiver import Timeline, national_option, timeline_near
+from ..stream.survey import PES, Packets, Range
+from .causes import Causes, Wording
+from .check import Answer
+from .status import REFUSED, Said
+from .transmissions import DuePages, Kept, headers_of
+
+
+# A part of a pair: what is judged by itself, what `check --all` said of it, and what follows.
+
+
+@dataclasses.dataclass
+class Part:
+    """What is judged by itself: all of a pair, or the subtitles of one clock, or of one PID.
+
+    `found` are its frames with their clock; of a subtitle file alone there are none. `packets` are
+    those of the recording, and `pes` the numbers of those that are judged; `judged` is what is
+    judged of a feed, which nobody can read once more. `answer` is there once `check` is asked.
+    """
+
+    number: int
+    asked: Request
+    names: Names
+    found: Found | None = None
+    recording: Recording | None = None
+    packets: Packets = dataclasses.field(default_factory=lambda: Packets(PES))
+    left_out: Collection[int] = ()  # subtitles that are not judged, by their places in the file
+    due: Callable[[], DuePages] = lambda: DuePages([], [])  # none of a file that is refused
+    pes: Range | None = None
+    judged: SummedFile | None = None
+    answer: Answer = dataclasses.field(init=False)
+
+    # What follows.
+    causes: Causes | None = None
+    delays: Sequence[int | None] = ()  # after how many frames each subtitle was whole
+    accepted_within: int | None = None  # the least number of frames, of one that is refused
+    was_read: bool = False  # something of its recording, or it has none
+    is_lost: bool = False  # something of what was sent
+    hint: str = ""  # what to know of the fault that is told first
+    sent_hint: str = ""  # the same of its transmission
+    of_header: str = ""  # what is wrong with its PES headers, where that is refused
+    otherwise: str = ""  # how the house draws, where its content is refused for that
+    better: Collection[str] = ()  # national options that were tried, by which less is refused
+    kept: Kept | None = None  # where headers are refused for nothing but that they keep the page
+
+    @property
+    def clock(self) -> Clock | None:
+        return self.found and self.found.clock
+
+    @property
+    def origin(self) -> int | None:
+        return self.found and self.found.origin
+
+    @property
+    def stream(self) -> tuple[int, int] | None:
+        """The PID, and the bytes from a TS packet to the next one, of a transport stream."""
+        return self.recording.stream() if self.recording else None
+
+    @property
+    def recorded(self) -> tuple[Recording, Found]:
+        """Its recording and its frames, of one that has these."""
+        assert self.recording and self.found
+        return self.recording, self.found
+
+    @functools.cached_property
+    def held(self) -> Timeline | None:
+        """What a receiver holds of what is judged."""
+        if self.pes is None or self.found is None:
+            return None
+        return Timeline(self.packets, self.asked.page, self.found.origin, self.asked.within,
+                        self.pes)
+
+    def subtitle_file(self) -> SubtitleFile:
+        """Its subtitles by their blocks and frames."""
+        return SubtitleFile(self.names.given, self.asked.between, self.left_out)
+
+    def said(self) -> Said:
+        """What the program said of it."""
+        return self.answer.said(self.was_read)
+
+    @property
+    def is_refused(self) -> bool:
+        """Whether it has faults, of any severity."""
+        return self.answer.verdict == REFUSED
+
+    def is_read(self) -> bool:
+        """Whether one of its PES packets at least could be read."""
+        if self.pes is None:
+            return False
+        numbers = self.answer.numbers - STL_FAULTS
+        if not numbers:  # beside refused subtitles it was read where something is told of it
+            return not self.answer.numbers or len(self.answer.trusted) > 0
+        if numbers - PASSED_OVER - {EMPTY}:
+            return True
+        count = min(self.pes[1] + 1, self.packets.count) - self.pes[0]
+        return count > self.answer.passed.total()
+
+    def pts(self, does: str = "") -> list[int]:
+        """The PTS of its PES packets, of those that do something."""
+        return [*self.packets.pts(self.pes, does)] if self.pes else []
+
+    def options_sent(self) -> set[str]:
+        """The national options of its headers of the page."""
+        bits = {national_option(header) for run in self.packets.inside(*self.pes or (0, -1))
+                for header in headers_of(run)}
+        return {BY_BITS[one].word for one in bits if one != RESERVED}
+
+    def headers_sent(self) -> collections.Counter[bytes]:
+        """How many there are of each of its headers that `check` hears."""
+        counts: collections.Counter[bytes] = collections.Counter()
+        for run in self.packets.inside(*self.pes or (0, -1)):
+            for header in headers_of(run) if run.pts is not None and not run.fault else ():
+                counts[header] += run.length
+        return counts
+
+    @property
+    def pes_name(self) -> str | None:
+        """The numbers of its PES packets as the program takes them."""
+        return self.pes and f"{self.pes[0]}-{self.pes[1]}"
+
+    def times(self) -> tuple[str, str] | tuple[None, None]:
+        """Its first and its last frame as times."""
+        return (time_of(self.found.begin), time_of(self.found.end)) if self.found else (None, None)
+
+
+# A page that moves to another PID: what is judged on each of them, and what is said of the move.
+#
+# A subtitle that is due when the page moves is judged on both PIDs: on neither is it whole, and the
+# program says so, as 74 and 63. Of the frames between the last PES packet on the one and the first
+# header on the other nothing is said, nor of what the other one carries before a subtitle is over
+# that is judged on the first.
+
+PID = "pid"  # the word for machines
+
+
+def found_on(found: Found, stages: Sequence[Stage], subtitles: Sequence[Subtitle], within: int) \
+        -> list[Found]:
+    """What each PID carries of what is judged by a clock, where subtitles come on it."""
+    own = [one for one in subtitles if found.begin <= one.begin < found.end]
+    parts: list[Found] = []
+    before = -1  # the last frame of the stage before
+    for place, stage in enumerate(stages):
+        stage = stage._replace(inside=part_inside(stages, place, found.packets))
+        if place + 1 < len(stages):
+            stage = up_to(stage, stages[place + 1])
+        # One that is over on the PID before needs not be seen on this one.
+        over = max([one.end for one in own if one.end <= before], default=0)
+        first = next((frame for frame in stage.frames(found.origin, within) if frame >= over), None)
+        last = stage.last()
+        if first is None or last is None:
+            continue
+        last = frame_in(last, found.origin, within)
+        is_last = place == len(stages) - 1
+        begin = min([one.begin for one in own if one.begin <= before < one.end] + [before + 1])
+        between = Between(begin, found.end if is_last else min(last + 1, found.end))
+        if any(between.has(one.begin) for one in own):
+            parts.append(Found(first, last, found.clock, stage.inside, between, stage))
+        before = last
+    return [linked(parts, place, found) for place in range(len(parts))]
+
+
+def linked(parts: Sequence[Found], place: int, found: Found) -> Found:
+    """One with those beside it. The first begins as all of them do, and the last ends so."""
+    one, is_first, is_last = parts[place], place == 0, place == len(parts) - 1
+    return one._replace(
+        begin=found.begin if is_first else one.begin, end=found.end if is_last else one.end,
+        between=Between(found.begin if is_first else one.between.begin,
+                        found.end if is_last else one.between.end),
+        came=None if is_first else parts[place - 1].pid,
+        goes=None if is_last else parts[place + 1].pid)
+
+
+def moves_told(parts: Sequence[Found], page: str, within: int) -> Iterator[Notice]:
+    """What is said of each move between PIDs of which something is judged."""
+    for one, other in zip(parts, parts[1:]):
+        if one.pid is None or one.goes is None or one.goes != other.pid:
+            continue  # a break stands between them
+        last, first = one.end, other.begin
+        where = f"between {time_of(last)} and {time_of(first)}: what was sent between is not " \
+            "trusted" if last < first else f"at {time_of(first)}, where both carry it"
+        begun = next(other.stage.frames(other.origin, within), first) if other.stage else first
+        if begun < first:
+            where += f"; what {pid_name(one.goes)} carries from {time_of(begun)} up to then is " \
+                "not judged"
+        yield Notice(PID, f"{move_words(page, one.pid, one.goes)} {where}",
+                     time_of(max(last, first)))
+
+
+# Which subtitles are judged in which part: each in one, or in two, where the page moves to another
+# PID while it is due.
+
+
+def parted(found: Sequence[Found], whole: Found, subtitles: Sequence[Subtitle],
+           stages: Sequence[Stage], inside: Range | None, within: int) -> list[Found]:
+    """What is judged, one after another, by the parts that were found: a single one is the whole
+    file, several have the subtitles that come in their frames; of each what is on which PID."""
+    if len(found) == 1:
+        found = [whole._replace(clock=found[0].clock, packets=found[0].packets)]
+    else:
+        found = [one._replace(between=Between(one.begin, one.end)) for one in found]
+    if not stages:
+        return [*found]
+    return [its for one in found for its in found_on(
+        one._replace(packets=one.packets or inside), stages, subtitles, within)]
+
+
+def refuse_others(parts: Sequence[Found], subtitles: Sequence[Subtitle], stl: str) -> None:
+    """`Unclear` where a subtitle of the file `stl` is in none of several parts, or they have others
+    than it has, or in another order."""
+    own = [one for part in parts for one in subtitles if part.between.has(one.begin)]
+    if any(part.stage for part in parts):
+        own = [*dict.fromkeys(own)]
+    left = len(subtitles) - len(own)
+    if left > 0:
+        raise Unclear(f"{counted(left, 'subtitle')} of {stl} would be in no part, and nobody would "
+                      "look at it: mend its times")
+    if own != [*subtitles]:
+        raise Unclear(f"the parts of {stl} would hold other subtitles than it has")
+
+
+# Why the content of a part is refused: its causes, by what is held of the recording around it.
+
+
+def part_causes(part: Part) -> Causes | None:
+    """The causes of a part that was judged; `None` where there are none."""
+    asked, (recording, found) = part.asked, part.recorded
+    held = timeline_near(part.packets, asked.page, found.origin, asked.within,
+                         Span(found.begin, found.end), asked.every, found.packets)
+    lost = recording.places() if recording.is_stream else []
+    causes = Causes(part.due(), held, unseen(lost, found.origin, asked.within),
+                    reach(None if recording.packets.refusal else recording.reach(), found))
+    causes.name(part.answer)
+    return causes if causes.named else None
+
+
+def reach(pts: tuple[int, int] | None, found: Found) -> Span | None:
+    """The frames of which all that was sent from a PTS to another one is, where PTS do not go back.
+    """
+    if pts is None or found.packets:
+        return None
+    first, last = (ticks_within(pts_of(found.begin, found.origin),
+                                TICKS * (found.end - found.begin), one) for one in pts)
+    return Span(found.begin - -first // TICKS, found.begin + last // TICKS)
+
+
+def unseen(places: Sequence[Place], origin: int, within: int, is_with_next: bool = True) \
+        -> Iterator[Span]:
+    """The frames of which something is lost, with that of the next PES packet or without."""
+    for place in places:
+        first, last = (None if pts is None else frame_in(pts, origin, within)
+                       for pts in (place.before, place.after))
+        yield Span(0 if first is None or first >= FRAMES_OF_A_DAY else first,
+                   FRAMES_OF_A_DAY if last is None else last - (not is_with_next))
+
+
+def tell_causes(speech: Speech, causes: Causes, option: str) -> None:
+    """Says the first causes, and how many more there are."""
+    wording, every = Wording(causes, option), causes.all()
+    for cause in every[:MOST_LINES]:
+        speech.say(wording.line(cause))
+    if len(every) > MOST_LINES:
+        speech.say(f".. {len(every) - MOST_LINES} more causes")

@@ -1,0 +1,251 @@
+"""The sentence of a verdict, which ends the last line."""
+from __future__ import annotations
+
+import collections
+from typing import NamedTuple, Sequence
+
+from ..common.command_line import counted, range_words
+from ..common.times import time_of
+from ..formats.listing import CONTROL, FaultLine, GAP, LOST_PACKETS, OFF_FRAME, WITH_CAUSE
+from ..formats.stl import Subtitle
+from ..formats.teletext import BY_WORD
+from .causes import (
+    ATTRIBUTE, Cause, Causes, EARLY, ERASED, IN_PART, IN_PAUSE, LATE, NEVER, NOT_ERASED,
+    NOT_RECEIVED, OTHER, PLACE, TEXT, UNKNOWN)
+from .status import ACCEPTED, LOST, NOT_JUDGED, REFUSED, WAIVED, WARNED
+from .transmissions import page_text
+
+
+# A fault of each number as a sentence: what stands behind `Refused: at TIME`.
+#
+# The manual's tables say it with all its cases; here is one clause, with its verb, for a person who
+# reads nothing else.
+
+WORDS = {
+    10: "the file ends within the GSI block (1024 bytes) or within a TTI block (128 bytes)",
+    11: "DFC is neither STL25.01 nor STL30.01",
+    12: "DFC is STL30.01",
+    13: "DSC is neither 1 nor 2",
+    14: "CCT is not 00, Latin",
+    15: "EBN is F0 to FD, reserved",
+    16: "CS is not 0 in the first block of a subtitle",
+    17: "CF is over 1",
+    18: "JC is over 3",
+    19: "VP is not 1 to 23",
+    20: "TCI or TCO is no time of the day at 25 frames a second",
+    21: "TCI is not before TCO",
+    22: "the blocks of one subtitle have more than one SGN or SN",
+    23: "a subtitle has a tenth block",
+    24: "the file ends, but no block with EBN FF ended the subtitle",
+    25: "there is a byte after 99,999 TTI blocks",
+    30: "the file ends within the PES packet",
+    31: "the packet does not begin with 00 00 01 BD",
+    32: "PES_packet_length is not 184 N - 6, N from 1 to 9",
+    33: "byte 6 does not begin with 10, or the packet is scrambled",
+    34: "PTS_DTS_flags is not 10, a PTS alone",
+    35: "PES_header_data_length is not 24 (hexadecimal)",
+    36: "the bits around the PTS are not 0010 and three markers",
+    37: "data_identifier is not 10 to 1F",
+    38: "data_unit_length is not 2C (hexadecimal)",
+    39: "the framing code of a Teletext unit is not E4",
+    40: "two Teletext units are on one line, or lines fall within a PES packet",
+    44: "there is a byte after 2,160,000 PES packets, a day of frames",
+    45: "something of the recording is missing: all bytes of the PES packet from 6 on are FF",
+    50: "a letter cannot be shown with this national option",
+    51: "a control code is outside of the profile",
+    52: "a line has more than 40 cells, with the box codes that it gets",
+    53: "a line that is not empty is under row 23",
+    54: "double height (0D) is on row 23, which has no row to reach into",
+    55: "a line is directly under one with double height, which hides it",
+    56: "TCI is before the TCI of the subtitle before",
+    57: "TCI is before the TCO of the subtitle before",
+    60: "nothing is read",
+    61: "the PTS is no frame of the day at this origin",
+    62: "its frame is not after that of the PES packet before",
+    63: "the first PES packet comes, and the first TCI is before it",
+    64: "an address byte has a wrong bit",
+    65: "one of the eight coded bytes of a header has a wrong bit",
+    66: "C11 (magazine serial) differs from the first header's",
+    67: "a header of the page has C4, C6 or C7 clear, or C5 or C10 set, or its C12 to C14 are not "
+        "those of the national option",
+    68: "a byte of a row of the page has even parity",
+    69: "a row of the page comes again with other bytes and no new header between",
+    70: "a packet X/25 to X/28 of the magazine comes while the page is open",
+    71: "the first frame has no header of the page",
+    72: "the page shows something else than the subtitle file asks for",
+    73: "no header of the page has come for as many frames as --every allows",
+    74: "the last PES packet comes, and the last TCO is after it",
+    76: "the subtitle file has another text than its own pages show",
+    77: "the page is still open, since no header after its last one has ended it",
+    78: "what is due is not known, since a subtitle is refused",
+    79: "no PES packet has come for as many frames as --pace allows",
+    82: "the file has no subtitle",
+}
+
+
+# A verdict in one sentence for a person: what is wrong, from when on, of how many subtitles.
+
+# What is said of one subtitle with a cause, and of several.
+SAID = {
+    NEVER: ("was never sent", "were never sent"),
+    OTHER: ("has another subtitle's text", "have other subtitles' texts"),
+    TEXT: ("has a wrong text", "have wrong texts"),
+    PLACE: ("stands in a wrong place", "stand in wrong places"),
+    ATTRIBUTE: ("has a wrong colour or attribute", "have wrong colours or attributes"),
+    NOT_ERASED: ("is not erased", "are not erased"),
+    IN_PART: ("is not repeated whole", "are not repeated whole"),
+    ERASED: ("is erased while it is due", "are erased while they are due"),
+    NOT_RECEIVED: ("was not received", "were not received"),
+    UNKNOWN: ("is not held as it is due", "are not held as they are due")}
+OF_ALL = {GAP, OFF_FRAME}  # of which what is known is said of all that is judged
+
+
+class Facts(NamedTuple):
+    """All that the sentence is made of: the verdict in one word, how many subtitles there are, the
+    first fault and how many there are, what to know of that, and the causes; `lost` are the lines
+    of what is missing, `warnings` the kinds of those that count."""
+
+    word: str
+    subtitles: int
+    first: FaultLine | None = None
+    faults: int = 0
+    hint: str = ""
+    causes: Causes | None = None
+    option: str = "english"
+    lost: Sequence[str] = ()
+    warnings: Sequence[str] = ()
+    reason: str | None = None
+    is_file: bool = False  # a subtitle file alone
+    refused: str = ""  # which subtitles are refused, beside which the others are judged
+    within: int = 0
+    accepted_within: int | None = None
+
+
+def sentence_of(seen: Facts) -> str:
+    """The sentence."""
+    if seen.word == NOT_JUDGED:
+        return f"Not judged: {(seen.reason or 'check was not answered').splitlines()[0]}."
+    if seen.word == REFUSED:
+        return f"Refused: {what_is_wrong(seen)}."
+    if seen.word == WAIVED:
+        return f"Waived, since these faults are named warnings: {what_is_wrong(seen)}."
+    good = "what was seen is as it is due" if seen.first is None else \
+        "all faults that were seen are named warnings"
+    if seen.word == LOST:
+        more = f", and in {counted(len(seen.lost) - 1, 'more place')}" if len(seen.lost) > 1 else ""
+        lost = seen.lost[0] if seen.lost else "TS packets are lost"
+        return f"Not accepted: {lost}{more}; {good}."
+    if seen.word == WARNED:
+        kinds = ", ".join(dict.fromkeys(seen.warnings))
+        return f"Not accepted: there are warnings, which count ({kinds}); {good}."
+    assert seen.word == ACCEPTED
+    return f"Accepted: {what_is_good(seen)}."
+
+
+def what_is_good(seen: Facts) -> str:
+    """What is said of subtitles of which nothing is wrong."""
+    subtitles = counted(seen.subtitles, "subtitle")
+    if seen.is_file:
+        return f"nothing is wrong with {subtitles}"
+    each = "each of them " if seen.subtitles > 1 else ""
+    return f"{subtitles}, {each}as it is due {since(seen)}"
+
+
+def beside_refused(seen: Facts) -> str:
+    """Which subtitles are refused, and how the others stand, which are judged."""
+    others = f"{counted(seen.subtitles, 'other subtitle')} " \
+        f"{'was' if seen.subtitles == 1 else 'were'} judged"
+    sent = seen._replace(refused="")
+    if seen.first is None:
+        is_one = seen.subtitles == 1
+        how = f"{'it is' if is_one else 'each of them is'} as it is due {since(seen)}"
+    else:
+        how = what_is_wrong(sent)
+    return f"{seen.refused}; {others}: {how}"
+
+
+def since(seen: Facts) -> str:
+    """From when on a subtitle has to be as it is due."""
+    return f"within {counted(seen.within, 'frame')}" if seen.within else "from the first frame on"
+
+
+def what_is_wrong(seen: Facts) -> str:
+    """What is wrong: the cause that most subtitles have, else the first fault; and what accepts
+    it."""
+    if seen.refused:
+        return beside_refused(seen)
+    told, causes = seen.first, seen.causes
+    if causes and causes.named:
+        words = of_causes(causes, seen.option)
+        if told and told.number not in WITH_CAUSE and seen.faults > 1:
+            place = f" at {told.time}" if told.time else ""
+            words += f"; the first of {counted(seen.faults, 'fault')} is {told.number} " \
+                f"{told.name}{place}"
+    else:
+        words = fault_clause(seen)
+    is_said = seen.accepted_within is None or f"--within {seen.accepted_within}" in words
+    return words if is_said else f"{words}; --within {seen.accepted_within} accepts it"
+
+
+def fault_clause(seen: Facts) -> str:
+    """The first fault, with its place, in the words for it alone or those of the manual."""
+    told = seen.first
+    if told is None:
+        return f"{counted(seen.faults, 'fault')}"
+    if told.number == LOST_PACKETS and seen.lost:
+        more = f", and in {counted(len(seen.lost) - 1, 'more place')}" if len(seen.lost) > 1 else ""
+        return f"{seen.lost[0]}{more}; that part was not recorded"
+    words = WORDS.get(told.number, told.name)
+    place = told.time or (f"PES packet {told.pes}" if told.pes is not None else
+                          f"block {told.block}" if told.block is not None else "")
+    if seen.hint and told.number in OF_ALL:
+        words, place = f"from {place} on {seen.hint}", ""
+    elif seen.hint:
+        words = seen.hint if told.number == CONTROL else f"{words}: {seen.hint}"
+    place = place and f"{'at' if told.time else 'in'} {place} "
+    more = f"; in all {counted(seen.faults, 'fault')}" if seen.faults > 1 else ""
+    return f"{place}{words}{more}"
+
+
+def of_causes(causes: Causes, option: str) -> str:
+    """The cause that most subtitles have; those with another one are counted."""
+    every = causes.all()
+    counts = collections.Counter(cause.name for cause in every)
+    name = min(counts, key=lambda one: (-counts[one], next(
+        at for at, cause in enumerate(every) if cause.name == one)))
+    found = [cause for cause in every if cause.name == name]
+    subtitles = causes.programme.subtitles
+    words = of_one(found[0], causes, option) if len(found) == 1 else of_several(found, subtitles)
+    others = len(every) - len(found)
+    return words + (f"; {counted(others, 'other')} {'has' if others == 1 else 'have'} another cause"
+                    if others else "")
+
+
+def of_one(cause: Cause, causes: Causes, option: str) -> str:
+    """The cause of a subtitle."""
+    one = causes.programme.subtitles[cause.place]
+    if cause.name == IN_PAUSE:
+        return f"another text was sent in a pause, {cause.words}" + (
+            f', "{page_text(cause.sent, BY_WORD[option].bits)}"' if cause.sent else "")
+    text = page_text(causes.programme.pages[cause.place], BY_WORD[option].bits)
+    said = f"is {counted(cause.frames or 0, 'frame')} {cause.name}" \
+        if cause.name in (LATE, EARLY) else SAID[cause.name][0]
+    more = f" ({cause.words})" if cause.words else ""
+    return f"at {time_of(one.begin)} {one.name}, \"{text}\", {said}{more}"
+
+
+def of_several(found: Sequence[Cause], subtitles: Sequence[Subtitle]) -> str:
+    """A cause that some subtitles have: from when on, or between when, and how many of all."""
+    first, last = subtitles[found[0].place], subtitles[found[-1].place]
+    name = found[0].name
+    if name == IN_PAUSE:
+        return f"another text was sent in {counted(len(found), 'pause')}, the first {found[0].words}"
+    is_to_the_end = found[-1].place == len(subtitles) - 1
+    when = f"from {time_of(first.begin)} on" if is_to_the_end else \
+        f"from {time_of(first.begin)} to {time_of(last.begin)}"
+    frames = sorted(cause.frames or 0 for cause in found)
+    said = f"are {range_words(frames[0], frames[-1])} {name}" if name in (LATE, EARLY) else \
+        SAID[name][1]
+    words = {cause.words for cause in found}
+    more = f" ({words.pop()})" if len(words) == 1 and words != {""} else ""
+    return f"{when} the subtitles {said}{more} ({len(found)} of {len(subtitles)})"

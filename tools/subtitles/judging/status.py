@@ -1,0 +1,161 @@
+"""The verdict in one word and its exit status, and which faults count: decided here alone."""
+from __future__ import annotations
+
+from typing import Collection, Iterable, NamedTuple, Sequence
+
+from ..common.command_line import Stop
+from ..common.files import list_at
+from ..formats.listing import ENDS_READING, LOST_PACKETS, SILENT
+
+
+# Which faults count for the exit status.
+
+ERROR, WARNING = "error", "warning"
+OTHERS = "others"  # the word for all numbers that are not named
+# The numbers that a command of the program refuses by: packets and files, texts, transmissions.
+REFUSALS = {3, 4, *range(10, 26), *range(30, 41), 44, LOST_PACKETS, *range(50, 58), *range(60, 75),
+            *range(76, 80), 82}
+
+
+class Severity:
+    """The severity of each number: an error, but for what a file says. `is_loss_allowed` names lost
+    packets a warning; `others` in a file never does. Where they are one, a silence that a file does
+    not name is one too."""
+
+    def __init__(self, path: str | None, is_loss_allowed: bool = False) -> None:
+        self.named: dict[int, str] = {}
+        self.others = ERROR
+        self.is_loss_allowed = is_loss_allowed
+        if path is not None:
+            for at, line in enumerate(list_at(path).split("\n"), 1):
+                self.take(path, at, line.partition("#")[0].split())
+
+    def take(self, path: str, at: int, words: list[str]) -> None:
+        """Takes a line; an empty one says nothing."""
+        if not words:
+            return
+        is_right = len(words) == 2 and words[1] in (ERROR, WARNING) and (
+            words[0] == OTHERS or words[0].isascii() and words[0].isdecimal())
+        if not is_right:
+            raise Stop(f"{path}, line {at}: a line is `NUMBER error` or `NUMBER warning`")
+        if words[0] == OTHERS:
+            self.others = words[1]
+        elif words[0].lstrip("0") in map(str, REFUSALS):
+            self.named[int(words[0])] = words[1]
+        else:
+            raise Stop(f"{path}, line {at}: no refusal has the number {words[0]}")
+
+    def of(self, number: int) -> str:
+        """The severity of a number."""
+        if number in ENDS_READING:
+            return ERROR
+        if number == LOST_PACKETS:
+            return WARNING if self.is_loss_allowed else self.named.get(number, ERROR)
+        is_loss = number == SILENT and not self.is_error(LOST_PACKETS)
+        return self.named.get(number, WARNING if is_loss else self.others)
+
+    def is_error(self, number: int) -> bool:
+        """Whether a number counts."""
+        return self.of(number) == ERROR
+
+
+# The verdict in one word and its exit status: this is the one place that decides them.
+
+ACCEPTED, WAIVED = "accepted", "waived"  # waived: refused by nothing but warnings
+REFUSED = "refused"
+LOST = "lost"  # all that was seen is accepted or waived, and TS packets are lost
+WARNED = "warned"  # accepted or waived, and there are warnings, which count by --strict
+NOT_JUDGED = "not judged"
+STATUSES = {ACCEPTED: 0, WAIVED: 0, REFUSED: 1, LOST: 1, WARNED: 1, NOT_JUDGED: 2}
+
+UNSAID = "check was not answered"
+UNREAD = "nothing of the recording was read, and --severity leaves no fault an error"
+
+
+class Said(NamedTuple):
+    """What the program said of a part, and the status that it ended with: below 0 where a signal
+    ended it, `None` where it has not ended.
+
+    `is_accepted`: its last line accepts. `faults` is how many it told, of these `numbers`,
+    and `counted` how many there are by its last line. `is_read`: it read something of a recording,
+    or there is none.
+    """
+
+    status: int | None
+    is_accepted: bool = False
+    faults: int = 0
+    counted: int | None = None
+    numbers: Collection[int] = ()
+    is_read: bool = True
+
+
+class Grounds(NamedTuple):
+    """All that decides a verdict.
+
+    `losses` are the places at which TS packets are lost by the PCR alone: for each, whether the
+    verdict speaks of frames there. Such a place counts as a 45 does, which `check` tells of all
+    others: `severity` says whether that is an error, by its file and by --allow-lost. `warnings`
+    are the kinds of what is strange and breaks no rule. `reasons` say why it was not judged, and
+    `failed` which outputs could not be written.
+    """
+
+    parts: Sequence[Said]
+    severity: Severity
+    losses: Sequence[bool] = ()
+    warnings: Sequence[str] = ()
+    is_strict: bool = False
+    reasons: Sequence[str] = ()
+    failed: Sequence[str] = ()
+
+
+class Decision(NamedTuple):
+    """A verdict in one word; `reason` is why it is not judged, where nobody has said that yet."""
+
+    word: str
+    reason: str | None = None
+
+    @property
+    def status(self) -> int:
+        """The exit status."""
+        return STATUSES[self.word]
+
+
+def word_of(said: Said) -> str:
+    """The verdict on a part: only what the program says in so many words, with that status."""
+    if said.status == 0 and said.is_accepted and not said.faults and not said.numbers:
+        return ACCEPTED
+    if said.status == 1 and said.numbers and said.faults == said.counted:
+        return REFUSED
+    return NOT_JUDGED
+
+
+def decide(seen: Grounds) -> Decision:
+    """The verdict on all parts. What nobody said or read, or could write, is not judged; then an
+    error counts before a loss, and a loss before a warning."""
+    words = [word_of(part) for part in seen.parts]
+    if seen.reasons or seen.failed:
+        return Decision(NOT_JUDGED)
+    if not words or NOT_JUDGED in words:
+        return Decision(NOT_JUDGED, UNSAID)
+    if any(seen.severity.is_error(number) for part in seen.parts for number in part.numbers):
+        return Decision(REFUSED)
+    if not all(part.is_read for part in seen.parts):
+        return Decision(NOT_JUDGED, UNREAD)
+    if any(seen.losses) and seen.severity.is_error(LOST_PACKETS):
+        return Decision(LOST)
+    if seen.warnings and seen.is_strict:
+        return Decision(WARNED)
+    return Decision(WAIVED if REFUSED in words else ACCEPTED)
+
+
+def is_of_call(word: str, status: int, ended: int) -> bool:
+    """Whether a call for a pair ended with the status that its object has, which is that of its
+    word."""
+    return STATUSES.get(word, 2) == status == ended
+
+
+def of_all(words: Iterable[str], is_stopped: bool = False) -> int:
+    """The status of several verdicts: 2 where one is not judged, none is there, or others were to
+    be judged too; else 1 where one is not accepted."""
+    statuses = [STATUSES.get(word, 2) for word in words]
+    return 2 if is_stopped or not statuses else max(statuses)

@@ -1,0 +1,254 @@
+"""Subtitles that are refused themselves: midnight, letters, and what is judged beside them."""
+from __future__ import annotations
+
+import functools
+from typing import Iterable, Iterator, NamedTuple, Sequence
+
+from ..common.command_line import counted
+from ..common.times import FRAMES_A_SECOND, FRAMES_OF_A_DAY, TICKS, frame_of_code, time_of
+from ..formats.layout import Layout, PLAIN, Refused, drawn, page_rows
+from ..formats.listing import (
+    CHARACTER, EMPTY, EMPTY_TIME, FaultLine, LETTERS, Meaning, OUT_OF_ORDER, STL_FAULTS, meanings,
+    plain)
+from ..formats.stl import NamedSubtitle, Subtitle, SubtitleFile, subtitle_name, subtitles_read
+from ..formats.teletext import (
+    BY_WORD, NationalOption, OPTIONS, Page, character_of, has_characters, letter_at, options_with)
+from ..request.commands import MOST_LINES
+from ..stream.receiver import BLANK_PAGE, Rows, Timeline
+from ..stream.survey import PES, Packets, Run
+from .sentence import WORDS
+from .transmissions import DuePages
+
+
+# Subtitle files that go on beyond midnight: their times fall, and nothing is to be sorted; and
+# files that begin with a title at 00:00:00:00.
+
+HOUR = 3600 * FRAMES_A_SECOND
+TCI, TCO = slice(5, 9), slice(9, 13)  # of a TTI block
+AT_MIDNIGHT = "midnight: cut the file there"
+
+
+def midnight_words(told: FaultLine, subtitles: SubtitleFile) -> str:
+    """What to do about times that fall from over 23:00 to under 01:00; nothing where others do."""
+    if told.block is None or told.number not in (EMPTY_TIME, OUT_OF_ORDER):
+        return ""
+    if told.number == EMPTY_TIME:
+        block = subtitles.block(told.block)
+        is_night = falls_at_midnight(block[TCI], block[TCO])
+    else:
+        before = subtitles.first_before(told.block)
+        is_night = before is not None and falls_at_midnight(
+            subtitles.block(before)[TCI], subtitles.block(told.block)[TCI])
+    return AT_MIDNIGHT if is_night else ""
+
+
+def title_words(subtitles: SubtitleFile) -> str:
+    """How to leave out what comes at 00:00:00:00, an hour before all else; nothing where it does
+    not."""
+    rest = min((frame for frame in subtitles.begins if frame), default=0)
+    if not rest >= HOUR or subtitles.begins[0]:
+        return ""
+    return (f"the subtitle file begins at 00:00:00:00, and all else comes from {time_of(rest)} on: "
+            f"if that is a title, which is not sent, say --from {time_of(rest)}")
+
+
+def falls_at_midnight(earlier: bytes, later: bytes) -> bool:
+    """Whether a time is in the last hour of the day, and the one after it in the first."""
+    first, second = frame_of_code(earlier), frame_of_code(later)
+    return first is not None and second is not None and \
+        first >= FRAMES_OF_A_DAY - HOUR and second < HOUR
+
+
+# What to do about a letter that the national option lacks (50).
+
+
+class OptionAdvice:
+    """The advice for the letters of one subtitle file, which is judged by the option `asked`."""
+
+    def __init__(self, subtitles: SubtitleFile, asked: str) -> None:
+        self.subtitles, self.asked = subtitles, asked
+
+    @functools.cached_property
+    def drawing(self) -> list[NationalOption]:
+        """The other options that have each letter of the whole file."""
+        texts = {self.subtitles.text(block) for block in self.subtitles.lasts()}
+        return [one for one in OPTIONS if one.word != self.asked
+                and all(has_characters(text, one) for text in texts)]
+
+    def of(self, block: int, at: int) -> str:
+        """What to do about the byte at a place of the text whose last block that is."""
+        text = self.subtitles.text(block)
+        return "" if at >= len(text) else advice_of(letter_at(text, at), self.drawing)
+
+
+def advice_of(letter: bytes, drawing: list[NationalOption]) -> str:
+    """What to do about a letter that the option lacks, where these options draw the whole file."""
+    if drawing:
+        return f"the whole file draws in {listed(drawing)}"
+    character = character_of(letter)
+    if character is None:
+        return f"byte {letter[:1].hex().upper()} is no character of code table 00: mend the file"
+    having = options_with(letter)
+    if having:
+        return f"{character} is in {listed(having)}; another letter of the file is not"
+    return (f"{character} is in no option: at level 1 it needs another region, or packets X/26, "
+            "which are refused (70): write it otherwise")
+
+
+def listed(options: list[NationalOption]) -> str:
+    """Some options, as words to type."""
+    return "--option " + ", ".join(one.word for one in options)
+
+
+# What is judged beside subtitles that are refused: the subtitles that can be relied on.
+#
+# `check --all` tells all that is refused in the subtitle file, and beside it what was sent from
+# each subtitle that can be relied on to the next. Which these are follows from its lines: no line
+# names one, and the next subtitle that is compared with it, by time, is not told to be out of order
+# or to overlap it. Where it does not judge beside them, none of this is asked.
+
+# Faults of a subtitle by its first block, with which it is no record that others are compared with.
+NO_RECORD = {16, *range(18, 22)}
+COMPARED = {56, 57}  # with the record before
+MOST_NAMED = 3  # refused subtitles in the sentence
+OPENS, ERASES = "heo", "heb"  # what a PES packet does that sends a page, or a blank one
+
+
+class Counts(NamedTuple):
+    """How many subtitles were judged, and how many are refused or can't be relied on."""
+
+    judged: int
+    refused: int
+
+    def words(self) -> str:
+        """Both, where some are refused."""
+        return f"{counted(self.judged, 'subtitle')} judged, {self.refused:,} refused" \
+            if self.refused else ""
+
+
+class RefusedSubtitle(NamedTuple):
+    """A subtitle that is refused, with the first line that names it; its letter, where that is
+    refused, and what to do."""
+
+    subtitle: NamedSubtitle
+    told: FaultLine
+    letter: str
+    do: str
+
+    def name(self) -> str:
+        """It as all tools name it, with its time."""
+        one = self.subtitle
+        return f"{subtitle_name(one.position, one.number)} at {one.begin}"
+
+    def why(self) -> str:
+        """The number and the name of its fault, its letter, or what that means, and what to do."""
+        more = self.letter or WORDS.get(self.told.number, "")
+        do = f": {self.do}" if self.do else ""
+        return f"{self.told.number} {self.told.name}, {more}{do}"
+
+    def line(self) -> str:
+        """All that, and up to when it would be due."""
+        return f"undecided: {self.name()}, to {self.subtitle.end}, is refused by {self.why()}"
+
+
+class JudgedBeside(NamedTuple):
+    """The subtitles that are judged, and those that are refused, by their places in the file."""
+
+    judged: list[Subtitle]
+    refused: list[RefusedSubtitle]
+    left_out: frozenset[int]
+
+    def lines(self) -> Iterator[str]:
+        """A line for each that is refused, of many for the first ones."""
+        yield from (one.line() for one in self.refused[:MOST_LINES])
+        if len(self.refused) > MOST_LINES:
+            yield f"undecided: {counted(len(self.refused) - MOST_LINES, 'more subtitle')}"
+
+    def words(self) -> str:
+        """Which are refused: the first ones, and how many more."""
+        if len(self.refused) == 1:
+            return f"{self.refused[0].name()} is refused by {self.refused[0].why()}"
+        named = [f"{one.name()} by {one.why()}" for one in self.refused[:MOST_NAMED]]
+        more, total = len(self.refused) - len(named), len(self.judged) + len(self.left_out)
+        last = f"{more:,} more" if more else named.pop()
+        return f"{len(self.refused):,} of {total:,} subtitles are refused, " \
+            f"{', '.join(named)} and {last}"
+
+
+def is_judged_beside(numbers: set[int]) -> bool:
+    """Whether the program judges beside what it refused of a subtitle file: it read the recording
+    too, which had nothing."""
+    return EMPTY in numbers and bool(numbers & STL_FAULTS)
+
+
+def beside_of(file: SubtitleFile, faults: Iterable[FaultLine], option: str) -> JudgedBeside:
+    """What is judged of a file beside what is told of it."""
+    told: dict[int, list[FaultLine]] = {}
+    for one in faults:
+        subtitle = file.at_block(one.block) if one.block is not None else None
+        if subtitle and one.number in STL_FAULTS:
+            told.setdefault(subtitle.position, []).append(one)
+    asked_for = [*positions_in(file)]
+    records = [place for place in asked_for
+               if not {one.number for one in told.get(place, ())} & NO_RECORD]
+    judged = {place for place, after in zip(records, [*records[1:], None])
+              if place not in told and not (after is not None and {
+                  one.number for one in told.get(after, ())} & COMPARED)}
+    advice, known = OptionAdvice(file, option), meanings()
+    refused = [refused_of(file, told[place][0], advice, known) for place in sorted(told)]
+    return JudgedBeside([one for one in subtitles_read(file.data) if one.index in judged], refused,
+                        frozenset(asked_for) - judged)
+
+
+def positions_in(file: SubtitleFile) -> Iterator[int]:
+    """The places of the subtitles that are asked for: not of those that come in other frames."""
+    for place, block in enumerate(file.starts, 1):
+        begin = frame_of_code(file.block(block)[5:9])
+        if begin is None or file.between.has(begin):
+            yield place
+
+
+def refused_of(file: SubtitleFile, told: FaultLine, advice: OptionAdvice, known: dict[int, Meaning]) \
+        -> RefusedSubtitle:
+    """A subtitle by the first line that names it."""
+    assert told.block is not None
+    subtitle = file.at_block(told.block)
+    assert subtitle
+    byte, character = file.letter(told.block, told.at) \
+        if told.number in LETTERS and told.at is not None else (None, None)
+    of_letter = advice.of(told.block, told.at) \
+        if told.number == CHARACTER and told.at is not None else ""
+    of_manual = plain(known[told.number].do) if told.number in known else ""
+    do = of_letter or midnight_words(told, file) or of_manual
+    return RefusedSubtitle(subtitle, told, character or (f"byte {byte}" if byte else ""), do)
+
+
+def due_beside(subtitles: Sequence[Subtitle], page: Page, option: str, layout: Layout = PLAIN) \
+        -> DuePages:
+    """The pages of the subtitles that are judged; `schedule` refuses their file, so they are drawn
+    here."""
+    pages = [page_drawn(one, option, layout) for one in subtitles]
+    packets = Packets(PES)
+    for place, (one, rows) in enumerate(zip(subtitles, pages)):
+        send(packets, one.begin, rows, page, option)
+        following = subtitles[place + 1:place + 2]
+        if not following or following[0].begin > one.end:
+            send(packets, one.end, BLANK_PAGE, page, option)
+    return DuePages([*subtitles], pages, Timeline(packets, page, 0))
+
+
+def page_drawn(one: Subtitle, option: str, layout: Layout) -> Rows:
+    """The page of a subtitle."""
+    lines = drawn(one.text, one.row, one.justify, layout, BY_WORD[option])
+    assert not isinstance(lines, Refused)
+    return page_rows(lines)
+
+
+def send(packets: Packets, frame: int, rows: Rows, page: Page, option: str) -> None:
+    """A PES packet that sends a page at a frame."""
+    number = packets.count
+    header = (page[1] & 15, page[1] >> 4, 0, 8, 0, 8, 1, BY_WORD[option].bits << 1)
+    packets.runs.append(Run(number, 1, TICKS * frame, 0, ERASES if rows == BLANK_PAGE else OPENS,
+                            "".join(f"{one:X}" for one in header)))
+    packets.held.append((number, tuple((row, cells) for row, cells in enumerate(rows, 1)
+                                       if cells != BLANK_PAGE[0])))

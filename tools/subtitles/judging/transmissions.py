@@ -1,0 +1,543 @@
+"""Page transmissions: their headers, what a person reads on them, which subtitle each is of."""
+from __future__ import annotations
+
+import bisect
+import functools
+import os
+import subprocess
+from typing import Callable, Collection, Iterator, Mapping, NamedTuple, Sequence
+
+from ..common.command_line import counted
+from ..common.files import temporary_folder
+from ..common.times import ALL_DAY, Between, Span, time_of
+from ..formats.listing import CHANGED, CONTENT, CONTROL, FaultLine, frame_of_place
+from ..formats.stl import Subtitle, SubtitleList, stl_bytes, subtitles_read, subtitles_shown
+from ..formats.teletext import (
+    BY_BITS, BY_WORD, ERASE, INHIBIT, NEWSFLASH, Page, RESERVED, SUBTITLE, SUPPRESS, has_bit,
+    letters, page_name)
+from ..request.request import Request, Unclear
+from ..stream.receiver import BLANK_PAGE, LEAST, Rows, State, Timeline, national_option, subcode_of
+from ..stream.survey import CLOSED, HEADER, PES, Packets, Run, survey
+from .check import Answer, End
+
+
+# What is wrong with the control bits of headers of the page.
+
+CLEAR = "C4 (erase page) is clear"
+REPEATS = f"{CLEAR}: a repeat that does not erase"
+# The other control bits that a header of subtitles has set, or clear, and what it is where they are
+# not.
+ASKED = (
+    (SUBTITLE, True, "C6 (subtitle) is clear"),
+    (SUPPRESS, True, "C7 (suppress header) is clear"),
+    (NEWSFLASH, False, "C5 (newsflash) is set"),
+    (INHIBIT, False, "C10 (inhibit display) is set"),
+)
+
+
+class Headed(NamedTuple):
+    """A header of the page by its eight numbers, with those of the one before it, and whether the
+    page was open then."""
+
+    numbers: bytes
+    before: bytes | None = None
+    is_open: bool = False
+
+
+def headers_of(run: Run) -> list[bytes]:
+    """The eight numbers of each header of the page in a PES packet."""
+    return [bytes(int(digit, 16) for digit in one) for one in run.control.split("+") if one]
+
+
+def headed(run: Run, state: State) -> list[Headed]:
+    """The headers of the page in a PES packet, after what a receiver held before it."""
+    found: list[Headed] = []
+    before, is_open = state.header, state.is_open
+    headers = iter(headers_of(run))
+    for letter in run.does:
+        if letter == HEADER:
+            one = Headed(next(headers), before, is_open)
+            found.append(one)
+            before, is_open = one.numbers, True
+        elif letter == CLOSED:
+            is_open = False
+    return found
+
+
+def keeps(header: bytes) -> bool:
+    """Whether a header keeps the page."""
+    return not has_bit(header, ERASE)
+
+
+def unerased_words(one: Headed, asked: Request) -> str:
+    """Why a header has to erase the page and does not; nothing where it need not, or does."""
+    if not keeps(one.numbers):
+        return ""
+    if not asked.may_keep:
+        return REPEATS
+    codes = [subcode_of(header) for header in (one.numbers, one.before or one.numbers)]
+    if codes[0] != codes[1]:
+        return f"{CLEAR}, and the sub-code is another one than before: {codes[0]} after {codes[1]}"
+    if asked.is_complete and one.is_open:
+        return f"{CLEAR}, and the page was still open: no header had ended it"
+    return ""
+
+
+def control_words(header: bytes, option: str, better: Collection[str] = (),
+                  unerased: str = "") -> list[str]:
+    """What is wrong with the control bits of a header of the page, with its national option; that
+    is advised where it is one by which less is refused. What is wrong with C4 is known."""
+    found = [unerased] if unerased else []
+    found += [words for bit, is_set, words in ASKED if has_bit(header, bit) != is_set]
+    bits = national_option(header)
+    if bits == RESERVED:
+        found.append("C12, C13 and C14 are set, which is reserved")
+    elif bits != BY_WORD[option].bits:
+        one = BY_BITS[bits]
+        advice = f": --option {one.word}" if one.word in better else ""
+        found.append(f"the header is {one.name}{advice}")
+    return found
+
+
+def header_words(headers: Sequence[Headed], asked: Request, better: Collection[str]) -> str:
+    """What is wrong with the control bits of the first header of some of which something is."""
+    wrong = (control_words(one.numbers, asked.option, better, unerased_words(one, asked))
+             for one in headers)
+    return "; ".join(next(filter(None, wrong), []))
+
+
+# Headers that keep the page (C4 clear): how many do, and whether what is sent with them is whole.
+#
+# A receiver that keeps the page holds what was sent before. So the page may be held as it is due,
+# and `check` tells 72 all the same: behind the last header a row of it did not come.
+
+
+class LeftOut(NamedTuple):
+    """A header that keeps the page, behind which rows of it are left out: its frame, and which."""
+
+    frame: int
+    rows: str
+
+
+class Kept(NamedTuple):
+    """How many headers of the page there are, and how many keep it. By --keeping: behind which of
+    these rows are left out, `None` where that is not known; how many are refused all the same;
+    whether the content is right, and whether all is accepted."""
+
+    headers: int
+    keeping: int
+    left: tuple[LeftOut, ...] | None = None
+    refused: int = 0
+    is_right: bool = False
+    is_accepted: bool = False
+
+    def words(self) -> str:
+        """It in words."""
+        head = f"{CLEAR} in {self.keeping} of {counted(self.headers, 'header')}"
+        judges = f"--keeping {'accepts that' if self.is_accepted else 'judges by it'}"
+        if self.refused:
+            judges += f", and refuses {self.refused} of these: the sub-code is another one than " \
+                "before, or the page was still open"
+        if self.left is None:
+            return f"{head}: {judges}"
+        if self.left:
+            first = self.left[0]
+            return f"{head}, and behind {len(self.left)} of these rows are left out (at " \
+                f"{time_of(first.frame)} {first.rows}): {judges}"
+        where = "" if self.is_right else " wherever the page is as it is due"
+        return f"{head}, and what these repeat is whole{where}: {judges}"
+
+
+def kept_in(headers: Mapping[bytes, int], option: str) -> Kept | None:
+    """How many headers keep the page, of so many of each; `None` where none does, or another
+    control bit of one is wrong too."""
+    keeping = sum(count for one, count in headers.items() if keeps(one))
+    if not keeping or any(control_words(one, option) for one in headers):
+        return None
+    return Kept(sum(headers.values()), keeping)
+
+
+def judged_by(kept: Kept, answer: Answer | None, held: Timeline, due: Callable[[int], Rows]
+              ) -> Kept:
+    """The same with what `check` tells by --keeping, where it is answered; `due` gives the page
+    that is due at a frame."""
+    if answer is None:
+        return kept
+    found = {one.frame: one for told, end in answer.told()
+             for one in left_by(told, end, answer, held, due)}
+    return kept._replace(left=tuple(found[frame] for frame in sorted(found)),
+                         refused=answer.counts[CONTROL], is_right=CONTENT not in answer.numbers,
+                         is_accepted=answer.is_accepted)
+
+
+def left_by(told: FaultLine, end: End, answer: Answer, held: Timeline, due: Callable[[int], Rows]
+            ) -> Iterator[LeftOut]:
+    """The headers behind which rows are left out, by a fault that stands up to an end."""
+    if told.number != CONTENT or told.frame is None:
+        return
+    last = told.frame if end.time is None else frame_of_place(end.time)
+    at = max(bisect.bisect_right(held.sendings, told.frame) - 1, 0)
+    for sent in held.sendings[at:bisect.bisect_right(held.sendings, last)]:
+        frame = max(sent, told.frame)
+        if rows := left_at(held, due(frame), frame, answer):
+            yield LeftOut(sent, rows)
+
+
+def left_at(held: Timeline, due: Rows, frame: int, answer: Answer | None) -> str:
+    """Which rows are left out behind the last header up to a frame, at which the content of a row
+    is told; nothing where that header erases, another page is held than is due, or a row has come
+    otherwise since the page was erased."""
+    header = held.state_at(frame).header
+    at = bisect.bisect_right(held.sendings, frame) - 1
+    if header is None or not keeps(header) or at < 0 or held.page_at(frame) != due:
+        return ""
+    erased = held.erasings[bisect.bisect_right(held.erasings, frame) - 1] \
+        if held.erasings and held.erasings[0] <= frame else 0
+    changed = answer.marks.get(CHANGED) if answer else None
+    if changed and any(changed.between(erased, frame + 1)):
+        return ""
+    sent = held.sendings[at]
+    runs = [run for one in range(sent, min(frame, sent + held.within) + 1)
+            for run in held.members(one)]
+    came = sum(run.units - run.does.count(HEADER) - run.does.count(CLOSED) for run in runs)
+    return left_rows_words([number for number, cells in enumerate(due, 1) if cells.strip(b" ")],
+                           answer.row_at(frame) if answer else None, came)
+
+
+def left_rows_words(rows: Sequence[int], row: int | None, came: int) -> str:
+    """Which of the rows with text are left out, where so many packets came beside headers: all, or
+    the one that is told, and how many more there are at least."""
+    if not rows:
+        return ""
+    if came <= 0:
+        *others, last = map(str, rows)
+        return f"rows {', '.join(others)} and {last}" if others else f"row {last}"
+    more = len(rows) - came - 1
+    one = "a row" if row is None else f"row {row}"
+    return f"{one} and {more} more" if more > 0 else one
+
+
+# What a person reads on a page, and in which cells two pages with the same words differ.
+
+ATTRIBUTES = (
+    "alpha black", "alpha red", "alpha green", "alpha yellow", "alpha blue", "alpha magenta",
+    "alpha cyan", "alpha white", "flash", "steady", "end box", "start box", "normal height",
+    "double height", "double width", "double size", "mosaic black", "mosaic red", "mosaic green",
+    "mosaic yellow", "mosaic blue", "mosaic magenta", "mosaic cyan", "mosaic white", "conceal",
+    "contiguous mosaics", "separated mosaics", "escape", "black background", "new background",
+    "hold mosaics", "release mosaics")  # of the codes 00 to 1F
+SPACE = 0x20
+SPACES = bytes(max(code, SPACE) for code in range(256))  # spacing attributes are spaces
+
+
+class LetteredRow(NamedTuple):
+    """A row that has letters: its number, the column of the first, its words, its attributes."""
+
+    row: int
+    column: int
+    words: bytes
+    attributes: bytes
+
+
+@functools.lru_cache(maxsize=1 << 12)
+def lettered_rows(rows: Rows) -> tuple[LetteredRow, ...]:
+    """The rows of a page that have letters."""
+    found = []
+    for number, row in enumerate(rows, 1):
+        words = row.translate(SPACES)
+        if words.strip():
+            column = len(words) - len(words.lstrip())
+            attributes = bytes(code for code in row if code < SPACE)
+            found.append(LetteredRow(number, column, words.strip(), attributes))
+    return tuple(found)
+
+
+def words_on(rows: Rows) -> str:
+    """The words of a page, wherever they stand."""
+    return " ".join(b" ".join(line.words for line in lettered_rows(rows)).decode("latin-1").split())
+
+
+def page_text(rows: Rows, option: int) -> str:
+    """The words of a page as a person reads them, row after row."""
+    table = letters(option)
+    return " / ".join("".join(table[code & 0x7F] for code in line.words)
+                      for line in lettered_rows(rows))
+
+
+def code_words(code: int) -> str:
+    """A cell's code as a person reads it."""
+    if code == SPACE:
+        return "a space"
+    return ATTRIBUTES[code] if code < SPACE else f"{code:02X}"
+
+
+def moved_words(due: Rows, sent: Rows) -> str:
+    """In what place words are sent, beside the one where they are due: the first that differs."""
+    for one, other in zip(lettered_rows(due), lettered_rows(sent)):
+        if one.row != other.row:
+            return f"row {other.row} instead of {one.row}"
+        if one.column != other.column:
+            return f"row {one.row} from column {other.column} instead of {one.column}"
+    return f"{len(lettered_rows(sent))} rows instead of {len(lettered_rows(due))}"
+
+
+def attribute_words(due: Rows, sent: Rows) -> str:
+    """The first cell that differs, and by how far its row begins or ends elsewhere."""
+    for number, (row, other) in enumerate(zip(due, sent), 1):
+        for column, (code, held) in enumerate(zip(row, other)):
+            if code != held:
+                return (f"row {number} column {column}: {code_words(held)} instead of "
+                        f"{code_words(code)}{ends_words(row, other)}")
+    return ""
+
+
+def ends_words(due: bytes, sent: bytes) -> str:
+    """How many columns a row begins or ends early or late, with its attributes."""
+    (first, end), (begins, ends) = extent(due), extent(sent)
+    words = [] if begins == first else [columns_words("begins", begins - first)]
+    words += [] if ends == end else [columns_words("ends", ends - end)]
+    return "".join(f", {one}" for one in words)
+
+
+def extent(row: bytes) -> tuple[int, int]:
+    """The columns of the first cell of a row that is no space, and of the one after the last."""
+    return len(row) - len(row.lstrip(b" ")), len(row.rstrip(b" "))
+
+
+def columns_words(what: str, columns: int) -> str:
+    """`begins a column early`, of columns to the right."""
+    count = "a column" if abs(columns) == 1 else counted(abs(columns), "column")
+    return f"{what} {count} {'late' if columns > 0 else 'early'}"
+
+
+def is_moved(due: Rows, sent: Rows) -> bool:
+    """Whether pages with the same words have these in other places, and not since one has another
+    attribute: that takes a cell too."""
+    one, other = lettered_rows(due), lettered_rows(sent)
+    if [line.row for line in one] != [line.row for line in other]:
+        return True
+    same = [line.attributes for line in one] == [line.attributes for line in other]
+    return same and [line.column for line in one] != [line.column for line in other]
+
+
+def is_part(sent: Rows, due: Rows) -> bool:
+    """Whether a page has some rows of another one, and nothing else."""
+    return all(row == wanted or not row.strip() for row, wanted in zip(sent, due))
+
+
+# The subtitles of a file with the pages that are due, as the program's own schedule sends them.
+#
+# This is the one home of what is due: causes, delays, faults and reports read it.
+
+NOTHING = 82  # the number where there is no subtitle
+EVERY = "1500"  # frames: the fewest repeats
+
+
+class DuePages(SubtitleList):
+    """A programme with the page that is due of each subtitle; which have the same page or words.
+    `timeline` is what a receiver holds of it, `None` where there is no subtitle."""
+
+    def __init__(self, subtitles: list[Subtitle], pages: list[Rows],
+                 timeline: Timeline | None = None) -> None:
+        super().__init__(subtitles)
+        self.pages, self.timeline = pages, timeline
+        self.by_page: dict[Rows, list[int]] = {}
+        self.by_words: dict[str, list[int]] = {}
+        for place, page in enumerate(pages):
+            self.by_page.setdefault(page, []).append(place)
+            self.by_words.setdefault(words_on(page), []).append(place)
+
+    def of_page(self, page: Rows, frame: int) -> int | None:
+        """The subtitle with a page that begins nearest to a frame; none has a blank one."""
+        places = self.by_page.get(page)
+        return self.nearest(places, frame) if places and page != BLANK_PAGE else None
+
+    def page_at(self, frame: int) -> Rows:
+        """The page that is due at a frame."""
+        count, is_due = self.due(frame)
+        blank: Rows = BLANK_PAGE
+        return self.pages[count - 1] if is_due else blank
+
+
+def program_answer(program: str, *words: str) -> list[str]:
+    """What the program at a path answers."""
+    done = subprocess.run([program, *words], stdin=subprocess.DEVNULL, check=False,
+                          stdout=subprocess.PIPE, encoding="utf-8", errors="replace")
+    lines = done.stdout.splitlines()
+    if done.returncode and f"refused {NOTHING} " not in "".join(lines[-1:]):
+        raise Unclear(f"{words[0]} was not answered: {''.join(lines[-1:])}")
+    return lines
+
+
+def subtitles_in(program: str, stl: str, between: Between = ALL_DAY,
+                 is_open: bool = False) -> list[Subtitle]:
+    """The subtitles of a file that come in some frames, as the program shows them. It shows a whole
+    file or none, and no open one: where another subtitle is refused they are read here."""
+    try:
+        found = subtitles_read(stl_bytes(stl)) if is_open else \
+            subtitles_shown(program_answer(program, "show", "--", stl))
+    except Unclear:
+        if between == ALL_DAY:
+            raise
+        found = subtitles_read(stl_bytes(stl))
+    return [one for one in found if between.has(one.begin)]
+
+
+def due_pages_of(program: str, stl: str, page: Page, option: str, between: Between = ALL_DAY,
+                 words: Sequence[str] = (), is_open: bool = False) -> DuePages:
+    """Those of a file that come in some frames, by the program at a path and the options that say
+    how pages are drawn."""
+    subtitles = subtitles_in(program, stl, between, is_open)
+    if not subtitles:
+        return DuePages([], [])
+    with temporary_folder("subttx-qc-") as folder:
+        path = os.path.join(folder, "due.pes")
+        program_answer(program, "schedule", "--page", page_name(*page), "--option", option, "--every",
+                       EVERY, *between.words(), *words, "--", stl, path)
+        packets = survey(program, path, page).by_pid.get(PES, Packets(PES))
+    due = Timeline(packets, page, 0)
+    return DuePages(subtitles, [due.page_at(one.begin) for one in subtitles], due)
+
+
+# Which page transmission is of which subtitle.
+#
+# One is of the subtitle with its page that begins nearest to it. It is looked for from the TCO
+# before the subtitle to the TCI after it, and 250 frames before and after its own TCI at least.
+
+
+class Sendings:
+    """The page transmissions of subtitles, by what is held."""
+
+    def __init__(self, programme: DuePages, held: Timeline) -> None:
+        self.programme, self.held = programme, held
+        self.subtitles, self.pages = programme.subtitles, programme.pages
+
+    # Whose the faults are.
+
+    def is_due(self, frame: int) -> bool:
+        """Whether at a frame the page is held that is due."""
+        return self.held.page_at(frame) == self.programme.page_at(frame)
+
+    def split(self, first: int, last: int) -> list[Span]:
+        """Faulty frames, so that in each stretch one page is due and one is held."""
+        begins = {first, *self.programme.edges(first, last)}
+        begins.update(self.held.frames[number] for number in self.held.numbers(first, last + 1)
+                      if self.held.frames[number] > first)
+        rising = sorted(begins)
+        return [Span(begin, end - 1) for begin, end in zip(rising, [*rising[1:], last + 1])]
+
+    def owner(self, frame: int) -> int:
+        """The subtitle whose fault it is that another page is held at a frame than is due: the one
+        that is due or was the last to be, or the one that was sent at another time."""
+        place = self.programme.place_at(frame)
+        number = self.held.number_at(frame)
+        if place < 0 or number < 0:
+            return max(place, 0)
+        page = self.held.pages[number]
+        sent = self.programme.of_page(page, self.held.frames[number])
+        if sent is None or sent == place or self.sending(sent) != self.held.frames[number]:
+            return place
+        is_due = frame < self.subtitles[place].end
+        if is_due and not (sent > place and self.has_come(place)):
+            return place
+        return sent
+
+    def has_come(self, place: int) -> bool:
+        """Whether the page of a subtitle came at its TCI, or before it."""
+        came = self.sending(place)
+        begin = self.subtitles[place].begin
+        return came is not None and came <= begin or \
+            self.held.page_at(begin) == self.pages[place]
+
+    # What was sent.
+
+    def window(self, place: int) -> Span:
+        """The frames in which the sending of a subtitle is looked for."""
+        begin = self.subtitles[place].begin
+        return Span(min(self.programme.before(place), begin - LEAST),
+                    max(self.programme.after(place), begin + LEAST))
+
+    def sending(self, place: int) -> int | None:
+        """The frame at which the page of a subtitle came, the nearest one to its TCI. What comes at
+        just the TCI of another subtitle stands in the place of that one, unless both are moved by
+        as many frames."""
+        begin = self.subtitles[place].begin
+        found = [frame for frame in self.sendings(place) if frame == begin
+                 or not self.is_begin(frame) or self.are_moved(place, frame)]
+        return nearest(found, begin)
+
+    def sendings(self, place: int) -> list[int]:
+        """All frames of those looked at at which the page of a subtitle came as its own."""
+        page, window = self.pages[place], self.window(place)
+        frames = self.held.when.get(page)
+        if not frames or page == BLANK_PAGE:
+            return []
+        first, end = (bisect.bisect_left(frames, frame)
+                      for frame in (window.first, window.last + 1))
+        return [frame for frame in frames[first:end]
+                if self.programme.of_page(page, frame) == place]
+
+    def is_begin(self, frame: int) -> bool:
+        """Whether a frame is the TCI of a subtitle."""
+        place = self.programme.place_at(frame)
+        return place >= 0 and self.subtitles[place].begin == frame
+
+    def are_moved(self, place: int, frame: int) -> bool:
+        """Whether the subtitle that is due from a frame on is moved as one is that came then."""
+        other = self.programme.place_at(frame)
+        begin = self.subtitles[other].begin
+        came = nearest(self.sendings(other), begin)
+        return came is not None and came - begin == frame - self.subtitles[place].begin
+
+    def strange(self, place: int, came: int | None) -> int | None:
+        """The number of the page, of no subtitle, that is held for longest of the time of one,
+        or of that up to where its own page came: before the first one that is an older one."""
+        one = self.subtitles[place]
+        end = one.end if came is None or came <= one.begin else min(came, one.end)
+        least = one.begin if place == 0 and came is not None else 0
+        found = [number for number in self.held.numbers(one.begin, end)
+                 if self.is_of_its_time(number, place) and self.is_strange(number, place)
+                 and self.held.frames[number] >= least]
+        lengths = [self.length(number, one.begin, end) for number in found]
+        return found[lengths.index(max(lengths))] if found else None
+
+    def is_of_its_time(self, number: int, place: int) -> bool:
+        """Whether a page came after the TCO of the subtitle before."""
+        begin = min(self.programme.before(place), self.subtitles[place].begin)
+        return self.held.frames[number] >= begin
+
+    def is_strange(self, number: int, place: int) -> bool:
+        page = self.held.pages[number]
+        return page != BLANK_PAGE and page not in self.programme.by_page and \
+            not is_part(page, self.pages[place])
+
+    def length(self, number: int, begin: int, end: int) -> int:
+        """For how many of some frames a page is held."""
+        stretch = self.held.stretch(number)
+        return min(stretch.last + 1, end) - max(stretch.first, begin)
+
+    def other_at(self, frame: int, place: int) -> int | None:
+        """Another subtitle whose page came at just this frame, the TCI of one, unless both are
+        moved by as many frames."""
+        number = self.held.number_at(frame)
+        if number < 0 or self.held.frames[number] != frame:
+            return None
+        other = self.programme.of_page(self.held.pages[number], frame)
+        is_other = other not in (None, place) and not self.are_moved(other or 0, frame)
+        return other if is_other else None
+
+    def others_in(self, place: int) -> int | None:
+        """Another subtitle whose page came in the time of one, but not for its own."""
+        one = self.subtitles[place]
+        for number in self.held.numbers(one.begin, one.end):
+            frame = self.held.frames[number]
+            other = self.programme.of_page(self.held.pages[number], frame)
+            if frame >= one.begin and other not in (None, place) and \
+                    self.sending(other or 0) != frame:
+                return other
+        return None
+
+
+def nearest(frames: list[int], wanted: int) -> int | None:
+    """Which of some frames is the nearest to one."""
+    return min(frames, key=lambda frame: abs(frame - wanted)) if frames else None

@@ -1,0 +1,302 @@
+"""The verdict on a pair: all that is written of it, and after how many frames pages were whole."""
+from __future__ import annotations
+
+import dataclasses
+from typing import Callable, Iterable, NamedTuple
+
+from ..clock.start import FITTED, FITTED_LATER
+from ..common.command_line import range_words
+from ..common.files import SummedFile
+from ..formats.listing import LOSSES, ON_SCREEN, STL_FAULTS
+from ..formats.stl import Subtitle
+from ..recording.recording import Notice
+from ..request.request import Request, Selection
+from ..stream.gaps import Place
+from ..stream.layout import Choice
+from ..stream.receiver import Rows, Timeline
+from .part import Part
+from .sentence import Facts, sentence_of
+from .status import Decision, Grounds, LOST, NOT_JUDGED, REFUSED, Severity, WAIVED, WARNED, decide
+from .subtitles import Counts, JudgedBeside
+from .transmissions import DuePages
+
+
+# After how many frames each subtitle was whole: what a house needs to choose --within N.
+
+# Where none of these is told, within 0, each page is whole at the end of the frame of its TCI.
+MOVED = {*range(30, 33), 44, 45, 60, 62, 63, 71, 72, 74, 77}
+
+
+class Spread(NamedTuple):
+    """The least of some numbers of frames, the one in the middle, and the greatest; how many
+    subtitles nobody saw whole."""
+
+    least: int
+    middle: int
+    greatest: int
+    never: int
+
+    def words(self) -> str:
+        """All that in a line."""
+        middle = "" if self.least == self.greatest else f", {self.middle} in the middle"
+        never = f"; {self.never} not seen whole" if self.never else ""
+        return f"subtitles are whole after {range_words(self.least, self.greatest)}{middle}{never}"
+
+
+def spread_of(several: Iterable[int | None]) -> Spread | None:
+    """That of some subtitles; `None` where none is whole."""
+    all_of = list(several)
+    known = sorted(frames for frames in all_of if frames is not None)
+    if not known:
+        return None
+    return Spread(known[0], known[len(known) // 2], known[-1], len(all_of) - len(known))
+
+
+def frames_of(programme: DuePages, held: Timeline, is_complete: bool) -> list[int | None]:
+    """After how many frames each subtitle was whole, and where complete pages are asked for
+    closed."""
+    return [frames_until(one, page, held, is_complete)
+            for one, page in zip(programme.subtitles, programme.pages)]
+
+
+def frames_until(one: Subtitle, page: Rows, held: Timeline, is_complete: bool) -> int | None:
+    """The same of one; where nothing of the page was heard before its TCI nobody knows."""
+    if held.first > one.begin:
+        return None
+    for number in held.numbers(one.begin, one.end):
+        if held.pages[number] != page:
+            continue
+        stretch = held.stretch(number)
+        first = max(stretch.first, one.begin)
+        frame = held.closed_from(first) if is_complete else first
+        if frame is not None and frame <= min(stretch.last, one.end - 1):
+            return frame - one.begin
+    return None
+
+
+def frames_in(is_known: bool, count: int, held: Timeline, due: Callable[[], DuePages],
+              is_complete: bool) -> list[int | None]:
+    """The same of so many subtitles, by what is held, and what is due where that is needed."""
+    return [0] * count if is_known else frames_of(due(), held, is_complete)
+
+
+# A verdict on a pair: its parts, what was lost, what it was made with.
+
+FITTED_KIND = "fitted"  # a warning where warnings count: the clock was fitted to the recording
+
+
+@dataclasses.dataclass
+class Gap:
+    """A place at which something is missing: the times before and after it, what is missing, and
+    whether the verdict speaks of frames between. Where a mark stands in what is judged `check` has
+    told it, as 45."""
+
+    after: str | None
+    before: str | None
+    words: str
+    place: Place
+    is_judged: bool
+
+    def line(self) -> str:
+        """Where it is, and what is missing."""
+        return f"between {self.after or 'the beginning'} and {self.before or 'the end'}: " \
+            f"{self.words}"
+
+
+@dataclasses.dataclass
+class Verdict:
+    """All there is to say of a pair; `notes` are what else was seen, a line each, `hints` what to
+    know of the first letter and of the first header that are refused. `found` is what its files
+    were like when judging began, `seconds` how long it took. `was_fitted`: the origin that is given
+    was found in the recording, by who calls this tool."""
+
+    asked: Request
+    severity: Severity
+    date: str
+    parts: list[Part] = dataclasses.field(default_factory=list)
+    gaps: list[Gap] = dataclasses.field(default_factory=list)
+    warnings: list[Notice] = dataclasses.field(default_factory=list)
+    notes: list[str] = dataclasses.field(default_factory=list)
+    hints: list[str] = dataclasses.field(default_factory=list)
+    commands: list[str] = dataclasses.field(default_factory=list)
+    chosen: list[Selection] = dataclasses.field(default_factory=list)
+    stl: SummedFile | None = None
+    recording: SummedFile | None = None
+    is_kept: bool = False  # what was judged stays in the folder
+    is_stopped: bool = False  # by a signal
+    reason: str | None = None  # why it is not judged
+    failed: list[str] = dataclasses.field(default_factory=list)  # why outputs are not written
+    to_type: tuple[str, ...] = ()
+    found: dict[str, object] = dataclasses.field(default_factory=dict)
+    seconds: float = 0.0
+    was_fitted: bool = False
+    count: int = 0  # of the subtitles
+    layout: Choice | None = None  # that was found
+    beside: JudgedBeside | None = None  # where some subtitles are refused, and others are judged
+
+    @property
+    def is_lost(self) -> bool:
+        """Whether the verdict speaks of frames of which TS packets are lost."""
+        return any(gap.is_judged for gap in self.gaps)
+
+    @property
+    def is_lost_alone(self) -> bool:
+        """Whether nothing but that is refused."""
+        numbers = {number for part in self.parts for number in part.answer.numbers}
+        return self.word == LOST or self.word == REFUSED and numbers <= LOSSES
+
+    def warn(self, found: Iterable[Notice]) -> None:
+        """Takes warnings that are not known yet."""
+        self.warnings += [one for one in dict.fromkeys(found) if one not in self.warnings]
+
+    def said(self) -> list[str]:
+        """What the report and the object say beside the verdict."""
+        return [*self.notes, *([self.fitted] if self.fitted else [])]
+
+    @property
+    def fitted(self) -> str | None:
+        """That the clock was found in the recording, or that of the parts after a break."""
+        are_fitted = [part.clock.is_fitted for part in self.parts if part.clock]
+        if not any(are_fitted):
+            return None
+        return FITTED if are_fitted[0] else FITTED_LATER
+
+    def seen(self) -> Grounds:
+        """All that decides it."""
+        kinds = [*(warned.kind for warned in self.warnings), *[FITTED_KIND] * bool(self.fitted)]
+        return Grounds([part.said() for part in self.parts], self.severity,
+                    [gap.is_judged and gap.place.mark is None for gap in self.gaps], kinds,
+                    self.asked.is_strict, [] if self.reason is None else [self.reason],
+                    self.failed)
+
+    @property
+    def decision(self) -> Decision:
+        """What comes of that."""
+        return decide(self.seen())
+
+    @property
+    def word(self) -> str:
+        """The verdict in one word."""
+        return self.decision.word
+
+    @property
+    def why_not(self) -> str | None:
+        """Why it is not judged, in lines; `None` where it is."""
+        reasons = [one for one in (self.reason, *self.failed) if one is not None]
+        return "\n".join(reasons) if reasons else self.decision.reason
+
+    @property
+    def sentence(self) -> str:
+        """It in one sentence for a person."""
+        refused = self.leading
+        said = Facts(
+            self.word, self.count, option=self.asked.option, faults=self.faults,
+            lost=[gap.line() for gap in self.gaps if gap.is_judged], warnings=self.seen().warnings,
+            reason=self.why_not, is_file=self.asked.recording is None, within=self.asked.within,
+            accepted_within=self.accepted_within)
+        if refused and self.beside:
+            said = self.sent_beside(said, self.beside)
+        elif refused:
+            is_caused = refused.causes and refused.causes.named
+            first = refused.answer.first if is_caused else refused.answer.leading
+            said = said._replace(first=first, hint=refused.hint, causes=refused.causes)
+        return sentence_of(said)
+
+    def sent_beside(self, said: Facts, beside: JudgedBeside) -> Facts:
+        """What the sentence is made of where subtitles are refused: that of the transmission, of
+        the first part of which something is."""
+        answers = [part.answer for part in self.parts]
+        part = next((part for part in self.parts if part.answer.first_sent), None)
+        said = said._replace(refused=beside.words(), subtitles=len(beside.judged), is_file=False,
+                             faults=sum(answer.count_sent for answer in answers))
+        return said._replace(first=part.answer.first_sent, hint=part.sent_hint,
+                             causes=part.causes) if part else said
+
+    @property
+    def counts(self) -> Counts | None:
+        """How many subtitles were judged, and how many are refused; `None` where neither is known.
+        """
+        if self.word == NOT_JUDGED:
+            return None
+        if self.beside:
+            return Counts(len(self.beside.judged), len(self.beside.left_out))
+        is_refused = any(part.answer.numbers & STL_FAULTS for part in self.parts)
+        return None if is_refused else Counts(self.count, 0)
+
+    def of_part(self, part: Part, gaps: list[Gap]) -> Verdict:
+        """The verdict on a part alone, with what is missing of it."""
+        return dataclasses.replace(self, parts=[part], gaps=gaps)
+
+    @property
+    def accepted_within(self) -> int | None:
+        """The least number of frames within which all parts would be accepted, where one is
+        refused and it is known."""
+        refused = [part.accepted_within for part in self.parts if part.is_refused]
+        known = [one for one in refused if one is not None]
+        return max(known) if known and len(known) == len(refused) else None
+
+    @property
+    def delays(self) -> Spread | None:
+        """After how many frames subtitles were whole."""
+        return spread_of(frames for part in self.parts for frames in part.delays)
+
+    @property
+    def faults(self) -> int:
+        """How many faults there are in all parts."""
+        return sum(part.answer.count for part in self.parts)
+
+    @property
+    def status(self) -> int:
+        """The exit status."""
+        return self.decision.status
+
+    @property
+    def line(self) -> str | None:
+        """The line of `check` of the first part that is refused; else of the only one, or of all.
+        Before it stands what became of it."""
+        return self.line_of(next((part.answer.line for part in self.parts if part.is_refused),
+                                 None))
+
+    @property
+    def lead(self) -> str | None:
+        """The same with the fault that a viewer sees first, where there is one: reports, and tables
+        of many pairs, begin with it."""
+        part = self.leading
+        return self.line_of(part.answer.lead if part else None)
+
+    @property
+    def leading(self) -> Part | None:
+        """The first part of which something is refused that a viewer sees, else the first that is
+        refused."""
+        refused = [part for part in self.parts if part.is_refused]
+        return next((part for part in refused if part.answer.leading and
+                     part.answer.leading.number in ON_SCREEN), next(iter(refused), None))
+
+    def line_of(self, refused: str | None) -> str | None:
+        """A line of `check`, with what became of it; `None` where nothing is judged."""
+        word = self.word
+        if word == NOT_JUDGED:
+            return None
+        if word == REFUSED:
+            return refused
+        line = self.accepted_line() if refused is None else f"{WAIVED}: {refused}"
+        if word == LOST:
+            return f"not accepted, since TS packets are lost: {line}"
+        if word == WARNED:
+            kinds = ", ".join(dict.fromkeys(self.seen().warnings))
+            return f"not accepted, since warnings count ({kinds}): {line}"
+        return line
+
+    def accepted_line(self) -> str:
+        """The line of the only part, or the sums of all."""
+        answers = [part.answer for part in self.parts]
+        if len(answers) == 1:
+            return answers[0].line
+        return (f"accepted {sum(answer.frames or 0 for answer in answers)} frames "
+                f"{sum(answer.transmissions or 0 for answer in answers)} transmissions in "
+                f"{len(answers)} parts")
+
+    def lines(self) -> list[str]:
+        """A line for each of several parts: from when to when it is, and what is said of it."""
+        return [f"part {part.number}, from {' to '.join(map(str, part.times()))}: "
+                f"{part.answer.line}" for part in self.parts] if len(self.parts) > 1 else []

@@ -1,0 +1,488 @@
+"""A recording: which PID it is, how the program reads it, and what is strange of it."""
+from __future__ import annotations
+
+import copy
+import functools
+import os
+import stat
+import subprocess
+from typing import Iterator, NamedTuple, Sequence
+
+from ..clock.start import NoFirst
+from ..common.command_line import PACKET_SIZES, Stop, counted, pid_name, shown, stream_words
+from ..common.files import SummedFile, Sums, first_bytes, pieces_of
+from ..common.times import FRAMES_OF_A_DAY, NO_FRAME, frame_in, frames_at, ticks_between, time_of
+from ..formats.stl import SubtitleFile
+from ..formats.teletext import BY_WORD, OTHER_REGIONS, START, as_sent, of_track
+from ..request.commands import CommandWords, KEPT, KEPT_STREAM, Names, Speech, again
+from ..request.request import LC, PID_CHOICE, Request, Selection, Unclear
+from ..stream.gaps import (
+    Place, SAID, SECOND, edges_of, jumps_of, marks_told, places_of, reach_of, repeat_distance,
+    strange_of, why_refused)
+from ..stream.ranges import Stage, joined_stages, stages_of
+from ..stream.receiver import FEW, PAUSE
+from ..stream.survey import (
+    ANY, Announced, HEADER, KINDS, PES, Packets, SUBTITLE_KINDS, Survey, names_of, survey)
+from . import feed
+from .feed import Ending
+
+
+# What is strange of a recording and breaks no rule of `check`: said, and the status stays.
+
+TNB, TNS = slice(238, 243), slice(243, 248)  # of a GSI block: how many TTI blocks and subtitles
+
+
+class Notice(NamedTuple):
+    """A warning: what it is about, as a word for machines, its line, and its time."""
+
+    kind: str
+    line: str
+    time: str | None = None
+
+    def said(self) -> str:
+        """The line as it is said."""
+        return f"warning: {self.line}"
+
+
+def of_timing(packets: Packets, origin: int) -> Iterator[Notice]:
+    """Where PTS and PCR do not go together."""
+    for one in strange_of(packets):
+        frame = frame_in(one.pts, origin)
+        time = time_of(frame) if frame < FRAMES_OF_A_DAY else None
+        where = f"from {time} on" if time else f"from PTS {one.pts} on"
+        yield Notice(f"pts_{one.kind}", f"{where} PTS of the Teletext {SAID[one.kind]}, by up to "
+                     f"{abs(one.worst) / SECOND:.2f} s: {one.number} of {one.among} that were "
+                     "looked at", time)
+
+
+def of_jumps(packets: Packets, origin: int, first: int, last: int) -> Iterator[Notice]:
+    """Where the clock goes on elsewhere, and no packet is missing, from a frame to another one."""
+    for jump in jumps_of(packets):
+        frame = FRAMES_OF_A_DAY if jump.before is None else frame_in(jump.before, origin)
+        if first <= frame <= last:
+            way = "by" if jump.ticks > 0 else "back by"
+            yield Notice("clock_jump", f"the clock jumps {way} {length_words(abs(jump.ticks))} at "
+                         f"{time_of(frame)}: an encoder that was started anew? --breaks 1",
+                         time_of(frame))
+
+
+def length_words(ticks: int) -> str:
+    """Hours, minutes and seconds, as `2:24:01`; of less than a minute seconds alone."""
+    seconds = round(ticks / SECOND)
+    if seconds < 60:
+        return f"{ticks / SECOND:.2f} s"
+    return f"{seconds // 3600}:{seconds // 60 % 60:02}:{seconds % 60:02}"
+
+
+def of_tables(survey: Survey, pid: int, asked: Request) -> Iterator[Notice]:
+    """Where the PMT announces something else than was asked for."""
+    programmes = survey.programmes_of(pid)
+    if not programmes:
+        return
+    announced = [page for one in programmes for page in one.pages.get(pid, [])]
+    own = [one for one in announced if one.page == asked.page]
+    name = asked.page_name
+    if not announced:
+        yield Notice("page", f"the PMT announces no page of {pid_name(pid)}: receivers do not find "
+                     f"page {name}")
+    elif not own:
+        yield Notice("page", f"the PMT announces {listed(announced)}, and not page {name}")
+    else:
+        yield from of_page(own, asked)
+
+
+def of_page(own: list[Announced], asked: Request) -> Iterator[Notice]:
+    """The same of what is announced of the page."""
+    name = asked.page_name
+    if not any(one.kind in SUBTITLE_KINDS for one in own):
+        kinds = " and ".join(dict.fromkeys(KINDS.get(one.kind, "of an unknown kind")
+                                           for one in own))
+        yield Notice("type", f"the PMT announces page {name} as {kinds}, and not as subtitles")
+    code = language_of(asked.stl_path)
+    wanted = {*names_of(code)}
+    languages = dict.fromkeys(one.language.lower() for one in own)
+    if wanted and not (wanted | ANY) & languages.keys():
+        yield Notice("language", f"the PMT announces page {name} in "
+                     f"{' and '.join(map(shown, languages))}; the LC of the GSI block is {code}, "
+                     f"{' or '.join(names_of(code))}")
+    yield from of_option([*languages], asked)
+
+
+def of_option(languages: list[str], asked: Request) -> Iterator[Notice]:
+    """Where no language that a PMT has for the page may be of the national option: receivers may
+    take the letters of that language."""
+    options = [of_track(one) for one in languages]
+    is_other = [bool(option and option.word != asked.option) or language in OTHER_REGIONS
+                for language, option in zip(languages, options)]
+    if not languages or not all(is_other):
+        return
+    words = list(dict.fromkeys(f"--option {one.word}" if one else "another region"
+                               for one in options))
+    yield Notice("option", f"the PMT announces page {asked.page_name} in "
+                 f"{' and '.join(languages)}, which is of {' and '.join(words)}; it was judged by "
+                 f"--option {asked.option}")
+
+
+def of_character_sets(packets: Packets, asked: Request) -> Iterator[Notice]:
+    """Where packets name another character set than that of the national option."""
+    for number, designation, region, option in packets.sets:
+        if region is None or option is None:
+            named = "an unreadable character set"
+        elif region or option != as_sent(BY_WORD[asked.option]):
+            named = f"character set {option:03b} of region {region:04b}"
+        else:
+            continue
+        yield Notice("character_set", f"packet {asked.page_name[0]}/{number}/{designation} "
+                     f"names {named}: receivers above level 1 may show other letters")
+
+
+def listed(announced: list[Announced]) -> str:
+    """Some pages, as words."""
+    return ", ".join(dict.fromkeys(one.line() for one in announced))
+
+
+def language_of(stl: str) -> str:
+    """The LC of a subtitle file."""
+    return first_bytes(stl, LC.stop)[LC].decode("latin-1")
+
+
+def count_notices(subtitles: SubtitleFile) -> Iterator[Notice]:
+    """Where the GSI block counts other blocks or subtitles than there are, as in a file that was
+    cut at the end of a block. A count that is no number tells nothing; comments may be counted."""
+    told = stated(subtitles.data[TNB])
+    there = subtitles.count()
+    if told is not None and told != there:
+        yield Notice("blocks", f"the GSI block counts {counted(told, 'TTI block')} (TNB), and "
+                     f"{there_are(there)}: is the subtitle file whole?")
+    told, known = stated(subtitles.data[TNS]), subtitles.ended()
+    if told is not None and told not in known:
+        yield Notice("subtitles", f"the GSI block counts {counted(told, 'subtitle')} (TNS), and "
+                     f"{there_are(known[0])}: is the subtitle file whole?")
+
+
+def stated(digits: bytes) -> int | None:
+    """A count of a GSI block, `None` where there is none."""
+    return int(digits) if digits.isdigit() else None
+
+
+def there_are(count: int) -> str:
+    """How many there are."""
+    return "there is 1" if count == 1 else f"there are {count:,}"
+
+
+def of_pauses(pts: Sequence[int], asked: Request, origin: int) -> Iterator[Notice]:
+    """Where no PES packet came for some frames, of what else sends one in each frame but few."""
+    frames = [frame for frame in frames_at([*pts], origin, asked.within) if frame != NO_FRAME]
+    pauses = [(first + 1, second) for first, second in zip(frames, frames[1:])
+              if second - first - 1 > PAUSE]
+    if len(pauses) * FEW <= len(frames):
+        for first, second in pauses:
+            yield Notice("pause", f"no PES packet for {counted(second - first, 'frame')} from "
+                         f"{time_of(first)} on", time_of(first))
+
+
+def of_repeat(headers: Sequence[int], asked: Request, origin: int, times: list[tuple[int, int]]) \
+        -> Iterator[Notice]:
+    """Where the page is repeated so often that `--every` would not see a repeat that is missing."""
+    every = repeat_distance((frame_in(pts, origin, asked.within) for pts in headers), edges_of(times))
+    if every is not None and every * 2 < asked.every:
+        yield Notice("repeat", f"the page is repeated each "
+                     f"{'frame' if every == 1 else counted(every, 'frame')}; --every {every} would "
+                     "hold it to that")
+
+
+# The header of the first PES packet of a PID, where it is not one of Teletext.
+#
+# Teletext has PES headers of 45 bytes and PES packets of 184 N bytes (EN 300 472, PES packet).
+
+OUTPUT = "/dev/stdout"  # as the program opens it
+# PES_header_data_length: its place, how many bytes it does not count, and what it is of Teletext.
+LENGTH_AT, FIXED, TELETEXT = 8, 9, 0x24
+
+
+def header_bytes(program: str, path: str, pid: int, size: int) -> bytes:
+    """The first bytes of what `extract` gives of a PID."""
+    words = [program, "extract", *stream_words(pid, size), "--", path, OUTPUT]
+    with subprocess.Popen(words, stdin=subprocess.DEVNULL, stdout=subprocess.PIPE,
+                          stderr=subprocess.DEVNULL) as call:
+        assert call.stdout
+        begun = call.stdout.read(FIXED)
+        call.kill()
+    return begun
+
+
+def pes_header_words(begun: bytes, pid: int) -> str:
+    """What is wrong with the PES header of a PID whose first PES packet begins so; nothing where it
+    is one of Teletext, or none."""
+    if not begun.startswith(START[:3]) or begun[LENGTH_AT:FIXED] in (b"", bytes([TELETEXT])):
+        return ""
+    length, whose = begun[LENGTH_AT], f" of {pid_name(pid)}" if pid != PES else ""
+    return (f"the PES header{whose} has {FIXED + length} bytes (PES_header_data_length "
+            f"{length:02X}), where Teletext has {FIXED + TELETEXT} ({TELETEXT:02X}): EN 300 472")
+
+
+# A recording: what `subttx survey` tells of it, and how the program reads it once more.
+
+STANDARD_INPUT = "-"
+
+
+def is_recording(path: str) -> bool:
+    """Whether a file that should be a subtitle file begins as a recording does."""
+    head = first_bytes(path, 209)
+    return head.startswith(START) or any(
+        head[at:at + size + 1:size] == b"GG" for at in (0, 4) for size in PACKET_SIZES)
+
+
+def refuse_files(asked: Request) -> None:
+    """Files that are not there, or stand in the place of each other, are told before anything is
+    judged."""
+    if not os.path.isfile(asked.stl_path):
+        name = asked.stl.removeprefix("./") if asked.stl.startswith("./-") else asked.stl
+        raise Unclear(f"{name or 'an empty name'} is no file, or is not there")
+    if is_recording(asked.stl_path):
+        raise Unclear(f"{asked.stl} is a recording: the subtitle file stands before it")
+    if asked.recording is not None and asked.recording != STANDARD_INPUT:
+        os.stat(asked.recording)
+
+
+def size_of(name: str) -> int | None:
+    """The bytes of a file; `None` for one that can be read only once."""
+    about = os.fstat(0) if name == STANDARD_INPUT else os.stat(name)
+    return about.st_size if stat.S_ISREG(about.st_mode) else None
+
+
+def refuse_stream(survey: Survey, name: str) -> None:
+    """What is no recording of Teletext is told so."""
+    head = survey.head
+    if not head:
+        raise Stop(f"{name} is empty")
+    if head[3:6] == b"STL":
+        raise Stop(f"{name} is a subtitle file: the recording stands after the subtitle file")
+    if survey.size is None and head.startswith(START[:3]) and head[3:4] not in (b"", START[3:]):
+        raise Stop(f"{name} has PES packets of another kind than Teletext's: stream_id "
+                   f"{head[3]:02X} instead of BD")
+    if survey.size is None:
+        raise Unclear(f"{name}: no transport stream: packets of 188 bytes that begin with 47")
+
+
+def silent_in(survey: Survey) -> list[Packets]:
+    """The PIDs of which nothing is given though there are TS packets of them, in their order."""
+    return [one for _, one in sorted(survey.by_pid.items()) if not one.count and one.packets]
+
+
+class Recording:
+    """A recording that is read: `packets` are those of the PID with the page; `stages` are the PIDs
+    where it moves to another one, and `packets` then stand for all of them. What is judged is a
+    range of the recording itself; what comes through a pipe is kept in a file, at `path`."""
+
+    def __init__(self, asked: Request, typed: CommandWords, names: Names, speech: Speech,
+                 stalled_after: int) -> None:
+        assert asked.recording is not None
+        self.asked, self.typed, self.names, self.speech = asked, typed, names, speech
+        self.name, self.stalled_after = asked.recording, stalled_after
+        self.size = size_of(self.name)
+        self.is_feed = self.size is None
+        self.is_piped = self.is_feed or self.name == STANDARD_INPUT
+        self.path = names.whole_path if self.is_piped else names.as_program(self.name, "given")
+        self.is_cut = False  # of a feed, by who calls this tool: it is read to its end
+        self.survey, self.packets = Survey(), Packets(PES)
+        self.stages: list[Stage] = []
+        self.file: SummedFile | None = None
+
+    def read(self, is_summed: bool, ending: Ending) -> None:
+        """Reads it: a file to its end, a feed up to the last subtitle at least."""
+        try:
+            if self.is_piped:
+                self.read_feed(None if self.is_cut or not self.is_feed else ending)
+            else:
+                self.read_file(is_summed)
+        except NoFirst as reason:
+            raise self.without_first(reason) from None
+        refuse_stream(self.survey, self.name)
+        self.packets = self.chosen()
+        self.say_read()
+
+    def read_file(self, is_summed: bool) -> None:
+        """Takes all that is told of a file."""
+        files = Sums([self.name]) if is_summed else None
+        self.survey = survey(self.typed.program_path, self.path, self.asked.page, self.asked.pid,
+                             look=self.show)
+        self.file = files.all()[0] if files else None
+
+    def show(self) -> None:
+        """What is read, on a terminal."""
+        if self.speech.progress.is_due():
+            self.speech.show(self.name)
+
+    def read_feed(self, ending: Ending | None) -> None:
+        """Takes what comes through a pipe, as long as more is needed."""
+        self.file = feed.read_feed(self.name, self.path, self.asked, self.typed.program_path,
+                                   self.survey, ending, self.speech, self.stalled_after)
+
+    def chosen(self) -> Packets:
+        """The only PID that carries the page, or the one that was asked for."""
+        page, by_pid = self.asked.page_name, self.survey.by_pid
+        if self.survey.size == PES:
+            return by_pid.setdefault(PES, Packets(PES))
+        if self.asked.pid is not None:
+            one = by_pid.setdefault(self.asked.pid, Packets(self.asked.pid))
+            if one.count:
+                return one
+            why = "; ".join([f"{self.name}: {why_refused(one)}", *filter(None, [
+                self.header_words(one)])])
+            raise Unclear(self.said(why), *self.other_pids())
+        found = [by_pid[pid] for pid in sorted(by_pid) if by_pid[pid].has_page]
+        if len(found) == 1:
+            self.say_chosen(found[0], "on no other PID")
+            return found[0]
+        if not found:
+            why = "; ".join([f"{self.name} has no header of page {page}", *self.why_nothing()])
+            is_other = any(one.sent for one in by_pid.values())
+            raise Unclear(self.said(why), *([self.again("--page", "P")] if is_other else []))
+        if self.asked.pes is None:
+            self.stages = stages_of(self.survey, self.asked.page)
+        if self.stages:
+            for stage in self.stages:
+                self.say_chosen(stage.packets, "the PMT moves it")
+            return joined_stages(self.stages)
+        raise Unclear(self.said(f"page {page} is sent on {len(found)} PIDs of {self.name}"),
+                      *(self.again("--pid", f"0x{one.pid:X}") for one in found))
+
+    def say_chosen(self, packets: Packets, why: str) -> None:
+        """Says which PID is chosen, and by what."""
+        begun = sum(1 for _ in packets.pts(does=HEADER))
+        line = f"{pid_name(packets.pid)}: page {self.asked.page_name} has a header in {begun} of " \
+            f"{counted(packets.count, 'PES packet')}, and {why}"
+        self.speech.choose(Selection(PID_CHOICE, f"0x{packets.pid:X}", line, begun, packets.count))
+
+    def why_nothing(self) -> list[str]:
+        """Why nothing is given of each PID that should carry Teletext: scrambled, or not as it is.
+        """
+        return [words for one in silent_in(self.survey)
+                for words in (why_refused(one), self.header_words(one)) if words]
+
+    def header_words(self, packets: Packets) -> str:
+        """What is wrong with the PES header of a PID."""
+        if packets.pid != PES and not packets.packets:
+            return ""
+        begun = self.survey.head if packets.pid == PES else header_bytes(
+            self.typed.program_path, self.path, packets.pid, self.survey.size or 0)
+        return pes_header_words(begun, packets.pid)
+
+    def say_read(self) -> None:
+        """Says what was read, and where something is missing."""
+        packets = self.packets
+        if packets.damage:
+            self.speech.say(f"{self.name}: {packets.damage}; it was read up to there")
+        if not self.is_stream:
+            return
+        why = why_refused(packets)
+        if why:
+            self.speech.say(why)
+        if self.survey.skipped:
+            self.speech.say(f"{counted(self.survey.skipped, 'byte')} of no TS packet skipped")
+        for line in marks_told(packets):
+            self.speech.say(line)
+
+    # What it is.
+
+    @property
+    def is_stream(self) -> bool:
+        """Whether it is a transport stream."""
+        return bool(self.survey.size)
+
+    def stream(self) -> tuple[int, int] | None:
+        """The PID, and the bytes from a TS packet to the next one, of a transport stream."""
+        return (self.packets.pid, self.survey.size or 0) if self.is_stream else None
+
+    def words(self) -> list[str]:
+        """The options by which the program reads what is judged."""
+        stream = self.stream()
+        return stream_words(*stream) if stream else []
+
+    def of(self, stage: Stage) -> Recording:
+        """The same of one PID, where the page moves to another one."""
+        one = copy.copy(self)
+        one.packets = stage.packets
+        return one
+
+    @property
+    def shown(self) -> str:
+        """The file that is judged, as it is typed."""
+        if not self.is_piped:
+            return self.name
+        return self.names.typed(KEPT_STREAM if self.is_stream else KEPT)
+
+    @property
+    def kept_ending(self) -> str | None:
+        """How a file ends in which it is kept: all that came through a pipe, or the PES packets of
+        a transport stream; `None` of a file of PES packets, which is there."""
+        if self.is_piped and self.is_stream:
+            return KEPT_STREAM
+        return KEPT if self.is_piped or self.is_stream else None
+
+    def kept(self) -> Iterator[bytes]:
+        """What is kept of it; the PES packets of several PIDs one PID after another."""
+        if self.is_piped:
+            yield from pieces_of(self.path)
+            return
+        own = self.names.temporary("kept.pes")
+        for pid in dict.fromkeys(one.pid for one in self.stages) or [self.packets.pid]:
+            subprocess.run([self.typed.program_path, "extract",
+                            *stream_words(pid, self.survey.size or 0), "--", self.path, own],
+                           stdin=subprocess.DEVNULL, stdout=subprocess.DEVNULL, check=True)
+            yield from pieces_of(own)
+
+    def places(self) -> list[Place]:
+        """Where something is missing."""
+        return places_of(self.packets)
+
+    def reach(self) -> tuple[int, int] | None:
+        """From which PTS to which all is there that was sent, by the PCR."""
+        return reach_of(self.survey, self.packets)
+
+    def last(self) -> int | None:
+        """The last PTS, or the last PCR where that is later."""
+        clock, pts = self.survey.clock_of(self.packets.pid), self.packets.begun
+        known = [one for one in (pts, clock and clock[1]) if one is not None]
+        return max(known, default=None, key=functools.partial(ticks_between, known[0])) \
+            if known else None
+
+    def strange(self) -> list[Notice]:
+        """Where it grew while it was read, or ends too early."""
+        found, now = list[Notice](), size_of(self.name)
+        if None not in (self.size, now) and self.size != now:
+            word = "grew" if (now or 0) > (self.size or 0) else "became shorter"
+            found.append(Notice("grew", f"{shown(self.name)} {word} while it was read, from "
+                                f"{self.size:,} bytes to {now:,}: judge it again when it is "
+                                "complete"))
+        is_cut = self.packets.is_cut and not self.packets.refusal
+        if self.is_stream and is_cut and not self.is_feed:
+            found.append(Notice("cut", f"{shown(self.name)} ends within a PES packet of the page's "
+                                "PID, which is left out"))
+        if self.packets.damage and not self.is_feed:
+            found.append(Notice("cut", f"{shown(self.name)}: {self.packets.damage}; it was read up "
+                                "to there"))
+        return found
+
+    # What is said.
+
+    def other_pids(self) -> list[str]:
+        """What to type in the place of a PID that is wrong."""
+        known = [f"0x{pid:X}" for pid, one in sorted(self.survey.by_pid.items())
+                 if self.asked.page_name in one.sent]
+        return [self.again("--pid", word)
+                for word in known or ["PID"] * bool(self.survey.by_pid)]
+
+    def without_first(self, reason: NoFirst) -> Unclear:
+        return Unclear(f"{self.name}: there is no first picture for --start: {reason}",
+                       self.again("--origin", "T"))
+
+    def again(self, *more: str) -> str:
+        return again(self.asked, self.typed, *more)
+
+    def said(self, reason: str) -> str:
+        """A reason, and what there is."""
+        if self.asked.pid is not None:
+            self.survey = survey(self.typed.program_path, self.path, self.asked.page)
+        return "\n".join([reason, *(self.survey.lines() or ["there is no PID with Teletext"])])

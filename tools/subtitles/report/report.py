@@ -1,0 +1,271 @@
+"""All that a report is made of: what it is about, why the content is refused."""
+from __future__ import annotations
+
+import os
+from typing import Collection, NamedTuple, Sequence
+
+from ..clock.start import START, TCP
+from ..common.command_line import counted, shown
+from ..common.files import SummedFile
+from ..common.markup import Markup, Value, joined, markup
+from ..common.program import about_program
+from ..common.times import FRAMES_OF_A_DAY, time_of
+from ..formats.listing import FaultLine, UNDECIDED, meanings
+from ..formats.stl import SubtitleList, titles_in
+from ..formats.teletext import BY_WORD, page_name
+from ..judging.causes import Cause, Causes, Wording, names_line
+from ..judging.part import Part
+from ..judging.verdict import Verdict
+from ..stream.gaps import first_lines
+from ..stream.layout import layout_line
+from ..stream.receiver import Timeline
+from .faults import FaultList, Faults, fault_place_words, heads, table_row
+from .pictures import Figures
+from .strips import Entries, Strips, looked_at
+from .transmission import NoReport, Program, Seen
+
+
+# What a report speaks of: programme, recording, from when to when; what nobody looked at.
+
+ROW_0 = "row 0, which the page's header has"
+DELAY = "a delay that all subtitles share: the clock was fitted to the recording"
+BETWEEN = "what is sent between the parts"
+
+
+class Scope(NamedTuple):
+    """What there is to say of a pair, or of a part of it: the titles of the programme, the
+    recording, the first and the last frame of the subtitles, how many these are, which part it is
+    of how many, whether there are several, and the clock, where more is to be said of it."""
+
+    titles: Sequence[str]
+    recording: SummedFile | None
+    first: int
+    last: int
+    subtitles: int
+    part: tuple[int, int] | None
+    is_fitted: bool
+    has_parts: bool
+    clock: str | None = None
+
+    def not_checked(self) -> list[str]:
+        """What nobody looked at."""
+        return [*[DELAY] * self.is_fitted, *[BETWEEN] * self.has_parts, ROW_0]
+
+    def box(self) -> Markup:
+        """All that as a list."""
+        titles = [("Programme", " / ".join(self.titles))] if self.titles else []
+        words = f"{time_of(self.first)} to {time_of(self.last)}, " \
+            f"{counted(self.subtitles, 'subtitle')}"
+        if self.part:
+            words += f"; part {self.part[0]} of {self.part[1]}"
+        clock = [("Clock", self.clock)] if self.clock else []
+        return names_block([*titles, *self.recorded(), ("Judged", words), *clock,
+                            ("Not checked", "; ".join(self.not_checked()))], "made scope")
+
+    def recorded(self) -> list[tuple[str, Markup]]:
+        """The recording as a line of the list."""
+        one = self.recording
+        return [("Recording", markup(
+            '<span class="long">{}</span>, {:,} bytes, SHA-256 <code class="long">{}</code>',
+            one.name, one.size, one.sha256))] if one else []
+
+
+def names_block(rows: Sequence[tuple[str, Value]], kind: str = "made") -> Markup:
+    """Names and what is said of them."""
+    lines = joined(markup("<dt>{}</dt><dd>{}</dd>", name, words) for name, words in rows)
+    return markup('<dl class="{}">{}</dl>', kind, lines)
+
+
+# Why the content is refused: the cause of each subtitle that is held otherwise than it is due.
+
+MOST = 1000  # causes that are listed
+COLUMNS = ("Cause", "Text", "Sent")
+
+
+class Reasons:
+    """The causes of a report; there are some only where something with a cause is refused."""
+
+    def __init__(self, causes: Causes, option: str) -> None:
+        self.causes, self.wording = causes, Wording(causes, option)
+        self.drawn: Collection[int] = ()  # the subtitles with pictures, by their numbers from 1
+
+    def counted(self) -> str:
+        """How many causes there are of each name."""
+        return f"{counted(len(self.causes.named), 'subtitle')}: {names_line([self.causes])}"
+
+    def words(self, number: int, frame: int, due: int | None) -> Value:
+        """The cause of a fault at a frame, and of which subtitle it is, where another one is due,
+        or none; `due` is its place in the file, from 1."""
+        cause = self.causes.of(number, frame)
+        if cause is None:
+            return ""
+        words = self.wording.said(cause)
+        is_due = self.causes.programme.subtitles[cause.place].index == due
+        return words if is_due else markup("{}: {}", self.link(cause), words)
+
+    def link(self, cause: Cause) -> Markup:
+        """The subtitle of a cause, which leads to its picture where it has one."""
+        one = self.causes.programme.subtitles[cause.place]
+        name: Value = one.name
+        if one.index in self.drawn:
+            name = markup('<a href="#s{}">{}</a>', one.index, name)
+        return markup("{}, {}", name, time_of(one.begin))
+
+    def section(self) -> Markup:
+        """All causes, as far as the list goes."""
+        causes = self.causes.all()
+        rows = joined(map(self.row, causes[:MOST]))
+        left = counted(len(causes) - MOST, "more subtitle")
+        more = markup("<p>Left out here: {}.</p>", left) * (len(causes) > MOST)
+        return markup('<h2 id="causes">Why the content is refused</h2><p>Causes of {}. Those '
+                      "that are moved are looked for 250 frames on at least.</p><table "
+                      'class="pages causes"><thead><tr>{}</tr></thead><tbody>{}</tbody></table>{}',
+                      self.counted(), heads("Subtitle", *COLUMNS), rows, more)
+
+    def row(self, cause: Cause) -> Markup:
+        """A cause as a row."""
+        known = self.wording.values(cause)
+        sent = "nothing" if known["sent"] is None else known["sent"]
+        cells = [self.wording.said(cause, has_text=False), known["text"],
+                 "the same" if sent == known["text"] else sent]
+        return table_row(self.link(cause), COLUMNS, cells)
+
+
+# All that a page is made of: a verdict on a part, and what there is to see of it.
+
+EMPTY, ORDER = 60, 62
+
+
+class Subject(NamedTuple):
+    """What a report is made of: a verdict on a part, which is one of so many, the program as it is
+    typed and where it stands, and the commands that judged it; `files` were read, each with what it
+    is."""
+
+    judged: Verdict
+    part: Part
+    parts: int
+    program: Program
+    commands: Sequence[str]
+    files: Sequence[tuple[str, SummedFile]]
+
+    def options(self) -> str:
+        """All options as they hold."""
+        asked, part = self.judged.asked, self.part
+        words = [f"--page {page_name(*asked.page)}", f"--every {asked.every}",
+                 f"--origin {part.origin or 0}", f"--option {asked.option}"]
+        words += ["--complete"] * asked.is_complete
+        words += [f"--within {asked.within}"] * (asked.within > 0)
+        words += [f"--pes {part.pes_name}"] if part.pes else []
+        return " ".join([*words, *part.asked.between.words()])
+
+
+class Report:
+    """A verdict, the faults, and what there is to see of them."""
+
+    def __init__(self, subject: Subject) -> None:
+        self.subject, self.asked = subject, subject.judged.asked
+        self.part, self.program = subject.part, subject.program
+        answer = self.part.answer
+        self.stl, self.page = self.part.asked.stl, page_name(*self.asked.page)
+        self.origin = self.part.origin or 0
+        self.date = subject.judged.date.replace("T", " ").replace("Z", " UTC")
+        self.made_with = about_program(self.program.path)
+        size = os.path.getsize(self.program.path)
+        self.files = [*subject.files,
+                      ("Program", SummedFile(self.program.name, size, self.made_with.sha256))]
+        self.line, self.first, self.is_refused = answer.lead, answer.leading, bool(answer.status)
+        # Subtitles are refused; the others are judged beside them where PES packets are.
+        is_of_file = self.first is not None and self.first.block is not None
+        self.is_beside = is_of_file and self.part.pes is not None
+        self.is_refused_file = is_of_file and not self.is_beside
+        due = self.part.due()
+        self.subtitles = due.subtitles
+        self.programme: SubtitleList = due
+        if self.part.pes is None and self.first and self.first.number == EMPTY:
+            raise NoReport(f"nothing is wrong with {self.stl}, "
+                           f"{counted(len(self.subtitles), 'subtitle')}: give the PES file, which "
+                           "is drawn beside it")
+        self.faults = Faults(answer, due)
+        self.meanings = meanings()
+        self.lost = first_lines([gap.line() for gap in subject.judged.gaps])
+        unread = [self.asked.recording] if self.asked.recording and self.part.pes is None else []
+        self.notes = [*(f"{shown(one)} was not read" for one in unread), *subject.judged.notes,
+                      *(one.said() for one in subject.judged.warnings),
+                      *([layout_line(found)] if (found := subject.judged.layout) else []),
+                      *[self.part.otherwise] * bool(self.part.otherwise)]
+        self.reasons = Reasons(self.part.causes, self.asked.option) if self.part.causes else None
+        self.looked = [looked_at(one, frames, self.asked.within)
+                       for one, frames in zip(self.subtitles, self.part.delays)]
+        held = self.part.held
+        if ORDER in answer.counts and held and self.part.pes:
+            held = Timeline(self.part.packets, self.asked.page, self.origin, self.asked.within,
+                            self.part.pes, is_single=True)
+        self.seen: Seen | None = Seen(held, answer.passed, self.faults.ending()) if held else None
+        self.looks = Looks(self, self.seen) if self.seen and not self.is_refused_file else None
+
+    def scope(self) -> Scope | None:
+        """What the page speaks of; `None` where the subtitle file is refused."""
+        if self.is_refused_file or not self.subtitles:
+            return None
+        clock, count, recording = self.part.clock, self.subject.parts, self.subject.judged.recording
+        words = clock.words() if clock and clock.source in (START, TCP) else None
+        part = (self.part.number, count) if count > 1 else None
+        return Scope(titles_in(self.part.names.given), recording, self.subtitles[0].begin,
+                     self.subtitles[-1].end, len(self.subtitles), part,
+                     bool(self.subject.judged.fitted), part is not None, words)
+
+    def flag(self, broken: int | None) -> str:
+        """The line of the first fault on the strips."""
+        if not self.is_beside:
+            return self.line
+        return next((entry.first.line for entry in self.faults.entries
+                     if entry.first.frame == broken), "")
+
+    def first_link(self, fault: FaultLine) -> Value:
+        """The place of the first fault of a number, as a link where the list has it."""
+        entry = self.faults.first_entries.get(fault.number)
+        words = fault_place_words(fault)
+        return markup('<a href="#e{}">{}</a>', entry, words) if entry else words
+
+
+class Looks:
+    """What there is to see of a transmission: its pictures, its faults, its strips."""
+
+    def __init__(self, report: Report, seen: Seen) -> None:
+        asked, faults = report.asked, report.faults
+        mark_unheard(faults, seen)
+        option = BY_WORD[asked.option].bits
+        header = bytes([0, 0, 0, 8, 0, 8, 1, option << 1])  # C4, C6 and C7
+        due = report.part.due().timeline
+        self.figures: Figures = Figures(due, seen, header, report.page, asked.is_complete)
+        pes = report.first.pes if report.first else None
+        broken = seen.last_before(pes) if pes is not None else \
+            report.first.frame if report.first else None
+        if report.is_beside:
+            broken = next((frame for entry in faults.entries if entry.first.number != UNDECIDED
+                           and (frame := entry.first.frame) is not None), None)
+        self.entries: Entries = Entries(self.figures, seen, report.subtitles, report.looked, faults)
+        if report.reasons:
+            report.reasons.drawn = self.entries.drawn
+        self.fault_list = FaultList(report, self, seen)
+        self.strips = Strips(report.subtitles, seen.sendings, self.entries, faults, broken,
+                             report.flag(broken), end_of_knowledge(seen, report))
+
+
+def mark_unheard(faults: Faults, seen: Seen) -> None:
+    """Marks the frames of faults that name a PES packet: of those that go back, around those that
+    were passed over, and the last that was heard, where a fault ended that."""
+    faults.mark((frame, frame) for frame in seen.falls)
+    faults.mark(seen.doubted())
+    last = seen.last_frame
+    if last is not None and any(entry.first.pes == seen.stop for entry in faults.entries):
+        faults.mark([(last, last)])
+
+
+def end_of_knowledge(seen: Seen, report: Report) -> int | None:
+    """The frame from which on nothing is known, `None` where all is known that is due."""
+    last, subtitles = seen.last_frame, report.subtitles
+    if last is None:
+        return None
+    is_due_after = subtitles and subtitles[-1].end - 1 > last
+    return last + 1 if is_due_after or not seen.is_whole() else None

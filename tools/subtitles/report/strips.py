@@ -1,0 +1,381 @@
+"""Strips of time with subtitles, sendings and faults; subtitles by minute."""
+from __future__ import annotations
+
+import bisect
+import collections
+import itertools
+from typing import Collection, Iterable, Iterator, NamedTuple
+
+from ..common.command_line import counted
+from ..common.markup import Markup, NO_MARKUP, joined, markup
+from ..common.times import Span, Spans, time_of
+from ..formats.stl import Subtitle
+from .faults import Entry, Faults
+from .pictures import DIFFERENT, Figures, KINDS, NOTHING, SAME
+from .transmission import Seen
+
+
+# Strips of time with subtitles, sendings of the page and faults.
+#
+# Shapes are SVG that is as wide as the page; words stand beside and below them, so that they are as
+# large on a narrow page as on a wide one.
+
+MINUTE = 1500  # in frames
+# How long a strip can be, what that is called, how far its ticks are apart, and its words.
+UNITS = [(250, "ten seconds", 25, 50), (MINUTE, "a minute", 250, 250),
+         (10 * MINUTE, "ten minutes", MINUTE, 2 * MINUTE),
+         (60 * MINUTE, "an hour", 5 * MINUTE, 10 * MINUTE)]
+MINUTES = UNITS[1]
+MOST_STRIPS = 24
+WIDTH = 1000  # of a strip, in its own units
+# Sendings nearer than that are drawn as one block: on up to 300 strips of minutes, and on more.
+CLOSE, CLOSE_ON_MANY, MANY_STRIPS = 3, 8, 300
+# The look of a subtitle that is held as it is due, of one that is not, and of one that can't be
+# seen: its class, its top, its height.
+Look = tuple[str, int, int]
+GOOD, ODD, UNKNOWN = ("bar", 5, 14), ("odd", 2, 20), ("unknown", 5, 14)
+LANE, TICKS, AXIS, FAULTS, HEIGHT = 24, 28, 37, 40, 54  # where these are drawn, from the top
+TRUSTED, THIN = 45, 4  # the same of frames that may be trusted, and the height of their line
+# A subtitle that is narrower than that is no bar of its own; of more than so many subtitles, one
+# without pictures is none either.
+NARROW, FEW = 4, 5000
+WORDS_WIDTH = 9  # of a digit, in a strip of WIDTH units on a wide page
+
+
+def runs_of(frames: Iterable[int]) -> Iterator[Span]:
+    """Rising frames as spans of neighbours."""
+    begin = last = -2
+    for frame in frames:
+        if frame - 1 != last:
+            if last >= 0:
+                yield Span(begin, last)
+            begin = frame
+        last = frame
+    if last >= 0:
+        yield Span(begin, last)
+
+
+class Strips:
+    """What is drawn on them: subtitles in order, frames with a sending, and faults.
+
+    `entries` are the subtitles' entries, `faults` what `check --all` told, `broken` the frame of
+    the first of them and `flag` its line. Nothing is known from the frame `end` on, where it is
+    given.
+    """
+
+    def __init__(self, subtitles: list[Subtitle], sendings: Iterable[int], entries: Entries,
+                 faults: Faults, broken: int | None, flag: str, end: int | None) -> None:
+        self.subtitles, self.sendings = subtitles, Spans(runs_of(sendings))
+        self.entries, self.spans, self.trusted = entries, faults.spans, faults.trusted
+        self.undecided = faults.undecided
+        self.broken, self.flag, self.end = broken, flag, end
+        self.numbers: dict[int, set[int]] = {}  # of strips in use, by their length
+        self.ends = [subtitle.end for subtitle in subtitles]
+        self.firsts = [subtitle.begin for subtitle in subtitles]
+        self.unit, self.called, self.step, self.words = next(
+            (unit for unit in UNITS if len(self.used(unit[0])) <= MOST_STRIPS), UNITS[-1])
+        self.close = CLOSE if len(self.used(MINUTE)) <= MANY_STRIPS else CLOSE_ON_MANY
+
+    def used(self, unit: int) -> set[int]:
+        """The numbers of the strips of that length with something on them."""
+        if unit not in self.numbers:
+            used = self.numbers[unit] = set[int]()
+            subtitles = ((subtitle.begin, subtitle.end - 1) for subtitle in self.subtitles)
+            last: int | None = None
+            for begin, end in itertools.chain(subtitles, self.sendings, self.spans, self.undecided):
+                if begin // unit != last or end // unit != last:
+                    last = end // unit
+                    used.update(range(begin // unit, last + 1))
+        return self.numbers[unit]
+
+    def has_minutes(self) -> bool:
+        """Whether strips are so long that each minute needs one of its own."""
+        return self.unit > MINUTE
+
+    def overview(self) -> Markup:
+        """All strips that have something on them, and what is left out between them."""
+        parts: list[Markup] = []
+        last: int | None = None
+        minutes = self.used(MINUTE) if self.has_minutes() else set()
+        for number in sorted(self.used(self.unit)):
+            if last is not None and number > last + 1:
+                parts.append(markup('<p class="gap">nothing from {} to {}</p>',
+                                    time_of((last + 1) * self.unit), time_of(number * self.unit)))
+            strip = Strip(self, number * self.unit, (self.unit, self.step, self.words))
+            parts.append(strip.drawn(minutes))
+            last = number
+        return joined(parts) or markup('<p class="gap">nothing</p>')
+
+    def minute(self, number: int) -> Markup:
+        """The strip of a minute of the day."""
+        unit, _, step, words = MINUTES
+        return Strip(self, number * MINUTE, (unit, step, words)).drawn(())
+
+
+class Strip:
+    """One strip: its first frame, and its length with the distances of its ticks and words."""
+
+    def __init__(self, strips: Strips, begin: int, unit: tuple[int, int, int]) -> None:
+        self.strips, self.begin = strips, begin
+        self.unit, self.step, self.words = unit
+        self.end = begin + self.unit
+
+    def x(self, frame: int) -> float:
+        inside = min(max(frame, self.begin), self.end) - self.begin
+        return round(inside * WIDTH / self.unit, 1)
+
+    def drawn(self, minutes: Collection[int]) -> Markup:
+        """The strip; `minutes` are those that have strips of their own to lead to."""
+        line = self.strips
+        words: list[Markup] = []
+        shapes = [markup('<rect class="lane" y="0" width="{}" height="{}"/>', WIDTH, LANE)]
+        shapes += self.undecided()
+        shapes += self.bars(words)
+        shapes += self.hatching(words)
+        shapes += self.sendings()
+        shapes += self.axis(words)
+        shapes += self.trusted()
+        shapes += self.faults()
+        for minute in range(self.begin // MINUTE, self.end // MINUTE):
+            if minute in minutes:
+                at = self.x(minute * MINUTE)
+                shapes.append(markup(
+                    '<a href="#m{}" aria-label="{}"><rect class="go" x="{}" y="0" width="{:g}" '
+                    'height="{}"/></a>', minute, time_of(minute * MINUTE)[:5], at,
+                    self.x((minute + 1) * MINUTE) - at, HEIGHT))
+        flag = NO_MARKUP
+        if line.broken is not None and self.begin <= line.broken < self.end:
+            shapes.append(markup('<path class="broken" d="M{} 0v{}"/>', self.x(line.broken),
+                                 HEIGHT))
+            flag = markup('<p class="flag">&#9650; {}: {}</p>', time_of(line.broken), line.flag)
+        label = f"{time_of(self.begin)} to {time_of(self.end)}"
+        return markup('<div class="strip"><p class="time">{}</p><div><svg viewBox="0 0 {} {}" '
+                      'preserveAspectRatio="none" role="group" aria-label="{}">{}</svg>{}</div>{}'
+                      "</div>", time_of(self.begin)[:8], WIDTH, HEIGHT, label, joined(shapes),
+                      joined(words), flag)
+
+    def bars(self, words: list[Markup]) -> Iterator[Markup]:
+        """The subtitles: bars that are links, and a path of narrow ones and others."""
+        line, entries = self.strips, self.strips.entries
+        narrow: dict[Look, list[list[float]]] = {GOOD: [], ODD: [], UNKNOWN: []}
+        place = bisect.bisect_right(line.ends, self.begin)
+        while place < len(line.subtitles) and line.firsts[place] < self.end:
+            subtitle = line.subtitles[place]
+            left, right = self.x(subtitle.begin), self.x(subtitle.end)
+            look = ODD if subtitle.index in entries.odd else \
+                UNKNOWN if subtitle.index in entries.unknown else GOOD
+            place += 1
+            is_alone = subtitle.index in entries.drawn or len(line.subtitles) <= FEW
+            if right - left >= NARROW and is_alone:
+                yield self.bar(subtitle, left, right, look, words)
+            elif narrow[look] and left - narrow[look][-1][1] < 0.5:
+                narrow[look][-1][1] = right
+            else:
+                narrow[look].append([left, max(right, left + 0.6)])
+        for (kind, top, height), spans in narrow.items():
+            path = "".join(f"M{a:g} {top}h{b - a:.3g}v{height}H{a:g}z" for a, b in spans)
+            yield markup('<path class="{}" d="{}"/>', kind, path) if path else NO_MARKUP
+
+    def bar(self, subtitle: Subtitle, left: float, right: float, look: Look,
+            words: list[Markup]) -> Markup:
+        """A bar, and its number where it has room and is not hatched."""
+        kind, top, height = look
+        name, end = f"subtitle {subtitle.index}", self.strips.end
+        has_room = right - left > WORDS_WIDTH * len(str(subtitle.index)) + 4
+        if has_room and (end is None or subtitle.end <= end):
+            words.append(markup('<span class="in {}" style="left:{:.4g}%">{}</span>', kind,
+                                (left + right) / 20, subtitle.index))
+        shape = markup('<rect class="{}" x="{}" y="{}" width="{:.1f}" height="{}"><title>{}: {} '
+                       "to {}</title></rect>", kind, left, top, right - left, height, name,
+                       time_of(subtitle.begin), time_of(subtitle.end))
+        if subtitle.index in self.strips.entries.drawn:
+            return markup('<a href="#s{}" aria-label="{}">{}</a>', subtitle.index, name, shape)
+        return shape
+
+    def hatching(self, words: list[Markup]) -> Iterator[Markup]:
+        """Lines over the time of which a receiver hears nothing."""
+        end = self.strips.end
+        if end is None or end >= self.end:
+            return
+        left = self.x(end)
+        lines = "".join(f"M{at:g} {FAULTS}L{min(at + 12, WIDTH):g} 0"
+                        for at in range(int(left), WIDTH, 6) if at >= left)
+        yield markup('<rect class="after" x="{}" width="{:g}" height="{}"/><path class="hatch" '
+                     'd="{}"/>', left, WIDTH - left, FAULTS, lines)
+        if end >= self.begin:
+            side = f"left:{left / 10:.4g}%" if left < WIDTH / 2 else \
+                f"right:{(WIDTH - left) / 10:.4g}%"
+            words.append(markup('<span class="end" style="{}">nothing heard after {}</span>', side,
+                                time_of(end - 1)))
+
+    def undecided(self) -> Iterator[Markup]:
+        """The frames at which it is not known what is due."""
+        _, top, height = UNKNOWN
+        for begin, end in self.strips.undecided.between(self.begin, self.end):
+            left = self.x(begin)
+            width = max(self.x(end + 1) - left, 2)
+            yield markup('<rect class="unknown" x="{:g}" y="{}" width="{:.4g}" height="{}">'
+                         "<title>undecided: {} to {}</title></rect>", left, top, width, height,
+                         time_of(begin), time_of(end))
+
+    def sendings(self) -> Iterator[Markup]:
+        """The sendings, those that are close to each other as one block."""
+        close = self.strips.close
+        runs: list[list[float]] = []
+        for begin, end in self.strips.sendings.between(self.begin, self.end):
+            left = self.x(begin)
+            right = self.x(min(end, self.end - 1)) if begin < end else left
+            if begin < end and self.x(begin + 1) - left >= close:
+                runs += [[self.x(frame)] * 2 for frame in range(max(begin, self.begin),
+                                                               min(end + 1, self.end))]
+            elif runs and left - runs[-1][1] < close:
+                runs[-1][1] = right
+            else:
+                runs.append([left, right])
+        lines = "".join(f"M{left:g} {TICKS}v8" for left, right in runs if left == right)
+        if lines:
+            yield markup('<path class="tick" d="{}"/>', lines)
+        blocks = "".join(f"M{left:g} {TICKS}h{right - left:.3g}v8H{left:g}z"
+                         for left, right in runs if left < right)
+        if blocks:
+            yield markup('<path class="many" d="{}"/>', blocks)
+
+    def axis(self, words: list[Markup]) -> Iterator[Markup]:
+        """Ticks of time, with words at some of them."""
+        lines = "".join(f"M{self.x(frame):g} {AXIS}v4"
+                        for frame in range(self.begin, self.end + 1, self.step))
+        yield markup('<path class="axis" d="M0 {}H{}{}"/>', AXIS, WIDTH, lines)
+        for frame in range(self.begin + self.words, self.end, self.words):
+            short = time_of(frame)[:5] if self.step >= MINUTE else ":" + time_of(frame)[6:8]
+            side = f"left:{self.x(frame) / 10:.4g}%"
+            words.append(markup('<span class="axis" style="{}">{}</span>', side, short))
+
+    def trusted(self) -> Iterator[Markup]:
+        """The frames that may be trusted: a line below the axis, thinner than a fault's mark."""
+        for begin, end in self.strips.trusted.between(self.begin, self.end):
+            left = self.x(begin)
+            width = max(self.x(end + 1) - left, 2)
+            yield markup('<rect class="trusted" x="{:g}" y="{}" width="{:.4g}" height="{}">'
+                         "<title>trusted: {} to {}</title></rect>", left, TRUSTED, width, THIN,
+                         time_of(begin), time_of(end))
+
+    def faults(self) -> Iterator[Markup]:
+        """What is told: a mark for each span that has room for one, which leads to the list."""
+        near = CLOSE * self.unit / WIDTH
+        runs: list[list[int]] = []
+        for begin, end in self.strips.spans.between(self.begin, self.end):
+            if runs and begin - runs[-1][1] <= near:
+                runs[-1][1] = end
+            else:
+                runs.append([begin, end])
+        for begin, end in runs:
+            left = self.x(begin)
+            width = max(self.x(end + 1) - left, 2)
+            mark = markup('<rect class="bad" x="{:g}" y="{}" width="{:.4g}" height="{}"/>', left,
+                          FAULTS, width, HEIGHT - FAULTS)
+            entry = self.strips.entries.entry_in(max(begin, self.begin), end + 1)
+            yield mark if entry is None else markup(
+                '<a href="#e{}" aria-label="fault {}">{}</a>', entry.index, entry.index, mark)
+
+
+# The subtitles, minute by minute, with two pictures of each that is held otherwise than due.
+
+MOST_DRAWN = 500  # subtitles with pictures, the first that are not as due
+
+
+class Looked(NamedTuple):
+    """After how many frames a subtitle was whole, `None` where it was not seen whole while it is
+    due; and the frame of its pictures."""
+
+    whole_after: int | None
+    frame: int
+
+    def words(self) -> str:
+        """After how many frames it was whole."""
+        return "not seen whole while it is due" if self.whole_after is None else \
+            f"whole after {counted(self.whole_after, 'frame')}"
+
+
+def looked_at(subtitle: Subtitle, frames: int | None, within: int) -> Looked:
+    """A subtitle that was whole after some frames: its pictures are of that frame, if it is not
+    late, else of the first one at which it is."""
+    if frames is None or frames > within:
+        return Looked(frames, min(subtitle.begin + within, subtitle.end - 1))
+    return Looked(frames, subtitle.begin + frames)
+
+
+class Entries:
+    """The entries of subtitles that are not held as they are due, with their pictures."""
+
+    def __init__(self, figures: Figures, held: Seen, subtitles: list[Subtitle],
+                 looked: list[Looked], faults: Faults) -> None:
+        self.figures, self.held, self.faults = figures, held, faults
+        self.subtitles = subtitles
+        self.looked = {one.index: look for one, look in zip(subtitles, looked)}
+        self.kinds = {one.index: figures.kind_at(look.frame)
+                      for one, look in zip(subtitles, looked)}
+        self.odd = {index for index, kind in self.kinds.items() if kind in (DIFFERENT, NOTHING)}
+        self.unknown = {index for index, kind in self.kinds.items()
+                        if kind not in (SAME, DIFFERENT, NOTHING)}
+        listed = [(frame, entry) for entry in faults.entries
+                  if (frame := self.frame_of(entry)) is not None]
+        self.entry_frames = sorted(frame for frame, _ in listed)
+        self.entry_at = dict(reversed(listed))
+        odd = (one for one in subtitles if one.index in self.odd)
+        self.drawn = {one.index: self.entry(one) for one in itertools.islice(odd, MOST_DRAWN)}
+
+    def frame_of(self, entry: Entry) -> int | None:
+        """The frame whose pictures belong to an entry, `None` where there is none."""
+        pes = entry.first.pes
+        return entry.first.frame if pes is None else self.held.last_before(pes)
+
+    def faults_in(self, subtitle: Subtitle) -> Markup:
+        """Words for the faults while it is due, with a link to the first that is listed."""
+        if not any(True for _ in self.faults.spans.between(subtitle.begin, subtitle.end)):
+            return NO_MARKUP
+        entry = self.entry_in(subtitle.begin, subtitle.end)
+        if not entry:
+            return markup(' <b class="bad">faults while it is due</b>')
+        return markup(' <a class="bad" href="#e{}"><b>fault {}</b></a>', entry.index, entry.index)
+
+    def entry_in(self, begin: int, end: int) -> Entry | None:
+        """The first listed fault that is told from `begin` to the frame before `end`."""
+        at = bisect.bisect_left(self.entry_frames, begin)
+        is_one = at < len(self.entry_frames) and self.entry_frames[at] < end
+        return self.entry_at[self.entry_frames[at]] if is_one else None
+
+    def entry(self, subtitle: Subtitle) -> Markup:
+        """A subtitle with its pictures."""
+        looked = self.looked[subtitle.index]
+        first, end = time_of(subtitle.begin), time_of(subtitle.end)
+        sent = self.held.sendings_between(subtitle.begin, subtitle.end)
+        words = f"sent {counted(sent, 'time')} while it is due, {looked.words()}"
+        name = subtitle.name.replace("s", "S", 1)
+        return markup('<section class="entry" id="s{}"><h3>{} <code>{}</code> to <code>{}</code>'
+                      "</h3><p>row {}, justification {}; {}{}</p>{}</section>", subtitle.index,
+                      name, first, end, subtitle.row, subtitle.justify, words,
+                      self.faults_in(subtitle), self.figures.at(looked.frame))
+
+    def all(self, strips: Strips) -> Markup:
+        """The entries in order, by minute where there are strips of minutes."""
+        if not strips.has_minutes():
+            return self.listed(self.subtitles)
+        parts = []
+        groups = itertools.groupby(self.subtitles, lambda one: one.begin // MINUTE)
+        members = {minute: list(group) for minute, group in groups}
+        for minute in sorted(strips.used(MINUTE)):
+            parts.append(markup('<section class="minute" id="m{}">{}{}</section>', minute,
+                                strips.minute(minute), self.listed(members.get(minute, []))))
+        return joined(parts)
+
+    def listed(self, subtitles: Iterable[Subtitle]) -> Markup:
+        """Those with pictures, in order."""
+        return joined(self.drawn.get(one.index, NO_MARKUP) for one in subtitles)
+
+    def counted(self, group: Iterable[Subtitle]) -> str:
+        """How many subtitles of a group are of which kind."""
+        counts = collections.Counter(self.kinds[one.index] for one in group)
+        if len(counts) == 1:
+            return KINDS[next(iter(counts))]
+        return ", ".join(f"{counts[kind]:,} {words}" for kind, words in KINDS.items()
+                         if counts[kind])
